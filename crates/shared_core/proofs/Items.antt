@@ -1,0 +1,216 @@
+-- Which item stands at the front of a stream, and how streams split.
+use Rattle.std.proofs.Common.{◌≡◌, ℕ, ◌+◌, ◌/◌, ◌^◌, ◌<◌, ◌≤◌, List, [], ◌∷◌, ◌++◌, length, take, drop, Option, Some, None, refl, sym, ap, ◌∙◌, arith, subst, append_assoc, append-nil, length-append, zero, suc, inl, inr, Bool, true, false, leb}
+use Rattle.std.specs.Prelude.{◌⊎◌}
+use Rattle.std.proofs.lemmas.Bool.{leb-true, leb-false}
+use Rattle.std.specs.Int.{w64, from_be_bytes}
+use Rattle.std.proofs.lemmas.List.{take-append-le, take-append-drop, length-take-le}
+use Rattle.std.proofs.Math.Seq.{take-append_seam, drop-append_seam}
+use Rattle.shared_core_base.specs.declared.header.MessageHeader.{MessageHeader}
+use Rattle.shared_core_base.specs.declared.version.Version.{Version}
+use Rattle.shared_core_base.specs.MessageHeader.{header_of, word_code}
+use Rattle.shared_core.specs.declared.encoding.Item.{Item}
+use Rattle.shared_core.specs.declared.encoding.Item.TheVariants.{Message, Unknown}
+use Rattle.shared_core.specs.Items.{front_word, body_length, item_of, IsItem, AreItems, TakesItem, NoItemBegins, IsItemsThen, SplitsInto, BeginsWithWritten}
+
+take_exact : (n : ℕ) (front rest : List ℕ) → length front ≡ n → take n (front ++ rest) ≡ front
+take_exact n front rest e = subst (λ k. take k (front ++ rest) ≡ front) e (take-append_seam front rest)
+
+drop_exact : (n : ℕ) (front rest : List ℕ) → length front ≡ n → drop n (front ++ rest) ≡ rest
+drop_exact n front rest e = subst (λ k. drop k (front ++ rest) ≡ rest) e (drop-append_seam front rest)
+
+front_word_head : (head rest : List ℕ) → length head ≡ 8 → front_word (head ++ rest) ≡ from_be_bytes w64 head
+unfolding front_word
+front_word_head head rest eight = ap (from_be_bytes w64) (take_exact 8 head rest eight)
+
+-- the word at the front stays, whatever comes behind
+front_word_more : (front more : List ℕ) → 8 ≤ length front → front_word (front ++ more) ≡ front_word front
+unfolding front_word
+front_word_more front more fits = ap (from_be_bytes w64) (take-append-le 8 front more fits)
+
+module _ (version : Version) where
+  -- the item that stands at the front of these bytes, where they are as many as its header says
+  takes_front : (head rest : List ℕ) (word size : ℕ) → length head ≡ 8 → word ≡ from_be_bytes w64 head → size ≡ body_length version word → size ≤ length rest → TakesItem version (head ++ rest) (item_of version word (take size rest)) (drop size rest)
+  takes_front head rest word size eight reads sized fits =
+      let body = take size rest in
+      let same : front_word (head ++ body) ≡ word = front_word_head head body eight ∙ sym reads in
+      let long : length (head ++ body) ≡ 8 + size = omega (arith, length-append head body, length-take-le size rest fits) in (
+        head ++ body,
+        record {
+          whole = long ∙ ap (λ n. 8 + n) (sized ∙ ap (body_length version) (sym same));
+          means = ap (λ w. item_of version w body) (sym same) ∙ ap (item_of version (front_word (head ++ body))) (sym (drop_exact 8 head body eight));
+        },
+        ap (λ l. head ++ l) (sym (take-append-drop size rest)) ∙ sym (append_assoc head body (drop size rest)),
+      )
+
+  -- bytes that are fewer than the header at their front says begin with no item
+  none_short : (bytes : List ℕ) → length bytes < 8 + body_length version (front_word bytes) → NoItemBegins version bytes
+  none_short bytes short item others (first, is, splits) =
+      let fits : 8 ≤ length first = omega (arith, is.whole) in
+      let same : front_word bytes ≡ front_word first = ap front_word splits ∙ front_word_more first others fits in
+      let long : length first ≤ length bytes = omega (arith, ap length splits, length-append first others) in
+      omega (arith, is.whole, ap (body_length version) same)
+
+  -- the three answers to bytes whose first eight are `head`
+  module _ (bytes head rest : List ℕ) (word : ℕ) (eight : length head ≡ 8) (whole : bytes ≡ head ++ rest) (reads : word ≡ from_be_bytes w64 head) where
+    pub takes_message : (header : MessageHeader) (size : ℕ) (payload behind : List ℕ) → header_of word ≡ Some header → size ≡ header.length → size ≤ length rest → payload ≡ take size rest → behind ≡ drop size rest → TakesItem version bytes (Message (record { header = header; payload = payload })) behind
+    unfolding body_length item_of
+    takes_message header size payload behind typed sized fits is_payload is_behind =
+        let found = takes_front head rest word size eight reads (rw typed sized) fits in
+        rw (whole, is_payload, is_behind) (rw typed at found)
+
+    pub takes_unknown : (code : ℕ) → header_of word ≡ None → code ≡ word_code word → TakesItem version bytes (Unknown code) rest
+    unfolding body_length item_of
+    takes_unknown code untyped is_code =
+        let found = takes_front head rest word 0 eight reads (rw untyped) (omega arith) in
+        rw (whole, is_code) (rw untyped at found)
+
+    pub none_partial : (header : MessageHeader) (size : ℕ) → header_of word ≡ Some header → size ≡ header.length → length rest < size → NoItemBegins version bytes
+    unfolding body_length
+    none_partial header size typed sized short =
+        let announced : body_length version word ≡ size = rw typed (sym sized) in
+        none_short bytes (omega (arith, ap length whole, length-append head rest, ap (body_length version) (ap front_word whole ∙ front_word_head head rest eight ∙ sym reads), announced))
+
+  -- no item's bytes begin another's
+  pub one_item : (a b x y : List ℕ) (i j : Item) → IsItem version a i → IsItem version b j → a ++ x ≡ b ++ y → (a ≡ b) × (i ≡ j) × (x ≡ y)
+  one_item a b x y i j is other joined =
+      let words : front_word a ≡ front_word b =
+      sym (front_word_more a x (omega (arith, is.whole))) ∙ ap front_word joined ∙ front_word_more b y (omega (arith, other.whole)) in
+      let sizes : length a ≡ length b = omega (arith, is.whole, other.whole, ap (body_length version) words) in
+      let same : a ≡ b = sym (take_exact (length a) a x refl) ∙ ap (take (length a)) joined ∙ take_exact (length a) b y (sym sizes) in
+      let rests : x ≡ y = sym (drop_exact (length a) a x refl) ∙ ap (drop (length a)) joined ∙ drop_exact (length a) b y (sym sizes) in
+      (same, is.means ∙ ap (λ l. item_of version (front_word l) (drop 8 l)) same ∙ sym other.means, rests)
+
+  -- where an item stands at the front, it still does with more behind it
+  pub takes_more : (old new more : List ℕ) (item : Item) → TakesItem version old item new → TakesItem version (old ++ more) item (new ++ more)
+  takes_more old new more item taken = (taken.0, taken.1, ap (λ l. l ++ more) taken.2 ∙ append_assoc taken.0 new more)
+
+  pub nothing_begins_with_none : NoItemBegins version []
+  nothing_begins_with_none item others (first, is, splits) = omega (arith, is.whole, ap length splits, length-append first others)
+
+  -- ---- items one behind the other
+
+  AreItems_join : (front back : List ℕ) (items others : List Item) → AreItems version front items → AreItems version back others → AreItems version (front ++ back) (items ++ others)
+  AreItems_join front back [] others spelled next = let P : List ℕ → Type 0 = λ l. AreItems version (l ++ back) others in subst P (sym spelled) next
+  AreItems_join front back (i ∷ items) others spelled next = (
+    spelled.0,
+    spelled.1 ++ back,
+    spelled.2,
+    AreItems_join spelled.1 back items others spelled.3 next,
+    ap (λ l. l ++ back) spelled.4 ∙ append_assoc spelled.0 spelled.1 back,
+  )
+
+  pub then_join : (stream mid rest : List ℕ) (items others : List Item) → IsItemsThen version stream items mid → IsItemsThen version mid others rest → IsItemsThen version stream (items ++ others) rest
+  then_join stream mid rest items others first second = record {
+    front = first.front ++ second.front;
+    spelled = AreItems_join first.front second.front items others first.spelled second.spelled;
+    whole = first.whole ∙ ap (λ l. first.front ++ l) second.whole ∙ sym (append_assoc first.front second.front rest);
+  }
+
+  pub then_start : (stream : List ℕ) → IsItemsThen version stream [] stream
+  then_start stream = record { front = []; spelled = refl; whole = refl }
+
+  pub then_one : (old new : List ℕ) (item : Item) → TakesItem version old item new → IsItemsThen version old (item ∷ []) new
+  then_one old new item taken = record { front = taken.0; spelled = (taken.0, [], taken.1, refl, sym (append-nil taken.0)); whole = taken.2 }
+
+  pub then_takes : (stream old new : List ℕ) (items : List Item) (item : Item) → IsItemsThen version stream items old → TakesItem version old item new → IsItemsThen version stream (items ++ item ∷ []) new
+  then_takes stream old new items item before taken = then_join stream old new items (item ∷ []) before (then_one old new item taken)
+
+  pub then_more : (stream rest piece : List ℕ) (items : List Item) → IsItemsThen version stream items rest → IsItemsThen version (stream ++ piece) items (rest ++ piece)
+  then_more stream rest piece items before = record {
+    front = before.front;
+    spelled = before.spelled;
+    whole = ap (λ l. l ++ piece) before.whole ∙ append_assoc before.front rest piece;
+  }
+
+  -- ---- how a stream splits
+
+  -- whatever items the stream begins with, the items that it splits into begin with them
+  begins : (front rest left right : List ℕ) (items written : List Item) → AreItems version front items → AreItems version left written → NoItemBegins version rest → front ++ rest ≡ left ++ right → (others : List Item) × (items ≡ written ++ others)
+  begins front rest left right items [] spelled begun no_more joined = (items, refl)
+  begins front rest left right [] (w ∷ written) spelled begun no_more joined =
+      absurd (no_more w (begun.1 ++ right)
+      (begun.0, begun.2, ap (λ l. l ++ rest) (sym spelled) ∙ joined ∙ ap (λ l. l ++ right) begun.4 ∙ append_assoc begun.0 begun.1 right))
+  begins front rest left right (i ∷ items) (w ∷ written) spelled begun no_more joined =
+      let heads = one_item spelled.0 begun.0 (spelled.1 ++ rest) (begun.1 ++ right) i w spelled.2 begun.2
+      (sym (append_assoc spelled.0 spelled.1 rest) ∙ ap (λ l. l ++ rest) (sym spelled.4) ∙ joined ∙ ap (λ l. l ++ right) begun.4 ∙ append_assoc begun.0 begun.1 right) in
+      let tails = begins spelled.1 rest begun.1 right items written spelled.3 begun.3 no_more heads.2 in
+      (tails.0, ap (λ l. i ∷ l) tails.1 ∙ ap (λ k. k ∷ (written ++ tails.0)) heads.1)
+
+  pub split_begins : (stream rest : List ℕ) (items : List Item) → SplitsInto version stream items rest → BeginsWithWritten version stream items
+  split_begins stream rest items split written right front =
+      begins split.items_then.front rest front.front right items written split.items_then.spelled front.spelled split.no_more (sym split.items_then.whole ∙ front.whole)
+
+  same_split : (front rest front' rest' : List ℕ) (items items' : List Item) → AreItems version front items → AreItems version front' items' → NoItemBegins version rest → NoItemBegins version rest' → front ++ rest ≡ front' ++ rest' → (items ≡ items') × (rest ≡ rest')
+  same_split front rest front' rest' [] [] spelled spelled' none none' joined =
+      (refl, ap (λ l. l ++ rest) (sym spelled) ∙ joined ∙ ap (λ l. l ++ rest') spelled')
+  same_split front rest front' rest' [] (j ∷ items') spelled spelled' none none' joined =
+      absurd (none j (spelled'.1 ++ rest')
+      (spelled'.0, spelled'.2, ap (λ l. l ++ rest) (sym spelled) ∙ joined ∙ ap (λ l. l ++ rest') spelled'.4 ∙ append_assoc spelled'.0 spelled'.1 rest'))
+  same_split front rest front' rest' (i ∷ items) [] spelled spelled' none none' joined =
+      absurd (none' i (spelled.1 ++ rest)
+      (spelled.0, spelled.2, ap (λ l. l ++ rest') (sym spelled') ∙ sym joined ∙ ap (λ l. l ++ rest) spelled.4 ∙ append_assoc spelled.0 spelled.1 rest))
+  same_split front rest front' rest' (i ∷ items) (j ∷ items') spelled spelled' none none' joined =
+      let heads = one_item spelled.0 spelled'.0 (spelled.1 ++ rest) (spelled'.1 ++ rest') i j spelled.2 spelled'.2
+      (sym (append_assoc spelled.0 spelled.1 rest) ∙ ap (λ l. l ++ rest) (sym spelled.4) ∙ joined ∙ ap (λ l. l ++ rest') spelled'.4 ∙ append_assoc spelled'.0 spelled'.1 rest') in
+      let tails = same_split spelled.1 rest spelled'.1 rest' items items' spelled.3 spelled'.3 none none' heads.2 in
+      (ap (λ l. i ∷ l) tails.0 ∙ ap (λ k. k ∷ items') heads.1, tails.1)
+
+  -- a stream splits in one way
+  pub one_split : (stream : List ℕ) (items others : List Item) (rest left : List ℕ) → SplitsInto version stream items rest → SplitsInto version stream others left → (items ≡ others) × (rest ≡ left)
+  one_split stream items others rest left one other =
+      same_split one.items_then.front rest other.items_then.front left items others one.items_then.spelled other.items_then.spelled one.no_more other.no_more
+      (sym one.items_then.whole ∙ other.items_then.whole)
+
+  -- an item stands at the front of the bytes, or none does
+  front_item : (bytes : List ℕ) → ((item : Item) × (rest : List ℕ) × TakesItem version bytes item rest) ⊎ NoItemBegins version bytes
+  front_item bytes =
+      (elim (leb (8 + body_length version (front_word bytes)) (length bytes)) as (λ b. leb (8 + body_length version (front_word bytes)) (length bytes) ≡ b → ((item : Item) × (rest : List ℕ) × TakesItem version bytes item rest) ⊎ NoItemBegins version bytes) [
+        | true ↦ λ is.
+            let whole : 8 + body_length version (front_word bytes) ≤ length bytes = leb-true _ _ is in
+            let head = take 8 bytes in
+            let eight : length head ≡ 8 = length-take-le 8 bytes (omega (arith, whole)) in
+            let size = body_length version (from_be_bytes w64 head) in
+            let word : front_word bytes ≡ from_be_bytes w64 head = ap front_word (sym (take-append-drop 8 bytes)) ∙ front_word_head head (drop 8 bytes) eight in
+            let long : length bytes ≡ 8 + length (drop 8 bytes) = ap length (sym (take-append-drop 8 bytes)) ∙ length-append head (drop 8 bytes) ∙ ap (λ n. n + length (drop 8 bytes)) eight in
+            let found = takes_front head (drop 8 bytes) (from_be_bytes w64 head) size eight refl refl (omega (arith, whole, long, ap (body_length version) word)) in
+            inl (_, _, rw (take-append-drop 8 bytes) at found)
+        | false ↦ λ is. inr (none_short bytes (leb-false _ _ is))
+      ]) refl
+
+  shorter : (old new : List ℕ) (item : Item) → TakesItem version old item new → length new < length old
+  shorter old new item (first, is, splits) = omega (arith, is.whole, ap length splits, length-append first new)
+
+  Split : List ℕ → Type 0
+  Split stream = (items : List Item) × (rest : List ℕ) × SplitsInto version stream items rest
+
+  split_none : (stream : List ℕ) → NoItemBegins version stream → Split stream
+  unfolding Split
+  split_none stream none = ([], stream, record { items_then = then_start stream; no_more = none })
+
+  split_next : (stream rest : List ℕ) (item : Item) → TakesItem version stream item rest → Split rest → Split stream
+  unfolding Split
+  split_next stream rest item taken (items, left, split) = (
+    item ∷ items,
+    left,
+    record {
+      items_then = then_join stream rest left (item ∷ []) items (then_one stream rest item taken) split.items_then;
+      no_more = split.no_more;
+    },
+  )
+
+  split_within : (fuel : ℕ) (stream : List ℕ) → length stream ≤ fuel → Split stream
+  split_within zero stream fits =
+      elim (front_item stream) as (λ _. Split stream) [
+        | inl found ↦ absurd (omega (arith, shorter stream found.1 found.0 found.2, fits))
+        | inr none ↦ split_none stream none
+      ]
+  split_within (suc fuel) stream fits =
+      elim (front_item stream) as (λ _. Split stream) [
+        | inl found ↦ split_next stream found.1 found.0 found.2 (split_within fuel found.1 (omega (arith, shorter stream found.1 found.0 found.2, fits)))
+        | inr none ↦ split_none stream none
+      ]
+
+  -- every stream splits
+  pub split_of : (stream : List ℕ) → (items : List Item) × (rest : List ℕ) × SplitsInto version stream items rest
+  unfolding Split
+  split_of stream = split_within (length stream) stream (omega arith)

@@ -1,0 +1,77 @@
+-- The items of a stream: which bytes spell an item, and how a stream splits into items and a rest.
+--
+-- A version decides how a header is read, so each of these relations takes it. Versions 5 to 8 read headers alike.
+use Rattle.std.specs.Prelude.{◌≡◌, ℕ, ◌+◌, ◌/◌, ◌^◌, ◌≤◌, List, [], ◌∷◌, ◌++◌, length, take, drop, Option, Some, None, Result, Ok, Err}
+use Rattle.std.specs.Option.{option_map_or}
+use Rattle.std.specs.Int.{w64, from_be_bytes}
+use Rattle.shared_core_base.specs.declared.version.Version.{Version}
+use Rattle.shared_core_base.specs.MessageHeader.{header_of, word_code}
+use Rattle.shared_core.specs.declared.encoding.Item.{Item}
+use Rattle.shared_core.specs.declared.encoding.Item.TheVariants.{Message, Unknown}
+use Rattle.shared_core.specs.declared.encoding.RawMessage.{RawMessage}
+use Rattle.shared_core.specs.declared.encoding.DecodingError.{DecodingError}
+use Rattle.shared_core.specs.declared.encoding.DecodingError.TheVariants.{UnknownMessageType, OutOfMemory}
+use Rattle.shared_core.specs.declared.encoding.PushError.{PushError}
+use Rattle.shared_core.specs.declared.encoding.PushError.TheVariants.{OutOfMemory as NoMemory, TooLong}
+
+-- The number that the first eight bytes spell, the first byte highest.
+unfoldable pub front_word : List ℕ → ℕ
+front_word bytes = from_be_bytes w64 (take 8 bytes)
+
+-- How many bytes belong to an item behind its first eight: the length that its header says, and none where there is no header.
+unfoldable pub body_length : Version → ℕ → ℕ
+body_length version word = option_map_or (λ header. header.length) (header_of word) 0
+
+-- The item that a word and the bytes behind it are: a message with its payload, or an unknown code.
+unfoldable pub item_of : Version → ℕ → List ℕ → Item
+item_of version word body =
+    option_map_or (λ header. Message (record { header = header; payload = body })) (header_of word) (Unknown (word_code word))
+
+-- The bytes spell the item: eight whose word says what it is, and as many behind them as that word says.
+pub record IsItem (version : Version) (bytes : List ℕ) (item : Item) : Type 0 where
+  pub whole : length bytes ≡ 8 + body_length version (front_word bytes)
+  pub means : item ≡ item_of version (front_word bytes) (drop 8 bytes)
+
+-- The bytes are spellings of these items, one behind the other.
+abbrev pub AreItems : Version → List ℕ → List Item → Type 0
+AreItems version bytes [] = bytes ≡ []
+AreItems version bytes (item ∷ items) =
+    (first : List ℕ) × (others : List ℕ) × IsItem version first item × AreItems version others items × (bytes ≡ first ++ others)
+
+-- An item stands at the front of the old bytes, and the new bytes are those behind it.
+abbrev pub TakesItem : Version → List ℕ → Item → List ℕ → Type 0
+TakesItem version old item new = (first : List ℕ) × IsItem version first item × (old ≡ first ++ new)
+
+-- No whole item stands at the front of the bytes.
+abbrev pub NoItemBegins : Version → List ℕ → Type 0
+NoItemBegins version bytes = (item : Item) (rest : List ℕ) → TakesItem version bytes item rest → ⊥
+
+-- The stream is spellings of these items, and behind them these bytes.
+pub record IsItemsThen (version : Version) (stream : List ℕ) (items : List Item) (rest : List ℕ) : Type 0 where
+  pub front : List ℕ
+  pub spelled : AreItems version front items
+  pub whole : stream ≡ front ++ rest
+
+-- The stream splits into these items and a rest that no item begins.
+pub record SplitsInto (version : Version) (stream : List ℕ) (items : List Item) (rest : List ℕ) : Type 0 where
+  pub items_then : IsItemsThen version stream items rest
+  pub no_more : NoItemBegins version rest
+
+-- Whatever items were written at the front of the stream, and whatever follows them, the list begins with them.
+abbrev pub BeginsWithWritten : Version → List ℕ → List Item → Type 0
+BeginsWithWritten version stream items =
+    (written : List Item) (rest : List ℕ) → IsItemsThen version stream written rest → (others : List Item) × (items ≡ written ++ others)
+
+-- What an answer says of the bytes before the call, and what it leaves of them: the next message, taken; no item, where none is
+-- whole; an unknown code, whose eight bytes are taken; or want of memory where a whole message is next, and all bytes are left.
+abbrev pub AnswersNext : Version → List ℕ → Result (Option RawMessage) DecodingError → List ℕ → Type 0
+AnswersNext version old (Ok (Some message)) new = TakesItem version old (Message message) new
+AnswersNext version old (Ok None) new = NoItemBegins version old × (new ≡ old)
+AnswersNext version old (Err (UnknownMessageType unknown)) new = TakesItem version old (Unknown unknown.0) new
+AnswersNext version old (Err OutOfMemory) new =
+    (new ≡ old) × (message : RawMessage) × (rest : List ℕ) × TakesItem version old (Message message) rest
+
+-- A refused piece comes back as it was, and is too long only where the bytes would be 2 ^ 64 or more.
+abbrev pub RefusesPiece : List ℕ → List ℕ → PushError → Type 0
+RefusesPiece old piece (NoMemory back) = back ≡ piece
+RefusesPiece old piece (TooLong back) = (back ≡ piece) × (2 ^ 64 ≤ length old + length piece)

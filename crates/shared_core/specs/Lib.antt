@@ -1,0 +1,3 @@
+pub mod Unread
+pub mod Items
+pub mod Segments

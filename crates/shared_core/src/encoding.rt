@@ -1,0 +1,213 @@
+//! The stream of frames: a decoder that takes it in pieces, and its items.
+ghost use Rattle.std.specs.Prelude.{◌≡◌, ◌+◌, ◌<◌, ◌++◌, length, IfSome, IfNone, Some, None};
+ghost use Rattle.shared_core.specs.Unread.{held_bytes, held_length};
+
+mod pieces;
+
+pub use crate::encoding::pieces::decode_pieces;
+
+use crate::pending_bytes::PendingBytes;
+use bytes::Bytes;
+use shared_core_base::header::{MessageHeader, MessageType, UnknownMessageType};
+use shared_core_base::version::Version;
+use std::alloc::Global;
+use std::marker::Model;
+
+/// A message as it stands in the stream: its header, and its payload, which is not looked into.
+#[derive(Debug, PartialEq, Drop)]
+pub struct RawMessage {
+    header: MessageHeader,
+    payload: Bytes,
+}
+
+impl RawMessage {
+    /// The type that the header says.
+    pub fn ty(&self) -> MessageType
+        ensures { result ≡ self.now.header.ty }
+    {
+        self.header.message_type()
+    }
+
+    /// The header.
+    pub fn header(&self) -> MessageHeader
+        ensures { result ≡ self.now.header }
+    {
+        self.header
+    }
+
+    /// The bytes behind the header, as many as it says.
+    pub fn payload(&self) -> &Bytes
+        ensures { result.now ≡ self.now.payload }
+    {
+        &self.payload
+    }
+}
+
+/// What a stream is made of: messages, and eight bytes at a time whose code stands for no type.
+#[derive(Debug, PartialEq, Drop)]
+pub enum Item {
+    /// A header and its payload.
+    Message(RawMessage),
+    /// The code of a header that stands for no type. No payload belongs to it.
+    Unknown(u16),
+}
+
+/// Why no message was answered.
+#[derive(Debug, Drop)]
+pub enum DecodingError {
+    /// The next header's code stands for no type. Its eight bytes are taken.
+    UnknownMessageType(UnknownMessageType),
+    /// There is no memory to join the payload of the next message. Nothing is taken.
+    OutOfMemory,
+}
+
+impl From<UnknownMessageType> for DecodingError {
+    ghost use Rattle.std.specs.Prelude.{◌≡◌};
+    ghost use Rattle.shared_core.specs.declared.encoding.DecodingError.TheVariants as variant;
+
+    ghost from_gives = { λ unknown error. error ≡ variant.UnknownMessageType unknown };
+
+    fn from(unknown: UnknownMessageType) -> DecodingError {
+        DecodingError::UnknownMessageType(unknown)
+    }
+}
+
+/// Why a piece was not taken. The piece comes back.
+#[derive(Debug, Drop)]
+pub enum PushError {
+    /// There is no memory for one more segment.
+    OutOfMemory(Bytes),
+    /// The pending bytes would be more than 2^64 - 1.
+    TooLong(Bytes),
+}
+
+/// Takes a stream in pieces, and answers its items in order.
+///
+/// A contract sees a decoder as its version and the bytes that came and that no answer has taken; a header that was read
+/// still counts among them until its message is answered.
+#[derive(Drop)]
+pub struct Decoder {
+    version: Version,
+    head: Option<[u8; 8]>,
+    pending: PendingBytes,
+}
+
+impl Model for Decoder {
+    ghost use Rattle.std.specs.Prelude.{◌≡◌, ◌++◌, ◌<◌, ◌^◌, length};
+    ghost use Rattle.shared_core.specs.Unread.{Unread, held_bytes, held_length};
+
+    ghost Value = { Unread };
+
+    ghost view = { λ decoder. record { version = decoder.version; bytes = held_bytes decoder.head ++ decoder.pending } };
+
+    ghost invariant = { λ decoder. (length (held_bytes decoder.head ++ decoder.pending) < 2 ^ 64)
+        × (length (held_bytes decoder.head) ≡ held_length decoder.head) };
+}
+
+/// The eight bytes that are held as a header. Where none are and eight have come, they are held from now on.
+fn hold_head(head: &mut Option<[u8; 8]>, pending: &mut PendingBytes) -> Option<[u8; 8]>
+    requires { length (held_bytes head.old) ≡ held_length head.old }
+    ensures same { held_bytes head.new ++ pending.new ≡ held_bytes head.old ++ pending.old }
+    ensures held { IfSome result (λ bytes. (head.new ≡ Some bytes) × (length bytes ≡ 8)
+        × (held_bytes head.old ++ pending.old ≡ bytes ++ pending.new)) }
+    ensures short { IfNone result ((head.new ≡ None) × (length pending.new < 8)) }
+{
+    if let Some(bytes) = *head {
+        return Some(bytes);
+    }
+    if pending.len() < 8 {
+        return None;
+    }
+    let bytes = pending.take_head();
+    *head = Some(bytes);
+    Some(bytes)
+}
+
+impl Decoder {
+    ghost use Rattle.std.specs.Prelude.{◌≡◌, ◌+◌, ◌≤◌, ◌++◌, [], length, OnOk, OnErr, IfErr, IsOk, None, Ok};
+    ghost use Rattle.shared_core_base.specs.Version.{version_number};
+    ghost use Rattle.shared_core.specs.Items.{AnswersNext, RefusesPiece};
+
+    /// A decoder of this version, which is at least V5, before any byte has come. It takes no memory.
+    pub fn new(alloc: Global, version: Version) -> Decoder
+        requires { 5 ≤ version_number version }
+        ensures { result ≡ record { version = version; bytes = [] } }
+    {
+        Decoder {
+            version,
+            head: None,
+            pending: PendingBytes::new(alloc),
+        }
+    }
+
+    /// How many bytes no answer has taken yet.
+    pub fn pending(&self) -> u64
+        ensures { result ≡ length self.now.bytes }
+    {
+        let held = if self.head.is_some() { 8 } else { 0 };
+        held + self.pending.len() as u64
+    }
+
+    /// Puts a piece of the stream, of any length, behind the bytes that came before, without copying it.
+    ///
+    /// An empty piece is not kept and never refused. A refused piece comes back in the error, and nothing has changed:
+    /// `TooLong` only where the pending bytes would be more than 2^64 - 1, else `OutOfMemory`.
+    pub fn push(&mut self, piece: Bytes) -> Result<(), PushError>
+        ensures ok { OnOk result (self.new ≡ record self.old { bytes = self.old.bytes ++ piece }) }
+        ensures err { IfErr result (RefusesPiece self.old.bytes piece) }
+        ensures kept { OnErr result (self.new ≡ self.old) }
+        ensures empty { length piece ≡ 0 → IsOk result }
+    {
+        if piece.is_empty() {
+            return Ok(());
+        }
+        if self.pending().checked_add(piece.len() as u64).is_none() {
+            return Err(PushError::TooLong(piece));
+        }
+        match self.pending.push(piece) {
+            Ok(()) => Ok(()),
+            Err(failed) => Err(PushError::OutOfMemory(failed.value)),
+        }
+    }
+
+    /// The next message, or `None` exactly where the bytes that came hold no further whole item; then at most
+    /// 4,294,967,302 bytes are pending, a header and all but one byte of its payload.
+    ///
+    /// A payload that lies in one piece is cut from it; one that straddles pieces is joined, once. `UnknownMessageType`
+    /// takes exactly the eight bytes of the header, and reading goes on behind them. `OutOfMemory` comes only where a
+    /// whole message is next, and takes nothing: a later call answers as if this one had not been made.
+    pub fn consume_next(&mut self) -> Result<Option<RawMessage>, DecodingError>
+        ensures next { AnswersNext self.old.version self.old.bytes result self.new.bytes }
+        ensures version { self.new.version ≡ self.old.version }
+        ensures short { result ≡ Ok None → length self.new.bytes ≤ 4294967302 }
+    {
+        let Some(head) = hold_head(&mut self.head, &mut self.pending) else {
+            return Ok(None);
+        };
+        let header = match MessageHeader::try_from(u64::from_be_bytes(head)) {
+            Ok(header) => header,
+            Err(unknown) => {
+                self.head = None;
+                return Err(DecodingError::UnknownMessageType(unknown));
+            }
+        };
+        let length = header.message_length() as usize;
+        if self.pending.len() < length {
+            return Ok(None);
+        }
+        let Ok(payload) = self.pending.split_to(length) else {
+            return Err(DecodingError::OutOfMemory);
+        };
+        self.head = None;
+        Ok(Some(RawMessage { header, payload }))
+    }
+}
+
+/// Why a list of pieces was not decoded.
+#[derive(Debug, Drop)]
+pub enum PiecesError {
+    /// The joined pieces are more than 2^64 - 1 bytes.
+    TooLong,
+    /// There is no memory for the list of items, a segment or a payload.
+    OutOfMemory,
+}

@@ -1,0 +1,103 @@
+//! The items of a whole stream.
+ghost use Rattle.std.specs.Prelude.{◌≡◌, ◌+◌, ◌++◌, ◌^◌, ◌≤◌, List, ℕ, length, IfOk, OnOk, MatchOption, IsErrOf};
+ghost use Rattle.std.specs.List.{concat};
+ghost use Rattle.shared_core_base.specs.Version.{version_number};
+ghost use Rattle.shared_core.specs.Items.{TakesItem, NoItemBegins, IsItemsThen, SplitsInto, BeginsWithWritten};
+
+use crate::encoding::{Decoder, DecodingError, Item, PiecesError, PushError};
+use bytes::Bytes;
+use shared_core_base::version::Version;
+use std::alloc::{AllocError, AllocFailed, Global};
+
+impl From<AllocError> for PiecesError {
+    ghost use Rattle.std.specs.Prelude.{◌≡◌};
+    ghost use Rattle.shared_core.specs.declared.encoding.PiecesError.TheVariants.{OutOfMemory};
+
+    ghost from_gives = { λ _ error. error ≡ OutOfMemory };
+
+    fn from(_error: AllocError) -> PiecesError {
+        PiecesError::OutOfMemory
+    }
+}
+
+impl<T: Drop> From<AllocFailed<T>> for PiecesError {
+    ghost use Rattle.std.specs.Prelude.{◌≡◌};
+    ghost use Rattle.shared_core.specs.declared.encoding.PiecesError.TheVariants.{OutOfMemory};
+
+    ghost from_gives = { λ _ error. error ≡ OutOfMemory };
+
+    fn from(_error: AllocFailed<T>) -> PiecesError {
+        PiecesError::OutOfMemory
+    }
+}
+
+/// The items of the stream that comes in these pieces, in order, and the decoder that holds what is left: however the
+/// stream is cut, the list is the items of the joined pieces, and the decoder holds the rest, which no item begins.
+///
+/// Whatever items were written at the front of the stream, the list begins with them. The version is at least V5.
+/// `TooLong` comes only where the joined pieces are more than 2^64 - 1 bytes. The pieces are shared and not copied.
+pub fn decode_pieces(
+    alloc: Global,
+    version: Version,
+    pieces: &[Bytes],
+) -> Result<(Vec<Item>, Decoder), PiecesError>
+    requires { 5 ≤ version_number version }
+    ensures items { IfOk result (λ answer. SplitsInto version (concat pieces.now) answer.0.items answer.1.bytes) }
+    ensures written { IfOk result (λ answer. BeginsWithWritten version (concat pieces.now) answer.0.items) }
+    ensures version { IfOk result (λ answer. answer.1.version ≡ version) }
+    ensures too_long { IsErrOf result PiecesError.TooLong → 2 ^ 64 ≤ length (concat pieces.now) }
+{
+    let mut decoder = Decoder::new(alloc, version);
+    let mut items = Vec::new(alloc);
+    for piece in pieces {
+        feed(&mut decoder, &mut items, piece)?;
+    }
+    Ok((items, decoder))
+}
+
+/// Pushes a piece, and then moves each whole item to the list.
+fn feed(decoder: &mut Decoder, items: &mut Vec<Item>, piece: &Bytes) -> Result<(), PiecesError>
+    ensures moved { OnOk result ((stream : List ℕ)
+        → IsItemsThen decoder.old.version stream items.old.items decoder.old.bytes
+        → IsItemsThen decoder.old.version (stream ++ piece.now) items.new.items decoder.new.bytes) }
+    ensures no_more { OnOk result (NoItemBegins decoder.old.version decoder.new.bytes) }
+    ensures version { OnOk result (decoder.new.version ≡ decoder.old.version) }
+    ensures too_long { IsErrOf result PiecesError.TooLong → 2 ^ 64 ≤ length decoder.old.bytes + length piece.now }
+{
+    match decoder.push(piece.clone()?) {
+        Ok(()) => drain(decoder, items),
+        Err(PushError::TooLong(_)) => Err(PiecesError::TooLong),
+        Err(PushError::OutOfMemory(_)) => Err(PiecesError::OutOfMemory),
+    }
+}
+
+/// Moves each whole item to the list.
+fn drain(decoder: &mut Decoder, items: &mut Vec<Item>) -> Result<(), PiecesError>
+    ensures moved { OnOk result ((stream : List ℕ)
+        → IsItemsThen decoder.old.version stream items.old.items decoder.old.bytes
+        → IsItemsThen decoder.old.version stream items.new.items decoder.new.bytes) }
+    ensures no_more { OnOk result (NoItemBegins decoder.old.version decoder.new.bytes) }
+    ensures version { OnOk result (decoder.new.version ≡ decoder.old.version) }
+    ensures memory { IsErrOf result PiecesError.TooLong → ⊥ }
+{
+    while let Some(item) = next_item(decoder)? {
+        items.push(item)?;
+    }
+    Ok(())
+}
+
+/// The next item, of either kind.
+fn next_item(decoder: &mut Decoder) -> Result<Option<Item>, PiecesError>
+    ensures taken { IfOk result (λ found. MatchOption found
+        (NoItemBegins decoder.old.version decoder.old.bytes × (decoder.new.bytes ≡ decoder.old.bytes))
+        (λ item. TakesItem decoder.old.version decoder.old.bytes item decoder.new.bytes)) }
+    ensures version { decoder.new.version ≡ decoder.old.version }
+    ensures memory { IsErrOf result PiecesError.TooLong → ⊥ }
+{
+    match decoder.consume_next() {
+        Ok(None) => Ok(None),
+        Ok(Some(message)) => Ok(Some(Item::Message(message))),
+        Err(DecodingError::UnknownMessageType(unknown)) => Ok(Some(Item::Unknown(unknown.code()))),
+        Err(DecodingError::OutOfMemory) => Err(PiecesError::OutOfMemory),
+    }
+}

@@ -1,0 +1,30 @@
+//! What holds of every stream, whatever decodes it. Each law is the contract of a function that does nothing.
+ghost use Rattle.std.specs.Prelude.{◌≡◌, ℕ, ◌++◌, List};
+ghost use Rattle.shared_core_base.specs.declared.version.Version.{Version};
+ghost use Rattle.shared_core.specs.Items.{IsItem, TakesItem, NoItemBegins, SplitsInto};
+ghost use Rattle.shared_core.specs.declared.encoding.Item.{Item as AnyItem};
+
+/// No item's bytes begin another's: where two items stand at the front of the same bytes, they are one item.
+pub fn no_item_begins_another()
+    ensures { (version : Version) (a b x y : List ℕ) (i j : AnyItem)
+        → IsItem version a i → IsItem version b j → a ++ x ≡ b ++ y → (a ≡ b) × (i ≡ j) × (x ≡ y) }
+{}
+
+/// A stream splits in one way.
+pub fn one_split()
+    ensures { (version : Version) (stream : List ℕ) (items others : List AnyItem) (rest left : List ℕ)
+        → SplitsInto version stream items rest → SplitsInto version stream others left → (items ≡ others) × (rest ≡ left) }
+{}
+
+/// Every stream splits.
+pub fn every_stream_splits()
+    ensures { (version : Version) (stream : List ℕ)
+        → (items : List AnyItem) × (rest : List ℕ) × SplitsInto version stream items rest }
+{}
+
+/// The next item stays the next whatever comes behind it, and what it leaves is what it left with these bytes behind.
+#[tactic(auto, using(crate::proofs::Items::takes_more))]
+pub fn next_item_stays()
+    ensures { (version : Version) (old new more : List ℕ) (item : AnyItem)
+        → TakesItem version old item new → TakesItem version (old ++ more) item (new ++ more) }
+{}

@@ -1,0 +1,161 @@
+//! The bytes that have come and that no item has taken.
+ghost use Rattle.std.specs.Prelude.{◌≡◌, ◌+◌, ◌^◌, ◌<◌, ◌≤◌, ◌++◌, [], length, take, drop, IfOk, IfErr, IsOk, OnOk, OnErr};
+
+use bytes::{Buf, Bytes};
+use std::alloc::{AllocError, AllocFailed, Global};
+use std::collections::VecDeque;
+use std::marker::Model;
+
+/// Shared segments in a row, which come at the back and go at the front. A contract sees their bytes as one list.
+///
+/// The front segment stands apart, since nearly all work is on it. It is empty only where there is no other, and no other
+/// is ever empty: a segment that is used up has gone.
+#[derive(Drop)]
+pub struct PendingBytes {
+    alloc: Global,
+    front: Bytes,
+    behind: VecDeque<Bytes>,
+    len: usize,
+}
+
+impl Model for PendingBytes {
+    ghost use Rattle.std.specs.Prelude.{List, ℕ, ◌++◌};
+    ghost use Rattle.std.specs.List.{concat};
+    ghost use Rattle.shared_core.specs.Segments.{AreSegments};
+
+    ghost Value = { List ℕ };
+
+    ghost view = { λ pending. pending.front ++ concat pending.behind.items };
+
+    ghost invariant = { λ pending. AreSegments pending.front pending.behind.items pending.len };
+}
+
+impl PendingBytes {
+    /// No bytes. It takes no memory.
+    pub fn new(alloc: Global) -> PendingBytes
+        ensures { result ≡ [] }
+    {
+        PendingBytes {
+            alloc,
+            front: Bytes::new(),
+            behind: VecDeque::new(alloc),
+            len: 0,
+        }
+    }
+
+    /// The number of bytes.
+    pub fn len(&self) -> usize
+        ensures { result ≡ length self.now }
+    {
+        self.len
+    }
+
+    /// Puts a piece behind the bytes, without copying any. An empty piece is not kept, and asks for no memory; nor does
+    /// a piece that comes where there are no bytes.
+    pub fn push(&mut self, piece: Bytes) -> Result<(), AllocFailed<Bytes>>
+        requires { length self.old + length piece < 2 ^ 64 }
+        ensures ok { OnOk result (self.new ≡ self.old ++ piece) }
+        ensures err { OnErr result (self.new ≡ self.old) }
+        ensures value_returned { IfErr result (λ failed. failed.value ≡ piece) }
+        ensures empty { length piece ≡ 0 → IsOk result }
+    {
+        if piece.is_empty() {
+            return Ok(());
+        }
+        let len = self.len + piece.len();
+        if self.front.is_empty() {
+            self.front = piece;
+            self.len = len;
+            return Ok(());
+        }
+        self.behind.push_back(piece)?;
+        self.len = len;
+        Ok(())
+    }
+
+    /// Takes the first eight bytes.
+    pub fn take_head(&mut self) -> [u8; 8]
+        requires { 8 ≤ length self.old }
+        ensures head { result ≡ take 8 self.old }
+        ensures rest { self.new ≡ drop 8 self.old }
+    {
+        let mut head = [0; 8];
+        self.copy_to_slice(&mut head);
+        head
+    }
+
+    /// Takes the first `count` bytes: cut from the front segment where it has them all, else joined in one copy. An `Err`
+    /// takes nothing.
+    pub fn split_to(&mut self, count: usize) -> Result<Bytes, AllocError>
+        requires { count ≤ length self.old }
+        ensures front { IfOk result (λ bytes. bytes ≡ take count self.old) }
+        ensures rest { OnOk result (self.new ≡ drop count self.old) }
+        ensures err { OnErr result (self.new ≡ self.old) }
+    {
+        let front = if count <= self.front.len() {
+            self.front.slice(0..count)?
+        } else {
+            self.joined(count)?
+        };
+        self.advance(count);
+        Ok(front)
+    }
+
+    /// A copy of the first `count` bytes, of which the front segment has a part.
+    fn joined(&self, count: usize) -> Result<Bytes, AllocError>
+        requires { count ≤ length self.now }
+        ensures { IfOk result (λ bytes. bytes ≡ take count self.now) }
+    {
+        let mut bytes = Vec::with_capacity(self.alloc, count)?;
+        let part = count.min(self.front.len());
+        bytes.extend_from_slice(&self.front.as_slice()[..part])?;
+        let mut wanted = count - part;
+        for i in 0..self.behind.len() {
+            if wanted == 0 {
+                break;
+            }
+            let segment = self.behind[i].as_slice();
+            let part = wanted.min(segment.len());
+            bytes.extend_from_slice(&segment[..part])?;
+            wanted -= part;
+        }
+        Ok(Bytes::from_vec(bytes)?)
+    }
+
+    /// Takes up to `count` bytes of the front segment, and returns how many.
+    fn advance_front(&mut self, count: usize) -> usize
+        requires { (0 < count) × (count ≤ length self.old) }
+        ensures count { (0 < result) × (result ≤ count) }
+        ensures rest { self.new ≡ drop result self.old }
+    {
+        let taken = count.min(self.front.len());
+        self.front.advance(taken);
+        self.len -= taken;
+        if self.front.is_empty() {
+            self.front = match self.behind.pop_front() {
+                Some(next) => next,
+                None => Bytes::new(),
+            };
+        }
+        taken
+    }
+}
+
+impl Buf for PendingBytes {
+    ghost unread = { λ bytes. bytes };
+
+    fn remaining(&self) -> usize {
+        self.len
+    }
+
+    fn chunk(&self) -> &[u8] {
+        self.front.as_slice()
+    }
+
+    fn advance(&mut self, count: usize) {
+        let mut left = count;
+        while left > 0 {
+            left -= self.advance_front(left);
+        }
+    }
+}

@@ -1,0 +1,3 @@
+pub mod MessageType
+pub mod MessageHeader
+pub mod Version

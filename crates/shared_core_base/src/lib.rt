@@ -1,0 +1,6 @@
+//! What every part of the journal wire protocol stands on: message types, headers and versions.
+#![tactic(auto)]
+
+pub mod header;
+pub mod laws;
+pub mod version;
