@@ -1,8 +1,11 @@
-//! What holds of every stream, whatever decodes it. Each law is the contract of a function that does nothing.
-ghost use Rattle.std.specs.Prelude.{◌≡◌, ℕ, ◌++◌, List};
+//! What holds of every stream, whatever decodes it, and of equality. A law is the contract of a function that does nothing,
+//! or nothing but compare.
+ghost use Rattle.std.specs.Prelude.{◌≡◌, ◌↔◌, ℕ, ◌++◌, IsTrue, List};
 ghost use Rattle.shared_core_base.specs.declared.version.Version.{Version};
 ghost use Rattle.shared_core.specs.Items.{IsItem, TakesItem, NoItemBegins, SplitsInto};
 ghost use Rattle.shared_core.specs.declared.encoding.Item.{Item as AnyItem};
+
+use crate::encoding::{Item, RawMessage};
 
 /// No item's bytes begin another's: where two items stand at the front of the same bytes, they are one item.
 pub fn no_item_begins_another()
@@ -28,3 +31,17 @@ pub fn next_item_stays()
     ensures { (version : Version) (old new more : List ℕ) (item : AnyItem)
         → TakesItem version old item new → TakesItem version (old ++ more) item (new ++ more) }
 {}
+
+/// `==` of messages compares the whole header and the whole payload.
+pub fn equal_messages(a: &RawMessage, b: &RawMessage) -> bool
+    ensures { IsTrue result ↔ (a.now ≡ b.now) }
+{
+    a == b
+}
+
+/// `==` of items compares all of them.
+pub fn equal_items(a: &Item, b: &Item) -> bool
+    ensures { IsTrue result ↔ (a.now ≡ b.now) }
+{
+    a == b
+}

@@ -1,5 +1,7 @@
 //! The bytes that have come and that no item has taken.
-ghost use Rattle.std.specs.Prelude.{◌≡◌, ◌+◌, ◌^◌, ◌<◌, ◌≤◌, ◌++◌, [], length, take, drop, IfOk, IfErr, IsOk, OnOk, OnErr};
+ghost use Rattle.std.specs.Prelude.{◌≡◌, ◌+◌, ◌^◌, ◌<◌, ◌≤◌, ◌++◌, [], length, take, drop, All, IfOk, IfErr, IsOk, OnOk, OnErr};
+ghost use Rattle.std.specs.List.{concat};
+ghost use Rattle.shared_core.specs.Segments.{AreSegments};
 
 use bytes::{Buf, Bytes};
 use std::alloc::{AllocError, AllocFailed, Global};
@@ -92,13 +94,15 @@ impl PendingBytes {
         ensures rest { OnOk result (self.new ≡ drop count self.old) }
         ensures err { OnErr result (self.new ≡ self.old) }
     {
-        let front = if count <= self.front.len() {
-            self.front.slice(0..count)?
-        } else {
-            self.joined(count)?
-        };
-        self.advance(count);
-        Ok(front)
+        if self.front.len() < count {
+            let bytes = self.joined(count)?;
+            self.advance(count);
+            return Ok(bytes);
+        }
+        let bytes = self.front.split_to(count)?;
+        self.len -= count;
+        drop_used_up(&mut self.front, &mut self.behind);
+        Ok(bytes)
     }
 
     /// A copy of the first `count` bytes, of which the front segment has a part.
@@ -131,14 +135,24 @@ impl PendingBytes {
         let taken = count.min(self.front.len());
         self.front.advance(taken);
         self.len -= taken;
-        if self.front.is_empty() {
-            self.front = match self.behind.pop_front() {
-                Some(next) => next,
-                None => Bytes::new(),
-            };
-        }
+        drop_used_up(&mut self.front, &mut self.behind);
         taken
     }
+}
+
+/// Where the front segment is used up, the next one stands in its place.
+fn drop_used_up(front: &mut Bytes, behind: &mut VecDeque<Bytes>)
+    requires { All (λ segment. 0 < length segment) behind.old.items }
+    ensures segments { AreSegments front.new behind.new.items (length (front.old ++ concat behind.old.items)) }
+    ensures same { front.new ++ concat behind.new.items ≡ front.old ++ concat behind.old.items }
+{
+    if !front.is_empty() {
+        return;
+    }
+    *front = match behind.pop_front() {
+        Some(next) => next,
+        None => Bytes::new(),
+    };
 }
 
 impl Buf for PendingBytes {

@@ -291,16 +291,21 @@ fn variant_name(ty: MessageType) -> &'static str
         MessageType::GetInvocationOutputCommand => "GetInvocationOutputCommand",
         MessageType::CompleteAwakeableCommand => "CompleteAwakeableCommand",
         MessageType::GetLazyStateCompletionNotification => "GetLazyStateCompletionNotification",
-        MessageType::GetLazyStateKeysCompletionNotification => "GetLazyStateKeysCompletionNotification",
+        MessageType::GetLazyStateKeysCompletionNotification =>
+            "GetLazyStateKeysCompletionNotification",
         MessageType::GetPromiseCompletionNotification => "GetPromiseCompletionNotification",
         MessageType::PeekPromiseCompletionNotification => "PeekPromiseCompletionNotification",
-        MessageType::CompletePromiseCompletionNotification => "CompletePromiseCompletionNotification",
+        MessageType::CompletePromiseCompletionNotification =>
+            "CompletePromiseCompletionNotification",
         MessageType::SleepCompletionNotification => "SleepCompletionNotification",
         MessageType::CallCompletionNotification => "CallCompletionNotification",
-        MessageType::CallInvocationIdCompletionNotification => "CallInvocationIdCompletionNotification",
+        MessageType::CallInvocationIdCompletionNotification =>
+            "CallInvocationIdCompletionNotification",
         MessageType::RunCompletionNotification => "RunCompletionNotification",
-        MessageType::AttachInvocationCompletionNotification => "AttachInvocationCompletionNotification",
-        MessageType::GetInvocationOutputCompletionNotification => "GetInvocationOutputCompletionNotification",
+        MessageType::AttachInvocationCompletionNotification =>
+            "AttachInvocationCompletionNotification",
+        MessageType::GetInvocationOutputCompletionNotification =>
+            "GetInvocationOutputCompletionNotification",
         MessageType::SignalNotification => "SignalNotification",
         MessageType::CustomEntry(_) => "CustomEntry",
     }

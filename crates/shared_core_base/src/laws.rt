@@ -1,5 +1,5 @@
 //! What holds of the definitions of this crate, and of the traits that its types derive.
-ghost use Rattle.std.specs.Prelude.{◌≡◌, ◌↔◌, ◌==◌, ◌≢◌, ℕ, IsTrue, IfOk, Some, None, find, bit_and};
+ghost use Rattle.std.specs.Prelude.{◌≡◌, ◌↔◌, ◌==◌, ◌≢◌, ℕ, IsTrue, Ok, Some, None, find, bit_and};
 ghost use Rattle.std.specs.Ordering.{nat_cmp};
 ghost use Rattle.shared_core_base.specs.MessageType.{code_of, type_of, named_types, IsNamed};
 ghost use Rattle.shared_core_base.specs.Version.{version_number};
@@ -8,6 +8,7 @@ ghost use Rattle.shared_core_base.specs.declared.header.MessageType.TheVariants.
 
 use crate::header::{MessageHeader, MessageType};
 use crate::version::Version;
+use std::alloc::AllocError;
 use std::cmp::Ordering;
 
 /// A named type's code stands for it, and a custom entry's exactly where no named type has the code and one of its upper
@@ -46,4 +47,15 @@ pub fn equal_versions(a: Version, b: Version) -> bool
     ensures { IsTrue result ↔ (version_number a ≡ version_number b) }
 {
     a == b
+}
+
+/// A clone equals its source, and takes no memory.
+pub fn clone_each(
+    ty: &MessageType,
+    header: &MessageHeader,
+    version: &Version,
+) -> Result<(MessageType, MessageHeader, Version), AllocError>
+    ensures { result ≡ Ok (ty.now, header.now, version.now) }
+{
+    Ok((ty.clone()?, header.clone()?, version.clone()?))
 }

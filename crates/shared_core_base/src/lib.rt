@@ -3,4 +3,6 @@
 
 pub mod header;
 pub mod laws;
+#[cfg(test)]
+mod tests;
 pub mod version;
