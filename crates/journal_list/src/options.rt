@@ -1,0 +1,82 @@
+//! The program's arguments.
+ghost use Rattle.std.specs.Prelude.{◌≡◌, ◌≤◌, ℕ, map, IfSome, IsNone, string_bytes};
+ghost use Rattle.shared_core_base.specs.declared.version.Version.{Version as AnyVersion};
+ghost use Rattle.journal_list.specs.Options.{IsPiece, AreOptions};
+
+use shared_core::version::Version;
+
+const DEFAULT_PIECE: usize = 4096;
+
+const MAX_PIECE: usize = 65536;
+
+/// The version, and how many bytes are read at a time, from the words behind the program's name: no word, or one of one
+/// to five digits from 1 to 65,536. Other words answer `None`.
+pub fn options(args: &[String]) -> Option<(Version, usize)>
+    ensures some { IfSome result (λ found. AreOptions (map string_bytes args.now) found.0 found.1) }
+    ensures none { IsNone result → (version : AnyVersion) → (piece : ℕ) → AreOptions (map string_bytes args.now) version piece → ⊥ }
+    ensures low { IfSome result (λ found. 1 ≤ found.1) }
+    ensures high { IfSome result (λ found. found.1 ≤ 65536) }
+{
+    match args {
+        [] => Some((Version::V8, DEFAULT_PIECE)),
+        [word] => Some((Version::V8, piece_of(word.as_str())?)),
+        _ => None,
+    }
+}
+
+/// One to five digits, from 1 to 65,536.
+fn piece_of(word: &str) -> Option<usize>
+    ensures some { IfSome result (IsPiece word.now) }
+    ensures none { IsNone result → (piece : ℕ) → IsPiece word.now piece → ⊥ }
+    ensures low { IfSome result (λ piece. 1 ≤ piece) }
+    ensures high { IfSome result (λ piece. piece ≤ 65536) }
+{
+    // `parse` takes a sign
+    if 5 < word.len() || word.as_bytes().first() == Some(&b'+') {
+        return None;
+    }
+    let piece = word.parse::<usize>().ok()?;
+    if 1 <= piece && piece <= MAX_PIECE {
+        Some(piece)
+    } else {
+        None
+    }
+}
+
+#[cfg(test)]
+mod tests {
+    use super::*;
+    use std::test::Fail;
+
+    #[test]
+    fn takes_no_word_or_a_small_number(rt: HostRuntime) -> Result<(), Fail> {
+        let alloc = rt.alloc();
+        for (words, piece) in [
+            ("", Some(4096)),
+            ("3", Some(3)),
+            ("00003", Some(3)),
+            ("65536", Some(65536)),
+            ("0", None),
+            ("65537", None),
+            ("000003", None),
+            ("x", None),
+            ("+3", None),
+            ("3 3", None),
+            ("v9", None),
+        ] {
+            let mut args = Vec::new(alloc);
+            for word in words.split_whitespace() {
+                args.push(String::from_str(alloc, word)?)?;
+            }
+            let want = match piece {
+                Some(piece) => Some((Version::V8, piece)),
+                None => None,
+            };
+            assert_eq!(rt; options(args.as_slice()), want, "at {words}");
+        }
+        let mut empty = Vec::new(alloc);
+        empty.push(String::new(alloc))?;
+        assert_eq!(rt; options(empty.as_slice()), None);
+        Ok(())
+    }
+}

@@ -1,0 +1,32 @@
+#!/bin/sh
+# All tests: the gate (every proof from nothing, the edits that must fail, each test and the stored runs of the programs), and
+# then the program on the examples. The last line is 'N passed, M failed', of both.
+set -u
+cd "$(dirname "$0")/.." || exit 1
+
+log=$(mktemp) || exit 1
+trap 'rm -f "$log"' EXIT
+
+# stage COMMAND..: runs it, shows what it prints and adds its last 'N passed, M failed' to the counts
+passed=0
+failed=0
+stage() {
+  "$@" > "$log" 2>&1
+  status=$?
+  cat "$log"
+  counts=$(awk '/^[0-9]+ passed, [0-9]+ failed$/ { line = $0 } END { print line }' "$log")
+  if [ -n "$counts" ]; then
+    passed=$((passed + $(echo "$counts" | awk '{ print $1 }')))
+    failed=$((failed + $(echo "$counts" | awk '{ print $3 }')))
+  fi
+  if [ "$status" -ne 0 ] && [ "${counts##*, }" = '0 failed' ] || [ -z "$counts" ]; then
+    echo "failed: $*, status $status"
+    failed=$((failed + 1))
+  fi
+}
+
+stage rt ci
+stage sh scripts/check_program.sh
+
+echo "$passed passed, $failed failed"
+[ "$failed" -eq 0 ]
