@@ -1,14 +1,14 @@
 //! The listing of a stream, from any reader to any writer.
-ghost use Rattle.std.specs.Prelude.{◌≡◌, ◌<◌, ◌≤◌, ◌++◌, ℕ, List, length, IfOk, OnOk, MatchOption};
+ghost use Rattle.std.specs.Prelude.{◌≡◌, ◌<◌, ◌≤◌, ◌++◌, ℕ, List, length, IfOk, OnOk};
 ghost use Rattle.std.specs.Io.KnownBytes.{Appends, Consumes};
 ghost use Rattle.std.specs.String.{string_bytes};
 ghost use Rattle.shared_core_base.specs.declared.version.Version.TheVariants.{V8};
-ghost use Rattle.shared_core.specs.Items.{TakesItem, NoItemBegins, SplitsInto};
+ghost use Rattle.shared_core.specs.Items.{SplitsInto};
 ghost use Rattle.shared_core.specs.declared.encoding.Item.{Item as AnyItem};
 ghost use Rattle.journal_list.specs.Listing.{ack_text, line_of, rest_line, lines, most_pending, IsListed, IsRead, IsWritten};
 
 use bytes::Bytes;
-use shared_core::encoding::{Decoder, DecodingError, Item, PushError};
+use shared_core::encoding::{Decoder, Item, PushError};
 use shared_core::version::Version;
 use std::alloc::{AllocError, Global};
 use std::io::{Read, Write};
@@ -105,26 +105,10 @@ fn print_items(decoder: &mut Decoder, text: &mut String) -> Result<(), AllocErro
     ensures short { OnOk result (length decoder.new.bytes ≤ most_pending) }
 {
     text.clear();
-    while let Some(item) = next_item(decoder)? {
+    while let Some(item) = decoder.next_item()? {
         print_item(text, item)?;
     }
     Ok(())
-}
-
-/// The next whole item, of either kind.
-fn next_item(decoder: &mut Decoder) -> Result<Option<Item>, AllocError>
-    ensures taken { IfOk result (λ found. MatchOption found
-        (NoItemBegins decoder.old.version decoder.old.bytes × (decoder.new.bytes ≡ decoder.old.bytes)
-        × (length decoder.new.bytes ≤ most_pending))
-        (λ item. TakesItem decoder.old.version decoder.old.bytes item decoder.new.bytes)) }
-    ensures version { decoder.new.version ≡ decoder.old.version }
-{
-    match decoder.consume_next() {
-        Ok(None) => Ok(None),
-        Ok(Some(message)) => Ok(Some(Item::Message(message))),
-        Err(DecodingError::UnknownMessageType(unknown)) => Ok(Some(Item::Unknown(unknown.code()))),
-        Err(DecodingError::OutOfMemory) => Err(AllocError),
-    }
 }
 
 /// Appends an item's line.

@@ -5,12 +5,11 @@ ghost use Rattle.shared_core.specs.Unread.{held_bytes, held_length};
 mod pieces;
 
 pub use crate::encoding::pieces::decode_pieces;
-
 use crate::pending_bytes::PendingBytes;
 use bytes::Bytes;
 use shared_core_base::header::{MessageHeader, MessageType, UnknownMessageType};
 use shared_core_base::version::Version;
-use std::alloc::Global;
+use std::alloc::{AllocError, Global};
 use std::marker::Model;
 
 /// A message as it stands in the stream: its header, and its payload, which is not looked into.
@@ -124,9 +123,9 @@ fn hold_head(head: &mut Option<[u8; 8]>, pending: &mut PendingBytes) -> Option<[
 }
 
 impl Decoder {
-    ghost use Rattle.std.specs.Prelude.{◌≡◌, ◌+◌, ◌≤◌, ◌++◌, [], length, OnOk, OnErr, IfErr, IsOk, None, Ok};
+    ghost use Rattle.std.specs.Prelude.{◌≡◌, ◌+◌, ◌≤◌, ◌++◌, [], length, OnOk, OnErr, IfOk, IfErr, IsOk, MatchOption, None, Ok};
     ghost use Rattle.shared_core_base.specs.Version.{version_number};
-    ghost use Rattle.shared_core.specs.Items.{AnswersNext, RefusesPiece};
+    ghost use Rattle.shared_core.specs.Items.{AnswersNext, NoItemBegins, RefusesPiece, TakesItem};
 
     /// A decoder of this version, which is at least V5, before any byte has come. It takes no memory.
     pub fn new(alloc: Global, version: Version) -> Decoder
@@ -200,6 +199,26 @@ impl Decoder {
         };
         self.head = None;
         Ok(Some(RawMessage { header, payload }))
+    }
+
+    /// The next item, of either kind, or `None` exactly where no whole one remains: what `consume_next` answers, for a
+    /// caller to whom an unknown header is an item like any other. Want of memory takes nothing.
+    pub fn next_item(&mut self) -> Result<Option<Item>, AllocError>
+        ensures taken { IfOk result (λ found. MatchOption found
+            (NoItemBegins self.old.version self.old.bytes × (self.new.bytes ≡ self.old.bytes)
+            × (length self.new.bytes ≤ 4294967302))
+            (λ item. TakesItem self.old.version self.old.bytes item self.new.bytes)) }
+        ensures refused { OnErr result (self.new.bytes ≡ self.old.bytes) }
+        ensures version { self.new.version ≡ self.old.version }
+    {
+        match self.consume_next() {
+            Ok(None) => Ok(None),
+            Ok(Some(message)) => Ok(Some(Item::Message(message))),
+            Err(DecodingError::UnknownMessageType(unknown)) => {
+                Ok(Some(Item::Unknown(unknown.code())))
+            }
+            Err(DecodingError::OutOfMemory) => Err(AllocError),
+        }
     }
 }
 

@@ -5,6 +5,5 @@ pub mod encoding;
 pub mod laws;
 mod pending_bytes;
 
-pub use shared_core_base::header;
-pub use shared_core_base::version;
 pub use shared_core_base::version::Version;
+pub use shared_core_base::{header, version};

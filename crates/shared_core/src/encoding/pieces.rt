@@ -1,10 +1,10 @@
 //! The items of a whole stream.
-ghost use Rattle.std.specs.Prelude.{◌≡◌, ◌+◌, ◌++◌, ◌^◌, ◌≤◌, List, ℕ, length, IfOk, OnOk, MatchOption, IsErrOf};
+ghost use Rattle.std.specs.Prelude.{◌≡◌, ◌+◌, ◌++◌, ◌^◌, ◌≤◌, List, ℕ, length, IfOk, OnOk, IsErrOf};
 ghost use Rattle.std.specs.List.{concat};
 ghost use Rattle.shared_core_base.specs.Version.{version_number};
-ghost use Rattle.shared_core.specs.Items.{TakesItem, NoItemBegins, IsItemsThen, SplitsInto, BeginsWithWritten};
+ghost use Rattle.shared_core.specs.Items.{NoItemBegins, IsItemsThen, SplitsInto, BeginsWithWritten};
 
-use crate::encoding::{Decoder, DecodingError, Item, PiecesError, PushError};
+use crate::encoding::{Decoder, Item, PiecesError, PushError};
 use bytes::Bytes;
 use shared_core_base::version::Version;
 use std::alloc::{AllocError, AllocFailed, Global};
@@ -80,24 +80,8 @@ fn drain(decoder: &mut Decoder, items: &mut Vec<Item>) -> Result<(), PiecesError
     ensures version { OnOk result (decoder.new.version ≡ decoder.old.version) }
     ensures memory { IsErrOf result PiecesError.TooLong → ⊥ }
 {
-    while let Some(item) = next_item(decoder)? {
+    while let Some(item) = decoder.next_item()? {
         items.push(item)?;
     }
     Ok(())
-}
-
-/// The next item, of either kind.
-fn next_item(decoder: &mut Decoder) -> Result<Option<Item>, PiecesError>
-    ensures taken { IfOk result (λ found. MatchOption found
-        (NoItemBegins decoder.old.version decoder.old.bytes × (decoder.new.bytes ≡ decoder.old.bytes))
-        (λ item. TakesItem decoder.old.version decoder.old.bytes item decoder.new.bytes)) }
-    ensures version { decoder.new.version ≡ decoder.old.version }
-    ensures memory { IsErrOf result PiecesError.TooLong → ⊥ }
-{
-    match decoder.consume_next() {
-        Ok(None) => Ok(None),
-        Ok(Some(message)) => Ok(Some(Item::Message(message))),
-        Err(DecodingError::UnknownMessageType(unknown)) => Ok(Some(Item::Unknown(unknown.code()))),
-        Err(DecodingError::OutOfMemory) => Err(PiecesError::OutOfMemory),
-    }
 }

@@ -1,0 +1,16 @@
+pub mod Readers
+pub mod Groups
+pub mod GroupLoop
+pub mod Items
+pub mod Places
+pub mod GrammarLaws
+pub mod Sequences
+pub mod RecordLists
+pub mod Shortest
+pub mod VarintLoop
+pub mod Runs
+pub mod Merging
+pub mod SpellingLaws
+pub mod ReadBack
+pub mod ReadBackLevels
+pub mod TemplateView

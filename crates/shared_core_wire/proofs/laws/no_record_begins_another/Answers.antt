@@ -1,0 +1,5 @@
+use Rattle.shared_core_wire.proofs.GrammarLaws as grammar
+use Rattle.shared_core_wire.proofs.laws.no_record_begins_another.Goals as goal
+
+pub returns : goal.returns
+returns c = grammar.one_record

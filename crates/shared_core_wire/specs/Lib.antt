@@ -1,0 +1,16 @@
+pub mod Grammar
+pub mod Reader
+pub mod View
+pub mod Items
+pub mod ItemsLeft
+pub mod Places
+pub mod Spelling
+pub mod Schema
+pub mod Value
+pub mod Acceptance
+pub mod Overlay
+pub mod Canonical
+pub mod Fitting
+pub mod Laws
+pub mod Template
+pub mod Examples
