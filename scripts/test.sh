@@ -1,6 +1,6 @@
 #!/bin/sh
-# All tests: the gate (every proof from nothing, the edits that must fail, each test and the stored runs of the programs), and
-# then the program on the examples. The last line is 'N passed, M failed', of both.
+# All tests: the gate (every proof from nothing, the edits that must fail, each test and the stored runs of the programs), then
+# that the table of fields is one everywhere, and the program on the examples. The last line is 'N passed, M failed', of all.
 set -u
 cd "$(dirname "$0")/.." || exit 1
 
@@ -26,6 +26,8 @@ stage() {
 }
 
 stage rt ci
+stage sh scripts/check_table.sh
+stage sh scripts/check_records.sh
 stage sh scripts/check_program.sh
 
 echo "$passed passed, $failed failed"

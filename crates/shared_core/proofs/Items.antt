@@ -15,10 +15,10 @@ use Rattle.shared_core.specs.Items.{front_word, body_length, item_of, IsItem, Ar
 take_exact : (n : ℕ) (front rest : List ℕ) → length front ≡ n → take n (front ++ rest) ≡ front
 take_exact n front rest e = subst (λ k. take k (front ++ rest) ≡ front) e (take-append_seam front rest)
 
-drop_exact : (n : ℕ) (front rest : List ℕ) → length front ≡ n → drop n (front ++ rest) ≡ rest
+pub drop_exact : (n : ℕ) (front rest : List ℕ) → length front ≡ n → drop n (front ++ rest) ≡ rest
 drop_exact n front rest e = subst (λ k. drop k (front ++ rest) ≡ rest) e (drop-append_seam front rest)
 
-front_word_head : (head rest : List ℕ) → length head ≡ 8 → front_word (head ++ rest) ≡ from_be_bytes w64 head
+pub front_word_head : (head rest : List ℕ) → length head ≡ 8 → front_word (head ++ rest) ≡ from_be_bytes w64 head
 unfolding front_word
 front_word_head head rest eight = ap (from_be_bytes w64) (take_exact 8 head rest eight)
 

@@ -1,3 +1,6 @@
 pub mod Items
 pub mod Segments
 pub mod Equality
+pub mod TypedPayloads
+pub mod Frames
+pub mod Views

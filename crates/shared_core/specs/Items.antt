@@ -70,6 +70,7 @@ AnswersNext version old (Ok None) new = NoItemBegins version old × (new ≡ old
 AnswersNext version old (Err (UnknownMessageType unknown)) new = TakesItem version old (Unknown unknown.0) new
 AnswersNext version old (Err OutOfMemory) new =
     (new ≡ old) × (message : RawMessage) × (rest : List ℕ) × TakesItem version old (Message message) rest
+AnswersNext version old (Err other) new = ⊥
 
 -- A refused piece comes back as it was, and is too long only where the bytes would be 2 ^ 64 or more.
 abbrev pub RefusesPiece : List ℕ → List ℕ → PushError → Type 0

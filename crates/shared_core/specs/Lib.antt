@@ -1,3 +1,7 @@
 pub mod Unread
 pub mod Items
 pub mod Segments
+pub mod Errors
+pub mod Typed
+pub mod Written
+pub mod View

@@ -2,14 +2,20 @@
 ghost use Rattle.std.specs.Prelude.{◌≡◌, ◌+◌, ◌<◌, ◌++◌, length, IfSome, IfNone, Some, None};
 ghost use Rattle.shared_core.specs.Unread.{held_bytes, held_length};
 
+mod encoder;
 mod pieces;
+mod typed;
 
+pub use crate::encoding::encoder::Encoder;
 pub use crate::encoding::pieces::decode_pieces;
+use crate::errors::CommandTypeMismatchError;
 use crate::pending_bytes::PendingBytes;
 use bytes::Bytes;
 use shared_core_base::header::{MessageHeader, MessageType, UnknownMessageType};
 use shared_core_base::version::Version;
+use shared_core_wire::error::WireError;
 use std::alloc::{AllocError, Global};
+use std::fmt;
 use std::marker::Model;
 
 /// A message as it stands in the stream: its header, and its payload, which is not looked into.
@@ -54,9 +60,20 @@ pub enum Item {
 /// Why no message was answered.
 #[derive(Debug, Drop)]
 pub enum DecodingError {
+    /// The payload of a message of this type is not well-formed. The error beside it is always `Malformed`.
+    DecodeMessage(MessageType, WireError),
+    /// The message is of another type than the code expects.
+    UnexpectedMessageType(CommandTypeMismatchError),
+    /// A notification has no id, or an id and no result.
+    MissingField {
+        /// The type of the notification.
+        expected: MessageType,
+        /// `id` or `result`.
+        field: &'static str,
+    },
     /// The next header's code stands for no type. Its eight bytes are taken.
     UnknownMessageType(UnknownMessageType),
-    /// There is no memory to join the payload of the next message. Nothing is taken.
+    /// A request for memory was refused. Nothing is taken.
     OutOfMemory,
 }
 
@@ -68,6 +85,33 @@ impl From<UnknownMessageType> for DecodingError {
 
     fn from(unknown: UnknownMessageType) -> DecodingError {
         DecodingError::UnknownMessageType(unknown)
+    }
+}
+
+impl fmt::Display for DecodingError {
+    ghost use Rattle.std.specs.Prelude.{Some};
+    ghost use Rattle.shared_core.specs.Errors.{decoding_error_text};
+
+    ghost output = { λ error. Some (decoding_error_text error) };
+
+    fn fmt<W: fmt::Write>(&self, f: &mut fmt::Formatter<W>) -> fmt::Result {
+        match self {
+            DecodingError::DecodeMessage(ty, _) => {
+                let name = ty.debug_name();
+                write!(
+                    f,
+                    "cannot decode protocol message type {name}. Reason: malformed payload"
+                )
+            }
+            DecodingError::UnexpectedMessageType(mismatch) => write!(f, "{mismatch}"),
+            DecodingError::MissingField { expected, field } => {
+                let name = expected.debug_name();
+                let field = *field;
+                write!(f, "expected message type {name} to have field {field}")
+            }
+            DecodingError::UnknownMessageType(unknown) => write!(f, "{unknown}"),
+            DecodingError::OutOfMemory => f.write_str("out of memory"),
+        }
     }
 }
 
@@ -218,6 +262,8 @@ impl Decoder {
                 Ok(Some(Item::Unknown(unknown.code())))
             }
             Err(DecodingError::OutOfMemory) => Err(AllocError),
+            // The other refusals are those of a message's payload.
+            Err(_) => unreachable!(),
         }
     }
 }

@@ -1,3 +1,4 @@
 pub mod MessageType
+pub mod CommandType
 pub mod MessageHeader
 pub mod Version

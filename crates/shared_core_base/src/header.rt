@@ -2,6 +2,7 @@
 ghost use Rattle.std.specs.Prelude.{◌≡◌, ◌≤◌, ◌<◌, IsTrue, ◌↔◌, Some, None};
 ghost use Rattle.shared_core_base.specs.MessageType.{code_of, variant_name_of, allows_ack};
 
+pub use crate::command_type::CommandType;
 use std::fmt;
 use std::marker::Model;
 
@@ -53,6 +54,22 @@ pub enum MessageType {
     SignalNotification,
     /// A code that no named type has, and of whose upper six bits one is set.
     CustomEntry(u16),
+}
+
+/// Prints the text of the type's command where `CommandType::try_from` succeeds, as `get state`, else the debug name, as
+/// `CustomEntry(64513)`.
+impl fmt::Display for MessageType {
+    ghost use Rattle.std.specs.Prelude.{Some};
+    ghost use Rattle.shared_core_base.specs.CommandType.{message_type_text};
+
+    ghost output = { λ ty. Some (message_type_text ty) };
+
+    fn fmt<W: fmt::Write>(&self, f: &mut fmt::Formatter<W>) -> fmt::Result {
+        match CommandType::try_from(*self) {
+            Ok(command) => write!(f, "{command}"),
+            Err(ty) => write!(f, "{}", ty.debug_name()),
+        }
+    }
 }
 
 /// A code that stands for no message type: no named type has it, and none of its upper six bits is set.

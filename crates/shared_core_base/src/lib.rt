@@ -1,6 +1,7 @@
-//! What every part of the journal wire protocol stands on: message types, headers and versions.
+//! What every part of the journal wire protocol stands on: message types, command types, headers and versions.
 #![tactic(auto)]
 
+pub mod command_type;
 pub mod header;
 pub mod laws;
 #[cfg(test)]

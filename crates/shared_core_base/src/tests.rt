@@ -1,5 +1,5 @@
-//! The codes and names of all types, and header words, as the protocol lists them.
-use crate::header::{MessageHeader, MessageType};
+//! The codes and names of all types, the commands with their texts, and header words, as the protocol lists them.
+use crate::header::{CommandType, MessageHeader, MessageType};
 use std::test::Fail;
 
 // The code and the name of each type, in the order of codes.
@@ -47,6 +47,37 @@ const NAMED: [(u16, &str); 41] = [
     (0xFBFF, "SignalNotification"),
 ];
 
+// The code of each command, the command type that it converts to, and the text that both print.
+const COMMANDS: [(u16, CommandType, &str); 20] = [
+    (0x0400, CommandType::Input, "handler input"),
+    (0x0401, CommandType::Output, "handler return"),
+    (0x0402, CommandType::GetState, "get state"),
+    (0x0403, CommandType::SetState, "set state"),
+    (0x0404, CommandType::ClearState, "clear state"),
+    (0x0405, CommandType::ClearAllState, "clear all state"),
+    (0x0406, CommandType::GetStateKeys, "get state keys"),
+    (0x0407, CommandType::GetState, "get state"),
+    (0x0408, CommandType::GetStateKeys, "get state keys"),
+    (0x0409, CommandType::GetPromise, "get promise"),
+    (0x040A, CommandType::PeekPromise, "peek promise"),
+    (0x040B, CommandType::CompletePromise, "complete promise"),
+    (0x040C, CommandType::Sleep, "sleep"),
+    (0x040D, CommandType::Call, "call"),
+    (0x040E, CommandType::OneWayCall, "one way call/send"),
+    (0x0410, CommandType::SendSignal, "send signal"),
+    (0x0411, CommandType::Run, "run"),
+    (0x0412, CommandType::AttachInvocation, "attach invocation"),
+    (
+        0x0413,
+        CommandType::GetInvocationOutput,
+        "get invocation output",
+    ),
+    (0x0414, CommandType::CompleteAwakeable, "complete awakeable"),
+];
+
+// The codes of the two commands that no command type converts to: the eager reads of the state.
+const EAGER: [u16; 2] = [0x0407, 0x0408];
+
 #[test]
 fn each_code_has_its_name(rt: HostRuntime) -> Result<(), Fail> {
     for (code, name) in NAMED {
@@ -93,6 +124,68 @@ fn other_codes_are_custom_or_refused(rt: HostRuntime) -> Result<(), Fail> {
     let written = MessageType::try_from(u16::from(MessageType::CustomEntry(0x0400)));
     assert!(rt; matches!(&written, Ok(MessageType::InputCommand)));
     assert!(rt; MessageType::CustomEntry(0x0500).is_command());
+    Ok(())
+}
+
+#[test]
+fn each_command_has_its_type_and_text(rt: HostRuntime) -> Result<(), Fail> {
+    for (code, command, text) in COMMANDS {
+        let Ok(ty) = MessageType::try_from(code) else {
+            assert!(rt; false, "{code:x} is refused");
+            continue;
+        };
+        assert!(rt;
+            matches!(CommandType::try_from(ty), Ok(found) if found == command),
+            "at {code:x}"
+        );
+        let of_the_command = format!(in rt.alloc(); "{command}")?;
+        assert_eq!(rt; of_the_command.as_str(), text, "at {code:x}");
+        let of_the_message = format!(in rt.alloc(); "{ty}")?;
+        assert_eq!(rt; of_the_message.as_str(), text, "at {code:x}");
+        if !EAGER.contains(&code) {
+            assert_eq!(rt; u16::from(MessageType::from(command)), code);
+        }
+    }
+    let cancel = CommandType::CancelInvocation;
+    assert_eq!(rt; u16::from(MessageType::from(cancel)), 0x0410);
+    let text = format!(in rt.alloc(); "{cancel}")?;
+    assert_eq!(rt; text.as_str(), "cancel invocation");
+    Ok(())
+}
+
+#[test]
+fn other_types_are_no_command_types(rt: HostRuntime) {
+    for ty in [
+        MessageType::Start,
+        MessageType::End,
+        MessageType::GetLazyStateCompletionNotification,
+        MessageType::GetStateEphemeralCommand,
+        MessageType::CustomEntry(0x0500),
+        MessageType::CustomEntry(0x0400),
+    ] {
+        assert!(rt;
+            matches!(CommandType::try_from(ty), Err(refused) if refused == ty),
+            "at {:x}",
+            u16::from(ty)
+        );
+    }
+    assert!(rt; MessageType::CustomEntry(0x0500).is_command());
+}
+
+#[test]
+fn other_types_print_their_names(rt: HostRuntime) -> Result<(), Fail> {
+    for (code, name) in NAMED {
+        let Ok(ty) = MessageType::try_from(code) else {
+            assert!(rt; false, "{code:x} is refused");
+            continue;
+        };
+        if !ty.is_command() {
+            let text = format!(in rt.alloc(); "{ty}")?;
+            assert_eq!(rt; text.as_str(), name, "at {code:x}");
+        }
+    }
+    let custom = format!(in rt.alloc(); "{}", MessageType::CustomEntry(0x0500))?;
+    assert_eq!(rt; custom.as_str(), "CustomEntry(1280)");
     Ok(())
 }
 

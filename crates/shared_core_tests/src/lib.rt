@@ -7,3 +7,5 @@ mod frames;
 mod sharing;
 #[cfg(test)]
 mod stream;
+#[cfg(test)]
+mod typed;

@@ -1,0 +1,72 @@
+-- A frame spells one item.
+use Rattle.std.proofs.Common.{◌≡◌, ℕ, ◌+◌, ◌*◌, ◌/◌, ◌%◌, ◌^◌, ◌<◌, List, ◌++◌, length, drop, Option, Some, None, Bool, true, false, cond, eqb, ltb, refl, sym, ap, ◌∙◌, arith, length-append}
+use Rattle.std.specs.Int.{w64, to_be_bytes, from_be_bytes}
+use Rattle.std.specs.Option.{option_map}
+use Rattle.std.proofs.lemmas.Nat.{from_be_bytes-to_be_bytes_8}
+use Rattle.std.proofs.lemmas.Bool.{ltb-true}
+use Rattle.shared_core_base.specs.declared.header.MessageType.{MessageType}
+use Rattle.shared_core_base.specs.declared.header.MessageType.TheVariants.{CustomEntry}
+use Rattle.shared_core_base.specs.declared.header.MessageHeader.{MessageHeader}
+use Rattle.shared_core_base.specs.declared.version.Version.{Version}
+use Rattle.shared_core_base.specs.MessageType.{code_of, type_of, allows_ack, IsNamed}
+use Rattle.shared_core_base.specs.MessageHeader.{header_of, word_of, word_code, ack_bit}
+use Rattle.shared_core_base.proofs.Types.{type_of_code}
+use Rattle.shared_core_parts.specs.Frames.{frame, WireForm, wire_payload, wire_frame, header_of_payload}
+use Rattle.shared_core.specs.Items.{IsItem, front_word, body_length, item_of}
+use Rattle.shared_core.specs.Written.{header_read, item_written}
+use Rattle.shared_core.proofs.Items.{front_word_head, drop_exact}
+
+-- a word by its three numbers
+word_parts : (code ack size : ℕ) → ack < 2 → size < 2 ^ 32 → ((code * 2 ^ 48 + ack * 2 ^ 47 + size) / 2 ^ 48 ≡ code) × ((code * 2 ^ 48 + ack * 2 ^ 47 + size) / 2 ^ 47 % 2 ≡ ack) × ((code * 2 ^ 48 + ack * 2 ^ 47 + size) % 2 ^ 32 ≡ size)
+word_parts code ack size one fits = (omega arith, omega arith, omega arith)
+
+ack_small : (flag : Option Bool) → ack_bit flag < 2
+ack_small (Some true) = omega arith
+ack_small (Some false) = omega arith
+ack_small None = omega arith
+
+-- a named type's code has sixteen bits
+named_code : (ty : MessageType) → IsNamed ty → code_of ty < 65536
+named_code ty named = ltb-true _ _ (small ty named)
+  where
+    small : (ty : MessageType) → IsNamed ty → ltb (code_of ty) 65536 ≡ true
+    small ty = elim ty as (λ ty. IsNamed ty → ltb (code_of ty) 65536 ≡ true) [
+      | CustomEntry code ↦ λ named. absurd named
+      | _ ↦ λ named. refl
+    ]
+
+abbrev header : MessageType → ℕ → Option Bool → MessageHeader
+header ty size flag = record { ty = ty; length = size; requested_ack = flag }
+
+-- what is read from the word of a header
+read_again : (ty : MessageType) (flag : Option Bool) (size : ℕ) → IsNamed ty → size < 2 ^ 32 → (header_of (word_of (header ty size flag)) ≡ Some (header ty size (cond (allows_ack ty) (Some (eqb (ack_bit flag) 1)) None))) × (word_of (header ty size flag) < 2 ^ 64)
+unfolding header_of word_of
+read_again ty flag size named fits =
+    let code = code_of ty in
+    let ack = ack_bit flag in
+    let small = ack_small flag in
+    let low = named_code ty named in
+    let parts = word_parts code ack size small fits in
+    let word = code * 2 ^ 48 + ack * 2 ^ 47 + size in
+    let found : type_of (word / 2 ^ 48) ≡ Some ty = ap type_of parts.0 ∙ type_of_code ty named in (
+      ap (option_map (λ t. header t (word % 2 ^ 32) (cond (allows_ack t) (Some (eqb (word / 2 ^ 47 % 2) 1)) None))) found
+          ∙ ap (λ n. Some (header ty n (cond (allows_ack ty) (Some (eqb (word / 2 ^ 47 % 2) 1)) None))) parts.2
+          ∙ ap (λ n. Some (header ty size (cond (allows_ack ty) (Some (eqb n 1)) None))) parts.1,
+      omega (arith, small, low, fits),
+    )
+
+-- a frame is the spelling of one item, with its type and its payload
+pub frame_is_item : (version : Version) (ty : MessageType) (form : WireForm) (bytes : List ℕ) → IsNamed ty → length (wire_payload form) < 2 ^ 32 → bytes ≡ wire_frame ty form → IsItem version bytes (item_written ty form)
+unfolding body_length item_of
+frame_is_item version ty form bytes named fits is =
+    let payload = wire_payload form in
+    let word = word_of (header_of_payload ty form.requested_ack payload) in
+    let head = to_be_bytes w64 word in
+    let eight : length head ≡ 8 = refl in
+    let again = read_again ty form.requested_ack (length payload) named fits in
+    let reads : front_word (head ++ payload) ≡ word = front_word_head head payload eight ∙ from_be_bytes-to_be_bytes_8 word again.1 in
+    let typed : header_of (front_word (head ++ payload)) ≡ Some (header_read ty form) = ap header_of reads ∙ again.0 in
+    rw is (record {
+      whole = length-append head payload ∙ ap (λ n. n + length payload) eight ∙ rw typed refl;
+      means = rw (typed, drop_exact 8 head payload eight) refl;
+    })

@@ -1,0 +1,31 @@
+-- What was written is accepted and means what was written, and refusals of payloads are refusals of messages.
+use Rattle.std.proofs.Common.{◌≡◌, ℕ, List, Result, Ok, Err}
+use Rattle.std.specs.Prelude.{ℤ, IfOk, IfErr}
+use Rattle.shared_core_base.specs.declared.header.MessageType.{MessageType}
+use Rattle.shared_core_wire.specs.Value.{Parts}
+use Rattle.shared_core_record.specs.Payloads.{IsAccepted, payload_meaning}
+use Rattle.shared_core_record.proofs.PayloadLaws.{canonical_is_read_back}
+use Rattle.shared_core.specs.declared.encoding.RawMessage.{RawMessage}
+use Rattle.shared_core.specs.declared.encoding.DecodingError.{DecodingError}
+use Rattle.shared_core.specs.declared.encoding.DecodingError.TheVariants.{DecodeMessage, UnexpectedMessageType, MissingField, UnknownMessageType, OutOfMemory}
+use Rattle.shared_core.specs.Typed.{IsWritten, RefusesPayload, RefusesTyped}
+
+pub written_means : (schema : ℕ) (v : Parts) (payload : List ℕ) → IsWritten schema v payload → IsAccepted schema payload × (payload_meaning schema payload ≡ v)
+written_means schema v payload (writable, spelled) =
+    let back = canonical_is_read_back schema v writable.0 writable.2 writable.1 in
+    rw spelled back
+
+pub if_ok : {T E : Type 0} (r : Result T E) (P : Type 0) → P → IfOk r (λ _. P)
+if_ok (Ok x) P holds = holds
+if_ok (Err e) P holds = tt
+
+refuses : (ty : MessageType) (schema : ℕ) (message : RawMessage) (index : ℤ) (e : DecodingError) → message.header.ty ≡ ty → RefusesPayload schema message e → RefusesTyped ty schema message index e
+refuses ty schema message index (DecodeMessage found error) same refused = (same, refused)
+refuses ty schema message index (UnexpectedMessageType mismatch) same refused = absurd refused
+refuses ty schema message index (MissingField expected field) same refused = absurd refused
+refuses ty schema message index (UnknownMessageType unknown) same refused = absurd refused
+refuses ty schema message index OutOfMemory same refused = (same, refused)
+
+pub if_err : {T : Type 0} (ty : MessageType) (schema : ℕ) (message : RawMessage) (index : ℤ) (r : Result T DecodingError) → message.header.ty ≡ ty → IfErr r (RefusesPayload schema message) → IfErr r (RefusesTyped ty schema message index)
+if_err ty schema message index (Ok x) same refused = tt
+if_err ty schema message index (Err e) same refused = refuses ty schema message index e same refused

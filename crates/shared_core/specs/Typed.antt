@@ -1,0 +1,38 @@
+-- What typed decoding of a message answers.
+use Rattle.std.specs.Prelude.{◌≡◌, ◌≢◌, ℕ, ℤ, List}
+use Rattle.shared_core_base.specs.declared.header.MessageType.{MessageType}
+use Rattle.shared_core_wire.specs.declared.error.WireError.TheVariants.{Malformed}
+use Rattle.shared_core_wire.specs.Value.{Parts}
+use Rattle.shared_core_wire.specs.Canonical.{canonical_payload}
+use Rattle.shared_core_wire.specs.Laws.{IsWritable}
+use Rattle.shared_core_record.specs.Table.{table}
+use Rattle.shared_core_record.specs.Payloads.{IsAccepted, payload_meaning}
+use Rattle.shared_core.specs.declared.errors.CommandTypeMismatchError.{CommandTypeMismatchError}
+use Rattle.shared_core.specs.declared.encoding.RawMessage.{RawMessage}
+use Rattle.shared_core.specs.declared.encoding.DecodingError.{DecodingError}
+use Rattle.shared_core.specs.declared.encoding.DecodingError.TheVariants.{DecodeMessage, UnexpectedMessageType, MissingField, UnknownMessageType, OutOfMemory}
+
+-- The mismatch that is answered where a message is not of the type that is expected.
+abbrev pub mismatch_of : MessageType → RawMessage → ℤ → CommandTypeMismatchError
+mismatch_of expected message index = record { command_index = index; actual = message.header.ty; expected = expected }
+
+-- The payload is well-formed for the schema, and the parts are what it means.
+abbrev pub MeansParts : ℕ → List ℕ → Parts → Type 0
+MeansParts schema payload parts = IsAccepted schema payload × (parts ≡ payload_meaning schema payload)
+
+-- When a payload is refused: it is not well-formed for the schema, or memory was refused.
+abbrev pub RefusesPayload : ℕ → RawMessage → DecodingError → Type 0
+RefusesPayload schema message (DecodeMessage found error) =
+    (found ≡ message.header.ty) × (error ≡ Malformed) × ¬ (IsAccepted schema message.payload)
+RefusesPayload schema message OutOfMemory = Unit {0}
+RefusesPayload schema message refusal = ⊥
+
+-- When a message is refused: the types differ; or they are the same, and its payload is refused.
+abbrev pub RefusesTyped : MessageType → ℕ → RawMessage → ℤ → DecodingError → Type 0
+RefusesTyped ty schema message index (UnexpectedMessageType mismatch) =
+    (message.header.ty ≢ ty) × (mismatch ≡ mismatch_of ty message index)
+RefusesTyped ty schema message index refusal = (message.header.ty ≡ ty) × RefusesPayload schema message refusal
+
+-- The payload is the canonical spelling of the value, which fits the schema and has at most one hundred levels.
+abbrev pub IsWritten : ℕ → Parts → List ℕ → Type 0
+IsWritten schema v payload = IsWritable table 100 schema v × (payload ≡ canonical_payload table schema v)

@@ -1,0 +1,67 @@
+-- The view of a notification, whatever its type.
+use Rattle.std.specs.Prelude.{◌≡◌, ◌≢◌, ◌⊎◌, ℕ, List, Option, Some, None, true, codes, nat_eq}
+use Rattle.std.specs.List.{list_any}
+use Rattle.shared_core_base.specs.declared.header.MessageType.{MessageType}
+use Rattle.shared_core_base.specs.declared.header.MessageType.TheVariants.{GetLazyStateCompletionNotification, GetLazyStateKeysCompletionNotification, GetPromiseCompletionNotification, PeekPromiseCompletionNotification, CompletePromiseCompletionNotification, SleepCompletionNotification, CallCompletionNotification, CallInvocationIdCompletionNotification, RunCompletionNotification, AttachInvocationCompletionNotification, GetInvocationOutputCompletionNotification, SignalNotification}
+use Rattle.shared_core_wire.specs.Schema.{includes, all_numbers}
+use Rattle.shared_core_wire.specs.Overlay.{payload_records}
+use Rattle.shared_core_wire.specs.Template.{are_apart, part_at}
+use Rattle.shared_core_record.specs.Table as schema
+use Rattle.shared_core_wire.specs.Value.{Part, Parts, Absent, nil, cons}
+use Rattle.shared_core_record.specs.Table.{table, notification_template}
+use Rattle.shared_core_record.specs.Payloads.{IsAccepted, payload_meaning}
+use Rattle.shared_core_parts.specs.declared.notification.Notification.{Notification}
+use Rattle.shared_core_parts.specs.contracts.notification_template.IdOneOf.TheImpl as ids
+use Rattle.shared_core_parts.specs.contracts.notification_template.ResultOneOf.TheImpl as results
+use Rattle.shared_core.specs.declared.encoding.RawMessage.{RawMessage}
+use Rattle.shared_core.specs.declared.encoding.DecodingError.{DecodingError}
+use Rattle.shared_core.specs.declared.encoding.DecodingError.TheVariants.{DecodeMessage, MissingField}
+use Rattle.shared_core.specs.Typed.{MeansParts, RefusesPayload}
+
+-- The parts of the template that a notification is: its id and its result.
+abbrev pub notification_parts : Notification → Parts
+notification_parts found = cons (ids.part-value.it found.id) (cons (results.part-value.it found.result) nil)
+
+-- The refusal says that a field of the message is missing.
+abbrev pub IsMissing : RawMessage → List ℕ → DecodingError → Type 0
+IsMissing message field (MissingField expected missing) = (expected ≡ message.header.ty) × (missing.now ≡ field)
+IsMissing message field refusal = ⊥
+
+-- What a template without an id, or without a result, is.
+abbrev pub LacksField : List ℕ → Parts → Type 0
+LacksField field parts =
+    ((field ≡ codes "id") × (result : Part) × (parts ≡ cons Absent (cons result nil)))
+    ⊎ ((field ≡ codes "result") × (id : Part) × (id ≢ Absent) × (parts ≡ cons id (cons Absent nil)))
+
+-- When the view is refused: the payload is, or it means a template that lacks a field, the id first.
+abbrev pub RefusesNotification : RawMessage → DecodingError → Type 0
+RefusesNotification message (MissingField expected missing) =
+    (expected ≡ message.header.ty) × (parts : Parts) × MeansParts notification_template message.payload parts × LacksField missing.now parts
+RefusesNotification message refusal = RefusesPayload notification_template message refusal
+
+-- The schema of a notification's type: the twelve named ones have one.
+abbrev pub notification_schema : MessageType → Option ℕ
+notification_schema GetLazyStateCompletionNotification = Some schema.get_lazy_state_completion
+notification_schema GetLazyStateKeysCompletionNotification = Some schema.get_lazy_state_keys_completion
+notification_schema GetPromiseCompletionNotification = Some schema.get_promise_completion
+notification_schema PeekPromiseCompletionNotification = Some schema.peek_promise_completion
+notification_schema CompletePromiseCompletionNotification = Some schema.complete_promise_completion
+notification_schema SleepCompletionNotification = Some schema.sleep_completion
+notification_schema CallCompletionNotification = Some schema.call_completion
+notification_schema CallInvocationIdCompletionNotification = Some schema.call_invocation_id_completion
+notification_schema RunCompletionNotification = Some schema.run_completion
+notification_schema AttachInvocationCompletionNotification = Some schema.attach_invocation_completion
+notification_schema GetInvocationOutputCompletionNotification = Some schema.get_invocation_output_completion
+notification_schema SignalNotification = Some schema.signal_notification
+notification_schema ty = None
+
+-- The payload is well-formed for the schema, and each of its numbers is one of the schema's or none of the template's.
+abbrev pub IsOfNotification : ℕ → List ℕ → Type 0
+IsOfNotification s payload =
+    IsAccepted s payload × (are_apart (table notification_template) (table s) (payload_records 100 payload) ≡ true)
+
+-- At each number of the template that stands in the payload, the parts of the template hold what the typed meaning holds there.
+abbrev pub AgreesWithType : ℕ → List ℕ → Parts → Type 0
+AgreesWithType s payload parts = (n : ℕ) → includes (all_numbers (table notification_template)) n ≡ true
+    → list_any (λ r. nat_eq r.number n) (payload_records 100 payload) ≡ true
+    → part_at (table notification_template) parts n ≡ part_at (table s) (payload_meaning s payload) n

@@ -1,0 +1,52 @@
+//! Messages into frames.
+ghost use Rattle.std.specs.Prelude.{◌≡◌, ◌≤◌, ◌^◌, IfOk, IsErr, Err, MatchBool};
+ghost use Rattle.std.specs.Result.{IsErrOf};
+ghost use Rattle.shared_core_base.specs.Version.{version_number};
+ghost use Rattle.shared_core_record.specs.declared.error.EncodingError.TheVariants.{PayloadTooLong};
+ghost use Rattle.shared_core_parts.specs.Frames.{wire_size, wire_frame};
+
+use bytes::Bytes;
+use shared_core_base::version::Version;
+use shared_core_parts::restate_message::RestateEncodableMessage;
+use shared_core_record::error::EncodingError;
+use std::alloc::Global;
+
+/// Writes messages as frames of a version. A contract sees it as the record of its version.
+#[derive(Drop)]
+pub struct Encoder {
+    version: Version,
+}
+
+impl Encoder {
+    ghost use Rattle.shared_core.specs.Items.{IsItem};
+    ghost use Rattle.shared_core.specs.Written.{item_written};
+
+    /// An encoder of this version, which is at least V5.
+    pub fn new(version: Version) -> Encoder
+        requires { 5 ≤ version_number version }
+        ensures { result ≡ record { version = version } }
+    {
+        Encoder { version }
+    }
+
+    /// The frame of a message: the header's eight bytes and the one canonical spelling of what the message is written as at
+    /// this version. It is the spelling of one item, with the message's type.
+    ///
+    /// `PayloadTooLong` exactly where that payload has more than 4,294,967,295 bytes, which is known before memory is asked
+    /// for, unless the message is rewritten first, as a suspension is before V7. `OutOfMemory` where a request for memory
+    /// was refused. The message stands after either.
+    #[tactic(auto, using(crate::proofs::Frames::frame_is_item))]
+    pub fn encode<M: RestateEncodableMessage>(
+        &self,
+        alloc: Global,
+        message: &M,
+    ) -> Result<Bytes, EncodingError>
+        ensures frame { IfOk result (λ bytes. bytes ≡ wire_frame M.encoded_type (M.wire_form message.now self.now.version)) }
+        ensures item { IfOk result (λ bytes. IsItem self.now.version bytes (item_written M.encoded_type (M.wire_form message.now self.now.version))) }
+        ensures too_long { IsErrOf result PayloadTooLong → 2 ^ 32 ≤ wire_size (M.wire_form message.now self.now.version) }
+        ensures refused { 2 ^ 32 ≤ wire_size (M.wire_form message.now self.now.version)
+            → MatchBool (M.is_rewritten self.now.version) (IsErr result) (result ≡ Err PayloadTooLong) }
+    {
+        message.encode(alloc, self.version)
+    }
+}

@@ -1,0 +1,112 @@
+//! Typed messages out of raw ones.
+ghost use Rattle.std.specs.Prelude.{◌≡◌, ◌≢◌, ◌≤◌, ◌<◌, ℕ, IfOk, IfErr, MatchResult, Err, Some};
+ghost use Rattle.shared_core_record.specs.Payloads.{IsAccepted};
+ghost use Rattle.shared_core_wire.specs.Value.{Parts};
+ghost use Rattle.shared_core_base.specs.MessageType.{code_of};
+ghost use Rattle.shared_core_record.specs.Table.{notification_template};
+
+use crate::encoding::{DecodingError, RawMessage};
+use crate::errors::CommandTypeMismatchError;
+use shared_core_parts::notification::Notification;
+use shared_core_parts::notification_template::NotificationTemplate;
+use shared_core_parts::restate_message::RestateMessage;
+use shared_core_record::record::WireRecord;
+use shared_core_wire::error::WireError;
+use std::alloc::Global;
+
+impl RawMessage {
+    ghost use Rattle.shared_core.specs.Typed.{MeansParts, IsWritten, RefusesPayload, RefusesTyped, mismatch_of};
+    ghost use Rattle.shared_core.specs.View.{notification_parts, notification_schema, AgreesWithType, IsMissing, IsOfNotification, RefusesNotification};
+    ghost use Rattle.shared_core.specs.declared.encoding.DecodingError.TheVariants as error;
+
+    /// The message as a record of its type.
+    ///
+    /// First the types are compared, without memory and whatever the payload: where they differ the answer is
+    /// `UnexpectedMessageType` with the index, this message's type as the actual and the record's as the expected one.
+    /// Then `DecodeMessage` where the payload is not well-formed, `OutOfMemory` where a request for memory was refused, and
+    /// where both are so either. Bytes fields share the payload. The message stands after any refusal.
+    pub fn decode_to<M: RestateMessage>(
+        &self,
+        alloc: Global,
+        command_index: i64,
+    ) -> Result<M, DecodingError>
+        ensures typed { IfOk result (λ message. self.now.header.ty ≡ M.message_type) }
+        ensures ok { IfOk result (λ message. MeansParts M.schema self.now.payload (M.parts message)) }
+        ensures err { IfErr result (RefusesTyped M.message_type M.schema self.now command_index) }
+        // whatever the payload
+        ensures unexpected { self.now.header.ty ≢ M.message_type
+            → result ≡ Err (error.UnexpectedMessageType (mismatch_of M.message_type self.now command_index)) }
+        // what was written is read again
+        ensures written { (v : Parts) → self.now.header.ty ≡ M.message_type → IsWritten M.schema v self.now.payload
+            → MatchResult result (λ message. M.parts message ≡ v) (λ refusal. refusal ≡ error.OutOfMemory) }
+    {
+        let actual = self.ty();
+        let expected = M::ty();
+        if actual == expected {
+            return self.decode_payload(alloc);
+        }
+        Err(DecodingError::UnexpectedMessageType(CommandTypeMismatchError::new(
+            command_index,
+            actual,
+            expected,
+        )))
+    }
+
+    /// The message as a notification, whatever notification it is: its id and its result, read by what all notifications have
+    /// in common. The type must be that of a notification.
+    ///
+    /// First `DecodeMessage` where the payload is not well-formed for the template of notifications, then `MissingField` with
+    /// the field `id` where there is none, then with `result`. `OutOfMemory` where a request for memory was refused. Bytes
+    /// fields share the payload. The message stands after any refusal.
+    #[tactic(auto, using(crate::proofs::Views::view_accepts, crate::proofs::Views::view_agrees))]
+    pub fn decode_as_notification(&self, alloc: Global) -> Result<Notification, DecodingError>
+        requires first { 0x8000 ≤ code_of self.now.header.ty }
+        requires last { code_of self.now.header.ty < 0xFC00 }
+        ensures ok { IfOk result (λ found. MeansParts notification_template self.now.payload (notification_parts found)) }
+        ensures err { IfErr result (RefusesNotification self.now) }
+        // what the notification's own type accepts is no refusal, and the view holds what its meaning holds
+        ensures accepts { (s : ℕ) → notification_schema self.now.header.ty ≡ Some s → IsOfNotification s self.now.payload
+            → IsAccepted notification_template self.now.payload }
+        ensures agrees { IfOk result (λ found. (s : ℕ) → notification_schema self.now.header.ty ≡ Some s
+            → IsOfNotification s self.now.payload → AgreesWithType s self.now.payload (notification_parts found)) }
+    {
+        let NotificationTemplate { id, result } = self.decode_payload(alloc)?;
+        let Some(id) = id else {
+            return Err(self.missing("id"));
+        };
+        let Some(result) = result else {
+            return Err(self.missing("result"));
+        };
+        Ok(Notification { id, result })
+    }
+
+    /// That a field of the notification is missing.
+    fn missing(&self, field: &'static str) -> DecodingError
+        ensures { IsMissing self.now field.now result }
+    {
+        DecodingError::MissingField {
+            expected: self.ty(),
+            field,
+        }
+    }
+
+    /// The payload as a record, whatever the message's type.
+    #[tactic(auto, using(crate::proofs::TypedPayloads::written_means))]
+    fn decode_payload<M: WireRecord>(&self, alloc: Global) -> Result<M, DecodingError>
+        ensures ok { IfOk result (λ found. MeansParts M.schema self.now.payload (M.parts found)) }
+        ensures err { IfErr result (RefusesPayload M.schema self.now) }
+        ensures written { (v : Parts) → IsWritten M.schema v self.now.payload
+            → MatchResult result (λ found. M.parts found ≡ v) (λ refusal. refusal ≡ error.OutOfMemory) }
+    {
+        let Ok(payload) = self.payload.clone() else {
+            return Err(DecodingError::OutOfMemory);
+        };
+        match M::decode(alloc, payload) {
+            Ok(found) => Ok(found),
+            Err(WireError::Malformed) => {
+                Err(DecodingError::DecodeMessage(self.ty(), WireError::Malformed))
+            }
+            Err(WireError::OutOfMemory) => Err(DecodingError::OutOfMemory),
+        }
+    }
+}

@@ -1,0 +1,163 @@
+//! The record `CompleteAwakeableCommandMessage`.
+
+ghost use Rattle.std.specs.Prelude.{[], false, refl, ◌∷◌};
+ghost use Rattle.shared_core_wire.specs.Schema.{Message};
+ghost use Rattle.shared_core_wire.specs.Value.{Member, cons, nil};
+ghost use Rattle.shared_core_base.specs.declared.header.MessageType.TheVariants as types;
+ghost use Rattle.shared_core_parts.specs.Frames.{plain_form};
+ghost use Rattle.shared_core_record.specs.Table as tables;
+ghost use Rattle.shared_core_record.specs.FieldParts.{message_part, option_part, text_part};
+ghost use Rattle.shared_core_record.specs.EqualityRules.{different_members, equality_rules};
+
+use bytes::Bytes;
+use shared_core_base::header::MessageType;
+use shared_core_base::version::Version;
+use shared_core_parts::failure::Failure;
+use shared_core_parts::restate_message::{RestateEncodableMessage, RestateMessage, encode_frame};
+use shared_core_parts::value::Value;
+use shared_core_record::error::EncodingError;
+use shared_core_record::occurrence::Occurrence;
+use shared_core_record::oneof::OneOf;
+use shared_core_record::record::WireRecord;
+use shared_core_record::size::Size;
+use shared_core_record::write::{write_message_value, write_oneof, write_text};
+use shared_core_wire::error::WireError;
+use std::alloc::{AllocError, Global};
+use std::result;
+
+/// The result.
+#[derive(Debug, PartialEq, Drop)]
+pub enum Result {
+    /// A value.
+    Value(Value),
+    /// A failure.
+    Failure(Failure),
+}
+
+impl OneOf for Result {
+    ghost use Rattle.shared_core_call_commands.specs.declared.complete_awakeable_command_message.Result.TheVariants as result_is;
+
+    ghost members = { (2, Message tables.value) ∷ (3, Message tables.failure) ∷ [] };
+
+    ghost part = { elim [
+      | result_is.Value x ↦ Member 2 (message_part ⟦<Value as WireRecord>⟧.parts x)
+      | result_is.Failure x ↦ Member 3 (message_part ⟦<Failure as WireRecord>⟧.parts x)
+    ] };
+
+    fn merge_member(
+        oneof: &mut Option<Result>,
+        field: &Occurrence<'_>,
+    ) -> result::Result<(), WireError> {
+        match field.number {
+            2 => match oneof {
+                Some(Result::Value(value)) => field.merge_message(value)?,
+                _ => *oneof = Some(Result::Value(field.message()?)),
+            },
+            3 => match oneof {
+                Some(Result::Failure(failure)) => field.merge_message(failure)?,
+                _ => *oneof = Some(Result::Failure(field.message()?)),
+            },
+            _ => unreachable!(),
+        }
+        Ok(())
+    }
+
+    fn measure(&self, size: &mut Size) {
+        match self {
+            Result::Value(value) => size.message_value(2, value),
+            Result::Failure(failure) => size.message_value(3, failure),
+        }
+    }
+
+    fn encode_raw(&self, out: &mut Vec<u8>) -> result::Result<(), AllocError> {
+        match self {
+            Result::Value(value) => write_message_value(out, 2, value),
+            Result::Failure(failure) => write_message_value(out, 3, failure),
+        }
+    }
+
+    ghost use Rattle.shared_core_parts.specs.contracts.value.ValueWireRecord.TheImpl.Laws.{equality-law as value_equality};
+    ghost use Rattle.shared_core_parts.specs.contracts.failure.FailureWireRecord.TheImpl.Laws.{equality-law as failure_equality};
+
+    ghost present = { elim [ result_is.Value x ↦ refl | result_is.Failure x ↦ refl ] };
+
+    ghost equality = { elim [
+      | result_is.Value x ↦ elim [ result_is.Value y ↦ Prim.search (equality_rules, value_equality) | _ ↦ different_members _ _ _ _ refl ]
+      | result_is.Failure x ↦ elim [ result_is.Failure y ↦ Prim.search (equality_rules, failure_equality) | _ ↦ different_members _ _ _ _ refl ]
+    ] };
+}
+
+/// Completes an awakeable.
+#[derive(Debug, PartialEq, Drop)]
+pub struct CompleteAwakeableCommandMessage {
+    /// The id of the awakeable.
+    pub awakeable_id: String,
+    /// The result.
+    pub result: Option<Result>,
+    /// The name of the command, for people.
+    pub name: String,
+}
+
+impl WireRecord for CompleteAwakeableCommandMessage {
+    ghost schema = { tables.complete_awakeable_command };
+
+    ghost parts = { λ message. cons (text_part message.awakeable_id)
+        (cons (option_part ⟦<Result as OneOf>⟧.part message.result)
+        (cons (text_part message.name) nil)) };
+
+    fn empty(alloc: Global) -> CompleteAwakeableCommandMessage {
+        CompleteAwakeableCommandMessage {
+            awakeable_id: String::new(alloc),
+            result: None,
+            name: String::new(alloc),
+        }
+    }
+
+    fn merge_field(&mut self, field: &Occurrence<'_>) -> result::Result<(), WireError> {
+        match field.number {
+            1 => self.awakeable_id = field.text()?,
+            2 | 3 => OneOf::merge_member(&mut self.result, field)?,
+            12 => self.name = field.text()?,
+            _ => {}
+        }
+        Ok(())
+    }
+
+    fn measure(&self, size: &mut Size) {
+        size.text(1, &self.awakeable_id);
+        size.oneof(&self.result);
+        size.text(12, &self.name);
+    }
+
+    fn encode_raw(&self, out: &mut Vec<u8>) -> result::Result<(), AllocError> {
+        write_text(out, 1, &self.awakeable_id)?;
+        write_oneof(out, &self.result)?;
+        write_text(out, 12, &self.name)
+    }
+
+    ghost use Rattle.shared_core_call_commands.specs.contracts.complete_awakeable_command_message.ResultOneOf.TheImpl.Laws.{equality-law as result_equality, present-law as result_present};
+
+    ghost equality = { Prim.search (equality_rules, result_equality, result_present) depth 18 };
+}
+
+impl RestateMessage for CompleteAwakeableCommandMessage {
+    ghost message_type = { types.CompleteAwakeableCommand };
+
+    fn ty() -> MessageType {
+        MessageType::CompleteAwakeableCommand
+    }
+}
+
+impl RestateEncodableMessage for CompleteAwakeableCommandMessage {
+    ghost encoded_type = { types.CompleteAwakeableCommand };
+
+    ghost named = { tt };
+
+    ghost wire_form = { λ message _. plain_form tables.complete_awakeable_command (⟦<CompleteAwakeableCommandMessage as WireRecord>⟧.parts message) };
+
+    ghost is_rewritten = { λ _. false };
+
+    fn encode(&self, alloc: Global, _version: Version) -> result::Result<Bytes, EncodingError> {
+        encode_frame(self, alloc, None)
+    }
+}

@@ -1,0 +1,187 @@
+//! The record `CompletePromiseCommandMessage`.
+
+ghost use Rattle.std.specs.Prelude.{[], false, refl, ◌∷◌};
+ghost use Rattle.shared_core_wire.specs.Schema.{Message};
+ghost use Rattle.shared_core_wire.specs.Value.{Member, Number, cons, nil};
+ghost use Rattle.shared_core_base.specs.declared.header.MessageType.TheVariants as types;
+ghost use Rattle.shared_core_parts.specs.Frames.{plain_form};
+ghost use Rattle.shared_core_record.specs.Table as tables;
+ghost use Rattle.shared_core_record.specs.FieldParts.{message_part, option_part, text_part};
+ghost use Rattle.shared_core_record.specs.EqualityRules.{different_members, equality_rules};
+
+use bytes::Bytes;
+use shared_core_base::header::MessageType;
+use shared_core_base::version::Version;
+use shared_core_parts::failure::Failure;
+use shared_core_parts::restate_message::{RestateEncodableMessage, RestateMessage, encode_frame};
+use shared_core_parts::value::Value;
+use shared_core_record::error::EncodingError;
+use shared_core_record::occurrence::Occurrence;
+use shared_core_record::oneof::OneOf;
+use shared_core_record::record::WireRecord;
+use shared_core_record::size::Size;
+use shared_core_record::write::{write_message_value, write_oneof, write_text, write_u32};
+use shared_core_wire::error::WireError;
+use std::alloc::{AllocError, Global};
+
+/// What it is completed with.
+#[derive(Debug, PartialEq, Drop)]
+pub enum Completion {
+    /// The value that it is completed with.
+    CompletionValue(Value),
+    /// The failure that it is completed with.
+    CompletionFailure(Failure),
+}
+
+impl OneOf for Completion {
+    ghost use Rattle.shared_core_call_commands.specs.declared.complete_promise_command_message.Completion.TheVariants as completion_is;
+
+    ghost members = { (2, Message tables.value) ∷ (3, Message tables.failure) ∷ [] };
+
+    ghost part = { elim [
+      | completion_is.CompletionValue x ↦ Member 2 (message_part ⟦<Value as WireRecord>⟧.parts x)
+      | completion_is.CompletionFailure x ↦ Member 3 (message_part ⟦<Failure as WireRecord>⟧.parts x)
+    ] };
+
+    fn merge_member(
+        oneof: &mut Option<Completion>,
+        field: &Occurrence<'_>,
+    ) -> Result<(), WireError> {
+        match field.number {
+            2 => match oneof {
+                Some(Completion::CompletionValue(completion_value)) => field.merge_message(
+                    completion_value,
+                )?,
+                _ => *oneof = Some(Completion::CompletionValue(field.message()?)),
+            },
+            3 => match oneof {
+                Some(Completion::CompletionFailure(completion_failure)) => field.merge_message(
+                    completion_failure,
+                )?,
+                _ => *oneof = Some(Completion::CompletionFailure(field.message()?)),
+            },
+            _ => unreachable!(),
+        }
+        Ok(())
+    }
+
+    fn measure(&self, size: &mut Size) {
+        match self {
+            Completion::CompletionValue(completion_value) => size.message_value(
+                2,
+                completion_value,
+            ),
+            Completion::CompletionFailure(completion_failure) => size.message_value(
+                3,
+                completion_failure,
+            ),
+        }
+    }
+
+    fn encode_raw(&self, out: &mut Vec<u8>) -> Result<(), AllocError> {
+        match self {
+            Completion::CompletionValue(completion_value) => write_message_value(
+                out,
+                2,
+                completion_value,
+            ),
+            Completion::CompletionFailure(completion_failure) => write_message_value(
+                out,
+                3,
+                completion_failure,
+            ),
+        }
+    }
+
+    ghost use Rattle.shared_core_parts.specs.contracts.value.ValueWireRecord.TheImpl.Laws.{equality-law as value_equality};
+    ghost use Rattle.shared_core_parts.specs.contracts.failure.FailureWireRecord.TheImpl.Laws.{equality-law as failure_equality};
+
+    ghost present = { elim [ completion_is.CompletionValue x ↦ refl | completion_is.CompletionFailure x ↦ refl ] };
+
+    ghost equality = { elim [
+      | completion_is.CompletionValue x ↦ elim [ completion_is.CompletionValue y ↦ Prim.search (equality_rules, value_equality) | _ ↦ different_members _ _ _ _ refl ]
+      | completion_is.CompletionFailure x ↦ elim [ completion_is.CompletionFailure y ↦ Prim.search (equality_rules, failure_equality) | _ ↦ different_members _ _ _ _ refl ]
+    ] };
+}
+
+/// Completes a promise.
+#[derive(Debug, PartialEq, Drop)]
+pub struct CompletePromiseCommandMessage {
+    /// The name of the promise.
+    pub key: String,
+    /// What it is completed with.
+    pub completion: Option<Completion>,
+    /// The id by which the result will come.
+    pub result_completion_id: u32,
+    /// The name of the command, for people.
+    pub name: String,
+}
+
+impl WireRecord for CompletePromiseCommandMessage {
+    ghost schema = { tables.complete_promise_command };
+
+    ghost parts = { λ message. cons (text_part message.key)
+        (cons (option_part ⟦<Completion as OneOf>⟧.part message.completion)
+        (cons (Number message.result_completion_id)
+        (cons (text_part message.name) nil))) };
+
+    fn empty(alloc: Global) -> CompletePromiseCommandMessage {
+        CompletePromiseCommandMessage {
+            key: String::new(alloc),
+            completion: None,
+            result_completion_id: 0,
+            name: String::new(alloc),
+        }
+    }
+
+    fn merge_field(&mut self, field: &Occurrence<'_>) -> Result<(), WireError> {
+        match field.number {
+            1 => self.key = field.text()?,
+            2 | 3 => OneOf::merge_member(&mut self.completion, field)?,
+            11 => self.result_completion_id = field.u32()?,
+            12 => self.name = field.text()?,
+            _ => {}
+        }
+        Ok(())
+    }
+
+    fn measure(&self, size: &mut Size) {
+        size.text(1, &self.key);
+        size.oneof(&self.completion);
+        size.u32(11, self.result_completion_id);
+        size.text(12, &self.name);
+    }
+
+    fn encode_raw(&self, out: &mut Vec<u8>) -> Result<(), AllocError> {
+        write_text(out, 1, &self.key)?;
+        write_oneof(out, &self.completion)?;
+        write_u32(out, 11, self.result_completion_id)?;
+        write_text(out, 12, &self.name)
+    }
+
+    ghost use Rattle.shared_core_call_commands.specs.contracts.complete_promise_command_message.CompletionOneOf.TheImpl.Laws.{equality-law as completion_equality, present-law as completion_present};
+
+    ghost equality = { Prim.search (equality_rules, completion_equality, completion_present) depth 20 };
+}
+
+impl RestateMessage for CompletePromiseCommandMessage {
+    ghost message_type = { types.CompletePromiseCommand };
+
+    fn ty() -> MessageType {
+        MessageType::CompletePromiseCommand
+    }
+}
+
+impl RestateEncodableMessage for CompletePromiseCommandMessage {
+    ghost encoded_type = { types.CompletePromiseCommand };
+
+    ghost named = { tt };
+
+    ghost wire_form = { λ message _. plain_form tables.complete_promise_command (⟦<CompletePromiseCommandMessage as WireRecord>⟧.parts message) };
+
+    ghost is_rewritten = { λ _. false };
+
+    fn encode(&self, alloc: Global, _version: Version) -> Result<Bytes, EncodingError> {
+        encode_frame(self, alloc, None)
+    }
+}

@@ -1,0 +1,98 @@
+//! The record `GetInvocationOutputCommandMessage`.
+
+ghost use Rattle.std.specs.Prelude.{false};
+ghost use Rattle.shared_core_wire.specs.Value.{Number, cons, nil};
+ghost use Rattle.shared_core_base.specs.declared.header.MessageType.TheVariants as types;
+ghost use Rattle.shared_core_parts.specs.Frames.{plain_form};
+ghost use Rattle.shared_core_record.specs.Table as tables;
+ghost use Rattle.shared_core_record.specs.FieldParts.{option_part, text_part};
+ghost use Rattle.shared_core_record.specs.EqualityRules.{equality_rules};
+
+pub use crate::invocation_target::InvocationTarget as Target;
+use bytes::Bytes;
+use shared_core_base::header::MessageType;
+use shared_core_base::version::Version;
+use shared_core_parts::restate_message::{RestateEncodableMessage, RestateMessage, encode_frame};
+use shared_core_record::error::EncodingError;
+use shared_core_record::occurrence::Occurrence;
+use shared_core_record::oneof::OneOf;
+use shared_core_record::record::WireRecord;
+use shared_core_record::size::Size;
+use shared_core_record::write::{write_oneof, write_text, write_u32};
+use shared_core_wire::error::WireError;
+use std::alloc::{AllocError, Global};
+
+/// Looks at the result of an invocation without awaiting it.
+#[derive(Debug, PartialEq, Drop)]
+pub struct GetInvocationOutputCommandMessage {
+    /// Which invocation it is.
+    pub target: Option<Target>,
+    /// The id by which the result will come.
+    pub result_completion_id: u32,
+    /// The name of the command, for people.
+    pub name: String,
+}
+
+impl WireRecord for GetInvocationOutputCommandMessage {
+    ghost schema = { tables.get_invocation_output_command };
+
+    ghost parts = { λ message. cons (option_part ⟦<Target as OneOf>⟧.part message.target)
+        (cons (Number message.result_completion_id)
+        (cons (text_part message.name) nil)) };
+
+    fn empty(alloc: Global) -> GetInvocationOutputCommandMessage {
+        GetInvocationOutputCommandMessage {
+            target: None,
+            result_completion_id: 0,
+            name: String::new(alloc),
+        }
+    }
+
+    fn merge_field(&mut self, field: &Occurrence<'_>) -> Result<(), WireError> {
+        match field.number {
+            1 | 3 | 4 => OneOf::merge_member(&mut self.target, field)?,
+            11 => self.result_completion_id = field.u32()?,
+            12 => self.name = field.text()?,
+            _ => {}
+        }
+        Ok(())
+    }
+
+    fn measure(&self, size: &mut Size) {
+        size.oneof(&self.target);
+        size.u32(11, self.result_completion_id);
+        size.text(12, &self.name);
+    }
+
+    fn encode_raw(&self, out: &mut Vec<u8>) -> Result<(), AllocError> {
+        write_oneof(out, &self.target)?;
+        write_u32(out, 11, self.result_completion_id)?;
+        write_text(out, 12, &self.name)
+    }
+
+    ghost use Rattle.shared_core_call_commands.specs.contracts.invocation_target.InvocationTargetOneOf.TheImpl.Laws.{equality-law as target_equality, present-law as target_present};
+
+    ghost equality = { Prim.search (equality_rules, target_equality, target_present) depth 18 };
+}
+
+impl RestateMessage for GetInvocationOutputCommandMessage {
+    ghost message_type = { types.GetInvocationOutputCommand };
+
+    fn ty() -> MessageType {
+        MessageType::GetInvocationOutputCommand
+    }
+}
+
+impl RestateEncodableMessage for GetInvocationOutputCommandMessage {
+    ghost encoded_type = { types.GetInvocationOutputCommand };
+
+    ghost named = { tt };
+
+    ghost wire_form = { λ message _. plain_form tables.get_invocation_output_command (⟦<GetInvocationOutputCommandMessage as WireRecord>⟧.parts message) };
+
+    ghost is_rewritten = { λ _. false };
+
+    fn encode(&self, alloc: Global, _version: Version) -> Result<Bytes, EncodingError> {
+        encode_frame(self, alloc, None)
+    }
+}

@@ -1,0 +1,94 @@
+//! The record `PeekPromiseCommandMessage`.
+
+ghost use Rattle.std.specs.Prelude.{false};
+ghost use Rattle.shared_core_wire.specs.Value.{Number, cons, nil};
+ghost use Rattle.shared_core_base.specs.declared.header.MessageType.TheVariants as types;
+ghost use Rattle.shared_core_parts.specs.Frames.{plain_form};
+ghost use Rattle.shared_core_record.specs.Table as tables;
+ghost use Rattle.shared_core_record.specs.FieldParts.{text_part};
+ghost use Rattle.shared_core_record.specs.EqualityRules.{equality_rules};
+
+use bytes::Bytes;
+use shared_core_base::header::MessageType;
+use shared_core_base::version::Version;
+use shared_core_parts::restate_message::{RestateEncodableMessage, RestateMessage, encode_frame};
+use shared_core_record::error::EncodingError;
+use shared_core_record::occurrence::Occurrence;
+use shared_core_record::record::WireRecord;
+use shared_core_record::size::Size;
+use shared_core_record::write::{write_text, write_u32};
+use shared_core_wire::error::WireError;
+use std::alloc::{AllocError, Global};
+
+/// Looks at a promise without awaiting it.
+#[derive(Debug, PartialEq, Drop)]
+pub struct PeekPromiseCommandMessage {
+    /// The name of the promise.
+    pub key: String,
+    /// The id by which the result will come.
+    pub result_completion_id: u32,
+    /// The name of the command, for people.
+    pub name: String,
+}
+
+impl WireRecord for PeekPromiseCommandMessage {
+    ghost schema = { tables.peek_promise_command };
+
+    ghost parts = { λ message. cons (text_part message.key)
+        (cons (Number message.result_completion_id)
+        (cons (text_part message.name) nil)) };
+
+    fn empty(alloc: Global) -> PeekPromiseCommandMessage {
+        PeekPromiseCommandMessage {
+            key: String::new(alloc),
+            result_completion_id: 0,
+            name: String::new(alloc),
+        }
+    }
+
+    fn merge_field(&mut self, field: &Occurrence<'_>) -> Result<(), WireError> {
+        match field.number {
+            1 => self.key = field.text()?,
+            11 => self.result_completion_id = field.u32()?,
+            12 => self.name = field.text()?,
+            _ => {}
+        }
+        Ok(())
+    }
+
+    fn measure(&self, size: &mut Size) {
+        size.text(1, &self.key);
+        size.u32(11, self.result_completion_id);
+        size.text(12, &self.name);
+    }
+
+    fn encode_raw(&self, out: &mut Vec<u8>) -> Result<(), AllocError> {
+        write_text(out, 1, &self.key)?;
+        write_u32(out, 11, self.result_completion_id)?;
+        write_text(out, 12, &self.name)
+    }
+
+    ghost equality = { Prim.search equality_rules depth 18 };
+}
+
+impl RestateMessage for PeekPromiseCommandMessage {
+    ghost message_type = { types.PeekPromiseCommand };
+
+    fn ty() -> MessageType {
+        MessageType::PeekPromiseCommand
+    }
+}
+
+impl RestateEncodableMessage for PeekPromiseCommandMessage {
+    ghost encoded_type = { types.PeekPromiseCommand };
+
+    ghost named = { tt };
+
+    ghost wire_form = { λ message _. plain_form tables.peek_promise_command (⟦<PeekPromiseCommandMessage as WireRecord>⟧.parts message) };
+
+    ghost is_rewritten = { λ _. false };
+
+    fn encode(&self, alloc: Global, _version: Version) -> Result<Bytes, EncodingError> {
+        encode_frame(self, alloc, None)
+    }
+}

@@ -1,0 +1,238 @@
+//! The record `SendSignalCommandMessage`.
+
+ghost use Rattle.std.specs.Prelude.{[], false, refl, ◌∷◌};
+ghost use Rattle.shared_core_wire.specs.Schema.{Message, Text, U32};
+ghost use Rattle.shared_core_wire.specs.Value.{Member, Number, cons, nil};
+ghost use Rattle.shared_core_base.specs.declared.header.MessageType.TheVariants as types;
+ghost use Rattle.shared_core_parts.specs.Frames.{plain_form};
+ghost use Rattle.shared_core_record.specs.Table as tables;
+ghost use Rattle.shared_core_record.specs.FieldParts.{message_part, option_part, text_part};
+ghost use Rattle.shared_core_record.specs.EqualityRules.{different_members, equality_rules};
+
+use bytes::Bytes;
+use shared_core_base::header::MessageType;
+use shared_core_base::version::Version;
+use shared_core_parts::failure::Failure;
+use shared_core_parts::restate_message::{RestateEncodableMessage, RestateMessage, encode_frame};
+use shared_core_parts::value::Value;
+use shared_core_parts::void::Void;
+use shared_core_record::error::EncodingError;
+use shared_core_record::occurrence::Occurrence;
+use shared_core_record::oneof::OneOf;
+use shared_core_record::record::WireRecord;
+use shared_core_record::size::Size;
+use shared_core_record::write::{
+    write_message_value, write_oneof, write_text, write_text_value, write_u32_value,
+};
+use shared_core_wire::error::WireError;
+use std::alloc::{AllocError, Global};
+use std::result;
+
+/// Which signal it is.
+#[derive(Debug, PartialEq, Drop)]
+pub enum SignalId {
+    /// The id of the signal.
+    Idx(u32),
+    /// The name of the signal.
+    Name(String),
+}
+
+impl OneOf for SignalId {
+    ghost use Rattle.shared_core_call_commands.specs.declared.send_signal_command_message.SignalId.TheVariants as signal_id_is;
+
+    ghost members = { (2, U32) ∷ (3, Text) ∷ [] };
+
+    ghost part = { elim [
+      | signal_id_is.Idx x ↦ Member 2 (Number x)
+      | signal_id_is.Name x ↦ Member 3 (text_part x)
+    ] };
+
+    fn merge_member(
+        oneof: &mut Option<SignalId>,
+        field: &Occurrence<'_>,
+    ) -> result::Result<(), WireError> {
+        match field.number {
+            2 => *oneof = Some(SignalId::Idx(field.u32()?)),
+            3 => *oneof = Some(SignalId::Name(field.text()?)),
+            _ => unreachable!(),
+        }
+        Ok(())
+    }
+
+    fn measure(&self, size: &mut Size) {
+        match self {
+            SignalId::Idx(idx) => size.u32_value(2, *idx),
+            SignalId::Name(name) => size.text_value(3, name),
+        }
+    }
+
+    fn encode_raw(&self, out: &mut Vec<u8>) -> result::Result<(), AllocError> {
+        match self {
+            SignalId::Idx(idx) => write_u32_value(out, 2, *idx),
+            SignalId::Name(name) => write_text_value(out, 3, name),
+        }
+    }
+
+    ghost present = { elim [ signal_id_is.Idx x ↦ refl | signal_id_is.Name x ↦ refl ] };
+
+    ghost equality = { elim [
+      | signal_id_is.Idx x ↦ elim [ signal_id_is.Idx y ↦ Prim.search equality_rules | _ ↦ different_members _ _ _ _ refl ]
+      | signal_id_is.Name x ↦ elim [ signal_id_is.Name y ↦ Prim.search equality_rules | _ ↦ different_members _ _ _ _ refl ]
+    ] };
+}
+
+/// The result.
+#[derive(Debug, PartialEq, Drop)]
+pub enum Result {
+    /// Nothing.
+    Void(Void),
+    /// A value.
+    Value(Value),
+    /// A failure.
+    Failure(Failure),
+}
+
+impl OneOf for Result {
+    ghost use Rattle.shared_core_call_commands.specs.declared.send_signal_command_message.Result.TheVariants as result_is;
+
+    ghost members = { (4, Message tables.void) ∷ (5, Message tables.value) ∷ (6, Message tables.failure) ∷ [] };
+
+    ghost part = { elim [
+      | result_is.Void x ↦ Member 4 (message_part ⟦<Void as WireRecord>⟧.parts x)
+      | result_is.Value x ↦ Member 5 (message_part ⟦<Value as WireRecord>⟧.parts x)
+      | result_is.Failure x ↦ Member 6 (message_part ⟦<Failure as WireRecord>⟧.parts x)
+    ] };
+
+    fn merge_member(
+        oneof: &mut Option<Result>,
+        field: &Occurrence<'_>,
+    ) -> result::Result<(), WireError> {
+        match field.number {
+            4 => match oneof {
+                Some(Result::Void(void)) => field.merge_message(void)?,
+                _ => *oneof = Some(Result::Void(field.message()?)),
+            },
+            5 => match oneof {
+                Some(Result::Value(value)) => field.merge_message(value)?,
+                _ => *oneof = Some(Result::Value(field.message()?)),
+            },
+            6 => match oneof {
+                Some(Result::Failure(failure)) => field.merge_message(failure)?,
+                _ => *oneof = Some(Result::Failure(field.message()?)),
+            },
+            _ => unreachable!(),
+        }
+        Ok(())
+    }
+
+    fn measure(&self, size: &mut Size) {
+        match self {
+            Result::Void(void) => size.message_value(4, void),
+            Result::Value(value) => size.message_value(5, value),
+            Result::Failure(failure) => size.message_value(6, failure),
+        }
+    }
+
+    fn encode_raw(&self, out: &mut Vec<u8>) -> result::Result<(), AllocError> {
+        match self {
+            Result::Void(void) => write_message_value(out, 4, void),
+            Result::Value(value) => write_message_value(out, 5, value),
+            Result::Failure(failure) => write_message_value(out, 6, failure),
+        }
+    }
+
+    ghost use Rattle.shared_core_parts.specs.contracts.void.VoidWireRecord.TheImpl.Laws.{equality-law as void_equality};
+    ghost use Rattle.shared_core_parts.specs.contracts.value.ValueWireRecord.TheImpl.Laws.{equality-law as value_equality};
+    ghost use Rattle.shared_core_parts.specs.contracts.failure.FailureWireRecord.TheImpl.Laws.{equality-law as failure_equality};
+
+    ghost present = { elim [ result_is.Void x ↦ refl | result_is.Value x ↦ refl | result_is.Failure x ↦ refl ] };
+
+    ghost equality = { elim [
+      | result_is.Void x ↦ elim [ result_is.Void y ↦ Prim.search (equality_rules, void_equality) | _ ↦ different_members _ _ _ _ refl ]
+      | result_is.Value x ↦ elim [ result_is.Value y ↦ Prim.search (equality_rules, value_equality) | _ ↦ different_members _ _ _ _ refl ]
+      | result_is.Failure x ↦ elim [ result_is.Failure y ↦ Prim.search (equality_rules, failure_equality) | _ ↦ different_members _ _ _ _ refl ]
+    ] };
+}
+
+/// Sends a signal to an invocation.
+#[derive(Debug, PartialEq, Drop)]
+pub struct SendSignalCommandMessage {
+    /// The invocation that the signal goes to.
+    pub target_invocation_id: String,
+    /// Which signal it is.
+    pub signal_id: Option<SignalId>,
+    /// The result.
+    pub result: Option<Result>,
+    /// The name of the command, for people.
+    pub entry_name: String,
+}
+
+impl WireRecord for SendSignalCommandMessage {
+    ghost schema = { tables.send_signal_command };
+
+    ghost parts = { λ message. cons (text_part message.target_invocation_id)
+        (cons (option_part ⟦<SignalId as OneOf>⟧.part message.signal_id)
+        (cons (option_part ⟦<Result as OneOf>⟧.part message.result)
+        (cons (text_part message.entry_name) nil))) };
+
+    fn empty(alloc: Global) -> SendSignalCommandMessage {
+        SendSignalCommandMessage {
+            target_invocation_id: String::new(alloc),
+            signal_id: None,
+            result: None,
+            entry_name: String::new(alloc),
+        }
+    }
+
+    fn merge_field(&mut self, field: &Occurrence<'_>) -> result::Result<(), WireError> {
+        match field.number {
+            1 => self.target_invocation_id = field.text()?,
+            2 | 3 => OneOf::merge_member(&mut self.signal_id, field)?,
+            4 | 5 | 6 => OneOf::merge_member(&mut self.result, field)?,
+            12 => self.entry_name = field.text()?,
+            _ => {}
+        }
+        Ok(())
+    }
+
+    fn measure(&self, size: &mut Size) {
+        size.text(1, &self.target_invocation_id);
+        size.oneof(&self.signal_id);
+        size.oneof(&self.result);
+        size.text(12, &self.entry_name);
+    }
+
+    fn encode_raw(&self, out: &mut Vec<u8>) -> result::Result<(), AllocError> {
+        write_text(out, 1, &self.target_invocation_id)?;
+        write_oneof(out, &self.signal_id)?;
+        write_oneof(out, &self.result)?;
+        write_text(out, 12, &self.entry_name)
+    }
+
+    ghost use Rattle.shared_core_call_commands.specs.contracts.send_signal_command_message.SignalIdOneOf.TheImpl.Laws.{equality-law as signal_id_equality, present-law as signal_id_present};
+    ghost use Rattle.shared_core_call_commands.specs.contracts.send_signal_command_message.ResultOneOf.TheImpl.Laws.{equality-law as result_equality, present-law as result_present};
+
+    ghost equality = { Prim.search (equality_rules, signal_id_equality, signal_id_present, result_equality, result_present) depth 20 };
+}
+
+impl RestateMessage for SendSignalCommandMessage {
+    ghost message_type = { types.SendSignalCommand };
+
+    fn ty() -> MessageType {
+        MessageType::SendSignalCommand
+    }
+}
+
+impl RestateEncodableMessage for SendSignalCommandMessage {
+    ghost encoded_type = { types.SendSignalCommand };
+
+    ghost named = { tt };
+
+    ghost wire_form = { λ message _. plain_form tables.send_signal_command (⟦<SendSignalCommandMessage as WireRecord>⟧.parts message) };
+
+    ghost is_rewritten = { λ _. false };
+
+    fn encode(&self, alloc: Global, _version: Version) -> result::Result<Bytes, EncodingError> {
+        encode_frame(self, alloc, None)
+    }
+}

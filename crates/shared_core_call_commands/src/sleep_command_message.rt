@@ -1,0 +1,94 @@
+//! The record `SleepCommandMessage`.
+
+ghost use Rattle.std.specs.Prelude.{false};
+ghost use Rattle.shared_core_wire.specs.Value.{Number, cons, nil};
+ghost use Rattle.shared_core_base.specs.declared.header.MessageType.TheVariants as types;
+ghost use Rattle.shared_core_parts.specs.Frames.{plain_form};
+ghost use Rattle.shared_core_record.specs.Table as tables;
+ghost use Rattle.shared_core_record.specs.FieldParts.{text_part};
+ghost use Rattle.shared_core_record.specs.EqualityRules.{equality_rules};
+
+use bytes::Bytes;
+use shared_core_base::header::MessageType;
+use shared_core_base::version::Version;
+use shared_core_parts::restate_message::{RestateEncodableMessage, RestateMessage, encode_frame};
+use shared_core_record::error::EncodingError;
+use shared_core_record::occurrence::Occurrence;
+use shared_core_record::record::WireRecord;
+use shared_core_record::size::Size;
+use shared_core_record::write::{write_text, write_u32, write_u64};
+use shared_core_wire::error::WireError;
+use std::alloc::{AllocError, Global};
+
+/// Sleeps until a time.
+#[derive(Debug, PartialEq, Drop)]
+pub struct SleepCommandMessage {
+    /// When the sleep is over, in milliseconds since the epoch.
+    pub wake_up_time: u64,
+    /// The id by which the result will come.
+    pub result_completion_id: u32,
+    /// The name of the command, for people.
+    pub name: String,
+}
+
+impl WireRecord for SleepCommandMessage {
+    ghost schema = { tables.sleep_command };
+
+    ghost parts = { λ message. cons (Number message.wake_up_time)
+        (cons (Number message.result_completion_id)
+        (cons (text_part message.name) nil)) };
+
+    fn empty(alloc: Global) -> SleepCommandMessage {
+        SleepCommandMessage {
+            wake_up_time: 0,
+            result_completion_id: 0,
+            name: String::new(alloc),
+        }
+    }
+
+    fn merge_field(&mut self, field: &Occurrence<'_>) -> Result<(), WireError> {
+        match field.number {
+            1 => self.wake_up_time = field.u64()?,
+            11 => self.result_completion_id = field.u32()?,
+            12 => self.name = field.text()?,
+            _ => {}
+        }
+        Ok(())
+    }
+
+    fn measure(&self, size: &mut Size) {
+        size.u64(1, self.wake_up_time);
+        size.u32(11, self.result_completion_id);
+        size.text(12, &self.name);
+    }
+
+    fn encode_raw(&self, out: &mut Vec<u8>) -> Result<(), AllocError> {
+        write_u64(out, 1, self.wake_up_time)?;
+        write_u32(out, 11, self.result_completion_id)?;
+        write_text(out, 12, &self.name)
+    }
+
+    ghost equality = { Prim.search equality_rules depth 18 };
+}
+
+impl RestateMessage for SleepCommandMessage {
+    ghost message_type = { types.SleepCommand };
+
+    fn ty() -> MessageType {
+        MessageType::SleepCommand
+    }
+}
+
+impl RestateEncodableMessage for SleepCommandMessage {
+    ghost encoded_type = { types.SleepCommand };
+
+    ghost named = { tt };
+
+    ghost wire_form = { λ message _. plain_form tables.sleep_command (⟦<SleepCommandMessage as WireRecord>⟧.parts message) };
+
+    ghost is_rewritten = { λ _. false };
+
+    fn encode(&self, alloc: Global, _version: Version) -> Result<Bytes, EncodingError> {
+        encode_frame(self, alloc, None)
+    }
+}

@@ -1,0 +1,92 @@
+//! A result that may be nothing, a value or a failure.
+
+ghost use Rattle.std.specs.Prelude.{[], refl, ◌∷◌};
+ghost use Rattle.shared_core_wire.specs.Schema.{Message};
+ghost use Rattle.shared_core_wire.specs.Value.{Member};
+ghost use Rattle.shared_core_record.specs.Table as tables;
+ghost use Rattle.shared_core_record.specs.FieldParts.{message_part};
+ghost use Rattle.shared_core_record.specs.EqualityRules.{different_members, equality_rules};
+
+use shared_core_parts::failure::Failure;
+use shared_core_parts::value::Value;
+use shared_core_parts::void::Void;
+use shared_core_record::occurrence::Occurrence;
+use shared_core_record::oneof::OneOf;
+use shared_core_record::record::WireRecord;
+use shared_core_record::size::Size;
+use shared_core_record::write::write_message_value;
+use shared_core_wire::error::WireError;
+use std::alloc::AllocError;
+
+/// A result that may be nothing, a value or a failure.
+#[derive(Debug, PartialEq, Drop)]
+pub enum AnyResult {
+    /// Nothing.
+    Void(Void),
+    /// A value.
+    Value(Value),
+    /// A failure.
+    Failure(Failure),
+}
+
+impl OneOf for AnyResult {
+    ghost use Rattle.shared_core_notifications.specs.declared.any_result.AnyResult.TheVariants as any_result_is;
+
+    ghost members = { (4, Message tables.void) ∷ (5, Message tables.value) ∷ (6, Message tables.failure) ∷ [] };
+
+    ghost part = { elim [
+      | any_result_is.Void x ↦ Member 4 (message_part ⟦<Void as WireRecord>⟧.parts x)
+      | any_result_is.Value x ↦ Member 5 (message_part ⟦<Value as WireRecord>⟧.parts x)
+      | any_result_is.Failure x ↦ Member 6 (message_part ⟦<Failure as WireRecord>⟧.parts x)
+    ] };
+
+    fn merge_member(
+        oneof: &mut Option<AnyResult>,
+        field: &Occurrence<'_>,
+    ) -> Result<(), WireError> {
+        match field.number {
+            4 => match oneof {
+                Some(AnyResult::Void(void)) => field.merge_message(void)?,
+                _ => *oneof = Some(AnyResult::Void(field.message()?)),
+            },
+            5 => match oneof {
+                Some(AnyResult::Value(value)) => field.merge_message(value)?,
+                _ => *oneof = Some(AnyResult::Value(field.message()?)),
+            },
+            6 => match oneof {
+                Some(AnyResult::Failure(failure)) => field.merge_message(failure)?,
+                _ => *oneof = Some(AnyResult::Failure(field.message()?)),
+            },
+            _ => unreachable!(),
+        }
+        Ok(())
+    }
+
+    fn measure(&self, size: &mut Size) {
+        match self {
+            AnyResult::Void(void) => size.message_value(4, void),
+            AnyResult::Value(value) => size.message_value(5, value),
+            AnyResult::Failure(failure) => size.message_value(6, failure),
+        }
+    }
+
+    fn encode_raw(&self, out: &mut Vec<u8>) -> Result<(), AllocError> {
+        match self {
+            AnyResult::Void(void) => write_message_value(out, 4, void),
+            AnyResult::Value(value) => write_message_value(out, 5, value),
+            AnyResult::Failure(failure) => write_message_value(out, 6, failure),
+        }
+    }
+
+    ghost use Rattle.shared_core_parts.specs.contracts.void.VoidWireRecord.TheImpl.Laws.{equality-law as void_equality};
+    ghost use Rattle.shared_core_parts.specs.contracts.value.ValueWireRecord.TheImpl.Laws.{equality-law as value_equality};
+    ghost use Rattle.shared_core_parts.specs.contracts.failure.FailureWireRecord.TheImpl.Laws.{equality-law as failure_equality};
+
+    ghost present = { elim [ any_result_is.Void x ↦ refl | any_result_is.Value x ↦ refl | any_result_is.Failure x ↦ refl ] };
+
+    ghost equality = { elim [
+      | any_result_is.Void x ↦ elim [ any_result_is.Void y ↦ Prim.search (equality_rules, void_equality) | _ ↦ different_members _ _ _ _ refl ]
+      | any_result_is.Value x ↦ elim [ any_result_is.Value y ↦ Prim.search (equality_rules, value_equality) | _ ↦ different_members _ _ _ _ refl ]
+      | any_result_is.Failure x ↦ elim [ any_result_is.Failure y ↦ Prim.search (equality_rules, failure_equality) | _ ↦ different_members _ _ _ _ refl ]
+    ] };
+}

@@ -1,0 +1,87 @@
+//! The record `CallInvocationIdCompletionNotificationMessage`.
+
+ghost use Rattle.std.specs.Prelude.{false};
+ghost use Rattle.shared_core_wire.specs.Value.{Number, cons, nil};
+ghost use Rattle.shared_core_base.specs.declared.header.MessageType.TheVariants as types;
+ghost use Rattle.shared_core_parts.specs.Frames.{plain_form};
+ghost use Rattle.shared_core_record.specs.Table as tables;
+ghost use Rattle.shared_core_record.specs.FieldParts.{text_part};
+ghost use Rattle.shared_core_record.specs.EqualityRules.{equality_rules};
+
+use bytes::Bytes;
+use shared_core_base::header::MessageType;
+use shared_core_base::version::Version;
+use shared_core_parts::restate_message::{RestateEncodableMessage, RestateMessage, encode_frame};
+use shared_core_record::error::EncodingError;
+use shared_core_record::occurrence::Occurrence;
+use shared_core_record::record::WireRecord;
+use shared_core_record::size::Size;
+use shared_core_record::write::{write_text, write_u32};
+use shared_core_wire::error::WireError;
+use std::alloc::{AllocError, Global};
+
+/// The invocation that a call started.
+#[derive(Debug, PartialEq, Drop)]
+pub struct CallInvocationIdCompletionNotificationMessage {
+    /// The id of the command that this answers.
+    pub completion_id: u32,
+    /// The id of the invocation.
+    pub invocation_id: String,
+}
+
+impl WireRecord for CallInvocationIdCompletionNotificationMessage {
+    ghost schema = { tables.call_invocation_id_completion };
+
+    ghost parts = { λ message. cons (Number message.completion_id)
+        (cons (text_part message.invocation_id) nil) };
+
+    fn empty(alloc: Global) -> CallInvocationIdCompletionNotificationMessage {
+        CallInvocationIdCompletionNotificationMessage {
+            completion_id: 0,
+            invocation_id: String::new(alloc),
+        }
+    }
+
+    fn merge_field(&mut self, field: &Occurrence<'_>) -> Result<(), WireError> {
+        match field.number {
+            1 => self.completion_id = field.u32()?,
+            16 => self.invocation_id = field.text()?,
+            _ => {}
+        }
+        Ok(())
+    }
+
+    fn measure(&self, size: &mut Size) {
+        size.u32(1, self.completion_id);
+        size.text(16, &self.invocation_id);
+    }
+
+    fn encode_raw(&self, out: &mut Vec<u8>) -> Result<(), AllocError> {
+        write_u32(out, 1, self.completion_id)?;
+        write_text(out, 16, &self.invocation_id)
+    }
+
+    ghost equality = { Prim.search equality_rules depth 16 };
+}
+
+impl RestateMessage for CallInvocationIdCompletionNotificationMessage {
+    ghost message_type = { types.CallInvocationIdCompletionNotification };
+
+    fn ty() -> MessageType {
+        MessageType::CallInvocationIdCompletionNotification
+    }
+}
+
+impl RestateEncodableMessage for CallInvocationIdCompletionNotificationMessage {
+    ghost encoded_type = { types.CallInvocationIdCompletionNotification };
+
+    ghost named = { tt };
+
+    ghost wire_form = { λ message _. plain_form tables.call_invocation_id_completion (⟦<CallInvocationIdCompletionNotificationMessage as WireRecord>⟧.parts message) };
+
+    ghost is_rewritten = { λ _. false };
+
+    fn encode(&self, alloc: Global, _version: Version) -> Result<Bytes, EncodingError> {
+        encode_frame(self, alloc, None)
+    }
+}

@@ -1,0 +1,156 @@
+//! The record `GetLazyStateCompletionNotificationMessage`.
+
+ghost use Rattle.std.specs.Prelude.{[], false, refl, ◌∷◌};
+ghost use Rattle.shared_core_wire.specs.Schema.{Message};
+ghost use Rattle.shared_core_wire.specs.Value.{Member, Number, cons, nil};
+ghost use Rattle.shared_core_base.specs.declared.header.MessageType.TheVariants as types;
+ghost use Rattle.shared_core_parts.specs.Frames.{plain_form};
+ghost use Rattle.shared_core_record.specs.Table as tables;
+ghost use Rattle.shared_core_record.specs.FieldParts.{message_part, option_part};
+ghost use Rattle.shared_core_record.specs.EqualityRules.{different_members, equality_rules};
+
+use bytes::Bytes;
+use shared_core_base::header::MessageType;
+use shared_core_base::version::Version;
+use shared_core_parts::restate_message::{RestateEncodableMessage, RestateMessage, encode_frame};
+use shared_core_parts::value::Value;
+use shared_core_parts::void::Void;
+use shared_core_record::error::EncodingError;
+use shared_core_record::occurrence::Occurrence;
+use shared_core_record::oneof::OneOf;
+use shared_core_record::record::WireRecord;
+use shared_core_record::size::Size;
+use shared_core_record::write::{write_message_value, write_oneof, write_u32};
+use shared_core_wire::error::WireError;
+use std::alloc::{AllocError, Global};
+use std::result;
+
+/// The result.
+#[derive(Debug, PartialEq, Drop)]
+pub enum Result {
+    /// Nothing.
+    Void(Void),
+    /// A value.
+    Value(Value),
+}
+
+impl OneOf for Result {
+    ghost use Rattle.shared_core_notifications.specs.declared.get_lazy_state_completion_notification_message.Result.TheVariants as result_is;
+
+    ghost members = { (4, Message tables.void) ∷ (5, Message tables.value) ∷ [] };
+
+    ghost part = { elim [
+      | result_is.Void x ↦ Member 4 (message_part ⟦<Void as WireRecord>⟧.parts x)
+      | result_is.Value x ↦ Member 5 (message_part ⟦<Value as WireRecord>⟧.parts x)
+    ] };
+
+    fn merge_member(
+        oneof: &mut Option<Result>,
+        field: &Occurrence<'_>,
+    ) -> result::Result<(), WireError> {
+        match field.number {
+            4 => match oneof {
+                Some(Result::Void(void)) => field.merge_message(void)?,
+                _ => *oneof = Some(Result::Void(field.message()?)),
+            },
+            5 => match oneof {
+                Some(Result::Value(value)) => field.merge_message(value)?,
+                _ => *oneof = Some(Result::Value(field.message()?)),
+            },
+            _ => unreachable!(),
+        }
+        Ok(())
+    }
+
+    fn measure(&self, size: &mut Size) {
+        match self {
+            Result::Void(void) => size.message_value(4, void),
+            Result::Value(value) => size.message_value(5, value),
+        }
+    }
+
+    fn encode_raw(&self, out: &mut Vec<u8>) -> result::Result<(), AllocError> {
+        match self {
+            Result::Void(void) => write_message_value(out, 4, void),
+            Result::Value(value) => write_message_value(out, 5, value),
+        }
+    }
+
+    ghost use Rattle.shared_core_parts.specs.contracts.void.VoidWireRecord.TheImpl.Laws.{equality-law as void_equality};
+    ghost use Rattle.shared_core_parts.specs.contracts.value.ValueWireRecord.TheImpl.Laws.{equality-law as value_equality};
+
+    ghost present = { elim [ result_is.Void x ↦ refl | result_is.Value x ↦ refl ] };
+
+    ghost equality = { elim [
+      | result_is.Void x ↦ elim [ result_is.Void y ↦ Prim.search (equality_rules, void_equality) | _ ↦ different_members _ _ _ _ refl ]
+      | result_is.Value x ↦ elim [ result_is.Value y ↦ Prim.search (equality_rules, value_equality) | _ ↦ different_members _ _ _ _ refl ]
+    ] };
+}
+
+/// The value of a key that was asked for.
+#[derive(Debug, PartialEq, Drop)]
+pub struct GetLazyStateCompletionNotificationMessage {
+    /// The id of the command that this answers.
+    pub completion_id: u32,
+    /// The result.
+    pub result: Option<Result>,
+}
+
+impl WireRecord for GetLazyStateCompletionNotificationMessage {
+    ghost schema = { tables.get_lazy_state_completion };
+
+    ghost parts = { λ message. cons (Number message.completion_id)
+        (cons (option_part ⟦<Result as OneOf>⟧.part message.result) nil) };
+
+    fn empty(_alloc: Global) -> GetLazyStateCompletionNotificationMessage {
+        GetLazyStateCompletionNotificationMessage {
+            completion_id: 0,
+            result: None,
+        }
+    }
+
+    fn merge_field(&mut self, field: &Occurrence<'_>) -> result::Result<(), WireError> {
+        match field.number {
+            1 => self.completion_id = field.u32()?,
+            4 | 5 => OneOf::merge_member(&mut self.result, field)?,
+            _ => {}
+        }
+        Ok(())
+    }
+
+    fn measure(&self, size: &mut Size) {
+        size.u32(1, self.completion_id);
+        size.oneof(&self.result);
+    }
+
+    fn encode_raw(&self, out: &mut Vec<u8>) -> result::Result<(), AllocError> {
+        write_u32(out, 1, self.completion_id)?;
+        write_oneof(out, &self.result)
+    }
+
+    ghost use Rattle.shared_core_notifications.specs.contracts.get_lazy_state_completion_notification_message.ResultOneOf.TheImpl.Laws.{equality-law as result_equality, present-law as result_present};
+
+    ghost equality = { Prim.search (equality_rules, result_equality, result_present) depth 16 };
+}
+
+impl RestateMessage for GetLazyStateCompletionNotificationMessage {
+    ghost message_type = { types.GetLazyStateCompletionNotification };
+
+    fn ty() -> MessageType {
+        MessageType::GetLazyStateCompletionNotification
+    }
+}
+
+impl RestateEncodableMessage for GetLazyStateCompletionNotificationMessage {
+    ghost encoded_type = { types.GetLazyStateCompletionNotification };
+
+    ghost named = { tt };
+
+    ghost wire_form = { λ message _. plain_form tables.get_lazy_state_completion (⟦<GetLazyStateCompletionNotificationMessage as WireRecord>⟧.parts message) };
+
+    ghost is_rewritten = { λ _. false };
+
+    fn encode(&self, alloc: Global, _version: Version) -> result::Result<Bytes, EncodingError> {
+        encode_frame(self, alloc, None)
+    }
+}

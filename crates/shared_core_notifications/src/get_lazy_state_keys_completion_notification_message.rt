@@ -1,0 +1,90 @@
+//! The record `GetLazyStateKeysCompletionNotificationMessage`.
+
+ghost use Rattle.std.specs.Prelude.{false};
+ghost use Rattle.shared_core_wire.specs.Value.{Number, cons, nil};
+ghost use Rattle.shared_core_base.specs.declared.header.MessageType.TheVariants as types;
+ghost use Rattle.shared_core_parts.specs.Frames.{plain_form};
+ghost use Rattle.shared_core_record.specs.Table as tables;
+ghost use Rattle.shared_core_record.specs.FieldParts.{message_part, option_part};
+ghost use Rattle.shared_core_record.specs.EqualityRules.{equality_rules};
+
+use bytes::Bytes;
+use shared_core_base::header::MessageType;
+use shared_core_base::version::Version;
+use shared_core_parts::restate_message::{RestateEncodableMessage, RestateMessage, encode_frame};
+use shared_core_parts::state_keys::StateKeys;
+use shared_core_record::error::EncodingError;
+use shared_core_record::occurrence::Occurrence;
+use shared_core_record::record::WireRecord;
+use shared_core_record::size::Size;
+use shared_core_record::write::{write_optional_message, write_u32};
+use shared_core_wire::error::WireError;
+use std::alloc::{AllocError, Global};
+
+/// The keys that were asked for.
+#[derive(Debug, PartialEq, Drop)]
+pub struct GetLazyStateKeysCompletionNotificationMessage {
+    /// The id of the command that this answers.
+    pub completion_id: u32,
+    /// The keys.
+    pub state_keys: Option<StateKeys>,
+}
+
+impl WireRecord for GetLazyStateKeysCompletionNotificationMessage {
+    ghost schema = { tables.get_lazy_state_keys_completion };
+
+    ghost parts = { λ message. cons (Number message.completion_id)
+        (cons (option_part (message_part ⟦<StateKeys as WireRecord>⟧.parts) message.state_keys) nil) };
+
+    fn empty(_alloc: Global) -> GetLazyStateKeysCompletionNotificationMessage {
+        GetLazyStateKeysCompletionNotificationMessage {
+            completion_id: 0,
+            state_keys: None,
+        }
+    }
+
+    fn merge_field(&mut self, field: &Occurrence<'_>) -> Result<(), WireError> {
+        match field.number {
+            1 => self.completion_id = field.u32()?,
+            17 => field.merge_optional_message(&mut self.state_keys)?,
+            _ => {}
+        }
+        Ok(())
+    }
+
+    fn measure(&self, size: &mut Size) {
+        size.u32(1, self.completion_id);
+        size.optional_message(17, &self.state_keys);
+    }
+
+    fn encode_raw(&self, out: &mut Vec<u8>) -> Result<(), AllocError> {
+        write_u32(out, 1, self.completion_id)?;
+        write_optional_message(out, 17, &self.state_keys)
+    }
+
+    ghost use Rattle.shared_core_parts.specs.contracts.state_keys.StateKeysWireRecord.TheImpl.Laws.{equality-law as state_keys_equality};
+
+    ghost equality = { Prim.search (equality_rules, state_keys_equality) depth 16 };
+}
+
+impl RestateMessage for GetLazyStateKeysCompletionNotificationMessage {
+    ghost message_type = { types.GetLazyStateKeysCompletionNotification };
+
+    fn ty() -> MessageType {
+        MessageType::GetLazyStateKeysCompletionNotification
+    }
+}
+
+impl RestateEncodableMessage for GetLazyStateKeysCompletionNotificationMessage {
+    ghost encoded_type = { types.GetLazyStateKeysCompletionNotification };
+
+    ghost named = { tt };
+
+    ghost wire_form = { λ message _. plain_form tables.get_lazy_state_keys_completion (⟦<GetLazyStateKeysCompletionNotificationMessage as WireRecord>⟧.parts message) };
+
+    ghost is_rewritten = { λ _. false };
+
+    fn encode(&self, alloc: Global, _version: Version) -> Result<Bytes, EncodingError> {
+        encode_frame(self, alloc, None)
+    }
+}

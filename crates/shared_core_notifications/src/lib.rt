@@ -1,0 +1,30 @@
+//! The records of the notifications.
+#![tactic(auto)]
+
+pub mod any_result;
+pub mod attach_invocation_completion_notification_message;
+pub mod call_completion_notification_message;
+pub mod call_invocation_id_completion_notification_message;
+pub mod complete_promise_completion_notification_message;
+pub mod get_invocation_output_completion_notification_message;
+pub mod get_lazy_state_completion_notification_message;
+pub mod get_lazy_state_keys_completion_notification_message;
+pub mod get_promise_completion_notification_message;
+pub mod peek_promise_completion_notification_message;
+pub mod run_completion_notification_message;
+pub mod signal_notification_message;
+pub mod sleep_completion_notification_message;
+pub mod value_or_failure;
+
+pub use crate::attach_invocation_completion_notification_message::AttachInvocationCompletionNotificationMessage;
+pub use crate::call_completion_notification_message::CallCompletionNotificationMessage;
+pub use crate::call_invocation_id_completion_notification_message::CallInvocationIdCompletionNotificationMessage;
+pub use crate::complete_promise_completion_notification_message::CompletePromiseCompletionNotificationMessage;
+pub use crate::get_invocation_output_completion_notification_message::GetInvocationOutputCompletionNotificationMessage;
+pub use crate::get_lazy_state_completion_notification_message::GetLazyStateCompletionNotificationMessage;
+pub use crate::get_lazy_state_keys_completion_notification_message::GetLazyStateKeysCompletionNotificationMessage;
+pub use crate::get_promise_completion_notification_message::GetPromiseCompletionNotificationMessage;
+pub use crate::peek_promise_completion_notification_message::PeekPromiseCompletionNotificationMessage;
+pub use crate::run_completion_notification_message::RunCompletionNotificationMessage;
+pub use crate::signal_notification_message::SignalNotificationMessage;
+pub use crate::sleep_completion_notification_message::SleepCompletionNotificationMessage;

@@ -1,0 +1,92 @@
+//! The record `PeekPromiseCompletionNotificationMessage`.
+
+ghost use Rattle.std.specs.Prelude.{false};
+ghost use Rattle.shared_core_wire.specs.Value.{Number, cons, nil};
+ghost use Rattle.shared_core_base.specs.declared.header.MessageType.TheVariants as types;
+ghost use Rattle.shared_core_parts.specs.Frames.{plain_form};
+ghost use Rattle.shared_core_record.specs.Table as tables;
+ghost use Rattle.shared_core_record.specs.FieldParts.{option_part};
+ghost use Rattle.shared_core_record.specs.EqualityRules.{equality_rules};
+
+pub use crate::any_result::AnyResult as Result;
+use bytes::Bytes;
+use shared_core_base::header::MessageType;
+use shared_core_base::version::Version;
+use shared_core_parts::restate_message::{RestateEncodableMessage, RestateMessage, encode_frame};
+use shared_core_record::error::EncodingError;
+use shared_core_record::occurrence::Occurrence;
+use shared_core_record::oneof::OneOf;
+use shared_core_record::record::WireRecord;
+use shared_core_record::size::Size;
+use shared_core_record::write::{write_oneof, write_u32};
+use shared_core_wire::error::WireError;
+use std::alloc::{AllocError, Global};
+use std::result;
+
+/// The result of a promise that was looked at.
+#[derive(Debug, PartialEq, Drop)]
+pub struct PeekPromiseCompletionNotificationMessage {
+    /// The id of the command that this answers.
+    pub completion_id: u32,
+    /// The result.
+    pub result: Option<Result>,
+}
+
+impl WireRecord for PeekPromiseCompletionNotificationMessage {
+    ghost schema = { tables.peek_promise_completion };
+
+    ghost parts = { λ message. cons (Number message.completion_id)
+        (cons (option_part ⟦<Result as OneOf>⟧.part message.result) nil) };
+
+    fn empty(_alloc: Global) -> PeekPromiseCompletionNotificationMessage {
+        PeekPromiseCompletionNotificationMessage {
+            completion_id: 0,
+            result: None,
+        }
+    }
+
+    fn merge_field(&mut self, field: &Occurrence<'_>) -> result::Result<(), WireError> {
+        match field.number {
+            1 => self.completion_id = field.u32()?,
+            4 | 5 | 6 => OneOf::merge_member(&mut self.result, field)?,
+            _ => {}
+        }
+        Ok(())
+    }
+
+    fn measure(&self, size: &mut Size) {
+        size.u32(1, self.completion_id);
+        size.oneof(&self.result);
+    }
+
+    fn encode_raw(&self, out: &mut Vec<u8>) -> result::Result<(), AllocError> {
+        write_u32(out, 1, self.completion_id)?;
+        write_oneof(out, &self.result)
+    }
+
+    ghost use Rattle.shared_core_notifications.specs.contracts.any_result.AnyResultOneOf.TheImpl.Laws.{equality-law as result_equality, present-law as result_present};
+
+    ghost equality = { Prim.search (equality_rules, result_equality, result_present) depth 16 };
+}
+
+impl RestateMessage for PeekPromiseCompletionNotificationMessage {
+    ghost message_type = { types.PeekPromiseCompletionNotification };
+
+    fn ty() -> MessageType {
+        MessageType::PeekPromiseCompletionNotification
+    }
+}
+
+impl RestateEncodableMessage for PeekPromiseCompletionNotificationMessage {
+    ghost encoded_type = { types.PeekPromiseCompletionNotification };
+
+    ghost named = { tt };
+
+    ghost wire_form = { λ message _. plain_form tables.peek_promise_completion (⟦<PeekPromiseCompletionNotificationMessage as WireRecord>⟧.parts message) };
+
+    ghost is_rewritten = { λ _. false };
+
+    fn encode(&self, alloc: Global, _version: Version) -> result::Result<Bytes, EncodingError> {
+        encode_frame(self, alloc, None)
+    }
+}

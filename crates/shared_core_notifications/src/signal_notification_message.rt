@@ -1,0 +1,147 @@
+//! The record `SignalNotificationMessage`.
+
+ghost use Rattle.std.specs.Prelude.{[], false, refl, ◌∷◌};
+ghost use Rattle.shared_core_wire.specs.Schema.{Text, U32};
+ghost use Rattle.shared_core_wire.specs.Value.{Member, Number, cons, nil};
+ghost use Rattle.shared_core_base.specs.declared.header.MessageType.TheVariants as types;
+ghost use Rattle.shared_core_parts.specs.Frames.{plain_form};
+ghost use Rattle.shared_core_record.specs.Table as tables;
+ghost use Rattle.shared_core_record.specs.FieldParts.{option_part, text_part};
+ghost use Rattle.shared_core_record.specs.EqualityRules.{different_members, equality_rules};
+
+pub use crate::any_result::AnyResult as Result;
+use bytes::Bytes;
+use shared_core_base::header::MessageType;
+use shared_core_base::version::Version;
+use shared_core_parts::restate_message::{RestateEncodableMessage, RestateMessage, encode_frame};
+use shared_core_record::error::EncodingError;
+use shared_core_record::occurrence::Occurrence;
+use shared_core_record::oneof::OneOf;
+use shared_core_record::record::WireRecord;
+use shared_core_record::size::Size;
+use shared_core_record::write::{write_oneof, write_text_value, write_u32_value};
+use shared_core_wire::error::WireError;
+use std::alloc::{AllocError, Global};
+use std::result;
+
+/// Which signal it is.
+#[derive(Debug, PartialEq, Drop)]
+pub enum SignalId {
+    /// The id of the signal.
+    Idx(u32),
+    /// The name of the signal.
+    Name(String),
+}
+
+impl OneOf for SignalId {
+    ghost use Rattle.shared_core_notifications.specs.declared.signal_notification_message.SignalId.TheVariants as signal_id_is;
+
+    ghost members = { (2, U32) ∷ (3, Text) ∷ [] };
+
+    ghost part = { elim [
+      | signal_id_is.Idx x ↦ Member 2 (Number x)
+      | signal_id_is.Name x ↦ Member 3 (text_part x)
+    ] };
+
+    fn merge_member(
+        oneof: &mut Option<SignalId>,
+        field: &Occurrence<'_>,
+    ) -> result::Result<(), WireError> {
+        match field.number {
+            2 => *oneof = Some(SignalId::Idx(field.u32()?)),
+            3 => *oneof = Some(SignalId::Name(field.text()?)),
+            _ => unreachable!(),
+        }
+        Ok(())
+    }
+
+    fn measure(&self, size: &mut Size) {
+        match self {
+            SignalId::Idx(idx) => size.u32_value(2, *idx),
+            SignalId::Name(name) => size.text_value(3, name),
+        }
+    }
+
+    fn encode_raw(&self, out: &mut Vec<u8>) -> result::Result<(), AllocError> {
+        match self {
+            SignalId::Idx(idx) => write_u32_value(out, 2, *idx),
+            SignalId::Name(name) => write_text_value(out, 3, name),
+        }
+    }
+
+    ghost present = { elim [ signal_id_is.Idx x ↦ refl | signal_id_is.Name x ↦ refl ] };
+
+    ghost equality = { elim [
+      | signal_id_is.Idx x ↦ elim [ signal_id_is.Idx y ↦ Prim.search equality_rules | _ ↦ different_members _ _ _ _ refl ]
+      | signal_id_is.Name x ↦ elim [ signal_id_is.Name y ↦ Prim.search equality_rules | _ ↦ different_members _ _ _ _ refl ]
+    ] };
+}
+
+/// A signal.
+#[derive(Debug, PartialEq, Drop)]
+pub struct SignalNotificationMessage {
+    /// Which signal it is.
+    pub signal_id: Option<SignalId>,
+    /// The result.
+    pub result: Option<Result>,
+}
+
+impl WireRecord for SignalNotificationMessage {
+    ghost schema = { tables.signal_notification };
+
+    ghost parts = { λ message. cons (option_part ⟦<SignalId as OneOf>⟧.part message.signal_id)
+        (cons (option_part ⟦<Result as OneOf>⟧.part message.result) nil) };
+
+    fn empty(_alloc: Global) -> SignalNotificationMessage {
+        SignalNotificationMessage {
+            signal_id: None,
+            result: None,
+        }
+    }
+
+    fn merge_field(&mut self, field: &Occurrence<'_>) -> result::Result<(), WireError> {
+        match field.number {
+            2 | 3 => OneOf::merge_member(&mut self.signal_id, field)?,
+            4 | 5 | 6 => OneOf::merge_member(&mut self.result, field)?,
+            _ => {}
+        }
+        Ok(())
+    }
+
+    fn measure(&self, size: &mut Size) {
+        size.oneof(&self.signal_id);
+        size.oneof(&self.result);
+    }
+
+    fn encode_raw(&self, out: &mut Vec<u8>) -> result::Result<(), AllocError> {
+        write_oneof(out, &self.signal_id)?;
+        write_oneof(out, &self.result)
+    }
+
+    ghost use Rattle.shared_core_notifications.specs.contracts.signal_notification_message.SignalIdOneOf.TheImpl.Laws.{equality-law as signal_id_equality, present-law as signal_id_present};
+    ghost use Rattle.shared_core_notifications.specs.contracts.any_result.AnyResultOneOf.TheImpl.Laws.{equality-law as result_equality, present-law as result_present};
+
+    ghost equality = { Prim.search (equality_rules, signal_id_equality, signal_id_present, result_equality, result_present) depth 16 };
+}
+
+impl RestateMessage for SignalNotificationMessage {
+    ghost message_type = { types.SignalNotification };
+
+    fn ty() -> MessageType {
+        MessageType::SignalNotification
+    }
+}
+
+impl RestateEncodableMessage for SignalNotificationMessage {
+    ghost encoded_type = { types.SignalNotification };
+
+    ghost named = { tt };
+
+    ghost wire_form = { λ message _. plain_form tables.signal_notification (⟦<SignalNotificationMessage as WireRecord>⟧.parts message) };
+
+    ghost is_rewritten = { λ _. false };
+
+    fn encode(&self, alloc: Global, _version: Version) -> result::Result<Bytes, EncodingError> {
+        encode_frame(self, alloc, None)
+    }
+}

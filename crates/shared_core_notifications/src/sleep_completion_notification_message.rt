@@ -1,0 +1,90 @@
+//! The record `SleepCompletionNotificationMessage`.
+
+ghost use Rattle.std.specs.Prelude.{false};
+ghost use Rattle.shared_core_wire.specs.Value.{Number, cons, nil};
+ghost use Rattle.shared_core_base.specs.declared.header.MessageType.TheVariants as types;
+ghost use Rattle.shared_core_parts.specs.Frames.{plain_form};
+ghost use Rattle.shared_core_record.specs.Table as tables;
+ghost use Rattle.shared_core_record.specs.FieldParts.{message_part, option_part};
+ghost use Rattle.shared_core_record.specs.EqualityRules.{equality_rules};
+
+use bytes::Bytes;
+use shared_core_base::header::MessageType;
+use shared_core_base::version::Version;
+use shared_core_parts::restate_message::{RestateEncodableMessage, RestateMessage, encode_frame};
+use shared_core_parts::void::Void;
+use shared_core_record::error::EncodingError;
+use shared_core_record::occurrence::Occurrence;
+use shared_core_record::record::WireRecord;
+use shared_core_record::size::Size;
+use shared_core_record::write::{write_optional_message, write_u32};
+use shared_core_wire::error::WireError;
+use std::alloc::{AllocError, Global};
+
+/// A sleep is over.
+#[derive(Debug, PartialEq, Drop)]
+pub struct SleepCompletionNotificationMessage {
+    /// The id of the command that this answers.
+    pub completion_id: u32,
+    /// Nothing, or that the sleep is over.
+    pub void: Option<Void>,
+}
+
+impl WireRecord for SleepCompletionNotificationMessage {
+    ghost schema = { tables.sleep_completion };
+
+    ghost parts = { λ message. cons (Number message.completion_id)
+        (cons (option_part (message_part ⟦<Void as WireRecord>⟧.parts) message.void) nil) };
+
+    fn empty(_alloc: Global) -> SleepCompletionNotificationMessage {
+        SleepCompletionNotificationMessage {
+            completion_id: 0,
+            void: None,
+        }
+    }
+
+    fn merge_field(&mut self, field: &Occurrence<'_>) -> Result<(), WireError> {
+        match field.number {
+            1 => self.completion_id = field.u32()?,
+            4 => field.merge_optional_message(&mut self.void)?,
+            _ => {}
+        }
+        Ok(())
+    }
+
+    fn measure(&self, size: &mut Size) {
+        size.u32(1, self.completion_id);
+        size.optional_message(4, &self.void);
+    }
+
+    fn encode_raw(&self, out: &mut Vec<u8>) -> Result<(), AllocError> {
+        write_u32(out, 1, self.completion_id)?;
+        write_optional_message(out, 4, &self.void)
+    }
+
+    ghost use Rattle.shared_core_parts.specs.contracts.void.VoidWireRecord.TheImpl.Laws.{equality-law as void_equality};
+
+    ghost equality = { Prim.search (equality_rules, void_equality) depth 16 };
+}
+
+impl RestateMessage for SleepCompletionNotificationMessage {
+    ghost message_type = { types.SleepCompletionNotification };
+
+    fn ty() -> MessageType {
+        MessageType::SleepCompletionNotification
+    }
+}
+
+impl RestateEncodableMessage for SleepCompletionNotificationMessage {
+    ghost encoded_type = { types.SleepCompletionNotification };
+
+    ghost named = { tt };
+
+    ghost wire_form = { λ message _. plain_form tables.sleep_completion (⟦<SleepCompletionNotificationMessage as WireRecord>⟧.parts message) };
+
+    ghost is_rewritten = { λ _. false };
+
+    fn encode(&self, alloc: Global, _version: Version) -> Result<Bytes, EncodingError> {
+        encode_frame(self, alloc, None)
+    }
+}

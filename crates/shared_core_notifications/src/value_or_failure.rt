@@ -1,0 +1,80 @@
+//! A result that is a value or a failure.
+
+ghost use Rattle.std.specs.Prelude.{[], refl, ◌∷◌};
+ghost use Rattle.shared_core_wire.specs.Schema.{Message};
+ghost use Rattle.shared_core_wire.specs.Value.{Member};
+ghost use Rattle.shared_core_record.specs.Table as tables;
+ghost use Rattle.shared_core_record.specs.FieldParts.{message_part};
+ghost use Rattle.shared_core_record.specs.EqualityRules.{different_members, equality_rules};
+
+use shared_core_parts::failure::Failure;
+use shared_core_parts::value::Value;
+use shared_core_record::occurrence::Occurrence;
+use shared_core_record::oneof::OneOf;
+use shared_core_record::record::WireRecord;
+use shared_core_record::size::Size;
+use shared_core_record::write::write_message_value;
+use shared_core_wire::error::WireError;
+use std::alloc::AllocError;
+
+/// A result that is a value or a failure.
+#[derive(Debug, PartialEq, Drop)]
+pub enum ValueOrFailure {
+    /// A value.
+    Value(Value),
+    /// A failure.
+    Failure(Failure),
+}
+
+impl OneOf for ValueOrFailure {
+    ghost use Rattle.shared_core_notifications.specs.declared.value_or_failure.ValueOrFailure.TheVariants as value_or_failure_is;
+
+    ghost members = { (5, Message tables.value) ∷ (6, Message tables.failure) ∷ [] };
+
+    ghost part = { elim [
+      | value_or_failure_is.Value x ↦ Member 5 (message_part ⟦<Value as WireRecord>⟧.parts x)
+      | value_or_failure_is.Failure x ↦ Member 6 (message_part ⟦<Failure as WireRecord>⟧.parts x)
+    ] };
+
+    fn merge_member(
+        oneof: &mut Option<ValueOrFailure>,
+        field: &Occurrence<'_>,
+    ) -> Result<(), WireError> {
+        match field.number {
+            5 => match oneof {
+                Some(ValueOrFailure::Value(value)) => field.merge_message(value)?,
+                _ => *oneof = Some(ValueOrFailure::Value(field.message()?)),
+            },
+            6 => match oneof {
+                Some(ValueOrFailure::Failure(failure)) => field.merge_message(failure)?,
+                _ => *oneof = Some(ValueOrFailure::Failure(field.message()?)),
+            },
+            _ => unreachable!(),
+        }
+        Ok(())
+    }
+
+    fn measure(&self, size: &mut Size) {
+        match self {
+            ValueOrFailure::Value(value) => size.message_value(5, value),
+            ValueOrFailure::Failure(failure) => size.message_value(6, failure),
+        }
+    }
+
+    fn encode_raw(&self, out: &mut Vec<u8>) -> Result<(), AllocError> {
+        match self {
+            ValueOrFailure::Value(value) => write_message_value(out, 5, value),
+            ValueOrFailure::Failure(failure) => write_message_value(out, 6, failure),
+        }
+    }
+
+    ghost use Rattle.shared_core_parts.specs.contracts.value.ValueWireRecord.TheImpl.Laws.{equality-law as value_equality};
+    ghost use Rattle.shared_core_parts.specs.contracts.failure.FailureWireRecord.TheImpl.Laws.{equality-law as failure_equality};
+
+    ghost present = { elim [ value_or_failure_is.Value x ↦ refl | value_or_failure_is.Failure x ↦ refl ] };
+
+    ghost equality = { elim [
+      | value_or_failure_is.Value x ↦ elim [ value_or_failure_is.Value y ↦ Prim.search (equality_rules, value_equality) | _ ↦ different_members _ _ _ _ refl ]
+      | value_or_failure_is.Failure x ↦ elim [ value_or_failure_is.Failure y ↦ Prim.search (equality_rules, failure_equality) | _ ↦ different_members _ _ _ _ refl ]
+    ] };
+}

@@ -1,0 +1,27 @@
+use Rattle.std.proofs.Common.{◌≡◌, ◌+◌, ◌*◌}
+use Rattle.shared_core_wire.specs.Items.{record_items}
+use Rattle.shared_core_wire.specs.ItemsLeft.{items_left}
+use Rattle.shared_core_wire.specs.Places.{EachLies}
+use Rattle.shared_core_record.specs.Table.{future}
+use Rattle.shared_core_record.specs.Folding.{fold_items}
+use Rattle.shared_core_record.specs.Occurrences.{merged_with}
+use Rattle.shared_core_parts.specs.Futures.{future_parts}
+use Rattle.shared_core_parts.proofs.future.+merge_future.Given as goal
+
+abbrev pub decreases-merge_future : goal.decreases-merge_future
+decreases-merge_future l = 4 * l.message.now.left + 3
+
+abbrev pub decreases-merge_future_field : goal.decreases-merge_future_field
+decreases-merge_future_field l = 4 * l.field.now.left + 2
+
+abbrev pub decreases-extend_futures : goal.decreases-extend_futures
+decreases-extend_futures l = 4 * l.field.now.left + 1
+
+abbrev pub decreases-read_future : goal.decreases-read_future
+decreases-read_future l = 4 * l.field.now.left
+
+abbrev pub invariant-merge_future-loop-item : goal.invariant-merge_future-loop-item
+invariant-merge_future-loop-item l = record {
+  lies : EachLies l.message.bytes.now (items_left l.item-iterator);
+  rest : fold_items (merged_with l.message.left future) (future_parts l.future) (items_left l.item-iterator) ≡ fold_items (merged_with l.message.left future) (future_parts l.fn.future) (record_items l.message.left l.message.bytes.now);
+}

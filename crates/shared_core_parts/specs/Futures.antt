@@ -1,0 +1,29 @@
+-- A tree of futures as a value.
+use Rattle.std.specs.Prelude.{List, map}
+use Rattle.shared_core_wire.specs.Value.{Part, Parts, Nested, Elements, nil, cons}
+use Rattle.shared_core_wire.specs.Value as value
+use Rattle.shared_core_record.specs.FieldParts.{text_part, enum_part, parts_of, elements_part}
+use Rattle.shared_core_parts.specs.declared.future.Future.{Future}
+use Rattle.shared_core_parts.specs.declared.future.Future.TheOpen.{Future-F}
+use Rattle.shared_core_parts.specs.declared.future.Future.TheFolds.{fold-Future}
+
+-- One future, where each nested one is its value.
+abbrev pub future_layer : Future-F Parts → Parts
+future_layer f =
+    cons (elements_part value.Number f.waiting_completions.items)
+    (cons (elements_part value.Number f.waiting_signals.items)
+    (cons (elements_part text_part f.waiting_named_signals.items)
+    (cons (elements_part Nested f.nested_futures.items)
+    (cons (enum_part f.combinator_type) nil))))
+
+-- The value of a future.
+abbrev pub future_parts : Future → Parts
+future_parts = fold-Future Parts future_layer
+
+-- Futures as the elements of a repeated field.
+abbrev pub future_elements : List Future → Parts
+future_elements fs = parts_of Nested (map future_parts fs)
+
+-- The part of a repeated field of futures.
+abbrev pub futures_part : List Future → Part
+futures_part fs = Elements (future_elements fs)

@@ -1,0 +1,3 @@
+pub mod Futures
+pub mod Frames
+pub mod Notifications

@@ -1,0 +1,67 @@
+//! A terminal failure.
+
+ghost use Rattle.shared_core_wire.specs.Value.{Number, nil, cons};
+ghost use Rattle.shared_core_record.specs.Table as tables;
+ghost use Rattle.shared_core_record.specs.FieldParts.{text_part, message_part, elements_part};
+ghost use Rattle.shared_core_record.specs.EqualityRules.{equality_rules};
+
+use crate::failure_metadata::FailureMetadata;
+use shared_core_record::occurrence::Occurrence;
+use shared_core_record::record::WireRecord;
+use shared_core_record::size::Size;
+use shared_core_record::write::{write_messages, write_text, write_u32};
+use shared_core_wire::error::WireError;
+use std::alloc::{AllocError, Global};
+
+/// A terminal failure, which is a result as a value is.
+#[derive(Debug, PartialEq, Drop)]
+pub struct Failure {
+    /// The code, as of HTTP statuses.
+    pub code: u32,
+    /// What went wrong, in words.
+    pub message: String,
+    /// Further entries, in order.
+    pub metadata: Vec<FailureMetadata>,
+}
+
+impl WireRecord for Failure {
+    ghost schema = { tables.failure };
+
+    ghost parts = { λ m. cons (Number m.code)
+        (cons (text_part m.message)
+        (cons (elements_part (message_part ⟦<FailureMetadata as WireRecord>⟧.parts) m.metadata.items) nil)) };
+
+    fn empty(alloc: Global) -> Failure {
+        Failure {
+            code: 0,
+            message: String::new(alloc),
+            metadata: Vec::new(alloc),
+        }
+    }
+
+    fn merge_field(&mut self, field: &Occurrence<'_>) -> Result<(), WireError> {
+        match field.number {
+            1 => self.code = field.u32()?,
+            2 => self.message = field.text()?,
+            3 => field.extend_messages(&mut self.metadata)?,
+            _ => {}
+        }
+        Ok(())
+    }
+
+    fn measure(&self, size: &mut Size) {
+        size.u32(1, self.code);
+        size.text(2, &self.message);
+        size.messages(3, &self.metadata);
+    }
+
+    fn encode_raw(&self, out: &mut Vec<u8>) -> Result<(), AllocError> {
+        write_u32(out, 1, self.code)?;
+        write_text(out, 2, &self.message)?;
+        write_messages(out, 3, &self.metadata)
+    }
+
+    ghost use Rattle.shared_core_parts.specs.contracts.failure_metadata.FailureMetadataWireRecord.TheImpl.Laws.{equality-law as failure_metadata_equality};
+
+    ghost equality = { Prim.search (equality_rules, failure_metadata_equality) depth 18 };
+}

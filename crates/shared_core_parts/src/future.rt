@@ -1,0 +1,261 @@
+//! What an invocation waits for, as a tree.
+
+ghost use Rattle.std.specs.Prelude.{◌≡◌, ◌+◌, ◌++◌, length, IfOk, OnOk, false};
+ghost use Rattle.std.specs.Result.{IsErrOf};
+ghost use Rattle.shared_core_wire.specs.Items.{record_items};
+ghost use Rattle.shared_core_wire.specs.Schema.{Message, Repeated};
+ghost use Rattle.shared_core_wire.specs.Value.{Absent, empty_value};
+ghost use Rattle.shared_core_record.specs.Table.{table};
+ghost use Rattle.shared_core_record.specs.Table as tables;
+ghost use Rattle.shared_core_record.specs.FieldParts.{message_part};
+ghost use Rattle.shared_core_record.specs.Computed.{IsComputed};
+ghost use Rattle.shared_core_record.specs.Folding.{fold_items};
+ghost use Rattle.shared_core_record.specs.Occurrences.{schema_accepts, RecordMerges, field_accepts, FieldBecomes, repeated_accepts, FieldExtends, merged_with};
+ghost use Rattle.shared_core_record.specs.RowSpelling.{capped, value_bytes, measured_row, measured_rows, with_row, with_rows};
+ghost use Rattle.shared_core_record.specs.RowFitting.{ValueFits, FieldFits, FieldsFit};
+ghost use Rattle.shared_core_record.specs.SmallRows.{IsSmallValue, IsSmall, AreSmall};
+ghost use Rattle.shared_core_record.specs.Equality.{part_equal, parts_equal};
+ghost use Rattle.shared_core_wire.specs.declared.error.WireError.TheVariants as error;
+ghost use Rattle.shared_core_parts.specs.Futures.{future_parts, future_elements, futures_part};
+
+use shared_core_record::message::MessageBytes;
+use shared_core_record::occurrence::Occurrence;
+use shared_core_record::record::WireRecord;
+use shared_core_record::size::Size;
+use shared_core_record::write::{write_enumeration, write_length, write_texts, write_u32s};
+use shared_core_wire::error::WireError;
+use shared_core_wire::records::Records;
+use std::alloc::{AllocError, Global};
+
+/// What an invocation waits for, as a tree: ids and names at each future, and the futures that it combines.
+#[derive(Debug, Drop)]
+pub struct Future {
+    /// The completion ids that are waited for.
+    pub waiting_completions: Vec<u32>,
+    /// The numbers of the signals that are waited for.
+    pub waiting_signals: Vec<u32>,
+    /// The names of the signals that are waited for.
+    pub waiting_named_signals: Vec<String>,
+    /// The futures that this one combines.
+    pub nested_futures: Vec<Future>,
+    /// How it combines what it waits for, as the number of an enum.
+    pub combinator_type: i32,
+}
+
+impl WireRecord for Future {
+    ghost schema = { tables.future };
+
+    ghost parts = { future_parts };
+
+    fn empty(alloc: Global) -> Future {
+        empty_future(alloc)
+    }
+
+    fn merge_field(&mut self, field: &Occurrence<'_>) -> Result<(), WireError> {
+        merge_future_field(self, field)
+    }
+
+    fn measure(&self, size: &mut Size) {
+        measure_future(self, size);
+    }
+
+    fn encode_raw(&self, out: &mut Vec<u8>) -> Result<(), AllocError> {
+        encode_future(self, out)
+    }
+
+    ghost use Rattle.shared_core_record.specs.EqualityRules.{parts_equal_decides};
+
+    ghost equality = { λ a b. parts_equal_decides (future_parts a) (future_parts b) };
+}
+
+impl PartialEq for Future {
+    ghost use Rattle.std.specs.Ordering.{on};
+    ghost use Rattle.shared_core_record.specs.Equality.{parts_equal};
+    ghost use Rattle.shared_core_record.specs.EqualityRules.{parts_equal_laws};
+    ghost use Rattle.shared_core_parts.specs.Futures.{future_parts};
+
+    ghost eq = { on future_parts parts_equal };
+
+    ghost laws = { parts_equal_laws future_parts };
+
+    fn eq(&self, other: &Future) -> bool {
+        futures_equal(self, other)
+    }
+}
+
+// The functions below lead back to each other through the futures in a future, which a trait's method at its own type cannot. They are
+// what a record without itself in it has from the trait and its field functions.
+
+fn empty_future(alloc: Global) -> Future
+    ensures { future_parts result ≡ empty_value (table tables.future) }
+{
+    Future {
+        waiting_completions: Vec::new(alloc),
+        waiting_signals: Vec::new(alloc),
+        waiting_named_signals: Vec::new(alloc),
+        nested_futures: Vec::new(alloc),
+        combinator_type: 0,
+    }
+}
+
+/// Merges the records of a message into a future.
+#[cycle(merge_future)]
+fn merge_future(future: &mut Future, message: &MessageBytes<'_>) -> Result<(), WireError>
+    ensures { IsComputed (λ _. future_parts future.new) result (fold_items (merged_with message.now.left tables.future) (future_parts future.old) (record_items message.now.left message.now.bytes.now)) }
+{
+    for item in Records::within(message.bytes, message.left) {
+        let found = item?;
+        merge_future_field(future, &message.occurrence(&found))?;
+    }
+    Ok(())
+}
+
+/// Takes one occurrence into its field.
+#[cycle(merge_future)]
+fn merge_future_field(future: &mut Future, field: &Occurrence<'_>) -> Result<(), WireError>
+    ensures ok { OnOk result (RecordMerges tables.future field.now (future_parts future.old) (future_parts future.new)) }
+    ensures malformed { IsErrOf result error.Malformed → schema_accepts tables.future field.now ≡ false }
+{
+    match field.number {
+        1 => field.extend_u32s(&mut future.waiting_completions)?,
+        2 => field.extend_u32s(&mut future.waiting_signals)?,
+        3 => field.extend_texts(&mut future.waiting_named_signals)?,
+        4 => extend_futures(&mut future.nested_futures, field)?,
+        5 => future.combinator_type = field.enumeration()?,
+        _ => {}
+    }
+    Ok(())
+}
+
+/// Appends the future that an occurrence holds.
+#[cycle(merge_future)]
+fn extend_futures(futures: &mut Vec<Future>, field: &Occurrence<'_>) -> Result<(), WireError>
+    ensures ok { OnOk result (FieldExtends field.now (Message tables.future) (future_elements futures.old.items) (future_elements futures.new.items)) }
+    ensures malformed { IsErrOf result error.Malformed → repeated_accepts field.now (Message tables.future) ≡ false }
+{
+    let future = read_future(field)?;
+    let Ok(()) = futures.push(future) else {
+        return Err(WireError::OutOfMemory);
+    };
+    Ok(())
+}
+
+/// The future that an occurrence holds.
+#[cycle(merge_future)]
+fn read_future(field: &Occurrence<'_>) -> Result<Future, WireError>
+    ensures ok { IfOk result (λ f. FieldBecomes field.now (Message tables.future) Absent (message_part future_parts f)) }
+    ensures malformed { IsErrOf result error.Malformed → field_accepts field.now (Message tables.future) ≡ false }
+{
+    let Some(nested) = field.nested() else {
+        return Err(WireError::Malformed);
+    };
+    let mut future = empty_future(field.alloc);
+    merge_future(&mut future, &nested)?;
+    Ok(future)
+}
+
+#[cycle(measure_future)]
+fn measure_future(future: &Future, size: &mut Size)
+    ensures sum { size.new ≡ measured_rows (table tables.future) (future_parts future.now) size.old }
+    ensures fit { FieldsFit (table tables.future) (future_parts future.now) }
+{
+    size.u32s(1, &future.waiting_completions);
+    size.u32s(2, &future.waiting_signals);
+    size.texts(3, &future.waiting_named_signals);
+    measure_futures(&future.nested_futures, size);
+    size.enumeration(5, future.combinator_type);
+}
+
+#[cycle(measure_future)]
+fn measure_futures(futures: &Vec<Future>, size: &mut Size)
+    ensures sum { size.new ≡ measured_row (Repeated 4 (Message tables.future)) (futures_part futures.now.items) size.old }
+    ensures fit { FieldFits (Repeated 4 (Message tables.future)) (futures_part futures.now.items) }
+{
+    let _ = size.total();
+    for future in futures {
+        measure_nested(future, size);
+    }
+}
+
+#[cycle(measure_future)]
+#[tactic(auto, using(shared_core_record::proofs::Measuring::measured_message_is, shared_core_record::proofs::FittingRows::fit_message))]
+fn measure_nested(future: &Future, size: &mut Size)
+    ensures sum { size.new ≡ capped (size.old + length (value_bytes 4 (Message tables.future) (message_part future_parts future.now))) }
+    ensures fit { ValueFits (Message tables.future) (message_part future_parts future.now) }
+{
+    let mut nested = Size::new();
+    measure_future(future, &mut nested);
+    size.add_sized(4, &nested);
+}
+
+#[cycle(encode_future)]
+fn encode_future(future: &Future, out: &mut Vec<u8>) -> Result<(), AllocError>
+    requires small { AreSmall (table tables.future) (future_parts future.now) }
+    ensures { OnOk result (out.new.items ≡ with_rows (table tables.future) (future_parts future.now) out.old.items) }
+{
+    write_u32s(out, 1, &future.waiting_completions)?;
+    write_u32s(out, 2, &future.waiting_signals)?;
+    write_texts(out, 3, &future.waiting_named_signals)?;
+    encode_futures(&future.nested_futures, out)?;
+    write_enumeration(out, 5, future.combinator_type)
+}
+
+#[cycle(encode_future)]
+fn encode_futures(futures: &Vec<Future>, out: &mut Vec<u8>) -> Result<(), AllocError>
+    requires small { IsSmall (Repeated 4 (Message tables.future)) (futures_part futures.now.items) }
+    ensures { OnOk result (out.new.items ≡ with_row (Repeated 4 (Message tables.future)) (futures_part futures.now.items) out.old.items) }
+{
+    for future in futures {
+        encode_nested(future, out)?;
+    }
+    Ok(())
+}
+
+#[cycle(encode_future)]
+#[tactic(auto, using(shared_core_record::proofs::SmallParts::message_written, shared_core_record::proofs::SmallParts::small_message))]
+fn encode_nested(future: &Future, out: &mut Vec<u8>) -> Result<(), AllocError>
+    requires small { IsSmallValue 4 (Message tables.future) (message_part future_parts future.now) }
+    ensures { OnOk result (out.new.items ≡ out.old.items ++ value_bytes 4 (Message tables.future) (message_part future_parts future.now)) }
+{
+    let mut nested = Size::new();
+    measure_future(future, &mut nested);
+    write_length(out, 4, &nested)?;
+    encode_future(future, out)?;
+    Ok(())
+}
+
+#[cycle(futures_equal)]
+#[tactic(auto, using(crate::proofs::EqualFutures::by_completions, crate::proofs::EqualFutures::by_signals, crate::proofs::EqualFutures::by_names, crate::proofs::EqualFutures::by_nested, crate::proofs::EqualFutures::by_last))]
+fn futures_equal(a: &Future, b: &Future) -> bool
+    ensures { result ≡ parts_equal (future_parts a.now) (future_parts b.now) }
+{
+    if a.waiting_completions != b.waiting_completions {
+        return false;
+    }
+    if a.waiting_signals != b.waiting_signals {
+        return false;
+    }
+    if a.waiting_named_signals != b.waiting_named_signals {
+        return false;
+    }
+    if !all_equal(&a.nested_futures, &b.nested_futures) {
+        return false;
+    }
+    a.combinator_type.eq(&b.combinator_type)
+}
+
+#[cycle(futures_equal)]
+#[tactic(auto, using(crate::proofs::EqualFutures::eq_lengths))]
+fn all_equal(a: &Vec<Future>, b: &Vec<Future>) -> bool
+    ensures { result ≡ part_equal (futures_part a.now.items) (futures_part b.now.items) }
+{
+    if a.len() != b.len() {
+        return false;
+    }
+    for i in 0..a.len() {
+        if !futures_equal(&a[i], &b[i]) {
+            return false;
+        }
+    }
+    true
+}

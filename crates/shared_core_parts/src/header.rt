@@ -1,0 +1,57 @@
+//! A header of a call.
+
+ghost use Rattle.shared_core_wire.specs.Value.{nil, cons};
+ghost use Rattle.shared_core_record.specs.Table as tables;
+ghost use Rattle.shared_core_record.specs.FieldParts.{text_part};
+ghost use Rattle.shared_core_record.specs.EqualityRules.{equality_rules};
+
+use shared_core_record::occurrence::Occurrence;
+use shared_core_record::record::WireRecord;
+use shared_core_record::size::Size;
+use shared_core_record::write::write_text;
+use shared_core_wire::error::WireError;
+use std::alloc::{AllocError, Global};
+
+/// A header of a call.
+#[derive(Debug, PartialEq, Drop)]
+pub struct Header {
+    /// The key.
+    pub key: String,
+    /// The value.
+    pub value: String,
+}
+
+impl WireRecord for Header {
+    ghost schema = { tables.header };
+
+    ghost parts = { λ m. cons (text_part m.key)
+        (cons (text_part m.value) nil) };
+
+    fn empty(alloc: Global) -> Header {
+        Header {
+            key: String::new(alloc),
+            value: String::new(alloc),
+        }
+    }
+
+    fn merge_field(&mut self, field: &Occurrence<'_>) -> Result<(), WireError> {
+        match field.number {
+            1 => self.key = field.text()?,
+            2 => self.value = field.text()?,
+            _ => {}
+        }
+        Ok(())
+    }
+
+    fn measure(&self, size: &mut Size) {
+        size.text(1, &self.key);
+        size.text(2, &self.value);
+    }
+
+    fn encode_raw(&self, out: &mut Vec<u8>) -> Result<(), AllocError> {
+        write_text(out, 1, &self.key)?;
+        write_text(out, 2, &self.value)
+    }
+
+    ghost equality = { Prim.search equality_rules };
+}

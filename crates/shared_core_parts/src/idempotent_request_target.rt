@@ -1,0 +1,78 @@
+//! A request with an idempotency key, as a target.
+
+ghost use Rattle.shared_core_wire.specs.Value.{nil, cons};
+ghost use Rattle.shared_core_record.specs.Table as tables;
+ghost use Rattle.shared_core_record.specs.FieldParts.{text_part, option_part};
+ghost use Rattle.shared_core_record.specs.EqualityRules.{equality_rules};
+
+use shared_core_record::occurrence::Occurrence;
+use shared_core_record::record::WireRecord;
+use shared_core_record::size::Size;
+use shared_core_record::write::{write_optional_text, write_text};
+use shared_core_wire::error::WireError;
+use std::alloc::{AllocError, Global};
+
+/// A request with an idempotency key, as a target.
+#[derive(Debug, PartialEq, Drop)]
+pub struct IdempotentRequestTarget {
+    /// The name of the service.
+    pub service_name: String,
+    /// The key of the object or workflow, where the service has keys.
+    pub service_key: Option<String>,
+    /// The name of the handler.
+    pub handler_name: String,
+    /// The idempotency key.
+    pub idempotency_key: String,
+    /// The scope, where there is one.
+    pub scope: Option<String>,
+}
+
+impl WireRecord for IdempotentRequestTarget {
+    ghost schema = { tables.idempotent_request_target };
+
+    ghost parts = { λ m. cons (text_part m.service_name)
+        (cons (option_part text_part m.service_key)
+        (cons (text_part m.handler_name)
+        (cons (text_part m.idempotency_key)
+        (cons (option_part text_part m.scope) nil)))) };
+
+    fn empty(alloc: Global) -> IdempotentRequestTarget {
+        IdempotentRequestTarget {
+            service_name: String::new(alloc),
+            service_key: None,
+            handler_name: String::new(alloc),
+            idempotency_key: String::new(alloc),
+            scope: None,
+        }
+    }
+
+    fn merge_field(&mut self, field: &Occurrence<'_>) -> Result<(), WireError> {
+        match field.number {
+            1 => self.service_name = field.text()?,
+            2 => self.service_key = Some(field.text()?),
+            3 => self.handler_name = field.text()?,
+            4 => self.idempotency_key = field.text()?,
+            5 => self.scope = Some(field.text()?),
+            _ => {}
+        }
+        Ok(())
+    }
+
+    fn measure(&self, size: &mut Size) {
+        size.text(1, &self.service_name);
+        size.optional_text(2, &self.service_key);
+        size.text(3, &self.handler_name);
+        size.text(4, &self.idempotency_key);
+        size.optional_text(5, &self.scope);
+    }
+
+    fn encode_raw(&self, out: &mut Vec<u8>) -> Result<(), AllocError> {
+        write_text(out, 1, &self.service_name)?;
+        write_optional_text(out, 2, &self.service_key)?;
+        write_text(out, 3, &self.handler_name)?;
+        write_text(out, 4, &self.idempotency_key)?;
+        write_optional_text(out, 5, &self.scope)
+    }
+
+    ghost equality = { Prim.search equality_rules depth 22 };
+}

@@ -1,0 +1,78 @@
+//! Messages: records with a type, and what they are written as.
+
+ghost use Rattle.std.specs.Prelude.{◌≡◌, ◌≤◌, ◌<◌, ◌^◌, Bool, Option, IfOk, IsErr, Err, false, MatchBool, length};
+ghost use Rattle.std.specs.Result.{IsErrOf};
+ghost use Rattle.shared_core_base.specs.declared.header.MessageType.{MessageType as AnyType};
+ghost use Rattle.shared_core_base.specs.MessageType.{IsNamed};
+ghost use Rattle.shared_core_base.specs.declared.version.Version.{Version as AnyVersion};
+ghost use Rattle.shared_core_wire.specs.Canonical.{canonical_payload, size};
+ghost use Rattle.shared_core_record.specs.Table.{table};
+ghost use Rattle.shared_core_record.specs.declared.error.EncodingError.TheVariants.{PayloadTooLong};
+ghost use Rattle.shared_core_parts.specs.Frames.{frame, WireForm, wire_size, wire_frame};
+
+use bytes::Bytes;
+use shared_core_base::header::{MessageHeader, MessageType};
+use shared_core_base::version::Version;
+use shared_core_record::error::EncodingError;
+use shared_core_record::record::WireRecord;
+use std::alloc::Global;
+
+/// A record that is the payload of messages of a type.
+pub trait RestateMessage: WireRecord {
+    /// The type of its messages.
+    ghost message_type: { AnyType };
+
+    /// The type of its messages.
+    fn ty() -> MessageType
+        ensures { result ≡ message_type };
+}
+
+/// A message that can be written.
+pub trait RestateEncodableMessage {
+    /// The type that its header says.
+    ghost encoded_type: { AnyType };
+
+    /// It is a type that has a name.
+    ghost named: { IsNamed encoded_type };
+
+    /// What it is written as at a version.
+    ghost wire_form: { Self → AnyVersion → WireForm };
+
+    /// Whether it is written as another record at a version, for which memory is asked first.
+    ghost is_rewritten: { AnyVersion → Bool };
+
+    /// The frame: the header's eight bytes and the canonical payload of what it is written as.
+    ///
+    /// `PayloadTooLong` exactly where that payload has more than 4,294,967,295 bytes, which is known before memory is asked for, unless the
+    /// message is rewritten first. `OutOfMemory` where a request for memory was refused. The message stands after either.
+    fn encode(&self, alloc: Global, version: Version) -> Result<Bytes, EncodingError>
+        ensures ok { IfOk result (λ bytes. bytes ≡ wire_frame encoded_type (wire_form self.now version)) }
+        ensures short { IfOk result (λ bytes. wire_size (wire_form self.now version) < 2 ^ 32) }
+        ensures too_long { IsErrOf result PayloadTooLong → 2 ^ 32 ≤ wire_size (wire_form self.now version) }
+        ensures refused { 2 ^ 32 ≤ wire_size (wire_form self.now version)
+            → MatchBool (is_rewritten version) (IsErr result) (result ≡ Err PayloadTooLong) };
+}
+
+/// The frame of a record as it stands, with a flag in its header or none: one allocation for its bytes, each of which is written once.
+pub fn encode_frame<M: RestateMessage>(
+    message: &M,
+    alloc: Global,
+    requested_ack: Option<bool>,
+) -> Result<Bytes, EncodingError>
+    ensures ok { IfOk result (λ bytes. bytes ≡ frame M.message_type requested_ack (canonical_payload table M.schema (M.parts message.now))) }
+    ensures short { IfOk result (λ bytes. size table M.schema (M.parts message.now) < 2 ^ 32) }
+    ensures too_long { IsErrOf result PayloadTooLong → 2 ^ 32 ≤ size table M.schema (M.parts message.now) }
+    ensures refused { 2 ^ 32 ≤ size table M.schema (M.parts message.now) → result ≡ Err PayloadTooLong }
+{
+    let Some(len) = message.encoded_len() else {
+        return Err(EncodingError::PayloadTooLong);
+    };
+    let header = match requested_ack {
+        Some(flag) => MessageHeader::new_with_requested_ack(M::ty(), flag, len),
+        None => MessageHeader::new(M::ty(), len),
+    };
+    let mut frame = Vec::with_capacity(alloc, 8 + len as usize)?;
+    frame.extend_from_slice(&u64::from(header).to_be_bytes())?;
+    message.append_payload(&mut frame)?;
+    Ok(Bytes::from_vec(frame)?)
+}

@@ -1,0 +1,57 @@
+//! An entry of a state.
+
+ghost use Rattle.shared_core_wire.specs.Value.{Bytes as Content, nil, cons};
+ghost use Rattle.shared_core_record.specs.Table as tables;
+ghost use Rattle.shared_core_record.specs.EqualityRules.{equality_rules};
+
+use bytes::Bytes;
+use shared_core_record::occurrence::Occurrence;
+use shared_core_record::record::WireRecord;
+use shared_core_record::size::Size;
+use shared_core_record::write::write_bytes;
+use shared_core_wire::error::WireError;
+use std::alloc::{AllocError, Global};
+
+/// An entry of a state.
+#[derive(Debug, PartialEq, Drop)]
+pub struct StateEntry {
+    /// The key; it need not be a text.
+    pub key: Bytes,
+    /// The value.
+    pub value: Bytes,
+}
+
+impl WireRecord for StateEntry {
+    ghost schema = { tables.state_entry };
+
+    ghost parts = { λ m. cons (Content m.key)
+        (cons (Content m.value) nil) };
+
+    fn empty(_alloc: Global) -> StateEntry {
+        StateEntry {
+            key: Bytes::new(),
+            value: Bytes::new(),
+        }
+    }
+
+    fn merge_field(&mut self, field: &Occurrence<'_>) -> Result<(), WireError> {
+        match field.number {
+            1 => self.key = field.bytes()?,
+            2 => self.value = field.bytes()?,
+            _ => {}
+        }
+        Ok(())
+    }
+
+    fn measure(&self, size: &mut Size) {
+        size.bytes(1, &self.key);
+        size.bytes(2, &self.value);
+    }
+
+    fn encode_raw(&self, out: &mut Vec<u8>) -> Result<(), AllocError> {
+        write_bytes(out, 1, &self.key)?;
+        write_bytes(out, 2, &self.value)
+    }
+
+    ghost equality = { Prim.search equality_rules };
+}

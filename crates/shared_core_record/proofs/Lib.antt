@@ -1,0 +1,13 @@
+pub mod RowBytes
+pub mod Measuring
+pub mod SmallParts
+pub mod FittingRows
+pub mod ElementLoops
+pub mod FieldElements
+pub mod FoldingRecords
+pub mod MergingRecords
+pub mod PackedRuns
+pub mod Varints
+pub mod Tables
+pub mod PayloadLaws
+pub mod Positions

@@ -1,0 +1,11 @@
+pub mod Table
+pub mod FieldParts
+pub mod Computed
+pub mod Folding
+pub mod Occurrences
+pub mod Payloads
+pub mod RowSpelling
+pub mod RowFitting
+pub mod SmallRows
+pub mod Equality
+pub mod EqualityRules

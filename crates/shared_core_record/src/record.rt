@@ -1,0 +1,186 @@
+//! Records: reading payloads into them, merging and writing.
+
+ghost use Rattle.std.specs.Prelude.{◌≡◌, ◌≤◌, ◌<◌, ◌^◌, ◌++◌, ℕ, IfOk, OnOk, MatchOption, Err, false, true, length};
+ghost use Rattle.std.specs.List.{All, concat};
+ghost use Rattle.std.specs.Result.{IsErrOf};
+ghost use Rattle.shared_core_wire.specs.Items.{record_items};
+ghost use Rattle.shared_core_wire.specs.Value.{Parts, empty_value};
+ghost use Rattle.shared_core_wire.specs.Acceptance.{accepts_payload};
+ghost use Rattle.shared_core_wire.specs.Overlay.{overlay_payload};
+ghost use Rattle.shared_core_wire.specs.Canonical.{canonical_payload, size};
+ghost use Rattle.shared_core_wire.specs.Fitting.{Fits};
+ghost use Rattle.shared_core_record.specs.Table.{table};
+ghost use Rattle.shared_core_record.specs.Computed.{IsComputed};
+ghost use Rattle.shared_core_record.specs.Folding.{fold_items};
+ghost use Rattle.shared_core_record.specs.Occurrences.{schema_accepts, RecordMerges, merged_with};
+ghost use Rattle.shared_core_record.specs.Payloads.{IsAccepted, merged_payload, payload_meaning, IsReadBack};
+ghost use Rattle.shared_core_record.specs.RowSpelling.{measured_rows, with_rows};
+ghost use Rattle.shared_core_record.specs.RowFitting.{FieldsFit};
+ghost use Rattle.shared_core_record.specs.SmallRows.{AreSmall};
+ghost use Rattle.shared_core_record.specs.Equality.{DecidesEquality};
+ghost use Rattle.shared_core_record.specs.declared.error.EncodingError.TheVariants.{PayloadTooLong};
+ghost use Rattle.shared_core_wire.specs.declared.error.WireError.TheVariants as error;
+
+use crate::error::EncodingError;
+use crate::message::MessageBytes;
+use crate::occurrence::Occurrence;
+use crate::size::Size;
+use bytes::Bytes;
+use shared_core_wire::error::WireError;
+use shared_core_wire::records::Records;
+use std::alloc::{AllocError, Global};
+
+/// A record: a message of the protocol as a struct, which payloads of its schema spell.
+///
+/// Whoever writes one says its schema and its parts, and writes four functions, one line a field each: `empty`, `merge_field`, `measure`
+/// and `encode_raw`. Reading and writing whole payloads stand on these, and are written here once.
+pub trait WireRecord: Sized + Drop + PartialEq {
+    /// The place of its schema in the table.
+    ghost schema: { ℕ };
+
+    /// The value that it is: one part for each row of its schema.
+    ghost parts: { Self → Parts };
+
+    /// The record in which every field is absent. It takes no memory.
+    fn empty(alloc: Global) -> Self
+        ensures { parts result ≡ empty_value (table schema) };
+
+    /// Takes one occurrence into its field; one of no field is skipped. On an error some fields may have changed. (For the code of records.)
+    fn merge_field(&mut self, field: &Occurrence<'_>) -> Result<(), WireError>
+        ensures ok { OnOk result (RecordMerges schema field.now (parts self.old) (parts self.new)) }
+        ensures malformed { IsErrOf result error.Malformed → schema_accepts schema field.now ≡ false };
+
+    /// Adds the sizes of the fields, in the order of the schema. (For the code of records.)
+    fn measure(&self, size: &mut Size)
+        ensures sum { size.new ≡ measured_rows (table schema) (parts self.now) size.old }
+        ensures fit { FieldsFit (table schema) (parts self.now) };
+
+    /// Writes the fields, in the order of the schema. (For the code of records.)
+    fn encode_raw(&self, out: &mut Vec<u8>) -> Result<(), AllocError>
+        requires small { AreSmall (table schema) (parts self.now) }
+        ensures { OnOk result (out.new.items ≡ with_rows (table schema) (parts self.now) out.old.items) };
+
+    /// Two records are equal exactly if they are the same value.
+    ghost equality: { (a b : Self) → DecidesEquality (Self.eq a b) (parts a) (parts b) };
+
+    /// Reads a payload. `Malformed` where it is not well-formed for the schema, `OutOfMemory` where a request for memory was refused; where
+    /// both are so, either.
+    final fn decode(alloc: Global, payload: Bytes) -> Result<Self, WireError>
+        ensures accepted { IfOk result (λ v. IsAccepted schema payload) }
+        ensures meaning { IfOk result (λ v. parts v ≡ payload_meaning schema payload) }
+        ensures malformed { IsErrOf result error.Malformed → ¬ (IsAccepted schema payload) }
+    {
+        let mut record = Self::empty(alloc);
+        merge_payload(&mut record, alloc, &payload)?;
+        Ok(record)
+    }
+
+    /// The record with a payload merged into it, whatever it holds. The errors are those of `decode`, and hand no record back.
+    final fn merge(self, alloc: Global, payload: Bytes) -> Result<Self, WireError>
+        ensures accepted { IfOk result (λ w. IsAccepted schema payload) }
+        ensures merged { IfOk result (λ w. parts w ≡ merged_payload schema (parts self) payload) }
+        ensures malformed { IsErrOf result error.Malformed → ¬ (IsAccepted schema payload) }
+    {
+        let mut record = self;
+        merge_payload(&mut record, alloc, &payload)?;
+        Ok(record)
+    }
+
+    /// How many bytes the canonical payload has, or None where they are more than 4,294,967,295. It takes no memory.
+    #[tactic(auto, using(crate::proofs::Measuring::size_is, crate::proofs::FittingRows::fits_rows))]
+    final fn encoded_len(&self) -> Option<u32>
+        ensures len { MatchOption result (2 ^ 32 ≤ size table schema (parts self.now)) (λ n. n ≡ size table schema (parts self.now)) }
+        ensures fit { Fits table (parts self.now) (table schema) }
+    {
+        let mut size = Size::new();
+        self.measure(&mut size);
+        let total = size.total();
+        if total < Size::LIMIT {
+            Some(total as u32)
+        } else {
+            None
+        }
+    }
+
+    /// Appends the canonical payload, which has less than 2^32 bytes. (For the code of records.)
+    #[tactic(auto, using(crate::proofs::RowBytes::written_behind, crate::proofs::SmallParts::small_record))]
+    final fn append_payload(&self, out: &mut Vec<u8>) -> Result<(), AllocError>
+        requires small { size table schema (parts self.now) < 2 ^ 32 }
+        ensures { OnOk result (out.new.items ≡ out.old.items ++ canonical_payload table schema (parts self.now)) }
+    {
+        self.encode_raw(out)
+    }
+
+    /// The canonical payload. `PayloadTooLong` exactly where it has more than 4,294,967,295 bytes, which is known before memory is asked
+    /// for; `OutOfMemory` where a request for memory was refused.
+    final fn encode_payload(&self, alloc: Global) -> Result<Bytes, EncodingError>
+        ensures ok { IfOk result (λ b. b ≡ canonical_payload table schema (parts self.now)) }
+        ensures short { IfOk result (λ b. length b < 2 ^ 32) }
+        ensures reads_back { IfOk result (IsReadBack schema (parts self.now)) }
+        ensures too_long { IsErrOf result PayloadTooLong → 2 ^ 32 ≤ size table schema (parts self.now) }
+        ensures refused { 2 ^ 32 ≤ size table schema (parts self.now) → result ≡ Err PayloadTooLong }
+    {
+        match self.encoded_len() {
+            None => Err(EncodingError::PayloadTooLong),
+            Some(len) => {
+                let mut out = Vec::with_capacity(alloc, len as usize)?;
+                self.append_payload(&mut out)?;
+                Ok(Bytes::from_vec(out)?)
+            }
+        }
+    }
+}
+
+/// Merges the records of some bytes of a payload into a record, one after the other.
+fn merge_records<M: WireRecord>(target: &mut M, message: &MessageBytes<'_>) -> Result<(), WireError>
+    ensures { IsComputed (λ _. M.parts target.new) result (fold_items (merged_with message.now.left M.schema) (M.parts target.old) (record_items message.now.left message.now.bytes.now)) }
+{
+    for item in Records::within(message.bytes, message.left) {
+        let found = item?;
+        target.merge_field(&message.occurrence(&found))?;
+    }
+    Ok(())
+}
+
+/// Merges bytes that stand as a message into a record. On an error some of its fields may have changed. (For the code of records.)
+pub fn merge_message_bytes<M: WireRecord>(
+    target: &mut M,
+    message: &MessageBytes<'_>,
+) -> Result<(), WireError>
+    ensures accepted { OnOk result (accepts_payload table message.now.left M.schema message.now.bytes.now ≡ true) }
+    ensures merged { OnOk result (M.parts target.new ≡ overlay_payload table message.now.left M.schema (M.parts target.old) message.now.bytes.now) }
+    ensures malformed { IsErrOf result error.Malformed → accepts_payload table message.now.left M.schema message.now.bytes.now ≡ false }
+{
+    merge_records(target, message)
+}
+
+/// Merges a whole payload into a record. On an error some of its fields may have changed.
+fn merge_payload<M: WireRecord>(
+    target: &mut M,
+    alloc: Global,
+    payload: &Bytes,
+) -> Result<(), WireError>
+    ensures accepted { OnOk result (IsAccepted M.schema payload.now) }
+    ensures merged { OnOk result (M.parts target.new ≡ merged_payload M.schema (M.parts target.old) payload.now) }
+    ensures malformed { IsErrOf result error.Malformed → ¬ (IsAccepted M.schema payload.now) }
+{
+    merge_message_bytes(target, &MessageBytes::whole(alloc, payload))
+}
+
+/// Reads a payload that comes in parts, each of which is well-formed by itself: the meaning of the joined parts. The errors are those of
+/// `decode`, and `Malformed` says that a part is not well-formed.
+pub fn decode_parts<M: WireRecord>(
+    alloc: Global,
+    first: Bytes,
+    rest: &[Bytes],
+) -> Result<M, WireError>
+    ensures accepted { IfOk result (λ m. IsAccepted M.schema first × All (IsAccepted M.schema) rest.now) }
+    ensures meaning { IfOk result (λ m. M.parts m ≡ payload_meaning M.schema (first ++ concat rest.now)) }
+    ensures malformed { IsErrOf result error.Malformed → ¬ (IsAccepted M.schema first × All (IsAccepted M.schema) rest.now) }
+{
+    let mut record = M::decode(alloc, first)?;
+    for part in rest {
+        merge_payload(&mut record, alloc, part)?;
+    }
+    Ok(record)
+}

@@ -1,0 +1,2 @@
+pub mod Flattening
+pub mod Versions

@@ -1,0 +1,132 @@
+//! The record `ErrorMessage`.
+
+ghost use Rattle.std.specs.Prelude.{false};
+ghost use Rattle.shared_core_wire.specs.Value.{Number, cons, nil};
+ghost use Rattle.shared_core_base.specs.declared.header.MessageType.TheVariants as types;
+ghost use Rattle.shared_core_parts.specs.Frames.{plain_form};
+ghost use Rattle.shared_core_record.specs.Table as tables;
+ghost use Rattle.shared_core_record.specs.FieldParts.{enum_part, option_part, text_part};
+ghost use Rattle.shared_core_record.specs.EqualityRules.{equality_rules};
+
+use bytes::Bytes;
+use shared_core_base::header::MessageType;
+use shared_core_base::version::Version;
+use shared_core_parts::restate_message::{RestateEncodableMessage, RestateMessage, encode_frame};
+use shared_core_record::error::EncodingError;
+use shared_core_record::occurrence::Occurrence;
+use shared_core_record::record::WireRecord;
+use shared_core_record::size::Size;
+use shared_core_record::write::{
+    write_enumeration, write_optional_text, write_optional_u32, write_optional_u64, write_text,
+    write_u32,
+};
+use shared_core_wire::error::WireError;
+use std::alloc::{AllocError, Global};
+
+/// Ends the stream with an error that may be tried again.
+#[derive(Debug, PartialEq, Drop)]
+pub struct ErrorMessage {
+    /// The code of the error.
+    pub code: u32,
+    /// What happened, for people.
+    pub message: String,
+    /// Where it happened, for people.
+    pub stacktrace: String,
+    /// The index of the command that it belongs to, where there is one.
+    pub related_command_index: Option<u32>,
+    /// The name of that command, where it has one.
+    pub related_command_name: Option<String>,
+    /// The type of that command, as its code.
+    pub related_command_type: Option<u32>,
+    /// After how many milliseconds to try again, where it says so.
+    pub next_retry_delay: Option<u64>,
+    /// What is to be done then.
+    pub behavior: i32,
+}
+
+impl WireRecord for ErrorMessage {
+    ghost schema = { tables.error };
+
+    ghost parts = { λ message. cons (Number message.code)
+        (cons (text_part message.message)
+        (cons (text_part message.stacktrace)
+        (cons (option_part Number message.related_command_index)
+        (cons (option_part text_part message.related_command_name)
+        (cons (option_part Number message.related_command_type)
+        (cons (option_part Number message.next_retry_delay)
+        (cons (enum_part message.behavior) nil))))))) };
+
+    fn empty(alloc: Global) -> ErrorMessage {
+        ErrorMessage {
+            code: 0,
+            message: String::new(alloc),
+            stacktrace: String::new(alloc),
+            related_command_index: None,
+            related_command_name: None,
+            related_command_type: None,
+            next_retry_delay: None,
+            behavior: 0,
+        }
+    }
+
+    fn merge_field(&mut self, field: &Occurrence<'_>) -> Result<(), WireError> {
+        match field.number {
+            1 => self.code = field.u32()?,
+            2 => self.message = field.text()?,
+            3 => self.stacktrace = field.text()?,
+            4 => self.related_command_index = Some(field.u32()?),
+            5 => self.related_command_name = Some(field.text()?),
+            6 => self.related_command_type = Some(field.u32()?),
+            8 => self.next_retry_delay = Some(field.u64()?),
+            9 => self.behavior = field.enumeration()?,
+            _ => {}
+        }
+        Ok(())
+    }
+
+    fn measure(&self, size: &mut Size) {
+        size.u32(1, self.code);
+        size.text(2, &self.message);
+        size.text(3, &self.stacktrace);
+        size.optional_u32(4, self.related_command_index);
+        size.optional_text(5, &self.related_command_name);
+        size.optional_u32(6, self.related_command_type);
+        size.optional_u64(8, self.next_retry_delay);
+        size.enumeration(9, self.behavior);
+    }
+
+    fn encode_raw(&self, out: &mut Vec<u8>) -> Result<(), AllocError> {
+        write_u32(out, 1, self.code)?;
+        write_text(out, 2, &self.message)?;
+        write_text(out, 3, &self.stacktrace)?;
+        write_optional_u32(out, 4, self.related_command_index)?;
+        write_optional_text(out, 5, &self.related_command_name)?;
+        write_optional_u32(out, 6, self.related_command_type)?;
+        write_optional_u64(out, 8, self.next_retry_delay)?;
+        write_enumeration(out, 9, self.behavior)
+    }
+
+    ghost equality = { Prim.search equality_rules depth 28 };
+}
+
+impl RestateMessage for ErrorMessage {
+    ghost message_type = { types.Error };
+
+    fn ty() -> MessageType {
+        MessageType::Error
+    }
+}
+
+impl RestateEncodableMessage for ErrorMessage {
+    ghost encoded_type = { types.Error };
+
+    ghost named = { tt };
+
+    ghost wire_form = { λ message _. plain_form tables.error (⟦<ErrorMessage as WireRecord>⟧.parts message) };
+
+    ghost is_rewritten = { λ _. false };
+
+    fn encode(&self, alloc: Global, _version: Version) -> Result<Bytes, EncodingError> {
+        encode_frame(self, alloc, None)
+    }
+}

@@ -1,0 +1,86 @@
+//! The record `GetStateEphemeralCommandMessage`.
+
+ghost use Rattle.std.specs.Prelude.{false};
+ghost use Rattle.shared_core_wire.specs.Value.{Bytes as Content, Number, cons, nil};
+ghost use Rattle.shared_core_base.specs.declared.header.MessageType.TheVariants as types;
+ghost use Rattle.shared_core_parts.specs.Frames.{plain_form};
+ghost use Rattle.shared_core_record.specs.Table as tables;
+ghost use Rattle.shared_core_record.specs.EqualityRules.{equality_rules};
+
+use bytes::Bytes;
+use shared_core_base::header::MessageType;
+use shared_core_base::version::Version;
+use shared_core_parts::restate_message::{RestateEncodableMessage, RestateMessage, encode_frame};
+use shared_core_record::error::EncodingError;
+use shared_core_record::occurrence::Occurrence;
+use shared_core_record::record::WireRecord;
+use shared_core_record::size::Size;
+use shared_core_record::write::{write_bytes, write_u32};
+use shared_core_wire::error::WireError;
+use std::alloc::{AllocError, Global};
+
+/// Asks for a state that is not recorded in the journal.
+#[derive(Debug, PartialEq, Drop)]
+pub struct GetStateEphemeralCommandMessage {
+    /// The key, as bytes.
+    pub key: Bytes,
+    /// The id by which the answer will come.
+    pub completion_id: u32,
+}
+
+impl WireRecord for GetStateEphemeralCommandMessage {
+    ghost schema = { tables.get_state_ephemeral_command };
+
+    ghost parts = { λ message. cons (Content message.key)
+        (cons (Number message.completion_id) nil) };
+
+    fn empty(_alloc: Global) -> GetStateEphemeralCommandMessage {
+        GetStateEphemeralCommandMessage {
+            key: Bytes::new(),
+            completion_id: 0,
+        }
+    }
+
+    fn merge_field(&mut self, field: &Occurrence<'_>) -> Result<(), WireError> {
+        match field.number {
+            1 => self.key = field.bytes()?,
+            2 => self.completion_id = field.u32()?,
+            _ => {}
+        }
+        Ok(())
+    }
+
+    fn measure(&self, size: &mut Size) {
+        size.bytes(1, &self.key);
+        size.u32(2, self.completion_id);
+    }
+
+    fn encode_raw(&self, out: &mut Vec<u8>) -> Result<(), AllocError> {
+        write_bytes(out, 1, &self.key)?;
+        write_u32(out, 2, self.completion_id)
+    }
+
+    ghost equality = { Prim.search equality_rules depth 16 };
+}
+
+impl RestateMessage for GetStateEphemeralCommandMessage {
+    ghost message_type = { types.GetStateEphemeralCommand };
+
+    fn ty() -> MessageType {
+        MessageType::GetStateEphemeralCommand
+    }
+}
+
+impl RestateEncodableMessage for GetStateEphemeralCommandMessage {
+    ghost encoded_type = { types.GetStateEphemeralCommand };
+
+    ghost named = { tt };
+
+    ghost wire_form = { λ message _. plain_form tables.get_state_ephemeral_command (⟦<GetStateEphemeralCommandMessage as WireRecord>⟧.parts message) };
+
+    ghost is_rewritten = { λ _. false };
+
+    fn encode(&self, alloc: Global, _version: Version) -> Result<Bytes, EncodingError> {
+        encode_frame(self, alloc, None)
+    }
+}

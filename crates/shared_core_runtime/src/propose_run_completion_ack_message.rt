@@ -1,0 +1,77 @@
+//! The record `ProposeRunCompletionAckMessage`.
+
+ghost use Rattle.std.specs.Prelude.{false};
+ghost use Rattle.shared_core_wire.specs.Value.{Number, cons, nil};
+ghost use Rattle.shared_core_base.specs.declared.header.MessageType.TheVariants as types;
+ghost use Rattle.shared_core_parts.specs.Frames.{plain_form};
+ghost use Rattle.shared_core_record.specs.Table as tables;
+ghost use Rattle.shared_core_record.specs.EqualityRules.{equality_rules};
+
+use bytes::Bytes;
+use shared_core_base::header::MessageType;
+use shared_core_base::version::Version;
+use shared_core_parts::restate_message::{RestateEncodableMessage, RestateMessage, encode_frame};
+use shared_core_record::error::EncodingError;
+use shared_core_record::occurrence::Occurrence;
+use shared_core_record::record::WireRecord;
+use shared_core_record::size::Size;
+use shared_core_record::write::write_u32;
+use shared_core_wire::error::WireError;
+use std::alloc::{AllocError, Global};
+
+/// Says that the proposed result of a run was recorded.
+#[derive(Debug, PartialEq, Drop)]
+pub struct ProposeRunCompletionAckMessage {
+    /// The id of the run.
+    pub completion_id: u32,
+}
+
+impl WireRecord for ProposeRunCompletionAckMessage {
+    ghost schema = { tables.propose_run_completion_ack };
+
+    ghost parts = { λ message. cons (Number message.completion_id) nil };
+
+    fn empty(_alloc: Global) -> ProposeRunCompletionAckMessage {
+        ProposeRunCompletionAckMessage { completion_id: 0 }
+    }
+
+    fn merge_field(&mut self, field: &Occurrence<'_>) -> Result<(), WireError> {
+        match field.number {
+            1 => self.completion_id = field.u32()?,
+            _ => {}
+        }
+        Ok(())
+    }
+
+    fn measure(&self, size: &mut Size) {
+        size.u32(1, self.completion_id);
+    }
+
+    fn encode_raw(&self, out: &mut Vec<u8>) -> Result<(), AllocError> {
+        write_u32(out, 1, self.completion_id)
+    }
+
+    ghost equality = { Prim.search equality_rules depth 14 };
+}
+
+impl RestateMessage for ProposeRunCompletionAckMessage {
+    ghost message_type = { types.ProposeRunCompletionAck };
+
+    fn ty() -> MessageType {
+        MessageType::ProposeRunCompletionAck
+    }
+}
+
+impl RestateEncodableMessage for ProposeRunCompletionAckMessage {
+    ghost encoded_type = { types.ProposeRunCompletionAck };
+
+    ghost named = { tt };
+
+    ghost wire_form = { λ message _. plain_form tables.propose_run_completion_ack (⟦<ProposeRunCompletionAckMessage as WireRecord>⟧.parts message) };
+
+    ghost is_rewritten = { λ _. false };
+
+    fn encode(&self, alloc: Global, _version: Version) -> Result<Bytes, EncodingError> {
+        encode_frame(self, alloc, None)
+    }
+}

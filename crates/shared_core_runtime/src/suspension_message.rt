@@ -1,0 +1,62 @@
+//! The record `SuspensionMessage`.
+
+ghost use Rattle.shared_core_wire.specs.Value.{cons, nil};
+ghost use Rattle.shared_core_base.specs.declared.header.MessageType.TheVariants as types;
+ghost use Rattle.shared_core_record.specs.Table as tables;
+ghost use Rattle.shared_core_record.specs.FieldParts.{message_part, option_part};
+ghost use Rattle.shared_core_record.specs.EqualityRules.{equality_rules};
+
+use shared_core_base::header::MessageType;
+use shared_core_parts::future::Future;
+use shared_core_parts::restate_message::RestateMessage;
+use shared_core_record::occurrence::Occurrence;
+use shared_core_record::record::WireRecord;
+use shared_core_record::size::Size;
+use shared_core_record::write::write_optional_message;
+use shared_core_wire::error::WireError;
+use std::alloc::{AllocError, Global};
+
+/// Ends the stream until something awaited has come.
+#[derive(Debug, PartialEq, Drop)]
+pub struct SuspensionMessage {
+    /// What is awaited.
+    pub awaiting_on: Option<Future>,
+}
+
+impl WireRecord for SuspensionMessage {
+    ghost schema = { tables.suspension };
+
+    ghost parts = { λ message. cons (option_part (message_part ⟦<Future as WireRecord>⟧.parts) message.awaiting_on) nil };
+
+    fn empty(_alloc: Global) -> SuspensionMessage {
+        SuspensionMessage { awaiting_on: None }
+    }
+
+    fn merge_field(&mut self, field: &Occurrence<'_>) -> Result<(), WireError> {
+        match field.number {
+            4 => field.merge_optional_message(&mut self.awaiting_on)?,
+            _ => {}
+        }
+        Ok(())
+    }
+
+    fn measure(&self, size: &mut Size) {
+        size.optional_message(4, &self.awaiting_on);
+    }
+
+    fn encode_raw(&self, out: &mut Vec<u8>) -> Result<(), AllocError> {
+        write_optional_message(out, 4, &self.awaiting_on)
+    }
+
+    ghost use Rattle.shared_core_parts.specs.contracts.future.FutureWireRecord.TheImpl.Laws.{equality-law as future_equality};
+
+    ghost equality = { Prim.search (equality_rules, future_equality) depth 14 };
+}
+
+impl RestateMessage for SuspensionMessage {
+    ghost message_type = { types.Suspension };
+
+    fn ty() -> MessageType {
+        MessageType::Suspension
+    }
+}

@@ -1,0 +1,75 @@
+//! The record `SuspensionMessageV6`.
+
+ghost use Rattle.shared_core_wire.specs.Value.{Number, cons, nil};
+ghost use Rattle.shared_core_base.specs.declared.header.MessageType.TheVariants as types;
+ghost use Rattle.shared_core_record.specs.Table as tables;
+ghost use Rattle.shared_core_record.specs.FieldParts.{elements_part, text_part};
+ghost use Rattle.shared_core_record.specs.EqualityRules.{equality_rules};
+
+use shared_core_base::header::MessageType;
+use shared_core_parts::restate_message::RestateMessage;
+use shared_core_record::occurrence::Occurrence;
+use shared_core_record::record::WireRecord;
+use shared_core_record::size::Size;
+use shared_core_record::write::{write_texts, write_u32s};
+use shared_core_wire::error::WireError;
+use std::alloc::{AllocError, Global};
+
+/// The suspension as it is written before version 7: all that is awaited, in three lists.
+#[derive(Debug, PartialEq, Drop)]
+pub struct SuspensionMessageV6 {
+    /// The completions that are awaited, by their ids.
+    pub waiting_completions: Vec<u32>,
+    /// The signals that are awaited, by their ids.
+    pub waiting_signals: Vec<u32>,
+    /// The signals that are awaited, by their names.
+    pub waiting_named_signals: Vec<String>,
+}
+
+impl WireRecord for SuspensionMessageV6 {
+    ghost schema = { tables.suspension_v6 };
+
+    ghost parts = { λ message. cons (elements_part Number message.waiting_completions.items)
+        (cons (elements_part Number message.waiting_signals.items)
+        (cons (elements_part text_part message.waiting_named_signals.items) nil)) };
+
+    fn empty(alloc: Global) -> SuspensionMessageV6 {
+        SuspensionMessageV6 {
+            waiting_completions: Vec::new(alloc),
+            waiting_signals: Vec::new(alloc),
+            waiting_named_signals: Vec::new(alloc),
+        }
+    }
+
+    fn merge_field(&mut self, field: &Occurrence<'_>) -> Result<(), WireError> {
+        match field.number {
+            1 => field.extend_u32s(&mut self.waiting_completions)?,
+            2 => field.extend_u32s(&mut self.waiting_signals)?,
+            3 => field.extend_texts(&mut self.waiting_named_signals)?,
+            _ => {}
+        }
+        Ok(())
+    }
+
+    fn measure(&self, size: &mut Size) {
+        size.u32s(1, &self.waiting_completions);
+        size.u32s(2, &self.waiting_signals);
+        size.texts(3, &self.waiting_named_signals);
+    }
+
+    fn encode_raw(&self, out: &mut Vec<u8>) -> Result<(), AllocError> {
+        write_u32s(out, 1, &self.waiting_completions)?;
+        write_u32s(out, 2, &self.waiting_signals)?;
+        write_texts(out, 3, &self.waiting_named_signals)
+    }
+
+    ghost equality = { Prim.search equality_rules depth 18 };
+}
+
+impl RestateMessage for SuspensionMessageV6 {
+    ghost message_type = { types.Suspension };
+
+    fn ty() -> MessageType {
+        MessageType::Suspension
+    }
+}

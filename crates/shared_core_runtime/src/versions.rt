@@ -1,0 +1,105 @@
+//! What is written otherwise at some versions: suspensions, and the proposals of a run's result.
+
+ghost use Rattle.std.specs.Prelude.{◌≡◌, IfOk, OnOk, false};
+ghost use Rattle.shared_core_base.specs.declared.header.MessageType.TheVariants as types;
+ghost use Rattle.shared_core_parts.specs.Futures.{future_parts, future_elements};
+ghost use Rattle.shared_core_runtime.specs.Flattening.{AppendsFutures, flattened, messages_in, preorder};
+ghost use Rattle.shared_core_runtime.specs.Versions.{is_before_v7, proposal_form, suspension_form};
+
+use crate::propose_run_completion_message::ProposeRunCompletionMessage;
+use crate::suspension_message::SuspensionMessage;
+use crate::suspension_message_v6::SuspensionMessageV6;
+use bytes::Bytes;
+use shared_core_base::version::Version;
+use shared_core_parts::future::Future;
+use shared_core_parts::restate_message::{RestateEncodableMessage, encode_frame};
+use shared_core_record::error::EncodingError;
+use shared_core_record::record::WireRecord;
+use std::alloc::{AllocError, Global};
+
+#[cfg(test)]
+mod tests;
+
+/// As it stands at every version. From V7 on the header asks for an acknowledgement; before V7 it does not.
+impl RestateEncodableMessage for ProposeRunCompletionMessage {
+    ghost encoded_type = { types.ProposeRunCompletion };
+
+    ghost named = { tt };
+
+    ghost wire_form = { λ message version. proposal_form (⟦<ProposeRunCompletionMessage as WireRecord>⟧.parts message) version };
+
+    ghost is_rewritten = { λ _. false };
+
+    fn encode(&self, alloc: Global, version: Version) -> Result<Bytes, EncodingError> {
+        if is_before_v7(version) {
+            return encode_frame(self, alloc, None);
+        }
+        encode_frame(self, alloc, Some(true))
+    }
+}
+
+/// From V7 on as it stands. Before V7 as a `SuspensionMessageV6`: the three lists of all futures that are awaited, each future before
+/// those nested in it, with its duplicates, however deep they are nested; the lists are empty where nothing is awaited.
+impl RestateEncodableMessage for SuspensionMessage {
+    ghost encoded_type = { types.Suspension };
+
+    ghost named = { tt };
+
+    ghost wire_form = { λ message version. suspension_form (⟦<SuspensionMessage as WireRecord>⟧.parts message) version };
+
+    ghost is_rewritten = { is_before_v7 };
+
+    fn encode(&self, alloc: Global, version: Version) -> Result<Bytes, EncodingError> {
+        if is_before_v7(version) {
+            return encode_frame(&flatten(self, alloc)?, alloc, None);
+        }
+        encode_frame(self, alloc, None)
+    }
+}
+
+fn is_before_v7(version: Version) -> bool
+    ensures { result ≡ is_before_v7 version }
+{
+    version < Version::V7
+}
+
+fn flatten(suspension: &SuspensionMessage, alloc: Global) -> Result<SuspensionMessageV6, AllocError>
+    ensures { IfOk result (λ message. ⟦<SuspensionMessageV6 as WireRecord>⟧.parts message ≡ flattened (⟦<SuspensionMessage as WireRecord>⟧.parts suspension.now)) }
+{
+    let mut flattened = SuspensionMessageV6::empty(alloc);
+    let Some(future) = &suspension.awaiting_on else {
+        return Ok(flattened);
+    };
+    append_future(&mut flattened, future)?;
+    Ok(flattened)
+}
+
+/// Appends the lists of a future, and then those of the futures nested in it.
+#[cycle(append_future)]
+fn append_future(flattened: &mut SuspensionMessageV6, future: &Future) -> Result<(), AllocError>
+    ensures { OnOk result (AppendsFutures flattened.old flattened.new (preorder (future_parts future.now))) }
+{
+    flattened
+        .waiting_completions
+        .extend_from_slice(&future.waiting_completions)?;
+    flattened
+        .waiting_signals
+        .extend_from_slice(&future.waiting_signals)?;
+    flattened
+        .waiting_named_signals
+        .extend_from_slice(&future.waiting_named_signals)?;
+    append_futures(flattened, &future.nested_futures)
+}
+
+#[cycle(append_future)]
+fn append_futures(
+    flattened: &mut SuspensionMessageV6,
+    futures: &Vec<Future>,
+) -> Result<(), AllocError>
+    ensures { OnOk result (AppendsFutures flattened.old flattened.new (messages_in (future_elements futures.now.items))) }
+{
+    for future in futures {
+        append_future(flattened, future)?;
+    }
+    Ok(())
+}

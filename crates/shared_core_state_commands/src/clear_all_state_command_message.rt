@@ -1,0 +1,80 @@
+//! The record `ClearAllStateCommandMessage`.
+
+ghost use Rattle.std.specs.Prelude.{false};
+ghost use Rattle.shared_core_wire.specs.Value.{cons, nil};
+ghost use Rattle.shared_core_base.specs.declared.header.MessageType.TheVariants as types;
+ghost use Rattle.shared_core_parts.specs.Frames.{plain_form};
+ghost use Rattle.shared_core_record.specs.Table as tables;
+ghost use Rattle.shared_core_record.specs.FieldParts.{text_part};
+ghost use Rattle.shared_core_record.specs.EqualityRules.{equality_rules};
+
+use bytes::Bytes;
+use shared_core_base::header::MessageType;
+use shared_core_base::version::Version;
+use shared_core_parts::restate_message::{RestateEncodableMessage, RestateMessage, encode_frame};
+use shared_core_record::error::EncodingError;
+use shared_core_record::occurrence::Occurrence;
+use shared_core_record::record::WireRecord;
+use shared_core_record::size::Size;
+use shared_core_record::write::write_text;
+use shared_core_wire::error::WireError;
+use std::alloc::{AllocError, Global};
+
+/// Clears all keys.
+#[derive(Debug, PartialEq, Drop)]
+pub struct ClearAllStateCommandMessage {
+    /// The name of the command, for people.
+    pub name: String,
+}
+
+impl WireRecord for ClearAllStateCommandMessage {
+    ghost schema = { tables.clear_all_state_command };
+
+    ghost parts = { λ message. cons (text_part message.name) nil };
+
+    fn empty(alloc: Global) -> ClearAllStateCommandMessage {
+        ClearAllStateCommandMessage {
+            name: String::new(alloc),
+        }
+    }
+
+    fn merge_field(&mut self, field: &Occurrence<'_>) -> Result<(), WireError> {
+        match field.number {
+            12 => self.name = field.text()?,
+            _ => {}
+        }
+        Ok(())
+    }
+
+    fn measure(&self, size: &mut Size) {
+        size.text(12, &self.name);
+    }
+
+    fn encode_raw(&self, out: &mut Vec<u8>) -> Result<(), AllocError> {
+        write_text(out, 12, &self.name)
+    }
+
+    ghost equality = { Prim.search equality_rules depth 14 };
+}
+
+impl RestateMessage for ClearAllStateCommandMessage {
+    ghost message_type = { types.ClearAllStateCommand };
+
+    fn ty() -> MessageType {
+        MessageType::ClearAllStateCommand
+    }
+}
+
+impl RestateEncodableMessage for ClearAllStateCommandMessage {
+    ghost encoded_type = { types.ClearAllStateCommand };
+
+    ghost named = { tt };
+
+    ghost wire_form = { λ message _. plain_form tables.clear_all_state_command (⟦<ClearAllStateCommandMessage as WireRecord>⟧.parts message) };
+
+    ghost is_rewritten = { λ _. false };
+
+    fn encode(&self, alloc: Global, _version: Version) -> Result<Bytes, EncodingError> {
+        encode_frame(self, alloc, None)
+    }
+}

@@ -1,0 +1,87 @@
+//! The record `ClearStateCommandMessage`.
+
+ghost use Rattle.std.specs.Prelude.{false};
+ghost use Rattle.shared_core_wire.specs.Value.{Bytes as Content, cons, nil};
+ghost use Rattle.shared_core_base.specs.declared.header.MessageType.TheVariants as types;
+ghost use Rattle.shared_core_parts.specs.Frames.{plain_form};
+ghost use Rattle.shared_core_record.specs.Table as tables;
+ghost use Rattle.shared_core_record.specs.FieldParts.{text_part};
+ghost use Rattle.shared_core_record.specs.EqualityRules.{equality_rules};
+
+use bytes::Bytes;
+use shared_core_base::header::MessageType;
+use shared_core_base::version::Version;
+use shared_core_parts::restate_message::{RestateEncodableMessage, RestateMessage, encode_frame};
+use shared_core_record::error::EncodingError;
+use shared_core_record::occurrence::Occurrence;
+use shared_core_record::record::WireRecord;
+use shared_core_record::size::Size;
+use shared_core_record::write::{write_bytes, write_text};
+use shared_core_wire::error::WireError;
+use std::alloc::{AllocError, Global};
+
+/// Clears a key.
+#[derive(Debug, PartialEq, Drop)]
+pub struct ClearStateCommandMessage {
+    /// The key, as bytes.
+    pub key: Bytes,
+    /// The name of the command, for people.
+    pub name: String,
+}
+
+impl WireRecord for ClearStateCommandMessage {
+    ghost schema = { tables.clear_state_command };
+
+    ghost parts = { λ message. cons (Content message.key)
+        (cons (text_part message.name) nil) };
+
+    fn empty(alloc: Global) -> ClearStateCommandMessage {
+        ClearStateCommandMessage {
+            key: Bytes::new(),
+            name: String::new(alloc),
+        }
+    }
+
+    fn merge_field(&mut self, field: &Occurrence<'_>) -> Result<(), WireError> {
+        match field.number {
+            1 => self.key = field.bytes()?,
+            12 => self.name = field.text()?,
+            _ => {}
+        }
+        Ok(())
+    }
+
+    fn measure(&self, size: &mut Size) {
+        size.bytes(1, &self.key);
+        size.text(12, &self.name);
+    }
+
+    fn encode_raw(&self, out: &mut Vec<u8>) -> Result<(), AllocError> {
+        write_bytes(out, 1, &self.key)?;
+        write_text(out, 12, &self.name)
+    }
+
+    ghost equality = { Prim.search equality_rules depth 16 };
+}
+
+impl RestateMessage for ClearStateCommandMessage {
+    ghost message_type = { types.ClearStateCommand };
+
+    fn ty() -> MessageType {
+        MessageType::ClearStateCommand
+    }
+}
+
+impl RestateEncodableMessage for ClearStateCommandMessage {
+    ghost encoded_type = { types.ClearStateCommand };
+
+    ghost named = { tt };
+
+    ghost wire_form = { λ message _. plain_form tables.clear_state_command (⟦<ClearStateCommandMessage as WireRecord>⟧.parts message) };
+
+    ghost is_rewritten = { λ _. false };
+
+    fn encode(&self, alloc: Global, _version: Version) -> Result<Bytes, EncodingError> {
+        encode_frame(self, alloc, None)
+    }
+}

@@ -1,0 +1,90 @@
+//! The record `GetEagerStateKeysCommandMessage`.
+
+ghost use Rattle.std.specs.Prelude.{false};
+ghost use Rattle.shared_core_wire.specs.Value.{cons, nil};
+ghost use Rattle.shared_core_base.specs.declared.header.MessageType.TheVariants as types;
+ghost use Rattle.shared_core_parts.specs.Frames.{plain_form};
+ghost use Rattle.shared_core_record.specs.Table as tables;
+ghost use Rattle.shared_core_record.specs.FieldParts.{message_part, option_part, text_part};
+ghost use Rattle.shared_core_record.specs.EqualityRules.{equality_rules};
+
+use bytes::Bytes;
+use shared_core_base::header::MessageType;
+use shared_core_base::version::Version;
+use shared_core_parts::restate_message::{RestateEncodableMessage, RestateMessage, encode_frame};
+use shared_core_parts::state_keys::StateKeys;
+use shared_core_record::error::EncodingError;
+use shared_core_record::occurrence::Occurrence;
+use shared_core_record::record::WireRecord;
+use shared_core_record::size::Size;
+use shared_core_record::write::{write_optional_message, write_text};
+use shared_core_wire::error::WireError;
+use std::alloc::{AllocError, Global};
+
+/// All keys, out of the state that came with the start.
+#[derive(Debug, PartialEq, Drop)]
+pub struct GetEagerStateKeysCommandMessage {
+    /// The name of the command, for people.
+    pub name: String,
+    /// The keys.
+    pub value: Option<StateKeys>,
+}
+
+impl WireRecord for GetEagerStateKeysCommandMessage {
+    ghost schema = { tables.get_eager_state_keys_command };
+
+    ghost parts = { λ message. cons (text_part message.name)
+        (cons (option_part (message_part ⟦<StateKeys as WireRecord>⟧.parts) message.value) nil) };
+
+    fn empty(alloc: Global) -> GetEagerStateKeysCommandMessage {
+        GetEagerStateKeysCommandMessage {
+            name: String::new(alloc),
+            value: None,
+        }
+    }
+
+    fn merge_field(&mut self, field: &Occurrence<'_>) -> Result<(), WireError> {
+        match field.number {
+            12 => self.name = field.text()?,
+            14 => field.merge_optional_message(&mut self.value)?,
+            _ => {}
+        }
+        Ok(())
+    }
+
+    fn measure(&self, size: &mut Size) {
+        size.text(12, &self.name);
+        size.optional_message(14, &self.value);
+    }
+
+    fn encode_raw(&self, out: &mut Vec<u8>) -> Result<(), AllocError> {
+        write_text(out, 12, &self.name)?;
+        write_optional_message(out, 14, &self.value)
+    }
+
+    ghost use Rattle.shared_core_parts.specs.contracts.state_keys.StateKeysWireRecord.TheImpl.Laws.{equality-law as state_keys_equality};
+
+    ghost equality = { Prim.search (equality_rules, state_keys_equality) depth 16 };
+}
+
+impl RestateMessage for GetEagerStateKeysCommandMessage {
+    ghost message_type = { types.GetEagerStateKeysCommand };
+
+    fn ty() -> MessageType {
+        MessageType::GetEagerStateKeysCommand
+    }
+}
+
+impl RestateEncodableMessage for GetEagerStateKeysCommandMessage {
+    ghost encoded_type = { types.GetEagerStateKeysCommand };
+
+    ghost named = { tt };
+
+    ghost wire_form = { λ message _. plain_form tables.get_eager_state_keys_command (⟦<GetEagerStateKeysCommandMessage as WireRecord>⟧.parts message) };
+
+    ghost is_rewritten = { λ _. false };
+
+    fn encode(&self, alloc: Global, _version: Version) -> Result<Bytes, EncodingError> {
+        encode_frame(self, alloc, None)
+    }
+}

@@ -1,0 +1,87 @@
+//! The record `GetLazyStateKeysCommandMessage`.
+
+ghost use Rattle.std.specs.Prelude.{false};
+ghost use Rattle.shared_core_wire.specs.Value.{Number, cons, nil};
+ghost use Rattle.shared_core_base.specs.declared.header.MessageType.TheVariants as types;
+ghost use Rattle.shared_core_parts.specs.Frames.{plain_form};
+ghost use Rattle.shared_core_record.specs.Table as tables;
+ghost use Rattle.shared_core_record.specs.FieldParts.{text_part};
+ghost use Rattle.shared_core_record.specs.EqualityRules.{equality_rules};
+
+use bytes::Bytes;
+use shared_core_base::header::MessageType;
+use shared_core_base::version::Version;
+use shared_core_parts::restate_message::{RestateEncodableMessage, RestateMessage, encode_frame};
+use shared_core_record::error::EncodingError;
+use shared_core_record::occurrence::Occurrence;
+use shared_core_record::record::WireRecord;
+use shared_core_record::size::Size;
+use shared_core_record::write::{write_text, write_u32};
+use shared_core_wire::error::WireError;
+use std::alloc::{AllocError, Global};
+
+/// Asks for all keys.
+#[derive(Debug, PartialEq, Drop)]
+pub struct GetLazyStateKeysCommandMessage {
+    /// The id by which the result will come.
+    pub result_completion_id: u32,
+    /// The name of the command, for people.
+    pub name: String,
+}
+
+impl WireRecord for GetLazyStateKeysCommandMessage {
+    ghost schema = { tables.get_lazy_state_keys_command };
+
+    ghost parts = { λ message. cons (Number message.result_completion_id)
+        (cons (text_part message.name) nil) };
+
+    fn empty(alloc: Global) -> GetLazyStateKeysCommandMessage {
+        GetLazyStateKeysCommandMessage {
+            result_completion_id: 0,
+            name: String::new(alloc),
+        }
+    }
+
+    fn merge_field(&mut self, field: &Occurrence<'_>) -> Result<(), WireError> {
+        match field.number {
+            11 => self.result_completion_id = field.u32()?,
+            12 => self.name = field.text()?,
+            _ => {}
+        }
+        Ok(())
+    }
+
+    fn measure(&self, size: &mut Size) {
+        size.u32(11, self.result_completion_id);
+        size.text(12, &self.name);
+    }
+
+    fn encode_raw(&self, out: &mut Vec<u8>) -> Result<(), AllocError> {
+        write_u32(out, 11, self.result_completion_id)?;
+        write_text(out, 12, &self.name)
+    }
+
+    ghost equality = { Prim.search equality_rules depth 16 };
+}
+
+impl RestateMessage for GetLazyStateKeysCommandMessage {
+    ghost message_type = { types.GetLazyStateKeysCommand };
+
+    fn ty() -> MessageType {
+        MessageType::GetLazyStateKeysCommand
+    }
+}
+
+impl RestateEncodableMessage for GetLazyStateKeysCommandMessage {
+    ghost encoded_type = { types.GetLazyStateKeysCommand };
+
+    ghost named = { tt };
+
+    ghost wire_form = { λ message _. plain_form tables.get_lazy_state_keys_command (⟦<GetLazyStateKeysCommandMessage as WireRecord>⟧.parts message) };
+
+    ghost is_rewritten = { λ _. false };
+
+    fn encode(&self, alloc: Global, _version: Version) -> Result<Bytes, EncodingError> {
+        encode_frame(self, alloc, None)
+    }
+}

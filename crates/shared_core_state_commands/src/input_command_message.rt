@@ -1,0 +1,99 @@
+//! The record `InputCommandMessage`.
+
+ghost use Rattle.std.specs.Prelude.{false};
+ghost use Rattle.shared_core_wire.specs.Value.{cons, nil};
+ghost use Rattle.shared_core_base.specs.declared.header.MessageType.TheVariants as types;
+ghost use Rattle.shared_core_parts.specs.Frames.{plain_form};
+ghost use Rattle.shared_core_record.specs.Table as tables;
+ghost use Rattle.shared_core_record.specs.FieldParts.{elements_part, message_part, option_part, text_part};
+ghost use Rattle.shared_core_record.specs.EqualityRules.{equality_rules};
+
+use bytes::Bytes;
+use shared_core_base::header::MessageType;
+use shared_core_base::version::Version;
+use shared_core_parts::header::Header;
+use shared_core_parts::restate_message::{RestateEncodableMessage, RestateMessage, encode_frame};
+use shared_core_parts::value::Value;
+use shared_core_record::error::EncodingError;
+use shared_core_record::occurrence::Occurrence;
+use shared_core_record::record::WireRecord;
+use shared_core_record::size::Size;
+use shared_core_record::write::{write_messages, write_optional_message, write_text};
+use shared_core_wire::error::WireError;
+use std::alloc::{AllocError, Global};
+
+/// The input of the handler.
+#[derive(Debug, PartialEq, Drop)]
+pub struct InputCommandMessage {
+    /// The headers of the request.
+    pub headers: Vec<Header>,
+    /// The name of the command, for people.
+    pub name: String,
+    /// The value that came in.
+    pub value: Option<Value>,
+}
+
+impl WireRecord for InputCommandMessage {
+    ghost schema = { tables.input_command };
+
+    ghost parts = { λ message. cons (elements_part (message_part ⟦<Header as WireRecord>⟧.parts) message.headers.items)
+        (cons (text_part message.name)
+        (cons (option_part (message_part ⟦<Value as WireRecord>⟧.parts) message.value) nil)) };
+
+    fn empty(alloc: Global) -> InputCommandMessage {
+        InputCommandMessage {
+            headers: Vec::new(alloc),
+            name: String::new(alloc),
+            value: None,
+        }
+    }
+
+    fn merge_field(&mut self, field: &Occurrence<'_>) -> Result<(), WireError> {
+        match field.number {
+            1 => field.extend_messages(&mut self.headers)?,
+            12 => self.name = field.text()?,
+            14 => field.merge_optional_message(&mut self.value)?,
+            _ => {}
+        }
+        Ok(())
+    }
+
+    fn measure(&self, size: &mut Size) {
+        size.messages(1, &self.headers);
+        size.text(12, &self.name);
+        size.optional_message(14, &self.value);
+    }
+
+    fn encode_raw(&self, out: &mut Vec<u8>) -> Result<(), AllocError> {
+        write_messages(out, 1, &self.headers)?;
+        write_text(out, 12, &self.name)?;
+        write_optional_message(out, 14, &self.value)
+    }
+
+    ghost use Rattle.shared_core_parts.specs.contracts.header.HeaderWireRecord.TheImpl.Laws.{equality-law as header_equality};
+    ghost use Rattle.shared_core_parts.specs.contracts.value.ValueWireRecord.TheImpl.Laws.{equality-law as value_equality};
+
+    ghost equality = { Prim.search (equality_rules, header_equality, value_equality) depth 18 };
+}
+
+impl RestateMessage for InputCommandMessage {
+    ghost message_type = { types.InputCommand };
+
+    fn ty() -> MessageType {
+        MessageType::InputCommand
+    }
+}
+
+impl RestateEncodableMessage for InputCommandMessage {
+    ghost encoded_type = { types.InputCommand };
+
+    ghost named = { tt };
+
+    ghost wire_form = { λ message _. plain_form tables.input_command (⟦<InputCommandMessage as WireRecord>⟧.parts message) };
+
+    ghost is_rewritten = { λ _. false };
+
+    fn encode(&self, alloc: Global, _version: Version) -> Result<Bytes, EncodingError> {
+        encode_frame(self, alloc, None)
+    }
+}

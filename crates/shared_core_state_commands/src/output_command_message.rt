@@ -1,0 +1,156 @@
+//! The record `OutputCommandMessage`.
+
+ghost use Rattle.std.specs.Prelude.{[], false, refl, ◌∷◌};
+ghost use Rattle.shared_core_wire.specs.Schema.{Message};
+ghost use Rattle.shared_core_wire.specs.Value.{Member, cons, nil};
+ghost use Rattle.shared_core_base.specs.declared.header.MessageType.TheVariants as types;
+ghost use Rattle.shared_core_parts.specs.Frames.{plain_form};
+ghost use Rattle.shared_core_record.specs.Table as tables;
+ghost use Rattle.shared_core_record.specs.FieldParts.{message_part, option_part, text_part};
+ghost use Rattle.shared_core_record.specs.EqualityRules.{different_members, equality_rules};
+
+use bytes::Bytes;
+use shared_core_base::header::MessageType;
+use shared_core_base::version::Version;
+use shared_core_parts::failure::Failure;
+use shared_core_parts::restate_message::{RestateEncodableMessage, RestateMessage, encode_frame};
+use shared_core_parts::value::Value;
+use shared_core_record::error::EncodingError;
+use shared_core_record::occurrence::Occurrence;
+use shared_core_record::oneof::OneOf;
+use shared_core_record::record::WireRecord;
+use shared_core_record::size::Size;
+use shared_core_record::write::{write_message_value, write_oneof, write_text};
+use shared_core_wire::error::WireError;
+use std::alloc::{AllocError, Global};
+use std::result;
+
+/// The result.
+#[derive(Debug, PartialEq, Drop)]
+pub enum Result {
+    /// A value.
+    Value(Value),
+    /// A failure.
+    Failure(Failure),
+}
+
+impl OneOf for Result {
+    ghost use Rattle.shared_core_state_commands.specs.declared.output_command_message.Result.TheVariants as result_is;
+
+    ghost members = { (14, Message tables.value) ∷ (15, Message tables.failure) ∷ [] };
+
+    ghost part = { elim [
+      | result_is.Value x ↦ Member 14 (message_part ⟦<Value as WireRecord>⟧.parts x)
+      | result_is.Failure x ↦ Member 15 (message_part ⟦<Failure as WireRecord>⟧.parts x)
+    ] };
+
+    fn merge_member(
+        oneof: &mut Option<Result>,
+        field: &Occurrence<'_>,
+    ) -> result::Result<(), WireError> {
+        match field.number {
+            14 => match oneof {
+                Some(Result::Value(value)) => field.merge_message(value)?,
+                _ => *oneof = Some(Result::Value(field.message()?)),
+            },
+            15 => match oneof {
+                Some(Result::Failure(failure)) => field.merge_message(failure)?,
+                _ => *oneof = Some(Result::Failure(field.message()?)),
+            },
+            _ => unreachable!(),
+        }
+        Ok(())
+    }
+
+    fn measure(&self, size: &mut Size) {
+        match self {
+            Result::Value(value) => size.message_value(14, value),
+            Result::Failure(failure) => size.message_value(15, failure),
+        }
+    }
+
+    fn encode_raw(&self, out: &mut Vec<u8>) -> result::Result<(), AllocError> {
+        match self {
+            Result::Value(value) => write_message_value(out, 14, value),
+            Result::Failure(failure) => write_message_value(out, 15, failure),
+        }
+    }
+
+    ghost use Rattle.shared_core_parts.specs.contracts.value.ValueWireRecord.TheImpl.Laws.{equality-law as value_equality};
+    ghost use Rattle.shared_core_parts.specs.contracts.failure.FailureWireRecord.TheImpl.Laws.{equality-law as failure_equality};
+
+    ghost present = { elim [ result_is.Value x ↦ refl | result_is.Failure x ↦ refl ] };
+
+    ghost equality = { elim [
+      | result_is.Value x ↦ elim [ result_is.Value y ↦ Prim.search (equality_rules, value_equality) | _ ↦ different_members _ _ _ _ refl ]
+      | result_is.Failure x ↦ elim [ result_is.Failure y ↦ Prim.search (equality_rules, failure_equality) | _ ↦ different_members _ _ _ _ refl ]
+    ] };
+}
+
+/// What the handler returns.
+#[derive(Debug, PartialEq, Drop)]
+pub struct OutputCommandMessage {
+    /// The name of the command, for people.
+    pub name: String,
+    /// The result.
+    pub result: Option<Result>,
+}
+
+impl WireRecord for OutputCommandMessage {
+    ghost schema = { tables.output_command };
+
+    ghost parts = { λ message. cons (text_part message.name)
+        (cons (option_part ⟦<Result as OneOf>⟧.part message.result) nil) };
+
+    fn empty(alloc: Global) -> OutputCommandMessage {
+        OutputCommandMessage {
+            name: String::new(alloc),
+            result: None,
+        }
+    }
+
+    fn merge_field(&mut self, field: &Occurrence<'_>) -> result::Result<(), WireError> {
+        match field.number {
+            12 => self.name = field.text()?,
+            14 | 15 => OneOf::merge_member(&mut self.result, field)?,
+            _ => {}
+        }
+        Ok(())
+    }
+
+    fn measure(&self, size: &mut Size) {
+        size.text(12, &self.name);
+        size.oneof(&self.result);
+    }
+
+    fn encode_raw(&self, out: &mut Vec<u8>) -> result::Result<(), AllocError> {
+        write_text(out, 12, &self.name)?;
+        write_oneof(out, &self.result)
+    }
+
+    ghost use Rattle.shared_core_state_commands.specs.contracts.output_command_message.ResultOneOf.TheImpl.Laws.{equality-law as result_equality, present-law as result_present};
+
+    ghost equality = { Prim.search (equality_rules, result_equality, result_present) depth 16 };
+}
+
+impl RestateMessage for OutputCommandMessage {
+    ghost message_type = { types.OutputCommand };
+
+    fn ty() -> MessageType {
+        MessageType::OutputCommand
+    }
+}
+
+impl RestateEncodableMessage for OutputCommandMessage {
+    ghost encoded_type = { types.OutputCommand };
+
+    ghost named = { tt };
+
+    ghost wire_form = { λ message _. plain_form tables.output_command (⟦<OutputCommandMessage as WireRecord>⟧.parts message) };
+
+    ghost is_rewritten = { λ _. false };
+
+    fn encode(&self, alloc: Global, _version: Version) -> result::Result<Bytes, EncodingError> {
+        encode_frame(self, alloc, None)
+    }
+}

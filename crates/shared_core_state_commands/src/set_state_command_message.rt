@@ -1,0 +1,97 @@
+//! The record `SetStateCommandMessage`.
+
+ghost use Rattle.std.specs.Prelude.{false};
+ghost use Rattle.shared_core_wire.specs.Value.{Bytes as Content, cons, nil};
+ghost use Rattle.shared_core_base.specs.declared.header.MessageType.TheVariants as types;
+ghost use Rattle.shared_core_parts.specs.Frames.{plain_form};
+ghost use Rattle.shared_core_record.specs.Table as tables;
+ghost use Rattle.shared_core_record.specs.FieldParts.{message_part, option_part, text_part};
+ghost use Rattle.shared_core_record.specs.EqualityRules.{equality_rules};
+
+use bytes::Bytes;
+use shared_core_base::header::MessageType;
+use shared_core_base::version::Version;
+use shared_core_parts::restate_message::{RestateEncodableMessage, RestateMessage, encode_frame};
+use shared_core_parts::value::Value;
+use shared_core_record::error::EncodingError;
+use shared_core_record::occurrence::Occurrence;
+use shared_core_record::record::WireRecord;
+use shared_core_record::size::Size;
+use shared_core_record::write::{write_bytes, write_optional_message, write_text};
+use shared_core_wire::error::WireError;
+use std::alloc::{AllocError, Global};
+
+/// Sets the value of a key.
+#[derive(Debug, PartialEq, Drop)]
+pub struct SetStateCommandMessage {
+    /// The key, as bytes.
+    pub key: Bytes,
+    /// The new value.
+    pub value: Option<Value>,
+    /// The name of the command, for people.
+    pub name: String,
+}
+
+impl WireRecord for SetStateCommandMessage {
+    ghost schema = { tables.set_state_command };
+
+    ghost parts = { λ message. cons (Content message.key)
+        (cons (option_part (message_part ⟦<Value as WireRecord>⟧.parts) message.value)
+        (cons (text_part message.name) nil)) };
+
+    fn empty(alloc: Global) -> SetStateCommandMessage {
+        SetStateCommandMessage {
+            key: Bytes::new(),
+            value: None,
+            name: String::new(alloc),
+        }
+    }
+
+    fn merge_field(&mut self, field: &Occurrence<'_>) -> Result<(), WireError> {
+        match field.number {
+            1 => self.key = field.bytes()?,
+            3 => field.merge_optional_message(&mut self.value)?,
+            12 => self.name = field.text()?,
+            _ => {}
+        }
+        Ok(())
+    }
+
+    fn measure(&self, size: &mut Size) {
+        size.bytes(1, &self.key);
+        size.optional_message(3, &self.value);
+        size.text(12, &self.name);
+    }
+
+    fn encode_raw(&self, out: &mut Vec<u8>) -> Result<(), AllocError> {
+        write_bytes(out, 1, &self.key)?;
+        write_optional_message(out, 3, &self.value)?;
+        write_text(out, 12, &self.name)
+    }
+
+    ghost use Rattle.shared_core_parts.specs.contracts.value.ValueWireRecord.TheImpl.Laws.{equality-law as value_equality};
+
+    ghost equality = { Prim.search (equality_rules, value_equality) depth 18 };
+}
+
+impl RestateMessage for SetStateCommandMessage {
+    ghost message_type = { types.SetStateCommand };
+
+    fn ty() -> MessageType {
+        MessageType::SetStateCommand
+    }
+}
+
+impl RestateEncodableMessage for SetStateCommandMessage {
+    ghost encoded_type = { types.SetStateCommand };
+
+    ghost named = { tt };
+
+    ghost wire_form = { λ message _. plain_form tables.set_state_command (⟦<SetStateCommandMessage as WireRecord>⟧.parts message) };
+
+    ghost is_rewritten = { λ _. false };
+
+    fn encode(&self, alloc: Global, _version: Version) -> Result<Bytes, EncodingError> {
+        encode_frame(self, alloc, None)
+    }
+}

@@ -1,0 +1,283 @@
+//! Typed messages and views of notifications out of frames, and frames out of messages.
+use crate::frames::{INPUT, THREE_FRAMES};
+use bytes::Bytes;
+use shared_core::Version;
+use shared_core::encoding::{Decoder, DecodingError, Encoder, RawMessage};
+use shared_core::header::MessageType;
+use shared_core::messages::{
+    GetLazyStateCompletionNotificationMessage, InputCommandMessage, NotificationId,
+    NotificationResult, OutputCommandMessage, StartMessage, SuspensionMessage, Value, Void,
+    get_lazy_state_completion_notification_message,
+};
+use shared_core::wire::{WireError, WireRecord};
+use std::alloc::Global;
+use std::test::Fail;
+
+/// The message of a stream that is one frame.
+fn message_of(alloc: Global, frame: &[u8]) -> Result<RawMessage, Fail> {
+    let mut decoder = Decoder::new(alloc, Version::V8);
+    if decoder.push(Bytes::copy_from_slice(alloc, frame)?).is_err() {
+        return Err(Fail::new("a refused piece"));
+    }
+    let Some(message) = decoder.consume_next()? else {
+        return Err(Fail::new("no message"));
+    };
+    Ok(message)
+}
+
+/// A text.
+fn text(alloc: Global, text: &str) -> Result<String, Fail> {
+    Ok(String::from_str(alloc, text)?)
+}
+
+/// The message whose frame is the first of the three.
+fn start(alloc: Global) -> Result<StartMessage, Fail> {
+    let mut message = StartMessage::empty(alloc);
+    message.id = Bytes::from_static(b"key");
+    message.debug_id = text(alloc, "key")?;
+    message.known_entries = 1;
+    message.partial_state = true;
+    message.key = text(alloc, "key")?;
+    Ok(message)
+}
+
+/// The message whose frame is the second of the three.
+fn input(alloc: Global) -> Result<InputCommandMessage, Fail> {
+    let mut message = InputCommandMessage::empty(alloc);
+    message.value = Some(Value {
+        content: Bytes::from_static(b"input"),
+    });
+    Ok(message)
+}
+
+/// The message whose frame is the third of the three.
+fn state(alloc: Global) -> GetLazyStateCompletionNotificationMessage {
+    let mut message = GetLazyStateCompletionNotificationMessage::empty(alloc);
+    message.completion_id = 1;
+    message.result = Some(get_lazy_state_completion_notification_message::Result::Void(Void {}));
+    message
+}
+
+#[test]
+fn several_messages_come_out_in_order(rt: HostRuntime) -> Result<(), Fail> {
+    let alloc = rt.alloc();
+    let encoder = Encoder::new(Version::V8);
+    let mut decoder = Decoder::new(alloc, Version::V8);
+    for frame in [
+        encoder.encode(alloc, &start(alloc)?)?,
+        encoder.encode(alloc, &input(alloc)?)?,
+        encoder.encode(alloc, &state(alloc))?,
+    ] {
+        assert!(rt; decoder.push(frame).is_ok());
+    }
+    let Some(first) = decoder.consume_next()? else {
+        return Err(Fail::new("no first message"));
+    };
+    assert_eq!(rt; first.decode_to::<StartMessage>(alloc, 0)?, start(alloc)?);
+    let Some(second) = decoder.consume_next()? else {
+        return Err(Fail::new("no second message"));
+    };
+    assert_eq!(rt;
+        second.decode_to::<InputCommandMessage>(alloc, 1)?,
+        input(alloc)?
+    );
+    let Some(third) = decoder.consume_next()? else {
+        return Err(Fail::new("no third message"));
+    };
+    let third: GetLazyStateCompletionNotificationMessage = third.decode_to(alloc, 2)?;
+    assert_eq!(rt; third, state(alloc));
+    assert!(rt; matches!(decoder.consume_next(), Ok(None)));
+    Ok(())
+}
+
+#[test]
+fn frames_are_the_literal_bytes(rt: HostRuntime) -> Result<(), Fail> {
+    let alloc = rt.alloc();
+    for version in [Version::V5, Version::V6, Version::V7, Version::V8] {
+        let encoder = Encoder::new(version);
+        let start = encoder.encode(alloc, &start(alloc)?)?;
+        let input = encoder.encode(alloc, &input(alloc)?)?;
+        let state = encoder.encode(alloc, &state(alloc))?;
+        assert_eq!(rt; start.as_slice(), &THREE_FRAMES[..27]);
+        assert_eq!(rt; input.as_slice(), &THREE_FRAMES[27..44]);
+        assert_eq!(rt; state.as_slice(), &THREE_FRAMES[44..]);
+    }
+    Ok(())
+}
+
+#[test]
+fn the_type_is_looked_at_before_the_payload(rt: HostRuntime) -> Result<(), Fail> {
+    let alloc = rt.alloc();
+    let message = message_of(alloc, &[0x04, 0, 0, 0, 0, 0, 0, 1, 0xFF])?;
+    // A message that was refused answers the same when it is asked again.
+    for _ in 0..2u32 {
+        let Err(error) = message.decode_to::<OutputCommandMessage>(alloc, 3) else {
+            return Err(Fail::new("an input is no output"));
+        };
+        let said = format!(in alloc; "{error}")?;
+        assert_eq!(rt;
+            said.as_str(),
+            "Found a mismatch between the code paths taken during the previous execution and the paths taken during this execution.\nThis typically happens when some parts of the code are non-deterministic.\n - The previous execution ran and recorded the following: 'handler input' (index '3')\n - The current execution attempts to perform the following: 'handler return'"
+        );
+        let Err(error) = message.decode_to::<InputCommandMessage>(alloc, 3) else {
+            return Err(Fail::new("a malformed payload"));
+        };
+        assert!(rt;
+            matches!(
+                &error,
+                DecodingError::DecodeMessage(MessageType::InputCommand, WireError::Malformed)
+            )
+        );
+        let said = format!(in alloc; "{error}")?;
+        assert_eq!(rt;
+            said.as_str(),
+            "cannot decode protocol message type InputCommand. Reason: malformed payload"
+        );
+    }
+    Ok(())
+}
+
+#[test]
+fn a_partial_frame_is_decoded_when_it_is_whole(rt: HostRuntime) -> Result<(), Fail> {
+    let alloc = rt.alloc();
+    // Once within the header, once within the payload.
+    for (front, back) in [INPUT.split_at(4), INPUT.split_at(10)] {
+        let mut decoder = Decoder::new(alloc, Version::V8);
+        assert!(rt; decoder.push(Bytes::copy_from_slice(alloc, front)?).is_ok());
+        assert!(rt; matches!(decoder.consume_next(), Ok(None)));
+        assert!(rt; decoder.push(Bytes::copy_from_slice(alloc, back)?).is_ok());
+        let Some(message) = decoder.consume_next()? else {
+            return Err(Fail::new("no message"));
+        };
+        assert_eq!(rt;
+            message.decode_to::<InputCommandMessage>(alloc, 4)?,
+            input(alloc)?
+        );
+    }
+    Ok(())
+}
+
+#[test]
+fn a_hundred_and_one_levels_are_too_many(rt: HostRuntime) -> Result<(), Fail> {
+    let alloc = rt.alloc();
+    for (levels, accepted) in [(100u32, true), (101, false)] {
+        // The innermost future is empty, and each other holds one future.
+        let mut payload = Vec::new(alloc);
+        for _ in 1..levels {
+            let mut outer = Vec::new(alloc);
+            outer.push(0x22)?;
+            let mut length = payload.len();
+            while length >= 128 {
+                outer.push((length % 128) as u8 + 128)?;
+                length /= 128;
+            }
+            outer.push(length as u8)?;
+            outer.extend_from_slice(payload.as_slice())?;
+            payload = outer;
+        }
+        let mut frame = Vec::new(alloc);
+        let mut body = Vec::new(alloc);
+        body.push(0x22)?;
+        let mut length = payload.len();
+        while length >= 128 {
+            body.push((length % 128) as u8 + 128)?;
+            length /= 128;
+        }
+        body.push(length as u8)?;
+        body.extend_from_slice(payload.as_slice())?;
+        frame.extend_from_slice(&[0, 1, 0, 0, 0, 0])?;
+        frame.push((body.len() / 256 % 256) as u8)?;
+        frame.push((body.len() % 256) as u8)?;
+        frame.extend_from_slice(body.as_slice())?;
+        let message = message_of(alloc, frame.as_slice())?;
+        let decoded = message.decode_to::<SuspensionMessage>(alloc, 0);
+        if accepted {
+            assert!(rt; decoded.is_ok());
+        } else {
+            assert!(rt;
+                matches!(
+                    &decoded,
+                    Err(DecodingError::DecodeMessage(MessageType::Suspension, WireError::Malformed))
+                )
+            );
+        }
+    }
+    Ok(())
+}
+
+/// A frame of this code and payload.
+fn frame_of(alloc: Global, code: u16, payload: &[u8]) -> Result<RawMessage, Fail> {
+    let mut frame = Vec::new(alloc);
+    frame.extend_from_slice(&code.to_be_bytes())?;
+    frame.extend_from_slice(&[0, 0, 0, 0, 0, (payload.len() % 256) as u8])?;
+    frame.extend_from_slice(payload)?;
+    message_of(alloc, frame.as_slice())
+}
+
+#[test]
+fn any_notification_has_a_view(rt: HostRuntime) -> Result<(), Fail> {
+    let alloc = rt.alloc();
+    for (code, payload) in [
+        (0x8002u16, &[0x22, 0x00, 0x08, 0x01][..]),
+        (0x8002, &[0x08, 0x01, 0x98, 0x06, 0x07, 0x22, 0x00][..]),
+        (0x8001, &[0x08, 0x01, 0x22, 0x00][..]),
+    ] {
+        let message = frame_of(alloc, code, payload)?;
+        assert!(rt; message.ty().is_notification());
+        let view = message.decode_as_notification(alloc)?;
+        assert_eq!(rt; view.id, NotificationId::CompletionId(1));
+        assert_eq!(rt; view.result, NotificationResult::Void(Void {}));
+        assert!(rt; !view.result.is_failure());
+    }
+    let signal = frame_of(alloc, 0xFBFF, &[0x10, 0x01, 0x1A, 0x01, 0x78, 0x22, 0x00])?;
+    assert!(rt; signal.ty().is_notification());
+    let view = signal.decode_as_notification(alloc)?;
+    assert_eq!(rt; view.id, NotificationId::SignalName(text(alloc, "x")?));
+    let call = frame_of(
+        alloc,
+        0x800E,
+        &[0x82, 0x01, 0x03, 0x69, 0x6E, 0x76, 0x08, 0x03],
+    )?;
+    assert!(rt; call.ty().is_notification());
+    let view = call.decode_as_notification(alloc)?;
+    assert_eq!(rt; view.id, NotificationId::CompletionId(3));
+    assert_eq!(rt;
+        view.result,
+        NotificationResult::InvocationId(text(alloc, "inv")?)
+    );
+    Ok(())
+}
+
+#[test]
+fn a_view_misses_the_id_before_the_result(rt: HostRuntime) -> Result<(), Fail> {
+    let alloc = rt.alloc();
+    for (payload, missing) in [
+        (&[0x22, 0x00][..], "id"),
+        (&[][..], "id"),
+        (&[0x08, 0x01][..], "result"),
+    ] {
+        let message = frame_of(alloc, 0x8002, payload)?;
+        assert!(rt; message.ty().is_notification());
+        let refused = message.decode_as_notification(alloc);
+        assert!(rt;
+            matches!(&refused, Err(DecodingError::MissingField { field, .. }) if *field == missing)
+        );
+    }
+    let message = frame_of(alloc, 0x8002, &[0x08, 0x01])?;
+    assert!(rt; message.ty().is_notification());
+    let Err(error) = message.decode_as_notification(alloc) else {
+        return Err(Fail::new("a view without a result"));
+    };
+    let said = format!(in alloc; "{error}")?;
+    assert_eq!(rt;
+        said.as_str(),
+        "expected message type GetLazyStateCompletionNotification to have field result"
+    );
+    let typed: GetLazyStateCompletionNotificationMessage = frame_of(
+        alloc,
+        0x8002,
+        &[0x22, 0x00],
+    )?.decode_to(alloc, 0)?;
+    assert_eq!(rt; typed.completion_id, 0);
+    Ok(())
+}

@@ -1,0 +1,168 @@
+#!/bin/sh
+# Shows that proto/journal.proto, the schemas that contracts cite and the code of the records say the same of every field: message,
+# name, number, kind, presence and oneof. The last line is 'N passed, M failed'; what differs is shown above it.
+set -u
+cd "$(dirname "$0")/.." || exit 1
+
+work=$(mktemp -d) || exit 1
+trap 'rm -rf "$work"' EXIT
+
+# A line a field: message, number, kind, presence, oneof, name. Kinds: u32 u64 bool enum text bytes, or a message's name.
+# Presence: plain optional repeated message, and member of a oneof.
+awk '
+  BEGIN { split("uint32 u32 uint64 u64 bool bool string text bytes bytes", pairs, " "); for (i = 1; i < 10; i += 2) kinds[pairs[i]] = pairs[i + 1] }
+  $1 == "//" { next }
+  $1 == "enum" { enums[$2] = 1; inside = "enum"; next }
+  $1 == "message" { message = $2; if ($3 != "{}") inside = "message"; else print message; next }
+  $1 == "oneof" { oneof = $2; next }
+  $1 == "}" { if (oneof != "") oneof = ""; else inside = ""; next }
+  inside == "message" && / = [0-9]+;$/ {
+    presence = "plain"; at = 1
+    if ($1 == "optional" || $1 == "repeated") { presence = $1; at = 2 }
+    type = $at; name = $(at + 1); number = $(at + 3); sub(/;/, "", number)
+    kind = type in kinds ? kinds[type] : type in enums ? "enum" : type
+    if (oneof != "") presence = "member"
+    else if (presence == "plain" && !(type in kinds) && !(type in enums)) presence = "message"
+    print message, number, kind, presence, (oneof == "" ? "-" : oneof), name
+  }
+' proto/journal.proto | sort > "$work/proto"
+
+# The schemas have no names of fields, and oneofs are known by their least number.
+awk '
+  function kind_of(text) {
+    if (text ~ /Message/) { sub(/.*Message /, "", text); gsub(/[() ]/, "", text); return "@" text }
+    gsub(/[() ]/, "", text)
+    return short[text]
+  }
+  BEGIN {
+    split("U32 u32 U64 u64 Boolean bool Enumeration enum Text text ByteString bytes", pairs, " ")
+    for (i = 1; i < 12; i += 2) short[pairs[i]] = pairs[i + 1]
+    split("Plain plain Optional optional Repeated repeated", pairs, " ")
+    for (i = 1; i < 6; i += 2) presences[pairs[i]] = pairs[i + 1]
+  }
+  /^-- The schema of / { message = $5; sub(/\.$/, "", message); next }
+  /^[a-z_0-9]+ = [0-9]+$/ { messages[$3] = message; places["@" $1] = message; next }
+  /^schemas =/ { inside = 1; next }
+  inside && /^    / {
+    line = $0; sub(/^ *(∷ )?/, "", line)
+    if (line ~ /^-- /) next
+    if (line == "[]") { inside = 0; next }
+    schemas[count++] = line
+  }
+  END {
+    for (s = 0; s < count; s++) {
+      line = schemas[s]
+      if (line == "([])") { print messages[s]; continue }
+      while (match(line, /OneOf \(\(.*\) ∷ \[\]\)|(Plain|Optional|Repeated) [0-9]+ (\(Message [a-z_0-9]+\)|[A-Za-z0-9]+)/)) {
+        first = index(line, "OneOf"); plain = match(line, /(Plain|Optional|Repeated) [0-9]+ (\(Message [a-z_0-9]+\)|[A-Za-z0-9]+)/)
+        if (first > 0 && (plain == 0 || first < plain)) {
+          row = substr(line, first); end = index(row, "∷ [])"); row = substr(row, 1, end); least = ""
+          line = substr(line, first + end)
+          while (match(row, /\([0-9]+, (Message [a-z_0-9]+|[A-Za-z0-9]+)\)/)) {
+            member = substr(row, RSTART + 1, RLENGTH - 2); row = substr(row, RSTART + RLENGTH)
+            number = member; sub(/,.*/, "", number); kind = member; sub(/[0-9]+, /, "", kind)
+            if (least == "") least = number
+            kind = kind_of(kind); if (kind in places) kind = places[kind]
+            print messages[s], number, kind, "member", least
+          }
+        } else {
+          row = substr(line, RSTART, RLENGTH); row = substr(line, plain); match(row, /^(Plain|Optional|Repeated) [0-9]+ (\(Message [a-z_0-9]+\)|[A-Za-z0-9]+)/)
+          line = substr(row, RLENGTH + 1); row = substr(row, 1, RLENGTH)
+          split(row, words, " "); presence = presences[words[1]]; kind = row; sub(/^[A-Za-z]+ [0-9]+ /, "", kind)
+          kind = kind_of(kind)
+          if (kind in places) { kind = places[kind]; if (presence == "optional") presence = "message" }
+          print messages[s], words[2], kind, presence, "-"
+        }
+      }
+    }
+  }
+' crates/shared_core_record/specs/Table.antt | sort > "$work/schemas"
+
+# The proto file with oneofs by their least numbers and without names.
+awk '
+  NF == 1 { print; next }
+  { line[NR] = $0; if ($5 != "-" && (!(($1, $5) in least) || $2 < least[$1, $5])) least[$1, $5] = $2 + 0 }
+  END { for (i = 1; i <= NR; i++) if (i in line) { split(line[i], f, " "); print f[1], f[2], f[3], f[4], (f[5] == "-" ? "-" : least[f[1], f[5]]) } }
+' "$work/proto" | sort > "$work/proto_rows"
+
+# The code: the structs' types of fields, and the arms that take an occurrence into its field by number.
+for file in crates/shared_core_parts/src/*.rt crates/shared_core_runtime/src/*.rt crates/shared_core_state_commands/src/*.rt \
+  crates/shared_core_call_commands/src/*.rt crates/shared_core_notifications/src/*.rt; do
+  printf 'FILE %s\n' "$file"
+  cat "$file"
+done | awk '
+  function snake(text,  out, i, c) {
+    out = ""
+    for (i = 1; i <= length(text); i++) { c = substr(text, i, 1); out = out (c ~ /[A-Z]/ ? (i > 1 ? "_" : "") tolower(c) : c) }
+    return out
+  }
+  function scope(name) { return (file, name) in alias ? alias[file, name] : file SUBSEP name }
+  BEGIN { split("u32 u32 u64 u64 boolean bool enumeration enum text text bytes bytes", pairs, " "); for (i = 1; i < 12; i += 2) kinds[pairs[i]] = pairs[i + 1]
+    split("u32s u32 texts text bytes bytes", pairs, " "); for (i = 1; i < 6; i += 2) lists[pairs[i]] = pairs[i + 1] }
+  $1 == "FILE" { file = $2; folder = file; sub(/[^\/]*$/, "", folder); holder = ""; next }
+  /^pub use crate::.* as [A-Za-z]+;$/ {
+    path = $3; sub(/^crate::/, "", path); split(path, names, "::"); name = $5; sub(/;/, "", name)
+    alias[file, name] = folder names[1] ".rt" SUBSEP names[2]; next
+  }
+  /^pub struct / { record = $3; print_empty[record] = ($0 ~ /\{\}/); records[record] = file; next }
+  /^pub enum / { choice = $3; next }
+  /^    pub [a-z_0-9]+: / { name = $2; sub(/:/, "", name); type = $3; sub(/,$/, "", type); types[record, name] = type; next }
+  /^    [A-Z][A-Za-z]*\(.*\),$/ { name = $1; sub(/\(.*/, "", name); type = $1; sub(/^[^(]*\(/, "", type); sub(/\),$/, "", type); holds[file, choice, name] = type; next }
+  /^impl WireRecord for / { holder = $4; kind_of_holder = "record"; value = "self"; next }
+  # a record that leads back to itself takes its fields in a function of its own
+  /^fn merge_[a-z_]+_field\([a-z_]+: &mut [A-Z]/ {
+    value = $2; sub(/^[^(]*\(/, "", value); sub(/:.*/, "", value)
+    holder = $4; sub(/,.*/, "", holder); kind_of_holder = "record"; next
+  }
+  /^impl OneOf for / { holder = $4; kind_of_holder = "oneof"; next }
+  holder != "" && kind_of_holder == "record" && /^ +[0-9 |]+ => / {
+    arm = $0; numbers = arm; sub(/ =>.*/, "", numbers); sub(/^[^>]*=> /, "", arm)
+    if (value != "self") { sub("&mut " value "\\.", "\\&mut self.", arm); sub("^" value "\\.", "self.", arm) }
+    number = numbers + 0
+    if (arm ~ /^self\.[a-z_0-9]+ = Some\(field\./) { name = arm; sub(/^self\./, "", name); sub(/ .*/, "", name); method = arm; sub(/.*field\./, "", method); sub(/\(.*/, "", method); found[holder, number] = kinds[method] " optional - " name }
+    else if (arm ~ /^self\.[a-z_0-9]+ = field\./) { name = arm; sub(/^self\./, "", name); sub(/ .*/, "", name); method = arm; sub(/.*field\./, "", method); sub(/\(.*/, "", method); found[holder, number] = kinds[method] " plain - " name }
+    else if (arm ~ /^OneOf::merge_member/) { name = arm; sub(/.*self\./, "", name); sub(/,.*/, "", name); gsub(/ /, "", numbers); oneofs[holder, name] = numbers }
+    else if (arm ~ /^field\.merge_optional_message/) { name = arm; sub(/.*self\./, "", name); sub(/\).*/, "", name); type = types[holder, name]; sub(/^Option</, "", type); sub(/>$/, "", type); found[holder, number] = type " message - " name }
+    else if (arm ~ /^extend_[a-z_]+\(&mut self\./) { name = arm; sub(/.*self\./, "", name); sub(/,.*/, "", name); type = types[holder, name]; sub(/^Vec</, "", type); sub(/>$/, "", type); found[holder, number] = type " repeated - " name }
+    else if (arm ~ /^field\.extend_/) { name = arm; sub(/.*self\./, "", name); sub(/\).*/, "", name); method = arm; sub(/^field\.extend_/, "", method); sub(/\(.*/, "", method)
+      type = types[holder, name]; sub(/^Vec</, "", type); sub(/>$/, "", type); found[holder, number] = (method == "messages" ? type : lists[method]) " repeated - " name }
+    next
+  }
+  holder != "" && kind_of_holder == "oneof" && /^            [0-9]+ => / {
+    arm = $0; number = arm + 0; sub(/^[^>]*=> /, "", arm)
+    if (arm ~ /^match oneof/) { waiting = number; next }
+    name = arm; sub(/.*::/, "", name); sub(/\(.*/, "", name); method = arm; sub(/.*field\./, "", method); sub(/\(.*/, "", method)
+    members[file, holder, number] = kinds[method] " " snake(name); next
+  }
+  waiting != "" && /Some\([A-Za-z]+::[A-Za-z]+\(/ {
+    name = $0; sub(/.*Some\([A-Za-z]+::/, "", name); sub(/\(.*/, "", name)
+    members[file, holder, waiting] = holds[file, holder, name] " " snake(name); waiting = ""
+  }
+  END {
+    for (record in records) if (print_empty[record]) print record
+    for (key in found) { split(key, k, SUBSEP); print k[1], k[2], found[key] }
+    for (key in oneofs) {
+      split(key, k, SUBSEP); file = records[k[1]]; type = types[k[1], k[2]]; sub(/^Option</, "", type); sub(/>$/, "", type)
+      split(scope(type), home, SUBSEP); many = split(oneofs[key], listed, "|")
+      for (i = 1; i <= many; i++) { split(members[home[1], home[2], listed[i]], m, " "); print k[1], listed[i], m[1], "member", k[2], m[2] }
+    }
+  }
+' | sort > "$work/code"
+
+passed=0
+failed=0
+# same NAME FILE FILE: whether two listings are the same and not empty
+same() {
+  if [ -s "$2" ] && cmp -s "$2" "$3"; then
+    passed=$((passed + 1))
+  else
+    failed=$((failed + 1))
+    echo "failed: $1"
+    diff "$2" "$3" | head -20
+  fi
+}
+same "proto/journal.proto and the schemas of shared_core_record" "$work/proto_rows" "$work/schemas"
+same "proto/journal.proto and the code of the records" "$work/proto" "$work/code"
+
+echo "$passed passed, $failed failed"
+[ "$failed" -eq 0 ]

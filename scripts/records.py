@@ -1,0 +1,512 @@
+"""Writes the records of proto/journal.proto as Rattle source, as prost-build does for Rust: scripts/records.py [CRATE..]
+
+One file a message, in the crates below. Run `rt fmt` in each crate afterwards. The records of shared_core_parts are written by hand: they
+are few, and Future, which leads back to itself, has a form of its own.
+"""
+import pathlib
+import sys
+import textwrap
+
+from journal import OneOf, camel, messages, snake
+
+ROOT = pathlib.Path(__file__).resolve().parent.parent / "crates"
+
+# The crates, each with a line on what it holds and its messages.
+CRATES = {
+    "shared_core_runtime": (
+        "The records of the protocol's core: how an invocation starts, suspends, fails and ends.",
+        [
+            "StartMessage",
+            "SuspensionMessage",
+            "SuspensionMessageV6",
+            "ErrorMessage",
+            "EndMessage",
+            "ProposeRunCompletionMessage",
+            "AwaitingOnMessage",
+            "ProposeRunCompletionAckMessage",
+            "GetStateEphemeralCommandMessage",
+            "GetStateEphemeralNotificationMessage",
+        ],
+    ),
+    "shared_core_state_commands": (
+        "The records of the commands on input, output and state, codes 0x0400 to 0x0408.",
+        [
+            "InputCommandMessage",
+            "OutputCommandMessage",
+            "GetLazyStateCommandMessage",
+            "SetStateCommandMessage",
+            "ClearStateCommandMessage",
+            "ClearAllStateCommandMessage",
+            "GetLazyStateKeysCommandMessage",
+            "GetEagerStateCommandMessage",
+            "GetEagerStateKeysCommandMessage",
+        ],
+    ),
+    "shared_core_call_commands": (
+        "The records of the commands on promises, time, calls, signals and invocations, codes 0x0409 to 0x0414.",
+        [
+            "GetPromiseCommandMessage",
+            "PeekPromiseCommandMessage",
+            "CompletePromiseCommandMessage",
+            "SleepCommandMessage",
+            "CallCommandMessage",
+            "OneWayCallCommandMessage",
+            "SendSignalCommandMessage",
+            "RunCommandMessage",
+            "AttachInvocationCommandMessage",
+            "GetInvocationOutputCommandMessage",
+            "CompleteAwakeableCommandMessage",
+        ],
+    ),
+    "shared_core_notifications": (
+        "The records of the notifications.",
+        [
+            "GetLazyStateCompletionNotificationMessage",
+            "GetLazyStateKeysCompletionNotificationMessage",
+            "GetPromiseCompletionNotificationMessage",
+            "PeekPromiseCompletionNotificationMessage",
+            "CompletePromiseCompletionNotificationMessage",
+            "SleepCompletionNotificationMessage",
+            "CallCompletionNotificationMessage",
+            "CallInvocationIdCompletionNotificationMessage",
+            "RunCompletionNotificationMessage",
+            "AttachInvocationCompletionNotificationMessage",
+            "GetInvocationOutputCompletionNotificationMessage",
+            "SignalNotificationMessage",
+        ],
+    ),
+}
+
+# Oneofs that several messages of a crate have alike: their module, the enum's name, what it is, and the messages.
+SHARED = {
+    "shared_core_call_commands": [
+        (
+            "invocation_target",
+            "InvocationTarget",
+            "Which invocation a command is about.",
+            ["AttachInvocationCommandMessage", "GetInvocationOutputCommandMessage"],
+        ),
+    ],
+    "shared_core_notifications": [
+        (
+            "any_result",
+            "AnyResult",
+            "A result that may be nothing, a value or a failure.",
+            [
+                "GetPromiseCompletionNotificationMessage",
+                "PeekPromiseCompletionNotificationMessage",
+                "GetInvocationOutputCompletionNotificationMessage",
+                "SignalNotificationMessage",
+            ],
+        ),
+        (
+            "value_or_failure",
+            "ValueOrFailure",
+            "A result that is a value or a failure.",
+            [
+                "CallCompletionNotificationMessage",
+                "RunCompletionNotificationMessage",
+                "AttachInvocationCompletionNotificationMessage",
+            ],
+        ),
+    ],
+}
+
+# Messages whose type is not their own name, and messages that are written otherwise at some versions, which stand in versions.rt.
+TYPE_OF = {"SuspensionMessageV6": "Suspension"}
+NOT_WRITTEN_AS_THEY_STAND = {"SuspensionMessageV6", "SuspensionMessage", "ProposeRunCompletionMessage"}
+
+# Modules that are written by hand.
+BY_HAND = {"shared_core_runtime": ["versions"]}
+
+TYPES = {"u32": "u32", "u64": "u64", "bool": "bool", "enum": "i32", "text": "String", "bytes": "Bytes"}
+
+# By kind: the part that a field is, the method that reads it, and the name of its kind in functions and in schemas.
+PARTS = {
+    "u32": "Number",
+    "u64": "Number",
+    "bool": "boolean_part",
+    "enum": "enum_part",
+    "text": "text_part",
+    "bytes": "Content",
+}
+METHODS = {"u32": "u32", "u64": "u64", "bool": "boolean", "enum": "enumeration", "text": "text", "bytes": "bytes"}
+KINDS = {"u32": "U32", "u64": "U64", "bool": "Boolean", "enum": "Enumeration", "text": "Text", "bytes": "ByteString"}
+REPEATED = {"u32": "u32s", "text": "texts", "bytes": "byte_strings", "message": "messages"}
+EXTENDS = {"u32": "u32s", "text": "texts", "bytes": "bytes", "message": "messages"}
+
+# What a field of a kind is where it is absent.
+EMPTY = {"u32": "0", "u64": "0", "bool": "false", "enum": "0", "text": "String::new(alloc)", "bytes": "Bytes::new()"}
+
+
+def schema_name(message):
+    """The name of a message's place in the table of schemas."""
+    name = snake(message).removesuffix("_message")
+    return {"suspension_message_v6": "suspension_v6"}.get(name, name.replace("_completion_notification", "_completion"))
+
+
+def comment(text, indent=""):
+    lines = textwrap.wrap(text, 116 - len(indent))
+    return "".join(f"{indent}/// {line}\n" for line in lines)
+
+
+class Source:
+    """The source of one file, with the names that it uses."""
+
+    def __init__(self, crate, heading):
+        self.crate = crate
+        self.heading = heading
+        self.values = set()
+        self.views = set()
+        self.kinds = set()
+        self.prelude = set()
+        self.rules = {"equality_rules"}
+        self.parts = set()
+        self.writers = set()
+        self.uses = set()
+        self.ghosts = set()
+        self.shadowed = False
+        self.body = []
+
+    def part(self, kind, message, value):
+        """The part that a value of a kind is."""
+        if kind == "message":
+            self.views.add("message_part")
+            self.parts.add(message)
+            return f"message_part ⟦<{message} as WireRecord>⟧.parts {value}".rstrip()
+        name = PARTS[kind]
+        if name == "Number":
+            self.values.add("Number")
+        elif name == "Content":
+            self.values.add("Bytes as Content")
+        else:
+            self.views.add(name)
+        return f"{name} {value}".rstrip()
+
+    def result(self):
+        return "result::Result" if self.shadowed else "Result"
+
+    def writer(self, name):
+        self.writers.add(f"write_{name}")
+        return f"write_{name}"
+
+    def text(self):
+        ghosts = []
+        if self.prelude:
+            ghosts.append(f"Rattle.std.specs.Prelude.{{{', '.join(sorted(self.prelude))}}}")
+        if self.kinds:
+            ghosts.append(f"Rattle.shared_core_wire.specs.Schema.{{{', '.join(sorted(self.kinds))}}}")
+        if self.values:
+            ghosts.append(f"Rattle.shared_core_wire.specs.Value.{{{', '.join(sorted(self.values))}}}")
+        ghosts += sorted(self.ghosts)
+        ghosts.append("Rattle.shared_core_record.specs.Table as tables")
+        if self.views:
+            ghosts.append(f"Rattle.shared_core_record.specs.FieldParts.{{{', '.join(sorted(self.views))}}}")
+        ghosts.append(f"Rattle.shared_core_record.specs.EqualityRules.{{{', '.join(sorted(self.rules))}}}")
+        uses = set(self.uses)
+        for message in self.parts:
+            uses.add(f"shared_core_parts::{snake(message)}::{message}")
+        if self.writers:
+            uses.add(f"shared_core_record::write::{{{', '.join(sorted(self.writers))}}}")
+        if self.shadowed:
+            uses.add("std::result")
+        if "std::alloc::{AllocError, Global}" in uses:
+            uses.discard("std::alloc::AllocError")
+        code = "".join(self.body)
+        if "Bytes" in code.replace("ByteString", ""):
+            uses.add("bytes::Bytes")
+        return (
+            f"//! {self.heading}\n\n"
+            + "".join(f"ghost use {ghost};\n" for ghost in ghosts)
+            + "\n"
+            + "".join(f"use {use};\n" for use in sorted(uses))
+            + "\n"
+            + code
+        )
+
+
+def laws(crate, module, name, trait, short):
+    """The line that brings the equality law of a record or of a oneof, and its name."""
+    law = f"{short}_equality"
+    present = f", present-law as {short}_present" if trait == "OneOf" else ""
+    path = f"Rattle.{crate}.specs.contracts.{module}.{name}{trait}.TheImpl.Laws"
+    return f"    ghost use {path}.{{equality-law as {law}{present}}};\n", [law] + ([f"{short}_present"] if present else [])
+
+
+def part_laws(message):
+    return laws("shared_core_parts", snake(message), message, "WireRecord", snake(message))
+
+
+def write_oneof(source, module, name, oneof, about):
+    """The enum of a oneof and its impl."""
+    source.uses |= {
+        "shared_core_record::occurrence::Occurrence",
+        "shared_core_record::oneof::OneOf",
+        "shared_core_record::size::Size",
+        "shared_core_wire::error::WireError",
+        "std::alloc::AllocError",
+    }
+    source.values.add("Member")
+    source.prelude |= {"[]", "◌∷◌", "refl"}
+    source.rules.add("different_members")
+    variants = f"{snake(name)}_is"
+    result = source.result()
+    members, parts, merges, sizes, writes, presents, equals = [], [], [], [], [], [], []
+    law_lines, declared = [], ""
+    for member in oneof.members:
+        variant = camel(member.name)
+        number = member.number
+        rules = ["equality_rules"]
+        if member.kind == "message":
+            source.uses.add("shared_core_record::record::WireRecord")
+            source.kinds.add("Message")
+            kind = f"Message tables.{schema_name(member.message)}"
+            held = member.message
+            merge = (
+                f"            {number} => match oneof {{\n"
+                f"                Some({name}::{variant}({member.name})) => field.merge_message({member.name})?,\n"
+                f"                _ => *oneof = Some({name}::{variant}(field.message()?)),\n"
+                "            },\n"
+            )
+            function, by = "message_value", member.name
+            line, found = part_laws(member.message)
+            if line not in law_lines:
+                law_lines.append(line)
+            rules += found
+        else:
+            source.kinds.add(KINDS[member.kind])
+            kind = KINDS[member.kind]
+            held = TYPES[member.kind]
+            merge = f"            {number} => *oneof = Some({name}::{variant}(field.{METHODS[member.kind]}()?)),\n"
+            function = f"{METHODS[member.kind]}_value"
+            by = f"*{member.name}" if member.kind == "u32" else member.name
+        declared += comment(member.comment, "    ") + f"    {variant}({held}),\n"
+        members.append(f"({number}, {kind})")
+        parts.append(f"      | {variants}.{variant} x ↦ Member {number} ({source.part(member.kind, member.message, 'x')})\n")
+        merges.append(merge)
+        sizes.append(f"            {name}::{variant}({member.name}) => size.{function}({number}, {by}),\n")
+        writes.append(f"            {name}::{variant}({member.name}) => {source.writer(function)}(out, {number}, {by}),\n")
+        presents.append(f"{variants}.{variant} x ↦ refl")
+        search = f"({', '.join(rules)})" if len(rules) > 1 else rules[0]
+        equals.append(
+            f"      | {variants}.{variant} x ↦ elim [ {variants}.{variant} y ↦ Prim.search {search} | _ ↦ different_members _ _ _ _ refl ]\n"
+        )
+    source.body.append(
+        comment(about)
+        + f"#[derive(Debug, PartialEq, Drop)]\npub enum {name} {{\n{declared}}}\n\n"
+        + f"impl OneOf for {name} {{\n"
+        + f"    ghost use Rattle.{source.crate}.specs.declared.{module}.{name}.TheVariants as {variants};\n\n"
+        + f"    ghost members = {{ {' ∷ '.join(members)} ∷ [] }};\n\n"
+        + "    ghost part = { elim [\n"
+        + "".join(parts)
+        + "    ] };\n\n"
+        + f"    fn merge_member(oneof: &mut Option<{name}>, field: &Occurrence<'_>) -> {result}<(), WireError> {{\n"
+        + "        match field.number {\n"
+        + "".join(merges)
+        + "            _ => unreachable!(),\n        }\n        Ok(())\n    }\n\n"
+        + "    fn measure(&self, size: &mut Size) {\n        match self {\n"
+        + "".join(sizes)
+        + "        }\n    }\n\n"
+        + f"    fn encode_raw(&self, out: &mut Vec<u8>) -> {result}<(), AllocError> {{\n        match self {{\n"
+        + "".join(writes)
+        + "        }\n    }\n\n"
+        + "".join(law_lines)
+        + ("\n" if law_lines else "")
+        + f"    ghost present = {{ elim [ {' | '.join(presents)} ] }};\n\n"
+        + "    ghost equality = { elim [\n"
+        + "".join(equals)
+        + "    ] };\n}\n\n"
+    )
+
+
+def write_record(source, crate, message, shared):
+    """The struct of a message and its impl."""
+    module = snake(message.name)
+    name = message.name
+    source.uses |= {
+        "shared_core_record::occurrence::Occurrence",
+        "shared_core_record::record::WireRecord",
+        "shared_core_record::size::Size",
+        "shared_core_wire::error::WireError",
+        "std::alloc::{AllocError, Global}",
+    }
+    source.values.add("nil")
+    fields, parts, empties, merges, sizes, writes = [], [], [], [], [], []
+    law_lines, rules = [], ["equality_rules"]
+
+    def law(line, found):
+        if line not in law_lines:
+            law_lines.append(line)
+            rules.extend(found)
+
+    for row in message.rows:
+        source.values.add("cons")
+        at = f"message.{row.name}"
+        fields.append(comment(row.comment, "    "))
+        if isinstance(row, OneOf):
+            source.uses.add("shared_core_record::oneof::OneOf")
+            source.views.add("option_part")
+            enum = camel(row.name)
+            fields.append(f"    pub {row.name}: Option<{enum}>,\n")
+            parts.append(f"option_part ⟦<{enum} as OneOf>⟧.part {at}")
+            empties.append(f"            {row.name}: None,\n")
+            numbers = " | ".join(str(member.number) for member in row.members)
+            merges.append(f"            {numbers} => OneOf::merge_member(&mut self.{row.name}, field)?,\n")
+            sizes.append(f"        size.oneof(&self.{row.name});\n")
+            writes.append(f"{source.writer('oneof')}(out, &self.{row.name})")
+            home, enum_name = shared.get(row.name, (module, enum))
+            law(*laws(crate, home, enum_name, "OneOf", row.name))
+            continue
+        number = row.number
+        kind = row.message or TYPES[row.kind]
+        if row.kind == "message":
+            law(*part_laws(row.message))
+        if row.presence == "repeated":
+            source.views.add("elements_part")
+            view = source.part(row.kind, row.message, "")
+            view = f"({view})" if " " in view else view
+            fields.append(f"    pub {row.name}: Vec<{kind}>,\n")
+            parts.append(f"elements_part {view} {at}.items")
+            empties.append(f"            {row.name}: Vec::new(alloc),\n")
+            merges.append(f"            {number} => field.extend_{EXTENDS[row.kind]}(&mut self.{row.name})?,\n")
+            sizes.append(f"        size.{REPEATED[row.kind]}({number}, &self.{row.name});\n")
+            writes.append(f"{source.writer(REPEATED[row.kind])}(out, {number}, &self.{row.name})")
+        elif row.presence in ("optional", "message"):
+            source.views.add("option_part")
+            view = source.part(row.kind, row.message, "")
+            view = f"({view})" if " " in view else view
+            fields.append(f"    pub {row.name}: Option<{kind}>,\n")
+            parts.append(f"option_part {view} {at}")
+            empties.append(f"            {row.name}: None,\n")
+            if row.kind == "message":
+                merges.append(f"            {number} => field.merge_optional_message(&mut self.{row.name})?,\n")
+            else:
+                merges.append(f"            {number} => self.{row.name} = Some(field.{METHODS[row.kind]}()?),\n")
+            method = f"optional_{'message' if row.kind == 'message' else METHODS[row.kind]}"
+            by = f"self.{row.name}" if row.kind in ("u32", "u64") else f"&self.{row.name}"
+            sizes.append(f"        size.{method}({number}, {by});\n")
+            writes.append(f"{source.writer(method)}(out, {number}, {by})")
+        else:
+            fields.append(f"    pub {row.name}: {kind},\n")
+            parts.append(source.part(row.kind, None, at))
+            empties.append(f"            {row.name}: {EMPTY[row.kind]},\n")
+            merges.append(f"            {number} => self.{row.name} = field.{METHODS[row.kind]}()?,\n")
+            by = f"&self.{row.name}" if row.kind in ("text", "bytes") else f"self.{row.name}"
+            sizes.append(f"        size.{METHODS[row.kind]}({number}, {by});\n")
+            writes.append(f"{source.writer(METHODS[row.kind])}(out, {number}, {by})")
+    value = "nil"
+    for part in reversed(parts):
+        value = f"cons ({part})\n        ({value})" if value != "nil" else f"cons ({part}) nil"
+    alloc = "alloc" if any("alloc" in empty for empty in empties) else "_alloc"
+    result = source.result()
+    search = f"({', '.join(rules)})" if len(rules) > 1 else rules[0]
+    depth = f" depth {2 * len(message.rows) + 12}" if message.rows else ""
+    if message.rows:
+        merge = "        match field.number {\n" + "".join(merges) + "            _ => {}\n        }\n        Ok(())\n"
+        write = "".join(f"        {line}?;\n" for line in writes[:-1]) + f"        {writes[-1]}\n"
+    else:
+        merge, write = "        Ok(())\n", "        Ok(())\n"
+    declared = "{\n" + "".join(fields) + "}" if message.rows else "{}"
+    built = "{\n" + "".join(empties) + "        }" if message.rows else "{}"
+    unused = "" if message.rows else "_"
+    binder = "message" if message.rows else "_"
+    source.body.append(
+        comment(message.comment)
+        + f"#[derive(Debug, PartialEq, Drop)]\npub struct {name} {declared}\n\n"
+        + f"impl WireRecord for {name} {{\n"
+        + f"    ghost schema = {{ tables.{schema_name(name)} }};\n\n"
+        + f"    ghost parts = {{ λ {binder}. {value} }};\n\n"
+        + f"    fn empty({alloc}: Global) -> {name} {{\n        {name} {built}\n    }}\n\n"
+        + f"    fn merge_field(&mut self, {unused}field: &Occurrence<'_>) -> {result}<(), WireError> {{\n{merge}    }}\n\n"
+        + f"    fn measure(&self, {unused}size: &mut Size) {{\n{''.join(sizes)}    }}\n\n"
+        + f"    fn encode_raw(&self, {unused}out: &mut Vec<u8>) -> {result}<(), AllocError> {{\n{write}    }}\n\n"
+        + "".join(law_lines)
+        + ("\n" if law_lines else "")
+        + f"    ghost equality = {{ Prim.search {search}{depth} }};\n}}\n"
+    )
+
+
+def write_message(source, name):
+    """The impls that say a record's type and what it is written as."""
+    ty = TYPE_OF.get(name, name.removesuffix("Message"))
+    result = source.result()
+    source.ghosts.add("Rattle.shared_core_base.specs.declared.header.MessageType.TheVariants as types")
+    source.uses |= {"shared_core_base::header::MessageType", "shared_core_parts::restate_message::RestateMessage"}
+    source.body.append(
+        f"\nimpl RestateMessage for {name} {{\n"
+        f"    ghost message_type = {{ types.{ty} }};\n\n"
+        f"    fn ty() -> MessageType {{\n        MessageType::{ty}\n    }}\n}}\n"
+    )
+    if name in NOT_WRITTEN_AS_THEY_STAND:
+        return
+    source.prelude.add("false")
+    source.ghosts.add("Rattle.shared_core_parts.specs.Frames.{plain_form}")
+    source.uses |= {
+        "shared_core_parts::restate_message::{RestateEncodableMessage, RestateMessage, encode_frame}",
+        "shared_core_base::version::Version",
+        "shared_core_record::error::EncodingError",
+        "bytes::Bytes",
+    }
+    source.uses.discard("shared_core_parts::restate_message::RestateMessage")
+    source.body.append(
+        f"\nimpl RestateEncodableMessage for {name} {{\n"
+        f"    ghost encoded_type = {{ types.{ty} }};\n\n"
+        "    ghost named = { tt };\n\n"
+        f"    ghost wire_form = {{ λ message _. plain_form tables.{schema_name(name)} (⟦<{name} as WireRecord>⟧.parts message) }};\n\n"
+        "    ghost is_rewritten = { λ _. false };\n\n"
+        f"    fn encode(&self, alloc: Global, _version: Version) -> {result}<Bytes, EncodingError> {{\n"
+        "        encode_frame(self, alloc, None)\n    }\n}\n"
+    )
+
+
+def write_crate(crate):
+    about, names = CRATES[crate]
+    table = {message.name: message for message in messages()}
+    folder = ROOT / crate / "src"
+    folder.mkdir(parents=True, exist_ok=True)
+    homes = {}
+    modules = []
+    for module, enum, text, users in SHARED.get(crate, []):
+        oneof = None
+        for user in users:
+            for row in table[user].rows:
+                if isinstance(row, OneOf) and (oneof is None or [m.name for m in row.members] == [m.name for m in oneof.members]):
+                    if row.name == "signal_id":
+                        continue
+                    oneof = row
+                    homes.setdefault(user, {})[row.name] = (module, enum)
+        source = Source(crate, text)
+        write_oneof(source, module, enum, oneof, text)
+        (folder / f"{module}.rt").write_text(source.text().rstrip("\n") + "\n")
+        modules.append(module)
+    for name in names:
+        message = table[name]
+        module = snake(name)
+        source = Source(crate, f"The record `{name}`.")
+        shared = homes.get(name, {})
+        oneofs = [row for row in message.rows if isinstance(row, OneOf)]
+        source.shadowed = any(row.name == "result" for row in oneofs)
+        shows = ""
+        for row in oneofs:
+            if row.name in shared:
+                home, enum = shared[row.name]
+                shows += f"pub use crate::{home}::{enum} as {camel(row.name)};\n"
+            else:
+                write_oneof(source, module, camel(row.name), row, row.comment)
+        write_record(source, crate, message, shared)
+        write_message(source, name)
+        text = source.text()
+        if shows:
+            head, rest = text.split("\n\nuse ", 1)
+            text = f"{head}\n\n{shows}\nuse {rest}"
+        (folder / f"{module}.rt").write_text(text)
+        modules.append(module)
+    modules += BY_HAND.get(crate, [])
+    lib = f"//! {about}\n#![tactic(auto)]\n\n" + "".join(f"pub mod {module};\n" for module in sorted(modules))
+    lib += "\n" + "".join(f"pub use crate::{snake(name)}::{name};\n" for name in sorted(names, key=snake))
+    (folder / "lib.rt").write_text(lib)
+
+
+if __name__ == "__main__":
+    for crate in sys.argv[1:] or CRATES:
+        write_crate(crate)
