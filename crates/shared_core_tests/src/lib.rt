@@ -4,6 +4,8 @@
 #[cfg(test)]
 mod frames;
 #[cfg(test)]
+mod headers;
+#[cfg(test)]
 mod sharing;
 #[cfg(test)]
 mod stream;
