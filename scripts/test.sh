@@ -5,15 +5,14 @@ set -u
 cd "$(dirname "$0")/.." || exit 1
 
 log=$(mktemp) || exit 1
-trap 'rm -f "$log"' EXIT
+trap 'rm -f "$log" "$log.status"' EXIT
 
 # stage COMMAND..: runs it, shows what it prints and adds its last 'N passed, M failed' to the counts
 passed=0
 failed=0
 stage() {
-  "$@" > "$log" 2>&1
-  status=$?
-  cat "$log"
+  { "$@"; echo "$?" > "$log.status"; } 2>&1 | tee "$log"
+  status=$(cat "$log.status")
   counts=$(awk '/^[0-9]+ passed, [0-9]+ failed$/ { line = $0 } END { print line }' "$log")
   if [ -n "$counts" ]; then
     passed=$((passed + $(echo "$counts" | awk '{ print $1 }')))

@@ -1,5 +1,5 @@
 -- A frame spells one item.
-use Rattle.std.proofs.Common.{◌≡◌, ℕ, ◌+◌, ◌*◌, ◌/◌, ◌%◌, ◌^◌, ◌<◌, List, ◌++◌, length, drop, Option, Some, None, Bool, true, false, cond, eqb, ltb, refl, sym, ap, ◌∙◌, arith, length-append}
+use Rattle.std.proofs.Common.{◌≡◌, ℕ, ◌+◌, ◌*◌, ◌/◌, ◌%◌, ◌^◌, ◌<◌, List, [], ◌∷◌, ◌++◌, length, drop, Option, Some, None, Bool, true, false, cond, eqb, ltb, refl, sym, ap, ◌∙◌, arith, length-append}
 use Rattle.std.specs.Int.{w64, to_be_bytes, from_be_bytes}
 use Rattle.std.specs.Option.{option_map}
 use Rattle.std.proofs.lemmas.Nat.{from_be_bytes-to_be_bytes_8}
@@ -12,8 +12,8 @@ use Rattle.shared_core_base.specs.MessageType.{code_of, type_of, allows_ack, IsN
 use Rattle.shared_core_base.specs.MessageHeader.{header_of, word_of, word_code, ack_bit}
 use Rattle.shared_core_base.proofs.Types.{type_of_code}
 use Rattle.shared_core_parts.specs.Frames.{frame, WireForm, wire_payload, wire_frame, header_of_payload}
-use Rattle.shared_core.specs.Items.{IsItem, front_word, body_length, item_of}
-use Rattle.shared_core.specs.Written.{header_read, item_written}
+use Rattle.shared_core.specs.Items.{IsItem, AreItems, IsItemsThen, front_word, body_length, item_of}
+use Rattle.shared_core.specs.Written.{header_read, item_written, joined_frames, items_written, AreFrames}
 use Rattle.shared_core.proofs.Items.{front_word_head, drop_exact}
 
 -- a word by its three numbers
@@ -70,3 +70,18 @@ frame_is_item version ty form bytes named fits is =
       whole = length-append head payload ∙ ap (λ n. n + length payload) eight ∙ rw typed refl;
       means = rw (typed, drop_exact 8 head payload eight) refl;
     })
+
+-- frames one behind the other are items one behind the other
+frames_are_items : (version : Version) (messages : List (MessageType × WireForm)) → AreFrames messages → AreItems version (joined_frames messages) (items_written messages)
+frames_are_items version [] are = refl
+frames_are_items version (message ∷ messages) are = (
+  wire_frame message.0 message.1,
+  joined_frames messages,
+  frame_is_item version message.0 message.1 (wire_frame message.0 message.1) are.0 are.1 refl,
+  frames_are_items version messages are.2,
+  refl,
+)
+
+-- .. whatever follows them
+pub frames_then : (version : Version) (messages : List (MessageType × WireForm)) (rest : List ℕ) → AreFrames messages → IsItemsThen version (joined_frames messages ++ rest) (items_written messages) rest
+frames_then version messages rest are = record { front = joined_frames messages; spelled = frames_are_items version messages are; whole = refl }

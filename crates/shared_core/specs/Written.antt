@@ -1,10 +1,10 @@
 -- The item that a frame spells.
-use Rattle.std.specs.Prelude.{ℕ, length, Option, Some, None, ◌==◌, if◌then◌else◌}
+use Rattle.std.specs.Prelude.{ℕ, ◌<◌, ◌^◌, length, List, [], ◌∷◌, ◌++◌, Option, Some, None, ◌==◌, if◌then◌else◌}
 use Rattle.shared_core_base.specs.declared.header.MessageType.{MessageType}
 use Rattle.shared_core_base.specs.declared.header.MessageHeader.{MessageHeader}
-use Rattle.shared_core_base.specs.MessageType.{allows_ack}
+use Rattle.shared_core_base.specs.MessageType.{allows_ack, IsNamed}
 use Rattle.shared_core_base.specs.MessageHeader.{ack_bit}
-use Rattle.shared_core_parts.specs.Frames.{WireForm, wire_payload}
+use Rattle.shared_core_parts.specs.Frames.{WireForm, wire_payload, wire_size, wire_frame}
 use Rattle.shared_core.specs.declared.encoding.Item.{Item}
 use Rattle.shared_core.specs.declared.encoding.Item.TheVariants.{Message}
 
@@ -19,3 +19,18 @@ header_read ty form = record {
 -- The item that the frame of a wire form spells: a message with that header and the payload.
 abbrev pub item_written : MessageType → WireForm → Item
 item_written ty form = Message (record { header = header_read ty form; payload = wire_payload form })
+
+-- The frames of wire forms, each with its type, one behind the other.
+abbrev pub joined_frames : List (MessageType × WireForm) → List ℕ
+joined_frames [] = []
+joined_frames (message ∷ messages) = wire_frame message.0 message.1 ++ joined_frames messages
+
+-- The items that these frames spell.
+abbrev pub items_written : List (MessageType × WireForm) → List Item
+items_written [] = []
+items_written (message ∷ messages) = item_written message.0 message.1 ∷ items_written messages
+
+-- Each of the types has a name, and no payload is too long for a header.
+abbrev pub AreFrames : List (MessageType × WireForm) → Type 0
+AreFrames [] = Unit {0}
+AreFrames (message ∷ messages) = IsNamed message.0 × (wire_size message.1 < 2 ^ 32) × AreFrames messages

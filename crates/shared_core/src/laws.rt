@@ -2,7 +2,10 @@
 //! or nothing but compare.
 ghost use Rattle.std.specs.Prelude.{◌≡◌, ◌↔◌, ℕ, ◌++◌, IsTrue, List};
 ghost use Rattle.shared_core_base.specs.declared.version.Version.{Version};
-ghost use Rattle.shared_core.specs.Items.{IsItem, TakesItem, NoItemBegins, SplitsInto};
+ghost use Rattle.shared_core.specs.Items.{IsItem, IsItemsThen, TakesItem, NoItemBegins, SplitsInto};
+ghost use Rattle.shared_core.specs.Written.{AreFrames, items_written, joined_frames};
+ghost use Rattle.shared_core_base.specs.declared.header.MessageType.{MessageType as AnyType};
+ghost use Rattle.shared_core_parts.specs.Frames.{WireForm};
 ghost use Rattle.shared_core.specs.declared.encoding.Item.{Item as AnyItem};
 
 use crate::encoding::{Item, RawMessage};
@@ -30,6 +33,13 @@ pub fn every_stream_splits()
 pub fn next_item_stays()
     ensures { (version : Version) (old new more : List ℕ) (item : AnyItem)
         → TakesItem version old item new → TakesItem version (old ++ more) item (new ++ more) }
+{}
+
+/// Frames written one behind the other are, whatever follows them, items in this order, each a message of its type with the
+/// payload that was written. So `decode_pieces`, whose answer begins with what was written, gives them back in any cut.
+pub fn frames_come_out_in_order()
+    ensures { (version : Version) (messages : List (AnyType × WireForm)) (rest : List ℕ) → AreFrames messages
+        → IsItemsThen version (joined_frames messages ++ rest) (items_written messages) rest }
 {}
 
 /// `==` of messages compares the whole header and the whole payload.

@@ -5,7 +5,7 @@ use shared_core::Version;
 use shared_core::encoding::{Decoder, DecodingError, Encoder, RawMessage};
 use shared_core::header::MessageType;
 use shared_core::messages::{
-    GetLazyStateCompletionNotificationMessage, InputCommandMessage, NotificationId,
+    Future, GetLazyStateCompletionNotificationMessage, InputCommandMessage, NotificationId,
     NotificationResult, OutputCommandMessage, StartMessage, SuspensionMessage, Value, Void,
     get_lazy_state_completion_notification_message,
 };
@@ -161,38 +161,19 @@ fn a_partial_frame_is_decoded_when_it_is_whole(rt: HostRuntime) -> Result<(), Fa
 fn a_hundred_and_one_levels_are_too_many(rt: HostRuntime) -> Result<(), Fail> {
     let alloc = rt.alloc();
     for (levels, accepted) in [(100u32, true), (101, false)] {
-        // The innermost future is empty, and each other holds one future.
-        let mut payload = Vec::new(alloc);
+        let mut chain = Future::empty(alloc);
         for _ in 1..levels {
-            let mut outer = Vec::new(alloc);
-            outer.push(0x22)?;
-            let mut length = payload.len();
-            while length >= 128 {
-                outer.push((length % 128) as u8 + 128)?;
-                length /= 128;
-            }
-            outer.push(length as u8)?;
-            outer.extend_from_slice(payload.as_slice())?;
-            payload = outer;
+            let mut outer = Future::empty(alloc);
+            outer.nested_futures.push(chain)?;
+            chain = outer;
         }
-        let mut frame = Vec::new(alloc);
-        let mut body = Vec::new(alloc);
-        body.push(0x22)?;
-        let mut length = payload.len();
-        while length >= 128 {
-            body.push((length % 128) as u8 + 128)?;
-            length /= 128;
-        }
-        body.push(length as u8)?;
-        body.extend_from_slice(payload.as_slice())?;
-        frame.extend_from_slice(&[0, 1, 0, 0, 0, 0])?;
-        frame.push((body.len() / 256 % 256) as u8)?;
-        frame.push((body.len() % 256) as u8)?;
-        frame.extend_from_slice(body.as_slice())?;
+        let mut suspension = SuspensionMessage::empty(alloc);
+        suspension.awaiting_on = Some(chain);
+        let frame = Encoder::new(Version::V8).encode(alloc, &suspension)?;
         let message = message_of(alloc, frame.as_slice())?;
         let decoded = message.decode_to::<SuspensionMessage>(alloc, 0);
         if accepted {
-            assert!(rt; decoded.is_ok());
+            assert!(rt; matches!(&decoded, Ok(again) if *again == suspension));
         } else {
             assert!(rt;
                 matches!(
