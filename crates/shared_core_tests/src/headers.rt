@@ -31,7 +31,7 @@ fn begins<M: RestateMessage + RestateEncodableMessage>(
 ) -> Result<(), Fail> {
     let frame = Encoder::new(Version::V5).encode(alloc, &M::empty(alloc))?;
     let [high, low] = code.to_be_bytes();
-    if frame.as_slice() != [high, low, 0, 0, 0, 0, 0, 0].as_slice() || u16::from(M::ty()) != code {
+    if frame.as_slice() != [high, low, 0, 0, 0, 0, 0, 0].as_slice() {
         return Err(Fail::new(format_args!("another header than that of {code:x}")));
     }
     Ok(())
