@@ -1,0 +1,12 @@
+#!/bin/sh
+# Compares the library with the peer on random payloads and streams: agree.sh [SEED [COUNT [FIRST]]]
+# The last line is 'N passed, M failed'; it is '0 passed, 0 failed' where the tools are not to be had.
+set -u
+cd "$(dirname "$0")" || exit 1
+
+sh build.sh
+case $? in
+  0) exec target/release/agree "$@" ;;
+  77) echo "0 passed, 0 failed" ;;
+  *) echo "0 passed, 1 failed"; exit 1 ;;
+esac

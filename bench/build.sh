@@ -1,0 +1,32 @@
+#!/bin/sh
+# Builds the library as a static library for C, and then the programs of this folder with it. Where the tools are not to be had it says
+# 'not run: ..' with status 77; a build that fails has status 1.
+set -u
+cd "$(dirname "$0")" || exit 1
+
+# folder PATH: the folder of a file, as an absolute path
+folder() {
+  (cd "$(dirname "$1")" && pwd)
+}
+
+sh install.sh || exit 77
+if ! command -v rt > /dev/null; then
+  echo "not run: there is no rt"
+  exit 77
+fi
+
+log=$(mktemp) || exit 1
+trap 'rm -f "$log"' EXIT
+# quietly COMMAND..: runs it, and shows what it printed where it fails
+quietly() {
+  "$@" > "$log" 2>&1 || { cat "$log"; return 1; }
+}
+
+if command -v python3 > /dev/null; then
+  quietly python3 records.py --check || exit 1
+fi
+(cd ../crates/journal_ffi && quietly rt lib) || exit 1
+JOURNAL_FFI=$(folder ../crates/journal_ffi/out/libjournal_ffi.a) || exit 1
+RATTLE_C=$(folder "$(dirname "$(rt doc)")/c/liblibc_c.a") || exit 1
+export JOURNAL_FFI RATTLE_C
+quietly cargo build --release

@@ -1,0 +1,49 @@
+#!/bin/sh
+# Makes prost and bytes of the Debian packages what cargo builds with: installs them where they are missing, and writes .cargo/config.toml,
+# which puts the distribution's folder of crates in the place of crates.io, and has the peer compiled for the processor that the library is
+# compiled for. Where that cannot be had it says 'not run: ..' with status 1.
+set -u
+cd "$(dirname "$0")" || exit 1
+
+packages='librust-prost-dev librust-prost-derive-dev librust-bytes-dev'
+
+# not_run WHY: says why nothing is built, and ends
+not_run() {
+  echo "not run: $1"
+  exit 1
+}
+
+# installed: whether each of the packages is there
+installed() {
+  for package in $packages; do
+    dpkg -s "$package" > /dev/null 2>&1 || return 1
+  done
+}
+
+command -v cargo > /dev/null || not_run "there is no cargo"
+command -v "${CC:-cc}" > /dev/null || not_run "there is no C compiler"
+command -v dpkg > /dev/null || not_run "there are no Debian packages here"
+if ! installed; then
+  # shellcheck disable=SC2086 # the packages are several words
+  { apt-get install -y $packages || { apt-get update && apt-get install -y $packages; }; } > /dev/null 2>&1
+  installed || not_run "the packages $packages cannot be installed"
+fi
+
+manifest=$(dpkg -L librust-prost-dev | grep '/prost-[0-9.]*/Cargo\.toml$' | sed 1q)
+[ -n "$manifest" ] || not_run "librust-prost-dev holds no crate"
+registry=$(dirname "$(dirname "$manifest")")
+
+mkdir -p .cargo
+cat > .cargo/config.toml << END
+[source.crates-io]
+replace-with = "distribution"
+
+[source.distribution]
+directory = "$registry"
+
+[net]
+offline = true
+
+[target.x86_64-unknown-linux-gnu]
+rustflags = ["-C", "target-cpu=x86-64-v2"]
+END

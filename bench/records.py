@@ -1,0 +1,216 @@
+"""Writes the peer's records and tables as Rust: bench/records.py [--check]
+
+src/records.rs has the records of proto/journal.proto as prost-build would write them, with shared buffers for `bytes`. src/table.rs has what
+tells them apart by number: the fields of each schema, the code of each message type, and macros that lead from a number to the record.
+Schemas are numbered as in the list `schemas` of crates/shared_core_record/specs/Table.antt, and codes are those of
+crates/shared_core_base/specs/MessageType.antt. With --check nothing is written; the status is 1 where a file is not up to date.
+"""
+import pathlib
+import re
+import sys
+
+BENCH = pathlib.Path(__file__).resolve().parent
+ROOT = BENCH.parent
+sys.dont_write_bytecode = True
+sys.path.insert(0, str(ROOT / "scripts"))
+
+from journal import PROTO, OneOf, camel, messages, snake  # noqa: E402
+
+SCHEMAS = ROOT / "crates" / "shared_core_record" / "specs" / "Table.antt"
+TYPES = ROOT / "crates" / "shared_core_base" / "specs" / "MessageType.antt"
+
+# For each kind: prost's word for it, and the type of a value.
+SCALARS = {
+    "u32": ("uint32", "u32"),
+    "u64": ("uint64", "u64"),
+    "bool": ("bool", "bool"),
+    "text": ("string", "::prost::alloc::string::String"),
+    "bytes": ('bytes = "bytes"', "::prost::bytes::Bytes"),
+}
+KINDS = {"u32": "U32", "u64": "U64", "bool": "Bool", "enum": "Enum", "text": "Text", "bytes": "Bytes"}
+LABELS = {"plain": "Plain", "optional": "Optional", "message": "Optional", "repeated": "Repeated"}
+
+
+def enums(text):
+    """The enums, each with its constants and their numbers."""
+    for name, body in re.findall(r"^enum (\w+) \{\n(.*?)^\}", text, re.M | re.S):
+        yield name, re.findall(r"^  (\w+) = (\d+);", body, re.M)
+
+
+def enum_names(text):
+    """The type of each field that is an enum, by the field's name."""
+    names = "|".join(name for name, _ in enums(text))
+    return {field: name for name, field in re.findall(rf"^ +({names}) (\w+) = \d+;", text, re.M)}
+
+
+def enumeration(name, constants):
+    """An enum as Rust, its constants without the enum's name before them."""
+    prefix = snake(name).upper() + "_"
+    variants = "".join(f"    {camel(constant.removeprefix(prefix).lower())} = {number},\n" for constant, number in constants)
+    derives = "Clone, Copy, Debug, PartialEq, Eq, Hash, PartialOrd, Ord, ::prost::Enumeration"
+    return f"#[derive({derives})]\n#[repr(i32)]\npub enum {name} {{\n{variants}}}\n"
+
+
+class Records:
+    """Writes messages as prost-build does."""
+
+    def __init__(self, enum_of):
+        self.enum_of = enum_of
+
+    def kind(self, field):
+        """prost's word for what a field holds, and its type."""
+        if field.kind == "message":
+            return "message", field.message
+        if field.kind == "enum":
+            return f'enumeration = "{self.enum_of[field.name]}"', "i32"
+        return SCALARS[field.kind]
+
+    def field(self, field):
+        """A field of a struct."""
+        word, type_name = self.kind(field)
+        label = ""
+        if field.presence == "repeated":
+            label = "repeated, "
+            type_name = f"::prost::alloc::vec::Vec<{type_name}>"
+        elif field.presence != "plain":
+            label = "optional, "
+            type_name = f"::core::option::Option<{type_name}>"
+        return f'    #[prost({word}, {label}tag = "{field.number}")]\n    pub {field.name}: {type_name},\n'
+
+    def row(self, message, row):
+        """A row of a struct: a field, or the enum of a oneof."""
+        if not isinstance(row, OneOf):
+            return self.field(row)
+        path = f"{snake(message.name)}::{camel(row.name)}"
+        tags = ", ".join(str(member.number) for member in row.members)
+        return f'    #[prost(oneof = "{path}", tags = "{tags}")]\n    pub {row.name}: ::core::option::Option<{path}>,\n'
+
+    def member(self, member):
+        """A variant of a oneof."""
+        word, type_name = self.kind(member)
+        if member.kind == "message":
+            type_name = f"super::{type_name}"
+        return f'        #[prost({word}, tag = "{member.number}")]\n        {camel(member.name)}({type_name}),\n'
+
+    def one_of(self, row):
+        """The enum of a oneof."""
+        members = "".join(self.member(member) for member in row.members)
+        return f"    #[derive(Clone, PartialEq, ::prost::Oneof)]\n    pub enum {camel(row.name)} {{\n{members}    }}\n"
+
+    def message(self, message):
+        """A message, and the module of its oneofs."""
+        rows = "".join(self.row(message, row) for row in message.rows)
+        body = f"{{\n{rows}}}" if rows else "{}"
+        text = f"#[derive(Clone, PartialEq, ::prost::Message)]\npub struct {message.name} {body}\n"
+        one_ofs = [self.one_of(row) for row in message.rows if isinstance(row, OneOf)]
+        if one_ofs:
+            text += f"/// The oneofs of `{message.name}`.\npub mod {snake(message.name)} {{\n" + "\n".join(one_ofs) + "}\n"
+        return text
+
+
+def records(text):
+    """The source of src/records.rs."""
+    writer = Records(enum_names(text))
+    parts = ["//! The records of proto/journal.proto for prost. Written by records.py.\n"]
+    parts += [enumeration(name, constants) for name, constants in enums(text)]
+    parts += [writer.message(message) for message in messages(text)]
+    return "\n".join(parts)
+
+
+def schema_names():
+    """The names of the schemas, each at the place of its number."""
+    rows = SCHEMAS.read_text().split("\nschemas =\n")[1].split("\n\n")[0]
+    return re.findall(r"^ +-- (\w+)$", rows, re.M)
+
+
+def message_types():
+    """The named message types, each with its code."""
+    return [(name, int(code, 16)) for name, code in re.findall(r"^code_of (\w+) = (0x[0-9A-F]+)$", TYPES.read_text(), re.M)]
+
+
+def rows(message):
+    """The fields of a message, in the order of their numbers, each with its label."""
+    fields = []
+    for row in message.rows:
+        if isinstance(row, OneOf):
+            fields += [(member, "Member") for member in row.members]
+        else:
+            fields.append((row, LABELS[row.presence]))
+    return sorted(fields, key=lambda field: field[0].number)
+
+
+def schema(message, numbers):
+    """A row of the table of schemas."""
+    fields = ""
+    for field, label in rows(message):
+        kind = f"Message({numbers[field.message]})" if field.kind == "message" else KINDS[field.kind]
+        fields += f"            Field::new({field.number}, {kind}, {label}),\n"
+    body = f"&[\n{fields}        ]" if fields else "&[]"
+    return f'    Schema {{\n        name: "{message.name}",\n        fields: {body},\n    }},\n'
+
+
+def choice(name, comment, selector, arms):
+    """A macro that leads from a number to a record."""
+    body = "".join(
+        f"            {number} => {{\n                type $record = $crate::records::{record};\n                $body\n            }}\n"
+        for number, record in arms
+    )
+    return (
+        f"/// {comment}\nmacro_rules! {name} {{\n"
+        f"    (${selector}:expr, $record:ident => $body:expr, _ => $other:expr $(,)?) => {{\n"
+        f"        match ${selector} {{\n{body}            _ => $other,\n        }}\n    }};\n}}\npub(crate) use {name};\n"
+    )
+
+
+def table(text):
+    """The source of src/table.rs."""
+    by_name = {message.name: message for message in messages(text)}
+    names = schema_names()
+    numbers = {name: number for number, name in enumerate(names)}
+    assert set(names) == set(by_name), "the schemas are not the messages of proto/journal.proto"
+    types = message_types()
+    schemas = "".join(schema(by_name[name], numbers) for name in names)
+    codes = "".join(
+        f'    MessageType {{\n        name: "{name}",\n        code: 0x{code:04X},\n        schema: {numbers[name + "Message"]},\n    }},\n'
+        for name, code in types
+    )
+    parts = [
+        "//! The schemas and the message types by their numbers. Written by records.py.\n",
+        "use crate::schema::{Field, Kind::*, Label::*, MessageType, Schema};\n",
+        f"/// The schemas, each at its number.\npub static SCHEMAS: [Schema; {len(names)}] = [\n{schemas}];\n",
+        f"/// The message types that have a name.\npub static TYPES: [MessageType; {len(types)}] = [\n{codes}];\n",
+        choice(
+            "with_schema",
+            "Does the body with a name for the record of a schema, or the other where no schema has the number.",
+            "schema",
+            enumerate(names),
+        ),
+        choice(
+            "with_message",
+            "Does the body with a name for the record of a message type, or the other where no named type has the code.",
+            "code",
+            [(f"0x{code:04X}", name + "Message") for name, code in types],
+        ),
+    ]
+    return "\n".join(parts)
+
+
+def main():
+    text = PROTO.read_text()
+    sources = {"records.rs": records(text), "table.rs": table(text)}
+    check = sys.argv[1:] == ["--check"]
+    stale = 0
+    for name, source in sources.items():
+        path = BENCH / "src" / name
+        if not check:
+            path.write_text(source)
+        elif not path.exists() or path.read_text() != source:
+            print(f"failed: bench/src/{name} is not what bench/records.py writes")
+            stale += 1
+    if check:
+        print(f"{len(sources) - stale} passed, {stale} failed")
+    return 1 if stale else 0
+
+
+if __name__ == "__main__":
+    sys.exit(main())

@@ -1,0 +1,349 @@
+//! Measures the library and the peer side by side, and prints a table in Markdown:
+//! speed [--only WORKLOAD] [--side ours|peer] [--what items|messages|encode] [--piece N] [--rounds N]
+//!
+//! With --side nothing is compared or printed: that side alone goes over the workload so many times, for a profiler.
+
+use std::env;
+use std::fmt;
+use std::hint::black_box;
+use std::process::ExitCode;
+use std::time::{Duration, Instant};
+
+use pendratsoa_bench::random::Random;
+use pendratsoa_bench::streams::{self, Frame};
+use pendratsoa_bench::{ours, peer};
+
+const VERSION: u32 = 8;
+
+/// How often each side is measured; the best counts.
+const MEASUREMENTS: usize = 15;
+
+/// How long a measurement takes at least.
+const LENGTH: Duration = Duration::from_millis(40);
+
+/// Times, at least, that a frame is encoded for each time that its message is decoded.
+const ENCODINGS: usize = 64;
+
+extern "C" {
+    fn requests_for_memory() -> u64;
+}
+
+/// What is done to a workload.
+#[derive(Clone, Copy, Debug, PartialEq, Eq)]
+enum What {
+    Items,
+    Messages,
+    Encode,
+}
+
+impl What {
+    const ALL: [What; 3] = [What::Items, What::Messages, What::Encode];
+
+    fn name(self) -> &'static str {
+        match self {
+            What::Items => "items",
+            What::Messages => "messages",
+            What::Encode => "encode",
+        }
+    }
+}
+
+#[derive(Clone, Copy, Debug, PartialEq, Eq)]
+enum Side {
+    Ours,
+    Peer,
+}
+
+/// What is measured: messages, and the stream that they make.
+struct Workload {
+    name: &'static str,
+    frames: Vec<Frame>,
+    stream: Vec<u8>,
+}
+
+impl Workload {
+    fn new(name: &'static str, frames: Vec<Frame>) -> Workload {
+        let stream = streams::stream(&frames);
+        Workload {
+            name,
+            frames,
+            stream,
+        }
+    }
+
+    fn all() -> [Workload; 3] {
+        let mut random = Random::new(1, 0);
+        [
+            Workload::new("replay", streams::replay(&mut random)),
+            Workload::new("mixed", streams::mixed(&mut random)),
+            Workload::new("large", streams::large(&mut random)),
+        ]
+    }
+}
+
+/// A call that failed, which makes a measurement worth nothing.
+#[derive(Debug)]
+struct Failed(String);
+
+impl From<ours::Refusal> for Failed {
+    fn from(refusal: ours::Refusal) -> Failed {
+        Failed(format!("the library refuses: {refusal}"))
+    }
+}
+
+impl From<peer::Refusal> for Failed {
+    fn from(refusal: peer::Refusal) -> Failed {
+        Failed(format!("the peer refuses: {refusal:?}"))
+    }
+}
+
+impl fmt::Display for Failed {
+    fn fmt(&self, f: &mut fmt::Formatter<'_>) -> fmt::Result {
+        f.write_str(&self.0)
+    }
+}
+
+/// One thing to be measured, and the room that it needs.
+struct Bench<'a> {
+    workload: &'a Workload,
+    what: What,
+    piece: usize,
+    words: Vec<u64>,
+    out: Vec<u8>,
+}
+
+impl<'a> Bench<'a> {
+    fn new(workload: &'a Workload, what: What, piece: usize) -> Bench<'a> {
+        let longest = workload.frames.iter().map(|frame| frame.payload.len());
+        Bench {
+            workload,
+            what,
+            piece,
+            words: vec![0; workload.frames.len()],
+            out: vec![0; 8 + longest.max().unwrap_or(0)],
+        }
+    }
+
+    /// Goes over the workload so many times.
+    fn go(&mut self, side: Side, rounds: usize) -> Result<(), Failed> {
+        let stream = &self.workload.stream;
+        let count = match (self.what, side) {
+            (What::Items, Side::Ours) => {
+                ours::items(VERSION, stream, self.piece, rounds, &mut self.words)?
+            }
+            (What::Items, Side::Peer) => {
+                peer::items(stream, self.piece, rounds, &mut self.words);
+                self.words.len()
+            }
+            (What::Messages, Side::Ours) => ours::messages(VERSION, stream, self.piece, rounds)?,
+            (What::Messages, Side::Peer) => peer::messages(stream, self.piece, rounds)?,
+            (What::Encode, side) => self.encode(side, rounds)?,
+        };
+        if black_box(count) != self.workload.frames.len() {
+            return Err(Failed(format!("{count} of the stream's items were seen")));
+        }
+        Ok(())
+    }
+
+    /// Encodes each frame so many times.
+    fn encode(&mut self, side: Side, rounds: usize) -> Result<usize, Failed> {
+        for frame in &self.workload.frames {
+            match side {
+                Side::Ours => {
+                    ours::frame_to(VERSION, frame.code, &frame.payload, rounds, &mut self.out)?;
+                }
+                Side::Peer => {
+                    let frame = peer::frame(VERSION, frame.code, &frame.payload, rounds)?;
+                    self.out[..frame.len()].copy_from_slice(&frame);
+                }
+            }
+        }
+        Ok(self.workload.frames.len())
+    }
+
+    fn time(&mut self, side: Side, rounds: usize) -> Result<Duration, Failed> {
+        let start = Instant::now();
+        self.go(side, rounds)?;
+        Ok(start.elapsed())
+    }
+
+    /// How many rounds make a measurement: twice as many, until it is long enough for what is done once only to count little.
+    fn rounds(&mut self) -> Result<usize, Failed> {
+        let mut rounds = if self.what == What::Encode {
+            ENCODINGS
+        } else {
+            1
+        };
+        while self.time(Side::Peer, rounds)? < LENGTH {
+            rounds *= 2;
+        }
+        Ok(rounds)
+    }
+
+    /// The best times of a round, of both sides in turn.
+    fn best(&mut self) -> Result<(Duration, Duration), Failed> {
+        let rounds = self.rounds()?;
+        let (mut ours, mut peer) = (Duration::MAX, Duration::MAX);
+        for _ in 0..MEASUREMENTS {
+            ours = ours.min(self.time(Side::Ours, rounds)?);
+            peer = peer.min(self.time(Side::Peer, rounds)?);
+        }
+        Ok((ours / rounds as u32, peer / rounds as u32))
+    }
+
+    /// Requests for memory for a frame: what further rounds ask for.
+    fn requests(&mut self, side: Side) -> Result<f64, Failed> {
+        const FURTHER: usize = 10;
+        let once = self.counted(side, 1)?;
+        let more = self.counted(side, 1 + FURTHER)?;
+        Ok((more - once) as f64 / (FURTHER * self.workload.frames.len()) as f64)
+    }
+
+    fn counted(&mut self, side: Side, rounds: usize) -> Result<u64, Failed> {
+        // SAFETY: count.c reads a counter
+        let before = unsafe { requests_for_memory() };
+        self.go(side, rounds)?;
+        // SAFETY: as above
+        Ok(unsafe { requests_for_memory() } - before)
+    }
+
+    /// A row of the table.
+    fn row(&mut self) -> Result<(), Failed> {
+        let (ours, peer) = self.best()?;
+        let frames = self.workload.frames.len();
+        println!(
+            "| {} | {} | {} | {} | {} | {:.2} | {:.2} | {:.2} |",
+            self.workload.name,
+            self.what.name(),
+            pieces(self.what, self.piece),
+            a_second(frames, ours),
+            a_second(frames, peer),
+            peer.as_secs_f64() / ours.as_secs_f64(),
+            self.requests(Side::Ours)?,
+            self.requests(Side::Peer)?,
+        );
+        Ok(())
+    }
+}
+
+fn pieces(what: What, piece: usize) -> String {
+    match (what, piece) {
+        (What::Encode, _) => "-".into(),
+        (_, 0) => "whole".into(),
+        _ => piece.to_string(),
+    }
+}
+
+/// So many in a time, for each second, with a unit.
+fn a_second(count: usize, time: Duration) -> String {
+    let rate = count as f64 / time.as_secs_f64();
+    if rate >= 1e6 {
+        format!("{:.2} M", rate / 1e6)
+    } else {
+        format!("{:.1} k", rate / 1e3)
+    }
+}
+
+/// What is asked for on the command line.
+#[derive(Debug, Default)]
+struct Options {
+    only: Option<String>,
+    side: Option<Side>,
+    what: Option<What>,
+    piece: Option<usize>,
+    rounds: Option<usize>,
+}
+
+impl Options {
+    fn read(mut words: impl Iterator<Item = String>) -> Option<Options> {
+        let mut options = Options::default();
+        while let Some(word) = words.next() {
+            let value = words.next()?;
+            match word.as_str() {
+                "--only" => options.only = Some(value),
+                "--side" => options.side = Some(side(&value)?),
+                "--what" => options.what = Some(what(&value)?),
+                "--piece" => options.piece = Some(value.parse().ok()?),
+                "--rounds" => options.rounds = Some(value.parse().ok()?),
+                _ => return None,
+            }
+        }
+        Some(options)
+    }
+
+    /// What is to be measured of a workload.
+    fn benches<'a>(&self, workload: &'a Workload) -> Vec<Bench<'a>> {
+        let pieces = |what| match (self.piece, what) {
+            (Some(piece), _) => vec![piece],
+            (None, What::Encode) => vec![0],
+            (None, _) => vec![4096, 0],
+        };
+        What::ALL
+            .into_iter()
+            .filter(|what| self.what.unwrap_or(*what) == *what)
+            .flat_map(|what| pieces(what).into_iter().map(move |piece| (what, piece)))
+            .map(|(what, piece)| Bench::new(workload, what, piece))
+            .collect()
+    }
+}
+
+fn side(word: &str) -> Option<Side> {
+    match word {
+        "ours" => Some(Side::Ours),
+        "peer" => Some(Side::Peer),
+        _ => None,
+    }
+}
+
+fn what(word: &str) -> Option<What> {
+    What::ALL.into_iter().find(|what| what.name() == word)
+}
+
+fn measure(options: &Options) -> Result<(), Failed> {
+    let workloads: Vec<Workload> = Workload::all()
+        .into_iter()
+        .filter(|workload| {
+            options
+                .only
+                .as_ref()
+                .map_or(true, |name| name == workload.name)
+        })
+        .collect();
+    if workloads.is_empty() {
+        return Err(Failed("no workload has that name".into()));
+    }
+    let mut benches = workloads
+        .iter()
+        .flat_map(|workload| options.benches(workload));
+    if let Some(side) = options.side {
+        return benches.try_for_each(|mut bench| bench.go(side, options.rounds.unwrap_or(1)));
+    }
+    for workload in &workloads {
+        let frames = workload.frames.len();
+        let average = workload.stream.len() / frames - 8;
+        println!(
+            "{}: {frames} frames, payloads of {average} bytes on average",
+            workload.name
+        );
+    }
+    println!();
+    println!("| workload | what | pieces | ours a second | peer a second | ours / peer | requests a frame, ours | peer |");
+    println!("|---|---|---|---|---|---|---|---|");
+    benches.try_for_each(|mut bench| bench.row())
+}
+
+fn main() -> ExitCode {
+    let Some(options) = Options::read(env::args().skip(1)) else {
+        eprintln!(
+            "usage: speed [--only WORKLOAD] [--side ours|peer] [--what items|messages|encode] [--piece N] [--rounds N]"
+        );
+        return ExitCode::from(2);
+    };
+    match measure(&options) {
+        Ok(()) => ExitCode::SUCCESS,
+        Err(failed) => {
+            println!("failed: {failed}");
+            ExitCode::FAILURE
+        }
+    }
+}

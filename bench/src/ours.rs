@@ -1,0 +1,211 @@
+//! The calls of journal.h.
+
+use std::fmt;
+
+/// Why a call gives no answer.
+#[derive(Clone, Copy, Debug, PartialEq, Eq)]
+pub enum Refusal {
+    Malformed,
+    OutOfMemory,
+    NoRoom,
+    TooLong,
+    Unknown,
+    /// A number that journal.h does not list.
+    Unlisted(i64),
+}
+
+impl From<i64> for Refusal {
+    fn from(answer: i64) -> Refusal {
+        match answer {
+            -1 => Refusal::Malformed,
+            -2 => Refusal::OutOfMemory,
+            -3 => Refusal::NoRoom,
+            -4 => Refusal::TooLong,
+            -5 => Refusal::Unknown,
+            other => Refusal::Unlisted(other),
+        }
+    }
+}
+
+impl fmt::Display for Refusal {
+    fn fmt(&self, f: &mut fmt::Formatter<'_>) -> fmt::Result {
+        match self {
+            Refusal::Malformed => f.write_str("malformed"),
+            Refusal::OutOfMemory => f.write_str("out of memory"),
+            Refusal::NoRoom => f.write_str("no room"),
+            Refusal::TooLong => f.write_str("too long"),
+            Refusal::Unknown => f.write_str("unknown"),
+            Refusal::Unlisted(answer) => write!(f, "the unlisted answer {answer}"),
+        }
+    }
+}
+
+mod c {
+    extern "C" {
+        pub fn journal_items(
+            version: u32,
+            stream: *const u8,
+            stream_length: usize,
+            piece: usize,
+            rounds: usize,
+            words: *mut u64,
+            words_length: usize,
+        ) -> i64;
+        pub fn journal_messages(
+            version: u32,
+            stream: *const u8,
+            stream_length: usize,
+            piece: usize,
+            rounds: usize,
+        ) -> i64;
+        pub fn journal_canonical(
+            schema: u32,
+            payload: *const u8,
+            payload_length: usize,
+            out: *mut u8,
+            out_length: usize,
+        ) -> i64;
+        pub fn journal_merge(
+            schema: u32,
+            first: *const u8,
+            first_length: usize,
+            second: *const u8,
+            second_length: usize,
+            out: *mut u8,
+            out_length: usize,
+        ) -> i64;
+        pub fn journal_frame(
+            version: u32,
+            code: u32,
+            payload: *const u8,
+            payload_length: usize,
+            rounds: usize,
+            out: *mut u8,
+            out_length: usize,
+        ) -> i64;
+    }
+}
+
+/// A count that is not negative, or a refusal.
+fn count(answer: i64) -> Result<usize, Refusal> {
+    usize::try_from(answer).map_err(|_| Refusal::from(answer))
+}
+
+/// What a call writes into room that is doubled until it is enough.
+fn written(
+    mut room: usize,
+    call: impl Fn(&mut [u8]) -> Result<usize, Refusal>,
+) -> Result<Vec<u8>, Refusal> {
+    loop {
+        let mut out = vec![0; room];
+        match call(&mut out) {
+            Ok(length) => {
+                out.truncate(length);
+                return Ok(out);
+            }
+            Err(Refusal::NoRoom) => room *= 2,
+            Err(refusal) => return Err(refusal),
+        }
+    }
+}
+
+/// Room for the canonical payload of almost any payload of a length.
+fn room(length: usize) -> usize {
+    length + length / 2 + 32
+}
+
+/// A word for each item of a stream, of the last of the rounds. There are at most as many as `words` has.
+pub fn items(
+    version: u32,
+    stream: &[u8],
+    piece: usize,
+    rounds: usize,
+    words: &mut [u64],
+) -> Result<usize, Refusal> {
+    // SAFETY: the lengths are those of the slices, of which `words` alone is written
+    count(unsafe {
+        c::journal_items(
+            version,
+            stream.as_ptr(),
+            stream.len(),
+            piece,
+            rounds,
+            words.as_mut_ptr(),
+            words.len(),
+        )
+    })
+}
+
+/// How many messages of a named type a stream has.
+pub fn messages(
+    version: u32,
+    stream: &[u8],
+    piece: usize,
+    rounds: usize,
+) -> Result<usize, Refusal> {
+    // SAFETY: the length is that of the slice, which is only read
+    count(unsafe { c::journal_messages(version, stream.as_ptr(), stream.len(), piece, rounds) })
+}
+
+/// The canonical payload of what a payload means.
+pub fn canonical(schema: usize, payload: &[u8]) -> Result<Vec<u8>, Refusal> {
+    written(room(payload.len()), |out| {
+        // SAFETY: the lengths are those of the slices, of which `out` alone is written
+        count(unsafe {
+            c::journal_canonical(
+                schema as u32,
+                payload.as_ptr(),
+                payload.len(),
+                out.as_mut_ptr(),
+                out.len(),
+            )
+        })
+    })
+}
+
+/// The canonical payload of what comes of merging the second payload into the first.
+pub fn merge(schema: usize, first: &[u8], second: &[u8]) -> Result<Vec<u8>, Refusal> {
+    written(room(first.len() + second.len()), |out| {
+        // SAFETY: the lengths are those of the slices, of which `out` alone is written
+        count(unsafe {
+            c::journal_merge(
+                schema as u32,
+                first.as_ptr(),
+                first.len(),
+                second.as_ptr(),
+                second.len(),
+                out.as_mut_ptr(),
+                out.len(),
+            )
+        })
+    })
+}
+
+/// The frame of the message that a payload holds, of the last of the rounds.
+pub fn frame(version: u32, code: u16, payload: &[u8], rounds: usize) -> Result<Vec<u8>, Refusal> {
+    written(8 + room(payload.len()), |out| {
+        frame_to(version, code, payload, rounds, out)
+    })
+}
+
+/// As `frame`, into room that is there; answers the frame's length.
+pub fn frame_to(
+    version: u32,
+    code: u16,
+    payload: &[u8],
+    rounds: usize,
+    out: &mut [u8],
+) -> Result<usize, Refusal> {
+    // SAFETY: the lengths are those of the slices, of which `out` alone is written
+    count(unsafe {
+        c::journal_frame(
+            version,
+            u32::from(code),
+            payload.as_ptr(),
+            payload.len(),
+            rounds,
+            out.as_mut_ptr(),
+            out.len(),
+        )
+    })
+}

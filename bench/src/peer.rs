@@ -1,0 +1,341 @@
+//! The peer: the protocol over prost and shared buffers, as one writes it in ordinary Rust.
+//!
+//! A payload is cut out of the pieces that came and not copied, unless it lies across several; `bytes` fields are parts of the payload.
+
+use std::collections::VecDeque;
+use std::hint::black_box;
+
+use bytes::{Buf, BufMut, Bytes};
+use prost::{DecodeError, Message};
+
+use crate::records::{Future, SuspensionMessage, SuspensionMessageV6};
+use crate::table::{with_message, with_schema};
+
+const HEADER: usize = 8;
+const ACKNOWLEDGE: u64 = 1 << 47;
+const SUSPENSION: u16 = 0x0001;
+const PROPOSE_RUN_COMPLETION: u16 = 0x0005;
+
+/// The version from which on futures are sent as trees, and the proposal of a run's result asks for an acknowledgement.
+const FUTURES: u32 = 7;
+
+/// Why a call gives no answer.
+#[derive(Debug)]
+pub enum Refusal {
+    Malformed(DecodeError),
+    Unknown,
+}
+
+impl From<DecodeError> for Refusal {
+    fn from(error: DecodeError) -> Refusal {
+        Refusal::Malformed(error)
+    }
+}
+
+/// What stands before a payload.
+#[derive(Clone, Copy, Debug, PartialEq, Eq)]
+pub struct Header {
+    pub code: u16,
+    pub acknowledge: bool,
+    pub length: u32,
+}
+
+impl Header {
+    /// Reads a header, or hands back a code that stands for no type.
+    fn read(word: u64) -> Result<Header, u16> {
+        let code = (word >> 48) as u16;
+        if !is_custom(code) && !is_named(code) {
+            return Err(code);
+        }
+        Ok(Header {
+            code,
+            acknowledge: code == PROPOSE_RUN_COMPLETION && word & ACKNOWLEDGE != 0,
+            length: word as u32,
+        })
+    }
+
+    pub fn word(self) -> u64 {
+        let acknowledge = if self.acknowledge { ACKNOWLEDGE } else { 0 };
+        u64::from(self.code) << 48 | acknowledge | u64::from(self.length)
+    }
+}
+
+fn is_named(code: u16) -> bool {
+    with_message!(code, _Record => true, _ => false)
+}
+
+/// Whether a code is that of a custom entry, if no type of a name has it.
+fn is_custom(code: u16) -> bool {
+    code & 0xFC00 != 0
+}
+
+/// What a stream is made of.
+#[derive(Clone, Debug, PartialEq, Eq)]
+pub enum Item {
+    Message(Header, Bytes),
+    /// A header whose code stands for no type.
+    Unknown(u16),
+}
+
+impl Item {
+    /// The header's word, or the unknown code at its place in one.
+    pub fn word(&self) -> u64 {
+        match self {
+            Item::Message(header, _) => header.word(),
+            Item::Unknown(code) => u64::from(*code) << 48,
+        }
+    }
+}
+
+/// Reads a stream that comes in pieces.
+#[derive(Debug, Default)]
+pub struct Decoder {
+    /// What came and was not taken; none of the pieces is empty.
+    pieces: VecDeque<Bytes>,
+    pending: usize,
+    /// The header whose payload has not come yet.
+    header: Option<Header>,
+}
+
+impl Decoder {
+    pub fn push(&mut self, piece: Bytes) {
+        if !piece.is_empty() {
+            self.pending += piece.len();
+            self.pieces.push_back(piece);
+        }
+    }
+
+    /// The next item, where all of it has come.
+    pub fn next_item(&mut self) -> Option<Item> {
+        let header = match self.header.take() {
+            Some(header) => header,
+            None => match Header::read(self.take_word()?) {
+                Ok(header) => header,
+                Err(code) => return Some(Item::Unknown(code)),
+            },
+        };
+        match self.take(header.length as usize) {
+            Some(payload) => Some(Item::Message(header, payload)),
+            None => {
+                self.header = Some(header);
+                None
+            }
+        }
+    }
+
+    fn take_word(&mut self) -> Option<u64> {
+        if self.pending < HEADER {
+            return None;
+        }
+        self.pending -= HEADER;
+        match self.pieces.front_mut() {
+            Some(piece) if piece.len() > HEADER => Some(piece.get_u64()),
+            _ => Some(self.collect(0, HEADER, |word, bytes| {
+                bytes
+                    .iter()
+                    .fold(word, |word, &byte| word << 8 | u64::from(byte))
+            })),
+        }
+    }
+
+    fn take(&mut self, length: usize) -> Option<Bytes> {
+        if self.pending < length {
+            return None;
+        }
+        self.pending -= length;
+        match self.pieces.front_mut() {
+            None => Some(Bytes::new()),
+            Some(piece) if piece.len() > length => Some(piece.split_to(length)),
+            Some(piece) if piece.len() == length => self.pieces.pop_front(),
+            Some(_) => {
+                let joined =
+                    self.collect(Vec::with_capacity(length), length, |mut joined, bytes| {
+                        joined.extend_from_slice(bytes);
+                        joined
+                    });
+                Some(joined.into())
+            }
+        }
+    }
+
+    /// Takes bytes that may lie across several pieces, part by part.
+    fn collect<T>(&mut self, start: T, length: usize, add: impl Fn(T, &[u8]) -> T) -> T {
+        let mut sum = start;
+        let mut missing = length;
+        while let Some(piece) = self.pieces.front_mut() {
+            if piece.len() > missing {
+                sum = add(sum, &piece.split_to(missing));
+                break;
+            }
+            missing -= piece.len();
+            sum = add(sum, piece);
+            self.pieces.pop_front();
+        }
+        sum
+    }
+}
+
+/// The items of a stream that comes in pieces of a length (0: in one), each read before the next piece comes.
+pub struct Items {
+    decoder: Decoder,
+    rest: Bytes,
+    piece: usize,
+}
+
+impl Items {
+    pub fn new(stream: Bytes, piece: usize) -> Items {
+        Items {
+            decoder: Decoder::default(),
+            piece: if piece == 0 { stream.len() } else { piece },
+            rest: stream,
+        }
+    }
+}
+
+impl Iterator for Items {
+    type Item = Item;
+
+    fn next(&mut self) -> Option<Item> {
+        loop {
+            if let Some(item) = self.decoder.next_item() {
+                return Some(item);
+            }
+            if self.rest.is_empty() {
+                return None;
+            }
+            let piece = self.rest.split_to(self.piece.min(self.rest.len()));
+            self.decoder.push(piece);
+        }
+    }
+}
+
+/// A word for each item of a stream, which is copied once and read several times.
+pub fn items(stream: &[u8], piece: usize, rounds: usize, words: &mut Vec<u64>) {
+    let stream = Bytes::copy_from_slice(stream);
+    for _ in 0..rounds.max(1) {
+        words.clear();
+        words.extend(Items::new(stream.clone(), piece).map(|item| item.word()));
+    }
+}
+
+/// Decodes each message of a named type of a stream, and says how many there are.
+pub fn messages(stream: &[u8], piece: usize, rounds: usize) -> Result<usize, Refusal> {
+    let stream = Bytes::copy_from_slice(stream);
+    let mut count = 0;
+    for _ in 0..rounds.max(1) {
+        count = 0;
+        for item in Items::new(stream.clone(), piece) {
+            if let Item::Message(header, payload) = item {
+                count += usize::from(decode(header.code, payload)?);
+            }
+        }
+    }
+    Ok(count)
+}
+
+/// Decodes a message where its type has a name, and says whether it has.
+fn decode(code: u16, payload: Bytes) -> Result<bool, DecodeError> {
+    with_message!(
+        code,
+        Record => {
+            // looked at, so that decoding it is no dead code
+            black_box(&Record::decode(payload)?);
+            Ok(true)
+        },
+        _ => Ok(false),
+    )
+}
+
+/// The canonical payload of what a payload means.
+pub fn canonical(schema: usize, payload: &[u8]) -> Result<Vec<u8>, Refusal> {
+    let payload = Bytes::copy_from_slice(payload);
+    with_schema!(
+        schema,
+        Record => Ok(Record::decode(payload)?.encode_to_vec()),
+        _ => Err(Refusal::Unknown),
+    )
+}
+
+/// The canonical payload of what comes of merging the second payload into the first.
+pub fn merge(schema: usize, first: &[u8], second: &[u8]) -> Result<Vec<u8>, Refusal> {
+    let (first, second) = (
+        Bytes::copy_from_slice(first),
+        Bytes::copy_from_slice(second),
+    );
+    with_schema!(
+        schema,
+        Record => {
+            let mut record = Record::decode(first)?;
+            record.merge(second)?;
+            Ok(record.encode_to_vec())
+        },
+        _ => Err(Refusal::Unknown),
+    )
+}
+
+/// The frame of the message that a payload holds, which is decoded once and encoded several times.
+pub fn frame(version: u32, code: u16, payload: &[u8], rounds: usize) -> Result<Bytes, Refusal> {
+    let payload = Bytes::copy_from_slice(payload);
+    match code {
+        SUSPENSION if version < FUTURES => {
+            let message = SuspensionMessage::decode(payload)?;
+            Ok(repeat(rounds, || encode(code, false, &flattened(&message))))
+        }
+        _ => with_message!(
+            code,
+            Record => {
+                let message = Record::decode(payload)?;
+                let acknowledge = code == PROPOSE_RUN_COMPLETION && version >= FUTURES;
+                Ok(repeat(rounds, || encode(code, acknowledge, &message)))
+            },
+            _ => Err(Refusal::Unknown),
+        ),
+    }
+}
+
+/// What the last of several rounds gives.
+fn repeat(rounds: usize, mut round: impl FnMut() -> Bytes) -> Bytes {
+    for _ in 1..rounds {
+        black_box(round());
+    }
+    round()
+}
+
+/// A header and the message's payload, in a buffer of their length.
+fn encode(code: u16, acknowledge: bool, message: &impl Message) -> Bytes {
+    let length = message.encoded_len();
+    let header = Header {
+        code,
+        acknowledge,
+        length: length as u32,
+    };
+    let mut frame = Vec::with_capacity(HEADER + length);
+    frame.put_u64(header.word());
+    // `encode` would ask for the length once more, to compare it with the room
+    message.encode_raw(&mut frame);
+    frame.into()
+}
+
+/// The suspension as it was sent before futures were trees: all that is awaited, in three lists.
+fn flattened(message: &SuspensionMessage) -> SuspensionMessageV6 {
+    let mut lists = SuspensionMessageV6::default();
+    if let Some(future) = &message.awaiting_on {
+        flatten(future, &mut lists);
+    }
+    lists
+}
+
+fn flatten(future: &Future, lists: &mut SuspensionMessageV6) {
+    lists
+        .waiting_completions
+        .extend_from_slice(&future.waiting_completions);
+    lists
+        .waiting_signals
+        .extend_from_slice(&future.waiting_signals);
+    lists
+        .waiting_named_signals
+        .extend_from_slice(&future.waiting_named_signals);
+    for nested in &future.nested_futures {
+        flatten(nested, lists);
+    }
+}

@@ -1,0 +1,67 @@
+-- A stream's items, counted and written down one after the other.
+use Rattle.std.proofs.Common.{◌≡◌, ℕ, ◌+◌, ◌<◌, ◌≤◌, List, [], ◌∷◌, ◌++◌, length, map, take, set, Option, Some, None, Ok, Err, refl, ap, sym, ◌∙◌, arith, length-append}
+use Rattle.std.proofs.lemmas.List.{take_more_set}
+use Rattle.shared_core_base.specs.declared.version.Version.{Version}
+use Rattle.shared_core.specs.declared.encoding.Item.{Item}
+use Rattle.shared_core.specs.declared.encoding.Item.TheVariants.{Message, Unknown}
+use Rattle.shared_core.specs.Items.{TakesItem, IsItemsThen}
+use Rattle.shared_core.proofs.Items.{then_takes}
+use Rattle.journal_ffi.specs.declared.answer.Refusal.{Refusal}
+use Rattle.journal_ffi.specs.declared.answer.Refusal.TheVariants.{Malformed, OutOfMemory, NoRoom, TooLong, Unknown as NoNumber}
+use Rattle.journal_ffi.specs.Streams.{item_word, count_named, named_count, Decodes, AllDecode, DecodesItem, DecodesAll}
+use Rattle.journal_ffi.specs.Schemas.{message_schema}
+
+map_more : {A B : Type 0} (f : A → B) (xs : List A) (x : A) → map f (xs ++ x ∷ []) ≡ map f xs ++ f x ∷ []
+map_more f [] x = refl
+map_more f (y ∷ ys) x = ap (λ l. f y ∷ l) (map_more f ys x)
+
+pub length_more : {A : Type 0} (xs : List A) (x : A) → length (xs ++ x ∷ []) ≡ length xs + 1
+length_more xs x = length-append xs (x ∷ [])
+
+pub word_written : (words : List ℕ) (count : ℕ) (items : List Item) (item : Item) → count < length words → take count words ≡ map item_word items
+    → take (count + 1) (set words count (item_word item)) ≡ map item_word (items ++ item ∷ [])
+word_written words count items item fits before = take_more_set words count (item_word item) fits ∙ ap (λ l. l ++ item_word item ∷ []) before ∙ sym (map_more item_word items item)
+
+pub all_decode_more : (items : List Item) (item : Item) → AllDecode items → Decodes item → AllDecode (items ++ item ∷ [])
+all_decode_more [] item all one = (one, tt)
+all_decode_more (first ∷ items) item all one = (all.0, all_decode_more items item all.1 one)
+
+none_named : count_named [] ≡ 0
+none_named = refl
+
+pub count_more : (items : List Item) (item : Item) → count_named (items ++ item ∷ []) ≡ count_named items + count_named (item ∷ [])
+count_more [] item = omega (arith, none_named)
+count_more (Message message ∷ items) item = omega (arith, count_more items item)
+count_more (Unknown code ∷ items) item = count_more items item
+
+-- an item takes bytes
+pub item_is_long : (version : Version) (old new : List ℕ) (item : Item) → TakesItem version old item new → length new + 8 ≤ length old
+item_is_long version old new item (first, is, splits) = omega (arith, is.whole, ap length splits, length-append first new)
+
+-- what a decoded item says of the items behind which it stands
+pub item_decoded : (item : Item) (count : ℕ) → DecodesItem item (Ok count) → Decodes item × (count ≡ count_named (item ∷ []))
+item_decoded (Message message) count (accepted, is) = (accepted, omega (arith, is, none_named))
+item_decoded (Unknown code) count is = (tt, is)
+
+one_at_most : (schema : Option ℕ) → named_count schema ≤ 1
+one_at_most (Some schema) = omega arith
+one_at_most None = omega arith
+
+pub item_counts : (item : Item) (count : ℕ) → DecodesItem item (Ok count) → count ≤ 1
+item_counts (Message message) count (accepted, is) = omega (arith, is, one_at_most (message_schema message.header.ty))
+item_counts (Unknown code) count is = omega (arith, is)
+
+does_not_decode : (item : Item) → DecodesItem item (Err Malformed) → ¬ (Decodes item)
+does_not_decode (Message message) refused = refused
+does_not_decode (Unknown code) refused = absurd refused
+
+pub item_refused : (version : Version) (stream old new : List ℕ) (items : List Item) (item : Item) (refusal : Refusal)
+    → IsItemsThen version stream items old → TakesItem version old item new → DecodesItem item (Err refusal) → DecodesAll version stream (Err refusal)
+item_refused version stream old new items item Malformed before taken refused = (items, item, new, then_takes version stream old new items item before taken, does_not_decode item refused)
+item_refused version stream old new items item OutOfMemory before taken refused = tt
+item_refused version stream old new items (Message message) NoRoom before taken refused = absurd refused
+item_refused version stream old new items (Unknown code) NoRoom before taken refused = absurd refused
+item_refused version stream old new items (Message message) TooLong before taken refused = absurd refused
+item_refused version stream old new items (Unknown code) TooLong before taken refused = absurd refused
+item_refused version stream old new items (Message message) NoNumber before taken refused = absurd refused
+item_refused version stream old new items (Unknown code) NoNumber before taken refused = absurd refused

@@ -1,0 +1,4 @@
+pub mod Schemas
+pub mod Answers
+pub mod Streams
+pub mod Payloads

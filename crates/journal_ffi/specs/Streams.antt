@@ -1,0 +1,82 @@
+-- What the calls on streams answer.
+use Rattle.std.specs.Prelude.{◌≡◌, ℕ, ◌+◌, ◌*◌, ◌^◌, ◌<◌, suc, List, [], ◌∷◌, ◌++◌, take, map, length, Option, Some, None, Result, Ok, Err}
+use Rattle.shared_core_base.specs.declared.version.Version.{Version}
+use Rattle.shared_core_base.specs.MessageHeader.{word_of}
+use Rattle.shared_core_record.specs.Payloads.{IsAccepted}
+use Rattle.shared_core.specs.declared.encoding.Item.{Item}
+use Rattle.shared_core.specs.declared.encoding.Item.TheVariants.{Message, Unknown}
+use Rattle.shared_core.specs.Items.{IsItemsThen, SplitsInto}
+use Rattle.journal_ffi.specs.declared.answer.Refusal.{Refusal}
+use Rattle.journal_ffi.specs.declared.answer.Refusal.TheVariants.{Malformed, OutOfMemory, NoRoom, TooLong}
+use Rattle.journal_ffi.specs.Answers.{AtVersion, spoken_version}
+use Rattle.journal_ffi.specs.Schemas.{message_schema}
+
+-- An item's word: that of a message's header, or an unknown code in bits 48 to 63.
+abbrev pub item_word : Item → ℕ
+item_word (Message message) = word_of message.header
+item_word (Unknown code) = code * 2 ^ 48
+
+-- The words of the stream's items stand at the front of the slice, or the stream begins with more items than the slice has room for.
+abbrev pub WritesWords : Version → List ℕ → List ℕ → Result ℕ Refusal → Type 0
+WritesWords version stream words (Ok count) =
+    (items : List Item) × (rest : List ℕ) × SplitsInto version stream items rest × (count ≡ length items) × (take count words ≡ map item_word items)
+WritesWords version stream words (Err OutOfMemory) = Unit {0}
+WritesWords version stream words (Err NoRoom) =
+    (items : List Item) × (rest : List ℕ) × IsItemsThen version stream items rest × (length words < length items)
+WritesWords version stream words (Err refusal) = ⊥
+
+-- How many of some messages a message adds: one where its type has a name.
+abbrev pub named_count : Option ℕ → ℕ
+named_count (Some schema) = 1
+named_count None = 0
+
+-- How many of the items are messages of a named type.
+abbrev pub count_named : List Item → ℕ
+count_named [] = 0
+count_named (Message message ∷ items) = named_count (message_schema message.header.ty) + count_named items
+count_named (Unknown code ∷ items) = count_named items
+
+-- The payload is well-formed for the schema, if there is one.
+abbrev pub IsAcceptedFor : Option ℕ → List ℕ → Type 0
+IsAcceptedFor (Some schema) payload = IsAccepted schema payload
+IsAcceptedFor None payload = Unit {0}
+
+-- A payload is decoded to a record of its schema, which counts as one; without a schema none is made. Malformed where it is not well-formed.
+abbrev pub DecodesPayload : Option ℕ → List ℕ → Result ℕ Refusal → Type 0
+DecodesPayload schema payload (Ok count) = IsAcceptedFor schema payload × (count ≡ named_count schema)
+DecodesPayload schema payload (Err Malformed) = ¬ (IsAcceptedFor schema payload)
+DecodesPayload schema payload (Err OutOfMemory) = Unit {0}
+DecodesPayload schema payload (Err refusal) = ⊥
+
+-- A message is decoded to a record of its type, and an unknown code to none.
+abbrev pub DecodesItem : Item → Result ℕ Refusal → Type 0
+DecodesItem (Message message) answer = DecodesPayload (message_schema message.header.ty) message.payload answer
+DecodesItem (Unknown code) (Ok count) = count ≡ 0
+DecodesItem (Unknown code) (Err refusal) = ⊥
+
+-- An item of which a record is made, if its type has a name: its payload is well-formed for its type.
+abbrev pub Decodes : Item → Type 0
+Decodes (Message message) = IsAcceptedFor (message_schema message.header.ty) message.payload
+Decodes (Unknown code) = Unit {0}
+
+-- Each of the items decodes.
+abbrev pub AllDecode : List Item → Type 0
+AllDecode [] = Unit {0}
+AllDecode (item ∷ items) = Decodes item × AllDecode items
+
+-- Each item of the stream decodes, and the count is that of its messages of a named type; or one of its items does not decode.
+abbrev pub DecodesAll : Version → List ℕ → Result ℕ Refusal → Type 0
+DecodesAll version stream (Ok count) =
+    (items : List Item) × (rest : List ℕ) × SplitsInto version stream items rest × (count ≡ count_named items) × AllDecode items
+DecodesAll version stream (Err Malformed) =
+    (items : List Item) × (item : Item) × (rest : List ℕ) × IsItemsThen version stream (items ++ item ∷ []) rest × ¬ (Decodes item)
+DecodesAll version stream (Err OutOfMemory) = Unit {0}
+DecodesAll version stream (Err refusal) = ⊥
+
+-- What journal_items answers.
+abbrev pub AnswersItems : ℕ → List ℕ → List ℕ → Result ℕ Refusal → Type 0
+AnswersItems number stream words answer = AtVersion (spoken_version number) answer (λ version. WritesWords version stream words answer)
+
+-- What journal_messages answers.
+abbrev pub AnswersMessages : ℕ → List ℕ → Result ℕ Refusal → Type 0
+AnswersMessages number stream answer = AtVersion (spoken_version number) answer (λ version. DecodesAll version stream answer)

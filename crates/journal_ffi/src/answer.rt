@@ -1,0 +1,92 @@
+//! What the calls answer.
+
+ghost use Rattle.std.specs.Prelude.{◌≡◌, MatchOption};
+ghost use Rattle.journal_ffi.specs.Answers.{answer_number, spoken_version, IsSpoken, WritesBytes};
+
+use shared_core::messages::EncodingError;
+use shared_core::version::Version;
+use std::alloc::AllocError;
+
+/// Why a call is refused.
+#[derive(Clone, Copy, Debug, PartialEq, Eq)]
+pub enum Refusal {
+    /// A payload is not well-formed for its schema.
+    Malformed,
+    /// A request for memory was refused.
+    OutOfMemory,
+    /// The slice for the answer is too short.
+    NoRoom,
+    /// A payload would have more than 4,294,967,295 bytes.
+    TooLong,
+    /// The number stands for no version that is spoken, for no schema, or for no named type.
+    Unknown,
+}
+
+impl From<AllocError> for Refusal {
+    ghost use Rattle.std.specs.Prelude.{◌≡◌};
+    ghost use Rattle.journal_ffi.specs.declared.answer.Refusal.TheVariants.{OutOfMemory};
+
+    ghost from_gives = { λ _ refusal. refusal ≡ OutOfMemory };
+
+    fn from(_error: AllocError) -> Refusal {
+        Refusal::OutOfMemory
+    }
+}
+
+impl From<EncodingError> for Refusal {
+    ghost use Rattle.std.specs.Prelude.{◌≡◌};
+    ghost use Rattle.journal_ffi.specs.Answers.{encoding_refusal};
+
+    ghost from_gives = { λ error refusal. refusal ≡ encoding_refusal error };
+
+    fn from(error: EncodingError) -> Refusal {
+        match error {
+            EncodingError::PayloadTooLong => Refusal::TooLong,
+            EncodingError::OutOfMemory => Refusal::OutOfMemory,
+        }
+    }
+}
+
+/// A count as it is, and a refusal as its number. A count of 2^63 or more, which no slice holds, is `TooLong`.
+pub fn answer_of(answer: Result<usize, Refusal>) -> i64
+    ensures { result ≡ answer_number answer }
+{
+    let refusal = match answer {
+        Ok(count) => match i64::try_from(count) {
+            Ok(count) => return count,
+            Err(_) => Refusal::TooLong,
+        },
+        Err(refusal) => refusal,
+    };
+    match refusal {
+        Refusal::Malformed => -1,
+        Refusal::OutOfMemory => -2,
+        Refusal::NoRoom => -3,
+        Refusal::TooLong => -4,
+        Refusal::Unknown => -5,
+    }
+}
+
+/// The version that a number stands for, where it is one that is spoken.
+pub fn version_of(number: u32) -> Result<Version, Refusal>
+    ensures { IsSpoken number result }
+{
+    match number {
+        5 => Ok(Version::V5),
+        6 => Ok(Version::V6),
+        7 => Ok(Version::V7),
+        8 => Ok(Version::V8),
+        _ => Err(Refusal::Unknown),
+    }
+}
+
+/// Writes bytes at the front of a slice, and answers how many they are.
+pub fn write_bytes(bytes: &[u8], out: &mut [u8]) -> Result<usize, Refusal>
+    ensures { WritesBytes bytes.now out.new result }
+{
+    if out.len() < bytes.len() {
+        return Err(Refusal::NoRoom);
+    }
+    out[..bytes.len()].copy_from_slice(bytes);
+    Ok(bytes.len())
+}
