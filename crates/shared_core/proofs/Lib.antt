@@ -4,3 +4,4 @@ pub mod Equality
 pub mod TypedPayloads
 pub mod Frames
 pub mod Views
+pub mod DecodedFrames

@@ -5,3 +5,4 @@ pub mod Errors
 pub mod Typed
 pub mod Written
 pub mod View
+pub mod Decoded

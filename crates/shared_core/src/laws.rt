@@ -1,11 +1,21 @@
 //! What holds of every stream, whatever decodes it, and of equality. A law is the contract of a function that does nothing,
 //! or nothing but compare.
-ghost use Rattle.std.specs.Prelude.{◌≡◌, ◌↔◌, ℕ, ◌++◌, IsTrue, List};
+ghost use Rattle.std.specs.Prelude.{◌≡◌, ◌≢◌, ◌≤◌, ◌<◌, ◌^◌, ◌↔◌, ℕ, ◌++◌, IsTrue, List, None, Some, not, true};
 ghost use Rattle.shared_core_base.specs.declared.version.Version.{Version};
 ghost use Rattle.shared_core.specs.Items.{IsItem, IsItemsThen, TakesItem, NoItemBegins, SplitsInto};
 ghost use Rattle.shared_core.specs.Written.{AreFrames, items_written, joined_frames};
+ghost use Rattle.shared_core.specs.Decoded.{DecodesTo, FrameSpells, requested_ack_of};
 ghost use Rattle.shared_core_base.specs.declared.header.MessageType.{MessageType as AnyType};
-ghost use Rattle.shared_core_parts.specs.Frames.{WireForm};
+ghost use Rattle.shared_core_base.specs.declared.header.MessageType.TheVariants.{ProposeRunCompletion, Suspension};
+ghost use Rattle.shared_core_base.specs.MessageType.{IsNamed};
+ghost use Rattle.shared_core_wire.specs.Canonical.{levels};
+ghost use Rattle.shared_core_wire.specs.Fitting.{Fits};
+ghost use Rattle.shared_core_wire.specs.Value.{Parts};
+ghost use Rattle.shared_core_record.specs.Table.{table};
+ghost use Rattle.shared_core_record.specs.Table as tables;
+ghost use Rattle.shared_core_parts.specs.Frames.{WireForm, wire_size};
+ghost use Rattle.shared_core_runtime.specs.Flattening.{flattened};
+ghost use Rattle.shared_core_runtime.specs.Versions.{is_before_v7, proposal_form, suspension_form};
 ghost use Rattle.shared_core.specs.declared.encoding.Item.{Item as AnyItem};
 
 use crate::encoding::{Item, RawMessage};
@@ -40,6 +50,33 @@ pub fn next_item_stays()
 pub fn frames_come_out_in_order()
     ensures { (version : Version) (messages : List (AnyType × WireForm)) (rest : List ℕ) → AreFrames messages
         → IsItemsThen version (joined_frames messages ++ rest) (items_written messages) rest }
+{}
+
+/// What was written comes out again: the frame of a wire form whose value fits its schema, at most one hundred levels deep, spells an
+/// item that decodes to this value.
+pub fn frames_decode_to_what_was_written()
+    ensures { (version : Version) (ty : AnyType) (form : WireForm) → IsNamed ty → wire_size form < 2 ^ 32
+        → Fits table form.parts (table form.schema) → levels form.parts ≤ 100
+        → FrameSpells version ty form (DecodesTo ty form.schema form.parts) }
+{}
+
+/// A suspension written before V7 comes out as its three lists, however deep its tree: over the futures in preorder, with duplicates, and
+/// empty where nothing is awaited.
+pub fn suspensions_decode_to_their_three_lists()
+    ensures { (version : Version) (suspension : Parts) → is_before_v7 version ≡ true
+        → Fits table suspension (table tables.suspension) → wire_size (suspension_form suspension version) < 2 ^ 32
+        → FrameSpells version Suspension (suspension_form suspension version)
+            (DecodesTo Suspension tables.suspension_v6 (flattened suspension)) }
+{}
+
+/// A request for an acknowledgement comes out as it was asked: a proposal of a run's result asks from V7 on and not before, and the
+/// header of every other message has no such flag.
+pub fn acknowledgements_come_out_as_asked()
+    ensures proposals { (version : Version) (proposal : Parts) → wire_size (proposal_form proposal version) < 2 ^ 32
+        → FrameSpells version ProposeRunCompletion (proposal_form proposal version)
+            (λ item. requested_ack_of item ≡ Some (not (is_before_v7 version))) }
+    ensures others { (version : Version) (ty : AnyType) (form : WireForm) → IsNamed ty → ty ≢ ProposeRunCompletion
+        → wire_size form < 2 ^ 32 → FrameSpells version ty form (λ item. requested_ack_of item ≡ None) }
 {}
 
 /// `==` of messages compares the whole header and the whole payload.

@@ -1,1 +1,2 @@
 pub mod FlattenedFutures
+pub mod FlattenedFits

@@ -11,3 +11,5 @@ mod sharing;
 mod stream;
 #[cfg(test)]
 mod typed;
+#[cfg(test)]
+mod versions;

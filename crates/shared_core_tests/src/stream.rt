@@ -12,7 +12,7 @@ use std::alloc::Global;
 use std::test::Fail;
 
 /// The pieces of a stream, each of so many bytes, the last of what is left.
-fn cut(alloc: Global, stream: &[u8], size: usize) -> Result<Vec<Bytes>, Fail>
+pub fn cut(alloc: Global, stream: &[u8], size: usize) -> Result<Vec<Bytes>, Fail>
     requires { 1 ≤ size }
 {
     let mut pieces = Vec::new(alloc);

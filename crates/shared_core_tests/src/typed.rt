@@ -1,13 +1,15 @@
 //! Typed messages and views of notifications out of frames, and frames out of messages.
 use crate::frames::{INPUT, THREE_FRAMES};
+use crate::stream::cut;
 use bytes::Bytes;
 use shared_core::Version;
-use shared_core::encoding::{Decoder, DecodingError, Encoder, RawMessage};
+use shared_core::encoding::{Decoder, DecodingError, Encoder, Item, RawMessage, decode_pieces};
 use shared_core::header::MessageType;
 use shared_core::messages::{
-    Future, GetLazyStateCompletionNotificationMessage, InputCommandMessage, NotificationId,
-    NotificationResult, OutputCommandMessage, StartMessage, SuspensionMessage, Value, Void,
-    get_lazy_state_completion_notification_message,
+    EncodingError, Future, GetEagerStateKeysCommandMessage,
+    GetLazyStateCompletionNotificationMessage, InputCommandMessage, NotificationId,
+    NotificationResult, OutputCommandMessage, StartMessage, StateKeys, SuspensionMessage, Value,
+    Void, get_lazy_state_completion_notification_message,
 };
 use shared_core::wire::{WireError, WireRecord};
 use std::alloc::Global;
@@ -87,6 +89,78 @@ fn several_messages_come_out_in_order(rt: HostRuntime) -> Result<(), Fail> {
     let third: GetLazyStateCompletionNotificationMessage = third.decode_to(alloc, 2)?;
     assert_eq!(rt; third, state(alloc));
     assert!(rt; matches!(decoder.consume_next(), Ok(None)));
+    Ok(())
+}
+
+/// Whether these pieces of a stream are the three messages, and nothing more.
+fn are_three(alloc: Global, pieces: &[Bytes]) -> Result<bool, Fail> {
+    let (items, mut decoder) = decode_pieces(alloc, Version::V8, pieces)?;
+    let [
+        Item::Message(first),
+        Item::Message(second),
+        Item::Message(third),
+    ] = items.as_slice()
+    else {
+        return Ok(false);
+    };
+    let state_message: GetLazyStateCompletionNotificationMessage = third.decode_to(alloc, 2)?;
+    let more = decoder.consume_next()?;
+    Ok(
+        first.decode_to::<StartMessage>(alloc, 0)? == start(alloc)?
+            && second.decode_to::<InputCommandMessage>(alloc, 1)? == input(alloc)?
+            && state_message == state(alloc)
+            && first.header().requested_ack().is_none()
+            && second.header().requested_ack().is_none()
+            && third.header().requested_ack().is_none()
+            && more.is_none()
+            && decoder.pending() == 0,
+    )
+}
+
+#[test]
+fn several_messages_come_out_in_any_cut(rt: HostRuntime) -> Result<(), Fail> {
+    let alloc = rt.alloc();
+    let encoder = Encoder::new(Version::V8);
+    let mut stream = Vec::new(alloc);
+    for frame in [
+        encoder.encode(alloc, &start(alloc)?)?,
+        encoder.encode(alloc, &input(alloc)?)?,
+        encoder.encode(alloc, &state(alloc))?,
+    ] {
+        stream.extend_from_slice(frame.as_slice())?;
+    }
+    assert_eq!(rt; stream.as_slice(), THREE_FRAMES.as_slice());
+    for size in 1..stream.len() + 1 {
+        let pieces = cut(alloc, stream.as_slice(), size)?;
+        assert!(rt; are_three(alloc, pieces.as_slice())?, "in pieces of {size}");
+    }
+    for place in 0..stream.len() + 1 {
+        let front = Bytes::copy_from_slice(alloc, &stream[..place])?;
+        let back = Bytes::copy_from_slice(alloc, &stream[place..])?;
+        assert!(rt; are_three(alloc, &[front, back])?, "cut at {place}");
+    }
+    Ok(())
+}
+
+#[test]
+fn a_payload_of_four_gibibytes_is_too_long(rt: HostRuntime) -> Result<(), Fail> {
+    let alloc = rt.alloc();
+    let key = Bytes::from_vec(Vec::from_elem(alloc, 0u8, 1_048_576)?)?;
+    let mut keys = Vec::new(alloc);
+    for _ in 0..4095u32 {
+        keys.push(key.clone()?)?;
+    }
+    let mut message = GetEagerStateKeysCommandMessage::empty(alloc);
+    message.value = Some(StateKeys { keys });
+    assert_eq!(rt; message.encoded_len(), Some(4_293_935_106));
+    if let Some(value) = &mut message.value {
+        value.keys.push(key)?;
+    }
+    assert_eq!(rt; message.encoded_len(), None);
+    for version in [Version::V5, Version::V6, Version::V7, Version::V8] {
+        let refused = Encoder::new(version).encode(alloc, &message);
+        assert!(rt; matches!(&refused, Err(EncodingError::PayloadTooLong)));
+    }
     Ok(())
 }
 
@@ -244,21 +318,33 @@ fn a_view_misses_the_id_before_the_result(rt: HostRuntime) -> Result<(), Fail> {
             matches!(&refused, Err(DecodingError::MissingField { field, .. }) if *field == missing)
         );
     }
-    let message = frame_of(alloc, 0x8002, &[0x08, 0x01])?;
-    assert!(rt; message.ty().is_notification());
-    let Err(error) = message.decode_as_notification(alloc) else {
-        return Err(Fail::new("a view without a result"));
-    };
-    let said = format!(in alloc; "{error}")?;
-    assert_eq!(rt;
-        said.as_str(),
-        "expected message type GetLazyStateCompletionNotification to have field result"
-    );
+    for (payload, text) in [
+        (
+            &[0x22, 0x00][..],
+            "expected message type GetLazyStateCompletionNotification to have field id",
+        ),
+        (
+            &[0x08, 0x01][..],
+            "expected message type GetLazyStateCompletionNotification to have field result",
+        ),
+    ] {
+        let message = frame_of(alloc, 0x8002, payload)?;
+        assert!(rt; message.ty().is_notification());
+        let Err(error) = message.decode_as_notification(alloc) else {
+            return Err(Fail::new("a view without an id or a result"));
+        };
+        let said = format!(in alloc; "{error}")?;
+        assert_eq!(rt; said.as_str(), text);
+    }
     let typed: GetLazyStateCompletionNotificationMessage = frame_of(
         alloc,
         0x8002,
         &[0x22, 0x00],
     )?.decode_to(alloc, 0)?;
     assert_eq!(rt; typed.completion_id, 0);
+    assert_eq!(rt;
+        typed.result,
+        Some(get_lazy_state_completion_notification_message::Result::Void(Void {}))
+    );
     Ok(())
 }
