@@ -1,7 +1,7 @@
 -- What was written decodes to what was written.
-use Rattle.std.proofs.Common.{◌≡◌, ◌≢◌, ℕ, ◌^◌, ◌<◌, ◌≤◌, Bool, true, false, not, Option, Some, None, cond, eqb, refl, sym, ap, subst, arith}
+use Rattle.std.proofs.Common.{◌≡◌, ◌≢◌, ◌^◌, ◌<◌, ◌≤◌, Bool, true, false, not, Some, None, cond, eqb, refl, sym, ap, subst, arith}
 use Rattle.shared_core_base.specs.declared.header.MessageType.{MessageType}
-use Rattle.shared_core_base.specs.declared.header.MessageType.TheVariants.{CustomEntry, ProposeRunCompletion, Suspension}
+use Rattle.shared_core_base.specs.declared.header.MessageType.TheVariants.{ProposeRunCompletion, Suspension}
 use Rattle.shared_core_base.specs.declared.version.Version.{Version}
 use Rattle.shared_core_base.specs.MessageHeader.{ack_bit}
 use Rattle.shared_core_base.specs.MessageType.{IsNamed, allows_ack}
@@ -16,7 +16,6 @@ use Rattle.shared_core_runtime.specs.Versions.{is_before_v7, proposal_form, susp
 use Rattle.shared_core_runtime.proofs.FlattenedFits.{flattened_fits, flattened_levels}
 use Rattle.shared_core.specs.Decoded.{DecodesTo, FrameSpells, requested_ack_of}
 use Rattle.shared_core.specs.Typed.{IsWritten}
-use Rattle.shared_core.specs.Written.{item_written}
 use Rattle.shared_core.proofs.Frames.{frame_is_item}
 use Rattle.shared_core.proofs.TypedPayloads.{written_means}
 

@@ -1,15 +1,26 @@
--- The view of a notification agrees with the notification's own type.
-use Rattle.std.proofs.Common.{◌≡◌, ℕ, List, Option, Some, None, Bool, true, false, refl, sym, ap, ◌∙◌}
+-- The view of a notification agrees with the notification's own type, and misses a field exactly where no record is one.
+use Rattle.std.proofs.Common.{◌≡◌, ℕ, List, [], ◌∷◌, Option, Some, None, Result, Ok, Err, Bool, true, false, cond, ◌||◌, inl, inr, refl, sym, ap, subst, ◌∙◌}
+use Rattle.std.specs.List.{list_any}
+use Rattle.std.specs.Prelude.{codes}
 use Rattle.shared_core_base.specs.declared.header.MessageType.{MessageType}
 use Rattle.shared_core_base.specs.declared.header.MessageType.TheVariants.{CustomEntry}
-use Rattle.shared_core_wire.specs.Value.{Parts}
+use Rattle.shared_core_wire.specs.Grammar.{FieldRecord}
+use Rattle.shared_core_wire.specs.Schema.{Kind, OneOf, U32, Text, Message, includes, numbers}
+use Rattle.shared_core_wire.specs.Value.{Part, Parts, Absent, cons, nil}
+use Rattle.shared_core_wire.specs.Overlay.{NestedOverlay, message_overlay, oneof_over, own_records, payload_records}
 use Rattle.shared_core_wire.specs.Template.{is_within_template}
 use Rattle.shared_core_wire.proofs.TemplateView.{payload_views}
+use Rattle.shared_core_record.specs.Equality.{is_present}
 use Rattle.shared_core_record.specs.Table.{table, notification_template}
-use Rattle.shared_core_record.specs.Payloads.{IsAccepted, payload_meaning}
+use Rattle.shared_core_record.specs.Table as tables
+use Rattle.shared_core_record.specs.Payloads.{IsAccepted}
 use Rattle.shared_core_record.proofs.Tables.{are_schemas}
-use Rattle.shared_core.specs.Typed.{MeansParts}
-use Rattle.shared_core.specs.View.{notification_schema, IsOfNotification, AgreesWithType}
+use Rattle.shared_core_parts.specs.declared.notification.Notification.{Notification}
+use Rattle.shared_core.specs.declared.encoding.RawMessage.{RawMessage}
+use Rattle.shared_core.specs.declared.encoding.DecodingError.{DecodingError}
+use Rattle.shared_core.specs.declared.encoding.DecodingError.TheVariants.{DecodeMessage, MissingField, OutOfMemory, UnexpectedMessageType, UnknownMessageType}
+use Rattle.shared_core.specs.Typed.{MeansParts, RefusesPayload}
+use Rattle.shared_core.specs.View.{notification_schema, IsOfNotification, AgreesWithType, AnswersLacking, IsMissing, has_record, id_numbers, lacking_field, result_numbers}
 
 -- whether the schema, if there is one, has rows of the template
 within : Option ℕ → Bool
@@ -36,3 +47,76 @@ view_accepts ty s payload is (accepted, apart) =
 pub view_agrees : (ty : MessageType) (s : ℕ) (payload : List ℕ) (parts : Parts) → MeansParts notification_template payload parts → notification_schema ty ≡ Some s → IsOfNotification s payload → AgreesWithType s payload parts
 view_agrees ty s payload parts means is (accepted, apart) n known stands =
     rw means.1 ((payload_views table 100 notification_template s payload (are_schemas notification_template) (are_schemas s) (schema_within ty s is) apart accepted).1 n known stands)
+
+-- ---- the field that is missing
+
+-- a oneof holds something exactly where one of its records stands
+oneof_holds : (members : List (ℕ × Kind)) (overlay_nested : NestedOverlay) (rs : List FieldRecord)
+    → is_present (oneof_over table overlay_nested members Absent (own_records (OneOf members) rs)) ≡ list_any (λ r. includes (numbers (OneOf members)) r.number) rs
+oneof_holds members overlay_nested [] = refl
+oneof_holds members overlay_nested (r ∷ rs) = by_test (oneof_holds members overlay_nested rs) (includes (numbers (OneOf members)) r.number)
+  where
+    by_test : is_present (oneof_over table overlay_nested members Absent (own_records (OneOf members) rs)) ≡ list_any (λ x. includes (numbers (OneOf members)) x.number) rs → (b : Bool)
+        → is_present (oneof_over table overlay_nested members Absent (cond b (r ∷ own_records (OneOf members) rs) (own_records (OneOf members) rs))) ≡ (b || list_any (λ x. includes (numbers (OneOf members)) x.number) rs)
+    by_test later true = refl
+    by_test later false = later
+
+first_holds : Parts → Bool
+first_holds nil = false
+first_holds (cons p ps) = is_present p
+
+second_holds : Parts → Bool
+second_holds nil = false
+second_holds (cons p ps) = first_holds ps
+
+-- what the template holds is what has a record
+records_held : (payload : List ℕ) (id result : Part) → MeansParts notification_template payload (cons id (cons result nil))
+    → (has_record id_numbers payload ≡ is_present id) × (has_record result_numbers payload ≡ is_present result)
+unfolding first_holds second_holds
+records_held payload id result means =
+    let rs = payload_records 100 payload in
+    let nested = message_overlay table 100 in (
+      sym (ap first_holds means.1 ∙ oneof_holds ((1, U32) ∷ (2, U32) ∷ (3, Text) ∷ []) nested rs),
+      sym (ap second_holds means.1 ∙ oneof_holds ((4, Message tables.void) ∷ (5, Message tables.value) ∷ (6, Message tables.failure) ∷ (16, Text) ∷ (17, Message tables.state_keys) ∷ []) nested rs),
+    )
+
+-- the field that is lacking where the template holds these
+held_field : Bool → Bool → Option (List ℕ)
+held_field id result = cond id (cond result None (Some (codes "result"))) (Some (codes "id"))
+
+answers_held : (message : RawMessage) (id result : Part) (answer : Result Notification DecodingError) → MeansParts notification_template message.payload (cons id (cons result nil))
+    → AnswersLacking message (held_field (is_present id) (is_present result)) answer → AnswersLacking message (lacking_field message.payload) answer
+unfolding held_field
+answers_held message id result answer means answers =
+    let held = records_held message.payload id result means in
+    subst (λ (b : Bool). AnswersLacking message (held_field b (has_record result_numbers message.payload)) answer) (sym held.0)
+    (subst (λ (b : Bool). AnswersLacking message (held_field (is_present id) b) answer) (sym held.1) answers)
+
+pub lacks_id : (message : RawMessage) (result : Part) (refusal : DecodingError) → MeansParts notification_template message.payload (cons Absent (cons result nil)) → IsMissing message (codes "id") refusal
+    → AnswersLacking message (lacking_field message.payload) (Err refusal)
+unfolding held_field
+lacks_id message result refusal means missing = answers_held message Absent result (Err refusal) means (inl missing)
+
+pub lacks_result : (message : RawMessage) (id : Part) (refusal : DecodingError) → MeansParts notification_template message.payload (cons id (cons Absent nil)) → is_present id ≡ true → IsMissing message (codes "result") refusal
+    → AnswersLacking message (lacking_field message.payload) (Err refusal)
+unfolding held_field
+lacks_result message id refusal means there missing =
+    answers_held message id Absent (Err refusal) means (subst (λ (b : Bool). AnswersLacking message (held_field b false) (Err refusal)) (sym there) (inl missing))
+
+pub lacks_nothing : (message : RawMessage) (id result : Part) (found : Notification) → MeansParts notification_template message.payload (cons id (cons result nil)) → is_present id ≡ true → is_present result ≡ true
+    → AnswersLacking message (lacking_field message.payload) (Ok found)
+unfolding held_field
+lacks_nothing message id result found means there here =
+    answers_held message id result (Ok found) means
+    (subst (λ (b : Bool). AnswersLacking message (held_field b (is_present result)) (Ok found)) (sym there)
+    (subst (λ (b : Bool). AnswersLacking message (held_field true b) (Ok found)) (sym here) tt))
+
+-- a refused payload that is well-formed is one that memory was refused for
+pub refused_for_memory : (message : RawMessage) (refusal : DecodingError) (lacking : Option (List ℕ)) → RefusesPayload notification_template message refusal → IsAccepted notification_template message.payload
+    → AnswersLacking message lacking (Err refusal)
+refused_for_memory message (DecodeMessage found error) lacking refused accepted = absurd (refused.2 accepted)
+refused_for_memory message OutOfMemory None refused accepted = refl
+refused_for_memory message OutOfMemory (Some field) refused accepted = inr refl
+refused_for_memory message (UnexpectedMessageType mismatch) lacking refused accepted = absurd refused
+refused_for_memory message (MissingField expected field) lacking refused accepted = absurd refused
+refused_for_memory message (UnknownMessageType unknown) lacking refused accepted = absurd refused

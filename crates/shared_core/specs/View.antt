@@ -1,5 +1,5 @@
 -- The view of a notification, whatever its type.
-use Rattle.std.specs.Prelude.{◌≡◌, ◌≢◌, ◌⊎◌, ℕ, List, Option, Some, None, true, codes, nat_eq}
+use Rattle.std.specs.Prelude.{◌≡◌, ◌≢◌, ◌⊎◌, ℕ, Bool, List, [], ◌∷◌, Option, Some, None, Result, Ok, Err, true, codes, nat_eq, if◌then◌else◌}
 use Rattle.std.specs.List.{list_any}
 use Rattle.shared_core_base.specs.declared.header.MessageType.{MessageType}
 use Rattle.shared_core_base.specs.declared.header.MessageType.TheVariants.{GetLazyStateCompletionNotification, GetLazyStateKeysCompletionNotification, GetPromiseCompletionNotification, PeekPromiseCompletionNotification, CompletePromiseCompletionNotification, SleepCompletionNotification, CallCompletionNotification, CallInvocationIdCompletionNotification, RunCompletionNotification, AttachInvocationCompletionNotification, GetInvocationOutputCompletionNotification, SignalNotification}
@@ -15,7 +15,7 @@ use Rattle.shared_core_parts.specs.contracts.notification_template.IdOneOf.TheIm
 use Rattle.shared_core_parts.specs.contracts.notification_template.ResultOneOf.TheImpl as results
 use Rattle.shared_core.specs.declared.encoding.RawMessage.{RawMessage}
 use Rattle.shared_core.specs.declared.encoding.DecodingError.{DecodingError}
-use Rattle.shared_core.specs.declared.encoding.DecodingError.TheVariants.{DecodeMessage, MissingField}
+use Rattle.shared_core.specs.declared.encoding.DecodingError.TheVariants.{MissingField, OutOfMemory}
 use Rattle.shared_core.specs.Typed.{MeansParts, RefusesPayload}
 
 -- The parts of the template that a notification is: its id and its result.
@@ -38,6 +38,29 @@ abbrev pub RefusesNotification : RawMessage → DecodingError → Type 0
 RefusesNotification message (MissingField expected missing) =
     (expected ≡ message.header.ty) × (parts : Parts) × MeansParts notification_template message.payload parts × LacksField missing.now parts
 RefusesNotification message refusal = RefusesPayload notification_template message refusal
+
+-- The numbers of an id in the template.
+abbrev pub id_numbers : List ℕ
+id_numbers = 1 ∷ 2 ∷ 3 ∷ []
+
+-- The numbers of a result in the template.
+abbrev pub result_numbers : List ℕ
+result_numbers = 4 ∷ 5 ∷ 6 ∷ 16 ∷ 17 ∷ []
+
+-- Whether a record of the payload has one of these numbers.
+abbrev pub has_record : List ℕ → List ℕ → Bool
+has_record ns payload = list_any (λ r. includes ns r.number) (payload_records 100 payload)
+
+-- The field that a payload lacks: the id where no record is one, else the result where no record is one.
+abbrev pub lacking_field : List ℕ → Option (List ℕ)
+lacking_field payload = if has_record id_numbers payload then (if has_record result_numbers payload then None else Some (codes "result")) else Some (codes "id")
+
+-- What is answered where this field is lacking, or none: that it is missing, or else the view; or memory was refused.
+abbrev pub AnswersLacking : RawMessage → Option (List ℕ) → Result Notification DecodingError → Type 0
+AnswersLacking message None (Ok found) = Unit {0}
+AnswersLacking message (Some field) (Ok found) = ⊥
+AnswersLacking message None (Err refusal) = refusal ≡ OutOfMemory
+AnswersLacking message (Some field) (Err refusal) = IsMissing message field refusal ⊎ (refusal ≡ OutOfMemory)
 
 -- The schema of a notification's type: the twelve named ones have one.
 abbrev pub notification_schema : MessageType → Option ℕ

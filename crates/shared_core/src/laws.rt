@@ -66,7 +66,7 @@ pub fn suspensions_decode_to_their_three_lists()
     ensures { (version : Version) (suspension : Parts) → is_before_v7 version ≡ true
         → Fits table suspension (table tables.suspension) → wire_size (suspension_form suspension version) < 2 ^ 32
         → FrameSpells version Suspension (suspension_form suspension version)
-            (DecodesTo Suspension tables.suspension_v6 (flattened suspension)) }
+        (DecodesTo Suspension tables.suspension_v6 (flattened suspension)) }
 {}
 
 /// A request for an acknowledgement comes out as it was asked: a proposal of a run's result asks from V7 on and not before, and the
@@ -74,7 +74,7 @@ pub fn suspensions_decode_to_their_three_lists()
 pub fn acknowledgements_come_out_as_asked()
     ensures proposals { (version : Version) (proposal : Parts) → wire_size (proposal_form proposal version) < 2 ^ 32
         → FrameSpells version ProposeRunCompletion (proposal_form proposal version)
-            (λ item. requested_ack_of item ≡ Some (not (is_before_v7 version))) }
+        (λ item. requested_ack_of item ≡ Some (not (is_before_v7 version))) }
     ensures others { (version : Version) (ty : AnyType) (form : WireForm) → IsNamed ty → ty ≢ ProposeRunCompletion
         → wire_size form < 2 ^ 32 → FrameSpells version ty form (λ item. requested_ack_of item ≡ None) }
 {}

@@ -47,6 +47,7 @@ future_rows = (tt, (tt, (tt, (refl, (tt, tt)))))
 
 mutual
   unfolding Fits ElementsFit PartFits messages_in messages_of_part
+
   part_futures : (p : Part) (k : Kind) → HoldsFutures k → PartFits table p k → AreFutures (messages_of_part p)
   part_futures Absent k h f = tt
   part_futures (Number n) k h f = tt

@@ -16,7 +16,7 @@ use std::alloc::Global;
 
 impl RawMessage {
     ghost use Rattle.shared_core.specs.Typed.{MeansParts, IsWritten, RefusesPayload, RefusesTyped, mismatch_of};
-    ghost use Rattle.shared_core.specs.View.{notification_parts, notification_schema, AgreesWithType, IsMissing, IsOfNotification, RefusesNotification};
+    ghost use Rattle.shared_core.specs.View.{notification_parts, notification_schema, lacking_field, AgreesWithType, AnswersLacking, IsMissing, IsOfNotification, RefusesNotification};
     ghost use Rattle.shared_core.specs.declared.encoding.DecodingError.TheVariants as error;
 
     /// The message as a record of its type.
@@ -69,6 +69,9 @@ impl RawMessage {
             → IsAccepted notification_template self.now.payload }
         ensures agrees { IfOk result (λ found. (s : ℕ) → notification_schema self.now.header.ty ≡ Some s
             → IsOfNotification s self.now.payload → AgreesWithType s self.now.payload (notification_parts found)) }
+        // a field is missing exactly where no record is one
+        ensures lacking { IsAccepted notification_template self.now.payload
+            → AnswersLacking self.now (lacking_field self.now.payload) result }
     {
         let NotificationTemplate { id, result } = self.decode_payload(alloc)?;
         let Some(id) = id else {
