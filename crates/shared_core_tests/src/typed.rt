@@ -142,23 +142,27 @@ fn several_messages_come_out_in_any_cut(rt: HostRuntime) -> Result<(), Fail> {
     Ok(())
 }
 
-#[test]
-fn a_payload_of_four_gibibytes_is_too_long(rt: HostRuntime) -> Result<(), Fail> {
-    let alloc = rt.alloc();
+/// The keys of a state, all of them one key of 1,048,576 bytes.
+fn state_keys(alloc: Global, count: u32) -> Result<GetEagerStateKeysCommandMessage, Fail> {
     let key = Bytes::from_vec(Vec::from_elem(alloc, 0u8, 1_048_576)?)?;
     let mut keys = Vec::new(alloc);
-    for _ in 0..4095u32 {
+    for _ in 0..count {
         keys.push(key.clone()?)?;
     }
     let mut message = GetEagerStateKeysCommandMessage::empty(alloc);
     message.value = Some(StateKeys { keys });
-    assert_eq!(rt; message.encoded_len(), Some(4_293_935_106));
-    if let Some(value) = &mut message.value {
-        value.keys.push(key)?;
-    }
-    assert_eq!(rt; message.encoded_len(), None);
+    Ok(message)
+}
+
+#[test]
+fn a_payload_of_four_gibibytes_is_too_long(rt: HostRuntime) -> Result<(), Fail> {
+    let alloc = rt.alloc();
+    let below = state_keys(alloc, 4095)?;
+    assert_eq!(rt; below.encoded_len(), Some(4_293_935_106));
+    let above = state_keys(alloc, 4096)?;
+    assert_eq!(rt; above.encoded_len(), None);
     for version in [Version::V5, Version::V6, Version::V7, Version::V8] {
-        let refused = Encoder::new(version).encode(alloc, &message);
+        let refused = Encoder::new(version).encode(alloc, &above);
         assert!(rt; matches!(&refused, Err(EncodingError::PayloadTooLong)));
     }
     Ok(())
