@@ -1,10 +1,15 @@
 #!/bin/sh
-# Compares the library with the peer on random payloads and streams: agree.sh [SEED [COUNT [FIRST]]]
+# Compares the library with the peer on random payloads and streams: agree.sh [--no-install] [SEED [COUNT [FIRST]]]
 # The last line is 'N passed, M failed'; it is '0 passed, 0 failed' where the tools are not to be had.
 set -u
 cd "$(dirname "$0")" || exit 1
 
-sh build.sh
+option=
+if [ "${1-}" = --no-install ]; then
+  option=$1
+  shift
+fi
+sh build.sh $option
 case $? in
   0) exec target/release/agree "$@" ;;
   77) echo "0 passed, 0 failed" ;;

@@ -1,6 +1,8 @@
 #!/bin/sh
-# Builds the library as a static library for C, and then the programs of this folder with it. Where the tools are not to be had it says
-# 'not run: ..' with status 77; a build that fails has status 1.
+# Builds the library as a static library for C, and then the programs of this folder with it: build.sh [--no-install]
+#
+# Where the tools are not to be had it says 'not run: ..' with status 77; a build that fails has status 1. With --no-install it installs no
+# package.
 set -u
 cd "$(dirname "$0")" || exit 1
 
@@ -9,7 +11,7 @@ folder() {
   (cd "$(dirname "$1")" && pwd)
 }
 
-sh install.sh || exit 77
+sh install.sh "$@" || exit 77
 if ! command -v rt > /dev/null; then
   echo "not run: there is no rt"
   exit 77

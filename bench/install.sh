@@ -1,7 +1,9 @@
 #!/bin/sh
-# Makes prost and bytes of the Debian packages what cargo builds with: installs them where they are missing, and writes .cargo/config.toml,
-# which puts the distribution's folder of crates in the place of crates.io, and has the peer compiled for the processor that the library is
-# compiled for. Where that cannot be had it says 'not run: ..' with status 1.
+# Makes prost and bytes of the Debian packages what cargo builds with: install.sh [--no-install]
+#
+# It installs the packages where they are missing, but not with --no-install, and writes .cargo/config.toml, which puts the distribution's
+# folder of crates in the place of crates.io, and has the peer compiled for the processor that the library is compiled for. Where that
+# cannot be had it says 'not run: ..' with status 1.
 set -u
 cd "$(dirname "$0")" || exit 1
 
@@ -24,6 +26,7 @@ command -v cargo > /dev/null || not_run "there is no cargo"
 command -v "${CC:-cc}" > /dev/null || not_run "there is no C compiler"
 command -v dpkg > /dev/null || not_run "there are no Debian packages here"
 if ! installed; then
+  [ "${1-}" != --no-install ] || not_run "the packages $packages are not installed"
   # shellcheck disable=SC2086 # the packages are several words
   { apt-get install -y $packages || { apt-get update && apt-get install -y $packages; }; } > /dev/null 2>&1
   installed || not_run "the packages $packages cannot be installed"

@@ -76,7 +76,7 @@ mod c {
         ) -> i64;
         pub fn journal_frame(
             version: u32,
-            code: u32,
+            code: u16,
             payload: *const u8,
             payload_length: usize,
             rounds: usize,
@@ -200,7 +200,7 @@ pub fn frame_to(
     count(unsafe {
         c::journal_frame(
             version,
-            u32::from(code),
+            code,
             payload.as_ptr(),
             payload.len(),
             rounds,

@@ -81,6 +81,14 @@ impl PendingBytes {
         ensures head { result ≡ take 8 self.old }
         ensures rest { self.new ≡ drop 8 self.old }
     {
+        // nearly always the front segment has them all
+        if let Some(head) = self.front.as_slice().first_chunk::<8>() {
+            let head = *head;
+            self.front.advance(8);
+            self.len -= 8;
+            drop_used_up(&mut self.front, &mut self.behind);
+            return head;
+        }
         let mut head = [0; 8];
         self.copy_to_slice(&mut head);
         head

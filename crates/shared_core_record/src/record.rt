@@ -70,9 +70,7 @@ pub trait WireRecord: Sized + Drop + PartialEq {
         ensures meaning { IfOk result (λ v. parts v ≡ payload_meaning schema payload) }
         ensures malformed { IsErrOf result error.Malformed → ¬ (IsAccepted schema payload) }
     {
-        let mut record = Self::empty(alloc);
-        merge_payload(&mut record, alloc, &payload)?;
-        Ok(record)
+        decode_payload(alloc, &payload)
     }
 
     /// The record with a payload merged into it, whatever it holds. The errors are those of `decode`, and hand no record back.
@@ -165,6 +163,17 @@ fn merge_payload<M: WireRecord>(
     ensures malformed { IsErrOf result error.Malformed → ¬ (IsAccepted M.schema payload.now) }
 {
     merge_message_bytes(target, &MessageBytes::whole(alloc, payload))
+}
+
+/// Reads a payload that its owner keeps: what `decode` does, without a count of one more owner.
+pub fn decode_payload<M: WireRecord>(alloc: Global, payload: &Bytes) -> Result<M, WireError>
+    ensures accepted { IfOk result (λ m. IsAccepted M.schema payload.now) }
+    ensures meaning { IfOk result (λ m. M.parts m ≡ payload_meaning M.schema payload.now) }
+    ensures malformed { IsErrOf result error.Malformed → ¬ (IsAccepted M.schema payload.now) }
+{
+    let mut record = M::empty(alloc);
+    merge_payload(&mut record, alloc, payload)?;
+    Ok(record)
 }
 
 /// Reads a payload that comes in parts, each of which is well-formed by itself: the meaning of the joined parts. The errors are those of

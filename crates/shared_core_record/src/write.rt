@@ -19,7 +19,7 @@ use shared_core_wire::varint::append_varint;
 use std::alloc::AllocError;
 
 /// Appends the shortest varint of a number.
-#[inline]
+#[inline(always)]
 #[tactic(auto, using(crate::proofs::Varints::one_byte_written))]
 fn write_varint(out: &mut Vec<u8>, number: u64) -> Result<(), AllocError>
     ensures { OnOk result (out.new.items ≡ out.old.items ++ shortest_varint number) }
@@ -33,7 +33,7 @@ fn write_varint(out: &mut Vec<u8>, number: u64) -> Result<(), AllocError>
 }
 
 /// Appends a record of a varint.
-#[inline]
+#[inline(always)]
 fn write_varint_record(out: &mut Vec<u8>, number: u32, value: u64) -> Result<(), AllocError>
     ensures { OnOk result (out.new.items ≡ (out.old.items ++ key_bytes number 0) ++ shortest_varint value) }
 {
@@ -42,7 +42,7 @@ fn write_varint_record(out: &mut Vec<u8>, number: u32, value: u64) -> Result<(),
 }
 
 /// Appends a record of bytes behind their length.
-#[inline]
+#[inline(always)]
 fn write_length_record(out: &mut Vec<u8>, number: u32, content: &[u8]) -> Result<(), AllocError>
     ensures { OnOk result (out.new.items ≡ out.old.items ++ length_record number content.now) }
 {
@@ -53,7 +53,7 @@ fn write_length_record(out: &mut Vec<u8>, number: u32, content: &[u8]) -> Result
 }
 
 /// Appends the key and the length of a record of so many bytes.
-#[inline]
+#[inline(always)]
 pub fn write_length(out: &mut Vec<u8>, number: u32, content: &Size) -> Result<(), AllocError>
     ensures { OnOk result (out.new.items ≡ (out.old.items ++ key_bytes number 2) ++ shortest_varint content.now) }
 {
@@ -62,7 +62,7 @@ pub fn write_length(out: &mut Vec<u8>, number: u32, content: &Size) -> Result<()
 }
 
 /// Writes a `string`, unless it is empty.
-#[inline]
+#[inline(always)]
 #[tactic(auto, using(crate::proofs::Measuring::write_content_row, crate::proofs::Measuring::write_no_content))]
 pub fn write_text(out: &mut Vec<u8>, number: u32, field: &String) -> Result<(), AllocError>
     ensures { OnOk result (out.new.items ≡ with_row (Plain number Text) (text_part field.now) out.old.items) }
@@ -74,7 +74,7 @@ pub fn write_text(out: &mut Vec<u8>, number: u32, field: &String) -> Result<(), 
 }
 
 /// Writes a `bytes`, unless it is empty.
-#[inline]
+#[inline(always)]
 #[tactic(auto, using(crate::proofs::Measuring::write_content_row, crate::proofs::Measuring::write_no_content))]
 pub fn write_bytes(out: &mut Vec<u8>, number: u32, field: &Bytes) -> Result<(), AllocError>
     ensures { OnOk result (out.new.items ≡ with_row (Plain number ByteString) (Content field.now) out.old.items) }
@@ -86,7 +86,7 @@ pub fn write_bytes(out: &mut Vec<u8>, number: u32, field: &Bytes) -> Result<(), 
 }
 
 /// Writes a `uint32`, unless it is 0.
-#[inline]
+#[inline(always)]
 #[tactic(auto, using(crate::proofs::Measuring::write_number, crate::proofs::Measuring::write_zero))]
 pub fn write_u32(out: &mut Vec<u8>, number: u32, field: u32) -> Result<(), AllocError>
     ensures { OnOk result (out.new.items ≡ with_row (Plain number U32) (Number field) out.old.items) }
@@ -98,7 +98,7 @@ pub fn write_u32(out: &mut Vec<u8>, number: u32, field: u32) -> Result<(), Alloc
 }
 
 /// Writes a `uint64`, unless it is 0.
-#[inline]
+#[inline(always)]
 #[tactic(auto, using(crate::proofs::Measuring::write_number, crate::proofs::Measuring::write_zero))]
 pub fn write_u64(out: &mut Vec<u8>, number: u32, field: u64) -> Result<(), AllocError>
     ensures { OnOk result (out.new.items ≡ with_row (Plain number U64) (Number field) out.old.items) }
@@ -110,7 +110,7 @@ pub fn write_u64(out: &mut Vec<u8>, number: u32, field: u64) -> Result<(), Alloc
 }
 
 /// Writes a `bool`, unless it is false.
-#[inline]
+#[inline(always)]
 #[tactic(auto, using(crate::proofs::Measuring::write_number, crate::proofs::Measuring::write_zero))]
 pub fn write_boolean(out: &mut Vec<u8>, number: u32, field: bool) -> Result<(), AllocError>
     ensures { OnOk result (out.new.items ≡ with_row (Plain number Boolean) (boolean_part field) out.old.items) }
@@ -122,7 +122,7 @@ pub fn write_boolean(out: &mut Vec<u8>, number: u32, field: bool) -> Result<(), 
 }
 
 /// Writes an enum, unless it is 0.
-#[inline]
+#[inline(always)]
 #[tactic(auto, using(crate::proofs::Measuring::write_number, crate::proofs::Measuring::write_zero))]
 pub fn write_enumeration(out: &mut Vec<u8>, number: u32, field: i32) -> Result<(), AllocError>
     ensures { OnOk result (out.new.items ≡ with_row (Plain number Enumeration) (enum_part field) out.old.items) }
@@ -134,7 +134,7 @@ pub fn write_enumeration(out: &mut Vec<u8>, number: u32, field: i32) -> Result<(
 }
 
 /// Writes an `optional string`, where it is present.
-#[inline]
+#[inline(always)]
 #[tactic(auto, using(crate::proofs::Measuring::write_any))]
 pub fn write_optional_text(
     out: &mut Vec<u8>,
@@ -150,7 +150,7 @@ pub fn write_optional_text(
 }
 
 /// Writes an `optional uint32`, where it is present.
-#[inline]
+#[inline(always)]
 #[tactic(auto, using(crate::proofs::Measuring::write_value))]
 pub fn write_optional_u32(
     out: &mut Vec<u8>,
@@ -166,7 +166,7 @@ pub fn write_optional_u32(
 }
 
 /// Writes an `optional uint64`, where it is present.
-#[inline]
+#[inline(always)]
 #[tactic(auto, using(crate::proofs::Measuring::write_value))]
 pub fn write_optional_u64(
     out: &mut Vec<u8>,
@@ -182,7 +182,7 @@ pub fn write_optional_u64(
 }
 
 /// Writes a message field, where it holds a message.
-#[inline]
+#[inline(always)]
 pub fn write_optional_message<M: WireRecord>(
     out: &mut Vec<u8>,
     number: u32,
@@ -214,7 +214,7 @@ pub fn write_message_value<M: WireRecord>(
 }
 
 /// Writes a `string` that is an element or a member: it is written also where it is empty.
-#[inline]
+#[inline(always)]
 #[tactic(auto, using(crate::proofs::Measuring::write_any))]
 pub fn write_text_value(out: &mut Vec<u8>, number: u32, value: &String) -> Result<(), AllocError>
     ensures { OnOk result (out.new.items ≡ out.old.items ++ value_bytes number Text (text_part value.now)) }
@@ -223,7 +223,7 @@ pub fn write_text_value(out: &mut Vec<u8>, number: u32, value: &String) -> Resul
 }
 
 /// Writes a `bytes` that is an element or a member: it is written also where it is empty.
-#[inline]
+#[inline(always)]
 #[tactic(auto, using(crate::proofs::Measuring::write_any))]
 pub fn write_bytes_value(out: &mut Vec<u8>, number: u32, value: &Bytes) -> Result<(), AllocError>
     ensures { OnOk result (out.new.items ≡ out.old.items ++ value_bytes number ByteString (Content value.now)) }
@@ -232,7 +232,7 @@ pub fn write_bytes_value(out: &mut Vec<u8>, number: u32, value: &Bytes) -> Resul
 }
 
 /// Writes a `uint32` that is a member: it is written also where it is 0.
-#[inline]
+#[inline(always)]
 #[tactic(auto, using(crate::proofs::Measuring::write_value))]
 pub fn write_u32_value(out: &mut Vec<u8>, number: u32, value: u32) -> Result<(), AllocError>
     ensures { OnOk result (out.new.items ≡ out.old.items ++ value_bytes number U32 (Number value)) }
@@ -308,7 +308,7 @@ fn write_packed(out: &mut Vec<u8>, numbers: &Vec<u32>) -> Result<(), AllocError>
 }
 
 /// Writes a oneof, where it holds a member.
-#[inline]
+#[inline(always)]
 pub fn write_oneof<O: OneOf>(out: &mut Vec<u8>, field: &Option<O>) -> Result<(), AllocError>
     requires small { IsSmall (row.OneOf O.members) (option_part O.part field.now) }
     ensures { OnOk result (out.new.items ≡ with_row (row.OneOf O.members) (option_part O.part field.now) out.old.items) }

@@ -23,6 +23,7 @@ pub enum WireValue<'a> {
 
 /// Reads a key: its field number, its wire type and the bytes behind it, or None where no key of at most 32 bits with a number of at
 /// least 1 begins the bytes.
+#[inline(always)]
 #[tactic(auto, unfolding(crate::specs::Reader::key_at))]
 fn read_key(bytes: &[u8]) -> Option<(u32, u8, &[u8])>
     ensures { Gives (λ x. (x.0, x.1, x.2.now)) result (key_at bytes.now) }
@@ -35,6 +36,7 @@ fn read_key(bytes: &[u8]) -> Option<(u32, u8, &[u8])>
 }
 
 /// Splits off so many bytes, or None where there are fewer.
+#[inline(always)]
 #[tactic(auto, unfolding(crate::specs::Reader::bytes_at))]
 fn read_bytes(len: u64, bytes: &[u8]) -> Option<(&[u8], &[u8])>
     ensures { Gives (λ x. (x.0.now, x.1.now)) result (bytes_at len bytes.now) }
@@ -46,6 +48,7 @@ fn read_bytes(len: u64, bytes: &[u8]) -> Option<(&[u8], &[u8])>
 }
 
 /// Reads the value behind a key, and the bytes behind it, where so many levels are left below the record.
+#[inline(always)]
 #[cycle(value)]
 #[tactic(auto, unfolding(crate::specs::Reader::value_with, crate::specs::Reader::group_content_at))]
 fn read_value<'a>(
@@ -110,6 +113,7 @@ fn read_group<'a>(number: u32, bytes: &'a [u8], left: u32) -> Option<(&'a [u8], 
 
 /// Reads a record: its field number, its value and the bytes behind it, where so many levels are left below it, or None where no record
 /// begins the bytes.
+#[inline(always)]
 #[tactic(auto, unfolding(crate::specs::Reader::record_at, crate::specs::Reader::record_with))]
 pub fn read_record(bytes: &[u8], left: u32) -> Option<(u32, WireValue<'_>, &[u8])>
     ensures { Gives (λ x. (record { number = x.0; value = value_of x.1 }, x.2.now)) result

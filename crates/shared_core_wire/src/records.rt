@@ -89,6 +89,7 @@ impl<'a> Iterator for Records<'a> {
 
     ghost remaining = { item_count items_left };
 
+    #[inline(always)]
     fn next(&mut self) -> Option<Result<Record<'a>, WireError>> {
         if self.rest.is_empty() {
             return None;

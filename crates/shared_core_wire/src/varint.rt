@@ -7,7 +7,7 @@ ghost use Rattle.shared_core_wire.specs.Spelling.{shortest_varint, key_bytes};
 use std::alloc::AllocError;
 
 /// Reads a varint: the number at the front of the bytes and the bytes behind it, or None where no varint begins them.
-#[inline]
+#[inline(always)]
 #[tactic(auto, using(crate::proofs::VarintLoop::varint_one))]
 pub fn read_varint(bytes: &[u8]) -> Option<(u64, &[u8])>
     ensures { Gives (λ x. (x.0, x.1.now)) result (varint_at bytes.now) }

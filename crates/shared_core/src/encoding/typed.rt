@@ -10,7 +10,7 @@ use crate::errors::CommandTypeMismatchError;
 use shared_core_parts::notification::Notification;
 use shared_core_parts::notification_template::NotificationTemplate;
 use shared_core_parts::restate_message::RestateMessage;
-use shared_core_record::record::WireRecord;
+use shared_core_record::record::{WireRecord, decode_payload};
 use shared_core_wire::error::WireError;
 use std::alloc::Global;
 
@@ -101,10 +101,7 @@ impl RawMessage {
         ensures written { (v : Parts) → IsWritten M.schema v self.now.payload
             → MatchResult result (λ found. M.parts found ≡ v) (λ refusal. refusal ≡ error.OutOfMemory) }
     {
-        let Ok(payload) = self.payload.clone() else {
-            return Err(DecodingError::OutOfMemory);
-        };
-        match M::decode(alloc, payload) {
+        match decode_payload(alloc, &self.payload) {
             Ok(found) => Ok(found),
             Err(WireError::Malformed) => {
                 Err(DecodingError::DecodeMessage(self.ty(), WireError::Malformed))
