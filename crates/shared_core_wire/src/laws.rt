@@ -1,12 +1,17 @@
-//! Laws of payloads. Each is the contract of a function that does nothing, so that its statement is proved.
+//! Laws of payloads, and of equality. Each is the contract of a function that does nothing, or nothing but compare, so that its statement is
+//! proved.
 
-ghost use Rattle.std.specs.Prelude.{◌≡◌, ◌≤◌, ◌<◌, ◌↔◌, ◌+◌, ◌*◌, ◌^◌, ℕ, List, ◌++◌, length, Some};
+ghost use Rattle.std.specs.Prelude.{◌≡◌, ◌≤◌, ◌<◌, ◌↔◌, ◌+◌, ◌*◌, ◌^◌, ℕ, IsTrue, List, ◌++◌, length, Some};
 ghost use Rattle.shared_core_wire.specs.Grammar.{FieldRecord, IsBase128, IsVarint, IsKey, IsSequence, IsRecordWithin, IsRecordListWithin};
 ghost use Rattle.shared_core_wire.specs.Reader.{packed_numbers, record_list};
 ghost use Rattle.shared_core_wire.specs.Laws.{AreSchemas, ListedSchemasLaw, AcceptanceLaw, StepLaw, MergeLaw, ReadBackLaw, OneSpellingLaw};
 ghost use Rattle.shared_core_wire.specs.Schema.{Row, Table};
 ghost use Rattle.shared_core_wire.specs.Template.{ViewLaw};
 ghost use Rattle.shared_core_wire.specs.Spelling.{shortest_varint, key_bytes};
+ghost use Rattle.shared_core_wire.specs.ItemsLeft.{placed_of};
+
+use crate::error::WireError;
+use crate::records::Record;
 
 /// No spelling of a varint begins another.
 pub fn no_varint_begins_another()
@@ -90,3 +95,17 @@ pub fn value_has_one_spelling()
 pub fn template_views_payloads()
     ensures { (table : Table) → ViewLaw table }
 {}
+
+/// `==` of errors tells them apart.
+pub fn equal_errors(a: WireError, b: WireError) -> bool
+    ensures { IsTrue result ↔ (a ≡ b) }
+{
+    a == b
+}
+
+/// `==` of records compares number, value and span, and of a value all its bytes.
+pub fn equal_records(a: &Record<'_>, b: &Record<'_>) -> bool
+    ensures { IsTrue result ↔ (placed_of a.now ≡ placed_of b.now) }
+{
+    a == b
+}
