@@ -432,10 +432,15 @@ def write_message(source, name):
     result = source.result()
     source.ghosts.add("Rattle.shared_core_base.specs.declared.header.MessageType.TheVariants as types")
     source.uses |= {"shared_core_base::header::MessageType", "shared_core_parts::restate_message::RestateMessage"}
+    # a suspension has a second record, of the form before V7
+    own_schema = "inr (refl, refl)" if name in TYPE_OF else "inl refl"
+    source.prelude |= {"refl", own_schema.split()[0]}
     source.body.append(
         f"\nimpl RestateMessage for {name} {{\n"
         f"    ghost message_type = {{ types.{ty} }};\n\n"
-        f"    fn ty() -> MessageType {{\n        MessageType::{ty}\n    }}\n}}\n"
+        f"    fn ty() -> MessageType {{\n        MessageType::{ty}\n    }}\n\n"
+        "    ghost named = { tt };\n\n"
+        f"    ghost own_schema = {{ {own_schema} }};\n}}\n"
     )
     if name in NOT_WRITTEN_AS_THEY_STAND:
         return
@@ -450,8 +455,6 @@ def write_message(source, name):
     source.uses.discard("shared_core_parts::restate_message::RestateMessage")
     source.body.append(
         f"\nimpl RestateEncodableMessage for {name} {{\n"
-        f"    ghost encoded_type = {{ types.{ty} }};\n\n"
-        "    ghost named = { tt };\n\n"
         f"    ghost wire_form = {{ λ message _. plain_form tables.{schema_name(name)} (⟦<{name} as WireRecord>⟧.parts message) }};\n\n"
         "    ghost is_rewritten = { λ _. false };\n\n"
         f"    fn encode(&self, alloc: Global, _version: Version) -> {result}<Bytes, EncodingError> {{\n"

@@ -1,6 +1,6 @@
 //! The record `AttachInvocationCommandMessage`.
 
-ghost use Rattle.std.specs.Prelude.{false};
+ghost use Rattle.std.specs.Prelude.{false, inl, refl};
 ghost use Rattle.shared_core_wire.specs.Value.{Number, cons, nil};
 ghost use Rattle.shared_core_base.specs.declared.header.MessageType.TheVariants as types;
 ghost use Rattle.shared_core_parts.specs.Frames.{plain_form};
@@ -81,13 +81,13 @@ impl RestateMessage for AttachInvocationCommandMessage {
     fn ty() -> MessageType {
         MessageType::AttachInvocationCommand
     }
-}
-
-impl RestateEncodableMessage for AttachInvocationCommandMessage {
-    ghost encoded_type = { types.AttachInvocationCommand };
 
     ghost named = { tt };
 
+    ghost own_schema = { inl refl };
+}
+
+impl RestateEncodableMessage for AttachInvocationCommandMessage {
     ghost wire_form = { λ message _. plain_form tables.attach_invocation_command (⟦<AttachInvocationCommandMessage as WireRecord>⟧.parts message) };
 
     ghost is_rewritten = { λ _. false };

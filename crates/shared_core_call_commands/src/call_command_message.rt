@@ -1,6 +1,6 @@
 //! The record `CallCommandMessage`.
 
-ghost use Rattle.std.specs.Prelude.{false};
+ghost use Rattle.std.specs.Prelude.{false, inl, refl};
 ghost use Rattle.shared_core_wire.specs.Value.{Bytes as Content, Number, cons, nil};
 ghost use Rattle.shared_core_base.specs.declared.header.MessageType.TheVariants as types;
 ghost use Rattle.shared_core_parts.specs.Frames.{plain_form};
@@ -138,13 +138,13 @@ impl RestateMessage for CallCommandMessage {
     fn ty() -> MessageType {
         MessageType::CallCommand
     }
-}
-
-impl RestateEncodableMessage for CallCommandMessage {
-    ghost encoded_type = { types.CallCommand };
 
     ghost named = { tt };
 
+    ghost own_schema = { inl refl };
+}
+
+impl RestateEncodableMessage for CallCommandMessage {
     ghost wire_form = { λ message _. plain_form tables.call_command (⟦<CallCommandMessage as WireRecord>⟧.parts message) };
 
     ghost is_rewritten = { λ _. false };

@@ -1,6 +1,6 @@
 //! The record `CompleteAwakeableCommandMessage`.
 
-ghost use Rattle.std.specs.Prelude.{[], false, refl, ◌∷◌};
+ghost use Rattle.std.specs.Prelude.{[], false, inl, refl, ◌∷◌};
 ghost use Rattle.shared_core_wire.specs.Schema.{Message};
 ghost use Rattle.shared_core_wire.specs.Value.{Member, cons, nil};
 ghost use Rattle.shared_core_base.specs.declared.header.MessageType.TheVariants as types;
@@ -146,13 +146,13 @@ impl RestateMessage for CompleteAwakeableCommandMessage {
     fn ty() -> MessageType {
         MessageType::CompleteAwakeableCommand
     }
-}
-
-impl RestateEncodableMessage for CompleteAwakeableCommandMessage {
-    ghost encoded_type = { types.CompleteAwakeableCommand };
 
     ghost named = { tt };
 
+    ghost own_schema = { inl refl };
+}
+
+impl RestateEncodableMessage for CompleteAwakeableCommandMessage {
     ghost wire_form = { λ message _. plain_form tables.complete_awakeable_command (⟦<CompleteAwakeableCommandMessage as WireRecord>⟧.parts message) };
 
     ghost is_rewritten = { λ _. false };

@@ -1,6 +1,6 @@
 //! The record `CompletePromiseCommandMessage`.
 
-ghost use Rattle.std.specs.Prelude.{[], false, refl, ◌∷◌};
+ghost use Rattle.std.specs.Prelude.{[], false, inl, refl, ◌∷◌};
 ghost use Rattle.shared_core_wire.specs.Schema.{Message};
 ghost use Rattle.shared_core_wire.specs.Value.{Member, Number, cons, nil};
 ghost use Rattle.shared_core_base.specs.declared.header.MessageType.TheVariants as types;
@@ -170,13 +170,13 @@ impl RestateMessage for CompletePromiseCommandMessage {
     fn ty() -> MessageType {
         MessageType::CompletePromiseCommand
     }
-}
-
-impl RestateEncodableMessage for CompletePromiseCommandMessage {
-    ghost encoded_type = { types.CompletePromiseCommand };
 
     ghost named = { tt };
 
+    ghost own_schema = { inl refl };
+}
+
+impl RestateEncodableMessage for CompletePromiseCommandMessage {
     ghost wire_form = { λ message _. plain_form tables.complete_promise_command (⟦<CompletePromiseCommandMessage as WireRecord>⟧.parts message) };
 
     ghost is_rewritten = { λ _. false };

@@ -1,6 +1,6 @@
 //! The record `GetInvocationOutputCommandMessage`.
 
-ghost use Rattle.std.specs.Prelude.{false};
+ghost use Rattle.std.specs.Prelude.{false, inl, refl};
 ghost use Rattle.shared_core_wire.specs.Value.{Number, cons, nil};
 ghost use Rattle.shared_core_base.specs.declared.header.MessageType.TheVariants as types;
 ghost use Rattle.shared_core_parts.specs.Frames.{plain_form};
@@ -81,13 +81,13 @@ impl RestateMessage for GetInvocationOutputCommandMessage {
     fn ty() -> MessageType {
         MessageType::GetInvocationOutputCommand
     }
-}
-
-impl RestateEncodableMessage for GetInvocationOutputCommandMessage {
-    ghost encoded_type = { types.GetInvocationOutputCommand };
 
     ghost named = { tt };
 
+    ghost own_schema = { inl refl };
+}
+
+impl RestateEncodableMessage for GetInvocationOutputCommandMessage {
     ghost wire_form = { λ message _. plain_form tables.get_invocation_output_command (⟦<GetInvocationOutputCommandMessage as WireRecord>⟧.parts message) };
 
     ghost is_rewritten = { λ _. false };

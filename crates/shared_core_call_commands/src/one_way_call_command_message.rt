@@ -1,6 +1,6 @@
 //! The record `OneWayCallCommandMessage`.
 
-ghost use Rattle.std.specs.Prelude.{false};
+ghost use Rattle.std.specs.Prelude.{false, inl, refl};
 ghost use Rattle.shared_core_wire.specs.Value.{Bytes as Content, Number, cons, nil};
 ghost use Rattle.shared_core_base.specs.declared.header.MessageType.TheVariants as types;
 ghost use Rattle.shared_core_parts.specs.Frames.{plain_form};
@@ -138,13 +138,13 @@ impl RestateMessage for OneWayCallCommandMessage {
     fn ty() -> MessageType {
         MessageType::OneWayCallCommand
     }
-}
-
-impl RestateEncodableMessage for OneWayCallCommandMessage {
-    ghost encoded_type = { types.OneWayCallCommand };
 
     ghost named = { tt };
 
+    ghost own_schema = { inl refl };
+}
+
+impl RestateEncodableMessage for OneWayCallCommandMessage {
     ghost wire_form = { λ message _. plain_form tables.one_way_call_command (⟦<OneWayCallCommandMessage as WireRecord>⟧.parts message) };
 
     ghost is_rewritten = { λ _. false };

@@ -1,6 +1,6 @@
 //! The record `RunCommandMessage`.
 
-ghost use Rattle.std.specs.Prelude.{false};
+ghost use Rattle.std.specs.Prelude.{false, inl, refl};
 ghost use Rattle.shared_core_wire.specs.Value.{Number, cons, nil};
 ghost use Rattle.shared_core_base.specs.declared.header.MessageType.TheVariants as types;
 ghost use Rattle.shared_core_parts.specs.Frames.{plain_form};
@@ -70,13 +70,13 @@ impl RestateMessage for RunCommandMessage {
     fn ty() -> MessageType {
         MessageType::RunCommand
     }
-}
-
-impl RestateEncodableMessage for RunCommandMessage {
-    ghost encoded_type = { types.RunCommand };
 
     ghost named = { tt };
 
+    ghost own_schema = { inl refl };
+}
+
+impl RestateEncodableMessage for RunCommandMessage {
     ghost wire_form = { λ message _. plain_form tables.run_command (⟦<RunCommandMessage as WireRecord>⟧.parts message) };
 
     ghost is_rewritten = { λ _. false };

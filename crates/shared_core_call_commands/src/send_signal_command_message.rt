@@ -1,6 +1,6 @@
 //! The record `SendSignalCommandMessage`.
 
-ghost use Rattle.std.specs.Prelude.{[], false, refl, ◌∷◌};
+ghost use Rattle.std.specs.Prelude.{[], false, inl, refl, ◌∷◌};
 ghost use Rattle.shared_core_wire.specs.Schema.{Message, Text, U32};
 ghost use Rattle.shared_core_wire.specs.Value.{Member, Number, cons, nil};
 ghost use Rattle.shared_core_base.specs.declared.header.MessageType.TheVariants as types;
@@ -221,13 +221,13 @@ impl RestateMessage for SendSignalCommandMessage {
     fn ty() -> MessageType {
         MessageType::SendSignalCommand
     }
-}
-
-impl RestateEncodableMessage for SendSignalCommandMessage {
-    ghost encoded_type = { types.SendSignalCommand };
 
     ghost named = { tt };
 
+    ghost own_schema = { inl refl };
+}
+
+impl RestateEncodableMessage for SendSignalCommandMessage {
     ghost wire_form = { λ message _. plain_form tables.send_signal_command (⟦<SendSignalCommandMessage as WireRecord>⟧.parts message) };
 
     ghost is_rewritten = { λ _. false };

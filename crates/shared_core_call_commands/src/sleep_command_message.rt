@@ -1,6 +1,6 @@
 //! The record `SleepCommandMessage`.
 
-ghost use Rattle.std.specs.Prelude.{false};
+ghost use Rattle.std.specs.Prelude.{false, inl, refl};
 ghost use Rattle.shared_core_wire.specs.Value.{Number, cons, nil};
 ghost use Rattle.shared_core_base.specs.declared.header.MessageType.TheVariants as types;
 ghost use Rattle.shared_core_parts.specs.Frames.{plain_form};
@@ -77,13 +77,13 @@ impl RestateMessage for SleepCommandMessage {
     fn ty() -> MessageType {
         MessageType::SleepCommand
     }
-}
-
-impl RestateEncodableMessage for SleepCommandMessage {
-    ghost encoded_type = { types.SleepCommand };
 
     ghost named = { tt };
 
+    ghost own_schema = { inl refl };
+}
+
+impl RestateEncodableMessage for SleepCommandMessage {
     ghost wire_form = { λ message _. plain_form tables.sleep_command (⟦<SleepCommandMessage as WireRecord>⟧.parts message) };
 
     ghost is_rewritten = { λ _. false };

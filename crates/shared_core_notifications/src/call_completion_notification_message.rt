@@ -1,6 +1,6 @@
 //! The record `CallCompletionNotificationMessage`.
 
-ghost use Rattle.std.specs.Prelude.{false};
+ghost use Rattle.std.specs.Prelude.{false, inl, refl};
 ghost use Rattle.shared_core_wire.specs.Value.{Number, cons, nil};
 ghost use Rattle.shared_core_base.specs.declared.header.MessageType.TheVariants as types;
 ghost use Rattle.shared_core_parts.specs.Frames.{plain_form};
@@ -75,13 +75,13 @@ impl RestateMessage for CallCompletionNotificationMessage {
     fn ty() -> MessageType {
         MessageType::CallCompletionNotification
     }
-}
-
-impl RestateEncodableMessage for CallCompletionNotificationMessage {
-    ghost encoded_type = { types.CallCompletionNotification };
 
     ghost named = { tt };
 
+    ghost own_schema = { inl refl };
+}
+
+impl RestateEncodableMessage for CallCompletionNotificationMessage {
     ghost wire_form = { λ message _. plain_form tables.call_completion (⟦<CallCompletionNotificationMessage as WireRecord>⟧.parts message) };
 
     ghost is_rewritten = { λ _. false };

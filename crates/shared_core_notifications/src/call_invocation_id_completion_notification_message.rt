@@ -1,6 +1,6 @@
 //! The record `CallInvocationIdCompletionNotificationMessage`.
 
-ghost use Rattle.std.specs.Prelude.{false};
+ghost use Rattle.std.specs.Prelude.{false, inl, refl};
 ghost use Rattle.shared_core_wire.specs.Value.{Number, cons, nil};
 ghost use Rattle.shared_core_base.specs.declared.header.MessageType.TheVariants as types;
 ghost use Rattle.shared_core_parts.specs.Frames.{plain_form};
@@ -70,13 +70,13 @@ impl RestateMessage for CallInvocationIdCompletionNotificationMessage {
     fn ty() -> MessageType {
         MessageType::CallInvocationIdCompletionNotification
     }
-}
-
-impl RestateEncodableMessage for CallInvocationIdCompletionNotificationMessage {
-    ghost encoded_type = { types.CallInvocationIdCompletionNotification };
 
     ghost named = { tt };
 
+    ghost own_schema = { inl refl };
+}
+
+impl RestateEncodableMessage for CallInvocationIdCompletionNotificationMessage {
     ghost wire_form = { λ message _. plain_form tables.call_invocation_id_completion (⟦<CallInvocationIdCompletionNotificationMessage as WireRecord>⟧.parts message) };
 
     ghost is_rewritten = { λ _. false };

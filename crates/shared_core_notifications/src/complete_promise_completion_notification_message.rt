@@ -1,6 +1,6 @@
 //! The record `CompletePromiseCompletionNotificationMessage`.
 
-ghost use Rattle.std.specs.Prelude.{[], false, refl, ◌∷◌};
+ghost use Rattle.std.specs.Prelude.{[], false, inl, refl, ◌∷◌};
 ghost use Rattle.shared_core_wire.specs.Schema.{Message};
 ghost use Rattle.shared_core_wire.specs.Value.{Member, Number, cons, nil};
 ghost use Rattle.shared_core_base.specs.declared.header.MessageType.TheVariants as types;
@@ -139,13 +139,13 @@ impl RestateMessage for CompletePromiseCompletionNotificationMessage {
     fn ty() -> MessageType {
         MessageType::CompletePromiseCompletionNotification
     }
-}
-
-impl RestateEncodableMessage for CompletePromiseCompletionNotificationMessage {
-    ghost encoded_type = { types.CompletePromiseCompletionNotification };
 
     ghost named = { tt };
 
+    ghost own_schema = { inl refl };
+}
+
+impl RestateEncodableMessage for CompletePromiseCompletionNotificationMessage {
     ghost wire_form = { λ message _. plain_form tables.complete_promise_completion (⟦<CompletePromiseCompletionNotificationMessage as WireRecord>⟧.parts message) };
 
     ghost is_rewritten = { λ _. false };

@@ -1,6 +1,6 @@
 //! The record `GetLazyStateCompletionNotificationMessage`.
 
-ghost use Rattle.std.specs.Prelude.{[], false, refl, ◌∷◌};
+ghost use Rattle.std.specs.Prelude.{[], false, inl, refl, ◌∷◌};
 ghost use Rattle.shared_core_wire.specs.Schema.{Message};
 ghost use Rattle.shared_core_wire.specs.Value.{Member, Number, cons, nil};
 ghost use Rattle.shared_core_base.specs.declared.header.MessageType.TheVariants as types;
@@ -139,13 +139,13 @@ impl RestateMessage for GetLazyStateCompletionNotificationMessage {
     fn ty() -> MessageType {
         MessageType::GetLazyStateCompletionNotification
     }
-}
-
-impl RestateEncodableMessage for GetLazyStateCompletionNotificationMessage {
-    ghost encoded_type = { types.GetLazyStateCompletionNotification };
 
     ghost named = { tt };
 
+    ghost own_schema = { inl refl };
+}
+
+impl RestateEncodableMessage for GetLazyStateCompletionNotificationMessage {
     ghost wire_form = { λ message _. plain_form tables.get_lazy_state_completion (⟦<GetLazyStateCompletionNotificationMessage as WireRecord>⟧.parts message) };
 
     ghost is_rewritten = { λ _. false };

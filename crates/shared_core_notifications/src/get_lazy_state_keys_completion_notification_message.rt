@@ -1,6 +1,6 @@
 //! The record `GetLazyStateKeysCompletionNotificationMessage`.
 
-ghost use Rattle.std.specs.Prelude.{false};
+ghost use Rattle.std.specs.Prelude.{false, inl, refl};
 ghost use Rattle.shared_core_wire.specs.Value.{Number, cons, nil};
 ghost use Rattle.shared_core_base.specs.declared.header.MessageType.TheVariants as types;
 ghost use Rattle.shared_core_parts.specs.Frames.{plain_form};
@@ -73,13 +73,13 @@ impl RestateMessage for GetLazyStateKeysCompletionNotificationMessage {
     fn ty() -> MessageType {
         MessageType::GetLazyStateKeysCompletionNotification
     }
-}
-
-impl RestateEncodableMessage for GetLazyStateKeysCompletionNotificationMessage {
-    ghost encoded_type = { types.GetLazyStateKeysCompletionNotification };
 
     ghost named = { tt };
 
+    ghost own_schema = { inl refl };
+}
+
+impl RestateEncodableMessage for GetLazyStateKeysCompletionNotificationMessage {
     ghost wire_form = { λ message _. plain_form tables.get_lazy_state_keys_completion (⟦<GetLazyStateKeysCompletionNotificationMessage as WireRecord>⟧.parts message) };
 
     ghost is_rewritten = { λ _. false };

@@ -1,6 +1,6 @@
 //! The record `SignalNotificationMessage`.
 
-ghost use Rattle.std.specs.Prelude.{[], false, refl, ◌∷◌};
+ghost use Rattle.std.specs.Prelude.{[], false, inl, refl, ◌∷◌};
 ghost use Rattle.shared_core_wire.specs.Schema.{Text, U32};
 ghost use Rattle.shared_core_wire.specs.Value.{Member, Number, cons, nil};
 ghost use Rattle.shared_core_base.specs.declared.header.MessageType.TheVariants as types;
@@ -130,13 +130,13 @@ impl RestateMessage for SignalNotificationMessage {
     fn ty() -> MessageType {
         MessageType::SignalNotification
     }
-}
-
-impl RestateEncodableMessage for SignalNotificationMessage {
-    ghost encoded_type = { types.SignalNotification };
 
     ghost named = { tt };
 
+    ghost own_schema = { inl refl };
+}
+
+impl RestateEncodableMessage for SignalNotificationMessage {
     ghost wire_form = { λ message _. plain_form tables.signal_notification (⟦<SignalNotificationMessage as WireRecord>⟧.parts message) };
 
     ghost is_rewritten = { λ _. false };

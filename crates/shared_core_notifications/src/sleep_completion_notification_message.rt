@@ -1,6 +1,6 @@
 //! The record `SleepCompletionNotificationMessage`.
 
-ghost use Rattle.std.specs.Prelude.{false};
+ghost use Rattle.std.specs.Prelude.{false, inl, refl};
 ghost use Rattle.shared_core_wire.specs.Value.{Number, cons, nil};
 ghost use Rattle.shared_core_base.specs.declared.header.MessageType.TheVariants as types;
 ghost use Rattle.shared_core_parts.specs.Frames.{plain_form};
@@ -73,13 +73,13 @@ impl RestateMessage for SleepCompletionNotificationMessage {
     fn ty() -> MessageType {
         MessageType::SleepCompletionNotification
     }
-}
-
-impl RestateEncodableMessage for SleepCompletionNotificationMessage {
-    ghost encoded_type = { types.SleepCompletionNotification };
 
     ghost named = { tt };
 
+    ghost own_schema = { inl refl };
+}
+
+impl RestateEncodableMessage for SleepCompletionNotificationMessage {
     ghost wire_form = { λ message _. plain_form tables.sleep_completion (⟦<SleepCompletionNotificationMessage as WireRecord>⟧.parts message) };
 
     ghost is_rewritten = { λ _. false };

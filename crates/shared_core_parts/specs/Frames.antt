@@ -6,6 +6,7 @@ use Rattle.shared_core_base.specs.declared.header.MessageHeader.{MessageHeader}
 use Rattle.shared_core_base.specs.MessageHeader.{word_of}
 use Rattle.shared_core_wire.specs.Value.{Parts}
 use Rattle.shared_core_wire.specs.Canonical.{canonical_payload, size}
+use Rattle.shared_core_wire.specs.Fitting.{Fits}
 use Rattle.shared_core_record.specs.Table.{table}
 
 -- The header of a payload: its type, its length and its flag.
@@ -29,6 +30,10 @@ wire_payload form = canonical_payload table form.schema form.parts
 -- How many bytes the payload of a wire form has.
 abbrev pub wire_size : WireForm → ℕ
 wire_size form = size table form.schema form.parts
+
+-- The value of a wire form is one of its schema.
+abbrev pub WireFits : WireForm → Type 0
+WireFits form = Fits table form.parts (table form.schema)
 
 -- The frame of a wire form.
 abbrev pub wire_frame : MessageType → WireForm → List ℕ

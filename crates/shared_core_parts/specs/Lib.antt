@@ -1,3 +1,4 @@
 pub mod Futures
 pub mod Frames
 pub mod Notifications
+pub mod Messages

@@ -6,9 +6,11 @@ ghost use Rattle.shared_core_base.specs.declared.header.MessageType.{MessageType
 ghost use Rattle.shared_core_base.specs.MessageType.{IsNamed};
 ghost use Rattle.shared_core_base.specs.declared.version.Version.{Version as AnyVersion};
 ghost use Rattle.shared_core_wire.specs.Canonical.{canonical_payload, size};
+ghost use Rattle.shared_core_wire.specs.Fitting.{Fits};
 ghost use Rattle.shared_core_record.specs.Table.{table};
 ghost use Rattle.shared_core_record.specs.declared.error.EncodingError.TheVariants.{PayloadTooLong};
-ghost use Rattle.shared_core_parts.specs.Frames.{frame, WireForm, wire_size, wire_frame};
+ghost use Rattle.shared_core_parts.specs.Frames.{frame, WireForm, WireFits, wire_size, wire_frame};
+ghost use Rattle.shared_core_parts.specs.Messages.{IsSchemaOf};
 
 use bytes::Bytes;
 use shared_core_base::header::{MessageHeader, MessageType};
@@ -25,16 +27,16 @@ pub trait RestateMessage: WireRecord {
     /// The type of its messages.
     fn ty() -> MessageType
         ensures { result ≡ message_type };
-}
-
-/// A message that can be written.
-pub trait RestateEncodableMessage {
-    /// The type that its header says.
-    ghost encoded_type: { AnyType };
 
     /// It is a type that has a name.
-    ghost named: { IsNamed encoded_type };
+    ghost named: { IsNamed message_type };
 
+    /// The record's schema is one that payloads of the type have.
+    ghost own_schema: { IsSchemaOf message_type Self.schema };
+}
+
+/// A message that can be written. Its header says its type.
+pub trait RestateEncodableMessage: RestateMessage {
     /// What it is written as at a version.
     ghost wire_form: { Self → AnyVersion → WireForm };
 
@@ -46,8 +48,10 @@ pub trait RestateEncodableMessage {
     /// `PayloadTooLong` exactly where that payload has more than 4,294,967,295 bytes, which is known before memory is asked for, unless the
     /// message is rewritten first. `OutOfMemory` where a request for memory was refused. The message stands after either.
     fn encode(&self, alloc: Global, version: Version) -> Result<Bytes, EncodingError>
-        ensures ok { IfOk result (λ bytes. bytes ≡ wire_frame encoded_type (wire_form self.now version)) }
+        ensures ok { IfOk result (λ bytes. bytes ≡ wire_frame Self.message_type (wire_form self.now version)) }
         ensures short { IfOk result (λ bytes. wire_size (wire_form self.now version) < 2 ^ 32) }
+        // what is written is a value of its schema
+        ensures fits { IfOk result (λ bytes. WireFits (wire_form self.now version)) }
         ensures too_long { IsErrOf result PayloadTooLong → 2 ^ 32 ≤ wire_size (wire_form self.now version) }
         ensures refused { 2 ^ 32 ≤ wire_size (wire_form self.now version)
             → MatchBool (is_rewritten version) (IsErr result) (result ≡ Err PayloadTooLong) };
@@ -61,6 +65,7 @@ pub fn encode_frame<M: RestateMessage>(
 ) -> Result<Bytes, EncodingError>
     ensures ok { IfOk result (λ bytes. bytes ≡ frame M.message_type requested_ack (canonical_payload table M.schema (M.parts message.now))) }
     ensures short { IfOk result (λ bytes. size table M.schema (M.parts message.now) < 2 ^ 32) }
+    ensures fits { IfOk result (λ bytes. Fits table (M.parts message.now) (table M.schema)) }
     ensures too_long { IsErrOf result PayloadTooLong → 2 ^ 32 ≤ size table M.schema (M.parts message.now) }
     ensures refused { 2 ^ 32 ≤ size table M.schema (M.parts message.now) → result ≡ Err PayloadTooLong }
 {

@@ -1,6 +1,6 @@
 //! The record `AwaitingOnMessage`.
 
-ghost use Rattle.std.specs.Prelude.{false};
+ghost use Rattle.std.specs.Prelude.{false, inl, refl};
 ghost use Rattle.shared_core_wire.specs.Value.{cons, nil};
 ghost use Rattle.shared_core_base.specs.declared.header.MessageType.TheVariants as types;
 ghost use Rattle.shared_core_parts.specs.Frames.{plain_form};
@@ -73,13 +73,13 @@ impl RestateMessage for AwaitingOnMessage {
     fn ty() -> MessageType {
         MessageType::AwaitingOn
     }
-}
-
-impl RestateEncodableMessage for AwaitingOnMessage {
-    ghost encoded_type = { types.AwaitingOn };
 
     ghost named = { tt };
 
+    ghost own_schema = { inl refl };
+}
+
+impl RestateEncodableMessage for AwaitingOnMessage {
     ghost wire_form = { λ message _. plain_form tables.awaiting_on (⟦<AwaitingOnMessage as WireRecord>⟧.parts message) };
 
     ghost is_rewritten = { λ _. false };

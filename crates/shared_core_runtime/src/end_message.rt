@@ -1,6 +1,6 @@
 //! The record `EndMessage`.
 
-ghost use Rattle.std.specs.Prelude.{false};
+ghost use Rattle.std.specs.Prelude.{false, inl, refl};
 ghost use Rattle.shared_core_wire.specs.Value.{nil};
 ghost use Rattle.shared_core_base.specs.declared.header.MessageType.TheVariants as types;
 ghost use Rattle.shared_core_parts.specs.Frames.{plain_form};
@@ -50,13 +50,13 @@ impl RestateMessage for EndMessage {
     fn ty() -> MessageType {
         MessageType::End
     }
-}
-
-impl RestateEncodableMessage for EndMessage {
-    ghost encoded_type = { types.End };
 
     ghost named = { tt };
 
+    ghost own_schema = { inl refl };
+}
+
+impl RestateEncodableMessage for EndMessage {
     ghost wire_form = { λ message _. plain_form tables.end (⟦<EndMessage as WireRecord>⟧.parts message) };
 
     ghost is_rewritten = { λ _. false };

@@ -1,6 +1,6 @@
 //! The record `ErrorMessage`.
 
-ghost use Rattle.std.specs.Prelude.{false};
+ghost use Rattle.std.specs.Prelude.{false, inl, refl};
 ghost use Rattle.shared_core_wire.specs.Value.{Number, cons, nil};
 ghost use Rattle.shared_core_base.specs.declared.header.MessageType.TheVariants as types;
 ghost use Rattle.shared_core_parts.specs.Frames.{plain_form};
@@ -115,13 +115,13 @@ impl RestateMessage for ErrorMessage {
     fn ty() -> MessageType {
         MessageType::Error
     }
-}
-
-impl RestateEncodableMessage for ErrorMessage {
-    ghost encoded_type = { types.Error };
 
     ghost named = { tt };
 
+    ghost own_schema = { inl refl };
+}
+
+impl RestateEncodableMessage for ErrorMessage {
     ghost wire_form = { λ message _. plain_form tables.error (⟦<ErrorMessage as WireRecord>⟧.parts message) };
 
     ghost is_rewritten = { λ _. false };

@@ -1,6 +1,6 @@
 //! The record `GetStateEphemeralCommandMessage`.
 
-ghost use Rattle.std.specs.Prelude.{false};
+ghost use Rattle.std.specs.Prelude.{false, inl, refl};
 ghost use Rattle.shared_core_wire.specs.Value.{Bytes as Content, Number, cons, nil};
 ghost use Rattle.shared_core_base.specs.declared.header.MessageType.TheVariants as types;
 ghost use Rattle.shared_core_parts.specs.Frames.{plain_form};
@@ -69,13 +69,13 @@ impl RestateMessage for GetStateEphemeralCommandMessage {
     fn ty() -> MessageType {
         MessageType::GetStateEphemeralCommand
     }
-}
-
-impl RestateEncodableMessage for GetStateEphemeralCommandMessage {
-    ghost encoded_type = { types.GetStateEphemeralCommand };
 
     ghost named = { tt };
 
+    ghost own_schema = { inl refl };
+}
+
+impl RestateEncodableMessage for GetStateEphemeralCommandMessage {
     ghost wire_form = { λ message _. plain_form tables.get_state_ephemeral_command (⟦<GetStateEphemeralCommandMessage as WireRecord>⟧.parts message) };
 
     ghost is_rewritten = { λ _. false };

@@ -1,6 +1,6 @@
 //! The record `GetStateEphemeralNotificationMessage`.
 
-ghost use Rattle.std.specs.Prelude.{[], false, refl, ◌∷◌};
+ghost use Rattle.std.specs.Prelude.{[], false, inl, refl, ◌∷◌};
 ghost use Rattle.shared_core_wire.specs.Schema.{Message};
 ghost use Rattle.shared_core_wire.specs.Value.{Member, Number, cons, nil};
 ghost use Rattle.shared_core_base.specs.declared.header.MessageType.TheVariants as types;
@@ -139,13 +139,13 @@ impl RestateMessage for GetStateEphemeralNotificationMessage {
     fn ty() -> MessageType {
         MessageType::GetStateEphemeralNotification
     }
-}
-
-impl RestateEncodableMessage for GetStateEphemeralNotificationMessage {
-    ghost encoded_type = { types.GetStateEphemeralNotification };
 
     ghost named = { tt };
 
+    ghost own_schema = { inl refl };
+}
+
+impl RestateEncodableMessage for GetStateEphemeralNotificationMessage {
     ghost wire_form = { λ message _. plain_form tables.get_state_ephemeral_notification (⟦<GetStateEphemeralNotificationMessage as WireRecord>⟧.parts message) };
 
     ghost is_rewritten = { λ _. false };

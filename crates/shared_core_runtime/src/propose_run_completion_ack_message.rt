@@ -1,6 +1,6 @@
 //! The record `ProposeRunCompletionAckMessage`.
 
-ghost use Rattle.std.specs.Prelude.{false};
+ghost use Rattle.std.specs.Prelude.{false, inl, refl};
 ghost use Rattle.shared_core_wire.specs.Value.{Number, cons, nil};
 ghost use Rattle.shared_core_base.specs.declared.header.MessageType.TheVariants as types;
 ghost use Rattle.shared_core_parts.specs.Frames.{plain_form};
@@ -60,13 +60,13 @@ impl RestateMessage for ProposeRunCompletionAckMessage {
     fn ty() -> MessageType {
         MessageType::ProposeRunCompletionAck
     }
-}
-
-impl RestateEncodableMessage for ProposeRunCompletionAckMessage {
-    ghost encoded_type = { types.ProposeRunCompletionAck };
 
     ghost named = { tt };
 
+    ghost own_schema = { inl refl };
+}
+
+impl RestateEncodableMessage for ProposeRunCompletionAckMessage {
     ghost wire_form = { λ message _. plain_form tables.propose_run_completion_ack (⟦<ProposeRunCompletionAckMessage as WireRecord>⟧.parts message) };
 
     ghost is_rewritten = { λ _. false };

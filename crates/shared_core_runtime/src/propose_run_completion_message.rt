@@ -1,6 +1,6 @@
 //! The record `ProposeRunCompletionMessage`.
 
-ghost use Rattle.std.specs.Prelude.{[], refl, ◌∷◌};
+ghost use Rattle.std.specs.Prelude.{[], inl, refl, ◌∷◌};
 ghost use Rattle.shared_core_wire.specs.Schema.{ByteString, Message};
 ghost use Rattle.shared_core_wire.specs.Value.{Bytes as Content, Member, Number, cons, nil};
 ghost use Rattle.shared_core_base.specs.declared.header.MessageType.TheVariants as types;
@@ -131,4 +131,8 @@ impl RestateMessage for ProposeRunCompletionMessage {
     fn ty() -> MessageType {
         MessageType::ProposeRunCompletion
     }
+
+    ghost named = { tt };
+
+    ghost own_schema = { inl refl };
 }

@@ -1,6 +1,6 @@
 //! The record `StartMessage`.
 
-ghost use Rattle.std.specs.Prelude.{false};
+ghost use Rattle.std.specs.Prelude.{false, inl, refl};
 ghost use Rattle.shared_core_wire.specs.Value.{Bytes as Content, Number, cons, nil};
 ghost use Rattle.shared_core_base.specs.declared.header.MessageType.TheVariants as types;
 ghost use Rattle.shared_core_parts.specs.Frames.{plain_form};
@@ -146,13 +146,13 @@ impl RestateMessage for StartMessage {
     fn ty() -> MessageType {
         MessageType::Start
     }
-}
-
-impl RestateEncodableMessage for StartMessage {
-    ghost encoded_type = { types.Start };
 
     ghost named = { tt };
 
+    ghost own_schema = { inl refl };
+}
+
+impl RestateEncodableMessage for StartMessage {
     ghost wire_form = { λ message _. plain_form tables.start (⟦<StartMessage as WireRecord>⟧.parts message) };
 
     ghost is_rewritten = { λ _. false };

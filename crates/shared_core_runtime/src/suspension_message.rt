@@ -1,5 +1,6 @@
 //! The record `SuspensionMessage`.
 
+ghost use Rattle.std.specs.Prelude.{inl, refl};
 ghost use Rattle.shared_core_wire.specs.Value.{cons, nil};
 ghost use Rattle.shared_core_base.specs.declared.header.MessageType.TheVariants as types;
 ghost use Rattle.shared_core_record.specs.Table as tables;
@@ -59,4 +60,8 @@ impl RestateMessage for SuspensionMessage {
     fn ty() -> MessageType {
         MessageType::Suspension
     }
+
+    ghost named = { tt };
+
+    ghost own_schema = { inl refl };
 }

@@ -1,5 +1,6 @@
 //! The record `SuspensionMessageV6`.
 
+ghost use Rattle.std.specs.Prelude.{inr, refl};
 ghost use Rattle.shared_core_wire.specs.Value.{Number, cons, nil};
 ghost use Rattle.shared_core_base.specs.declared.header.MessageType.TheVariants as types;
 ghost use Rattle.shared_core_record.specs.Table as tables;
@@ -72,4 +73,8 @@ impl RestateMessage for SuspensionMessageV6 {
     fn ty() -> MessageType {
         MessageType::Suspension
     }
+
+    ghost named = { tt };
+
+    ghost own_schema = { inr (refl, refl) };
 }

@@ -1,7 +1,6 @@
 //! What is written otherwise at some versions: suspensions, and the proposals of a run's result.
 
 ghost use Rattle.std.specs.Prelude.{◌≡◌, IfOk, OnOk, false};
-ghost use Rattle.shared_core_base.specs.declared.header.MessageType.TheVariants as types;
 ghost use Rattle.shared_core_parts.specs.Futures.{future_parts, future_elements};
 ghost use Rattle.shared_core_runtime.specs.Flattening.{AppendsFutures, flattened, messages_in, preorder};
 ghost use Rattle.shared_core_runtime.specs.Versions.{is_before_v7, proposal_form, suspension_form};
@@ -22,10 +21,6 @@ mod tests;
 
 /// As it stands at every version. From V7 on the header asks for an acknowledgement; before V7 it does not.
 impl RestateEncodableMessage for ProposeRunCompletionMessage {
-    ghost encoded_type = { types.ProposeRunCompletion };
-
-    ghost named = { tt };
-
     ghost wire_form = { λ message version. proposal_form (⟦<ProposeRunCompletionMessage as WireRecord>⟧.parts message) version };
 
     ghost is_rewritten = { λ _. false };
@@ -41,10 +36,6 @@ impl RestateEncodableMessage for ProposeRunCompletionMessage {
 /// From V7 on as it stands. Before V7 as a `SuspensionMessageV6`: the three lists of all futures that are awaited, each future before
 /// those nested in it, with its duplicates, however deep they are nested; the lists are empty where nothing is awaited.
 impl RestateEncodableMessage for SuspensionMessage {
-    ghost encoded_type = { types.Suspension };
-
-    ghost named = { tt };
-
     ghost wire_form = { λ message version. suspension_form (⟦<SuspensionMessage as WireRecord>⟧.parts message) version };
 
     ghost is_rewritten = { is_before_v7 };

@@ -1,6 +1,6 @@
 //! The record `ClearAllStateCommandMessage`.
 
-ghost use Rattle.std.specs.Prelude.{false};
+ghost use Rattle.std.specs.Prelude.{false, inl, refl};
 ghost use Rattle.shared_core_wire.specs.Value.{cons, nil};
 ghost use Rattle.shared_core_base.specs.declared.header.MessageType.TheVariants as types;
 ghost use Rattle.shared_core_parts.specs.Frames.{plain_form};
@@ -63,13 +63,13 @@ impl RestateMessage for ClearAllStateCommandMessage {
     fn ty() -> MessageType {
         MessageType::ClearAllStateCommand
     }
-}
-
-impl RestateEncodableMessage for ClearAllStateCommandMessage {
-    ghost encoded_type = { types.ClearAllStateCommand };
 
     ghost named = { tt };
 
+    ghost own_schema = { inl refl };
+}
+
+impl RestateEncodableMessage for ClearAllStateCommandMessage {
     ghost wire_form = { λ message _. plain_form tables.clear_all_state_command (⟦<ClearAllStateCommandMessage as WireRecord>⟧.parts message) };
 
     ghost is_rewritten = { λ _. false };

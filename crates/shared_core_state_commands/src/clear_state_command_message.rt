@@ -1,6 +1,6 @@
 //! The record `ClearStateCommandMessage`.
 
-ghost use Rattle.std.specs.Prelude.{false};
+ghost use Rattle.std.specs.Prelude.{false, inl, refl};
 ghost use Rattle.shared_core_wire.specs.Value.{Bytes as Content, cons, nil};
 ghost use Rattle.shared_core_base.specs.declared.header.MessageType.TheVariants as types;
 ghost use Rattle.shared_core_parts.specs.Frames.{plain_form};
@@ -70,13 +70,13 @@ impl RestateMessage for ClearStateCommandMessage {
     fn ty() -> MessageType {
         MessageType::ClearStateCommand
     }
-}
-
-impl RestateEncodableMessage for ClearStateCommandMessage {
-    ghost encoded_type = { types.ClearStateCommand };
 
     ghost named = { tt };
 
+    ghost own_schema = { inl refl };
+}
+
+impl RestateEncodableMessage for ClearStateCommandMessage {
     ghost wire_form = { λ message _. plain_form tables.clear_state_command (⟦<ClearStateCommandMessage as WireRecord>⟧.parts message) };
 
     ghost is_rewritten = { λ _. false };

@@ -1,6 +1,6 @@
 //! The record `GetEagerStateCommandMessage`.
 
-ghost use Rattle.std.specs.Prelude.{[], false, refl, ◌∷◌};
+ghost use Rattle.std.specs.Prelude.{[], false, inl, refl, ◌∷◌};
 ghost use Rattle.shared_core_wire.specs.Schema.{Message};
 ghost use Rattle.shared_core_wire.specs.Value.{Bytes as Content, Member, cons, nil};
 ghost use Rattle.shared_core_base.specs.declared.header.MessageType.TheVariants as types;
@@ -146,13 +146,13 @@ impl RestateMessage for GetEagerStateCommandMessage {
     fn ty() -> MessageType {
         MessageType::GetEagerStateCommand
     }
-}
-
-impl RestateEncodableMessage for GetEagerStateCommandMessage {
-    ghost encoded_type = { types.GetEagerStateCommand };
 
     ghost named = { tt };
 
+    ghost own_schema = { inl refl };
+}
+
+impl RestateEncodableMessage for GetEagerStateCommandMessage {
     ghost wire_form = { λ message _. plain_form tables.get_eager_state_command (⟦<GetEagerStateCommandMessage as WireRecord>⟧.parts message) };
 
     ghost is_rewritten = { λ _. false };

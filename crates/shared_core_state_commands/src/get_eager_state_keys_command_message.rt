@@ -1,6 +1,6 @@
 //! The record `GetEagerStateKeysCommandMessage`.
 
-ghost use Rattle.std.specs.Prelude.{false};
+ghost use Rattle.std.specs.Prelude.{false, inl, refl};
 ghost use Rattle.shared_core_wire.specs.Value.{cons, nil};
 ghost use Rattle.shared_core_base.specs.declared.header.MessageType.TheVariants as types;
 ghost use Rattle.shared_core_parts.specs.Frames.{plain_form};
@@ -73,13 +73,13 @@ impl RestateMessage for GetEagerStateKeysCommandMessage {
     fn ty() -> MessageType {
         MessageType::GetEagerStateKeysCommand
     }
-}
-
-impl RestateEncodableMessage for GetEagerStateKeysCommandMessage {
-    ghost encoded_type = { types.GetEagerStateKeysCommand };
 
     ghost named = { tt };
 
+    ghost own_schema = { inl refl };
+}
+
+impl RestateEncodableMessage for GetEagerStateKeysCommandMessage {
     ghost wire_form = { λ message _. plain_form tables.get_eager_state_keys_command (⟦<GetEagerStateKeysCommandMessage as WireRecord>⟧.parts message) };
 
     ghost is_rewritten = { λ _. false };

@@ -1,6 +1,6 @@
 //! The record `GetLazyStateCommandMessage`.
 
-ghost use Rattle.std.specs.Prelude.{false};
+ghost use Rattle.std.specs.Prelude.{false, inl, refl};
 ghost use Rattle.shared_core_wire.specs.Value.{Bytes as Content, Number, cons, nil};
 ghost use Rattle.shared_core_base.specs.declared.header.MessageType.TheVariants as types;
 ghost use Rattle.shared_core_parts.specs.Frames.{plain_form};
@@ -77,13 +77,13 @@ impl RestateMessage for GetLazyStateCommandMessage {
     fn ty() -> MessageType {
         MessageType::GetLazyStateCommand
     }
-}
-
-impl RestateEncodableMessage for GetLazyStateCommandMessage {
-    ghost encoded_type = { types.GetLazyStateCommand };
 
     ghost named = { tt };
 
+    ghost own_schema = { inl refl };
+}
+
+impl RestateEncodableMessage for GetLazyStateCommandMessage {
     ghost wire_form = { λ message _. plain_form tables.get_lazy_state_command (⟦<GetLazyStateCommandMessage as WireRecord>⟧.parts message) };
 
     ghost is_rewritten = { λ _. false };

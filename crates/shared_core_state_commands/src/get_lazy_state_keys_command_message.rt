@@ -1,6 +1,6 @@
 //! The record `GetLazyStateKeysCommandMessage`.
 
-ghost use Rattle.std.specs.Prelude.{false};
+ghost use Rattle.std.specs.Prelude.{false, inl, refl};
 ghost use Rattle.shared_core_wire.specs.Value.{Number, cons, nil};
 ghost use Rattle.shared_core_base.specs.declared.header.MessageType.TheVariants as types;
 ghost use Rattle.shared_core_parts.specs.Frames.{plain_form};
@@ -70,13 +70,13 @@ impl RestateMessage for GetLazyStateKeysCommandMessage {
     fn ty() -> MessageType {
         MessageType::GetLazyStateKeysCommand
     }
-}
-
-impl RestateEncodableMessage for GetLazyStateKeysCommandMessage {
-    ghost encoded_type = { types.GetLazyStateKeysCommand };
 
     ghost named = { tt };
 
+    ghost own_schema = { inl refl };
+}
+
+impl RestateEncodableMessage for GetLazyStateKeysCommandMessage {
     ghost wire_form = { λ message _. plain_form tables.get_lazy_state_keys_command (⟦<GetLazyStateKeysCommandMessage as WireRecord>⟧.parts message) };
 
     ghost is_rewritten = { λ _. false };

@@ -1,6 +1,6 @@
 //! The record `InputCommandMessage`.
 
-ghost use Rattle.std.specs.Prelude.{false};
+ghost use Rattle.std.specs.Prelude.{false, inl, refl};
 ghost use Rattle.shared_core_wire.specs.Value.{cons, nil};
 ghost use Rattle.shared_core_base.specs.declared.header.MessageType.TheVariants as types;
 ghost use Rattle.shared_core_parts.specs.Frames.{plain_form};
@@ -82,13 +82,13 @@ impl RestateMessage for InputCommandMessage {
     fn ty() -> MessageType {
         MessageType::InputCommand
     }
-}
-
-impl RestateEncodableMessage for InputCommandMessage {
-    ghost encoded_type = { types.InputCommand };
 
     ghost named = { tt };
 
+    ghost own_schema = { inl refl };
+}
+
+impl RestateEncodableMessage for InputCommandMessage {
     ghost wire_form = { λ message _. plain_form tables.input_command (⟦<InputCommandMessage as WireRecord>⟧.parts message) };
 
     ghost is_rewritten = { λ _. false };

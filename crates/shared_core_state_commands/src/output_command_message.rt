@@ -1,6 +1,6 @@
 //! The record `OutputCommandMessage`.
 
-ghost use Rattle.std.specs.Prelude.{[], false, refl, ◌∷◌};
+ghost use Rattle.std.specs.Prelude.{[], false, inl, refl, ◌∷◌};
 ghost use Rattle.shared_core_wire.specs.Schema.{Message};
 ghost use Rattle.shared_core_wire.specs.Value.{Member, cons, nil};
 ghost use Rattle.shared_core_base.specs.declared.header.MessageType.TheVariants as types;
@@ -139,13 +139,13 @@ impl RestateMessage for OutputCommandMessage {
     fn ty() -> MessageType {
         MessageType::OutputCommand
     }
-}
-
-impl RestateEncodableMessage for OutputCommandMessage {
-    ghost encoded_type = { types.OutputCommand };
 
     ghost named = { tt };
 
+    ghost own_schema = { inl refl };
+}
+
+impl RestateEncodableMessage for OutputCommandMessage {
     ghost wire_form = { λ message _. plain_form tables.output_command (⟦<OutputCommandMessage as WireRecord>⟧.parts message) };
 
     ghost is_rewritten = { λ _. false };

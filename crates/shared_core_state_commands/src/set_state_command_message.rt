@@ -1,6 +1,6 @@
 //! The record `SetStateCommandMessage`.
 
-ghost use Rattle.std.specs.Prelude.{false};
+ghost use Rattle.std.specs.Prelude.{false, inl, refl};
 ghost use Rattle.shared_core_wire.specs.Value.{Bytes as Content, cons, nil};
 ghost use Rattle.shared_core_base.specs.declared.header.MessageType.TheVariants as types;
 ghost use Rattle.shared_core_parts.specs.Frames.{plain_form};
@@ -80,13 +80,13 @@ impl RestateMessage for SetStateCommandMessage {
     fn ty() -> MessageType {
         MessageType::SetStateCommand
     }
-}
-
-impl RestateEncodableMessage for SetStateCommandMessage {
-    ghost encoded_type = { types.SetStateCommand };
 
     ghost named = { tt };
 
+    ghost own_schema = { inl refl };
+}
+
+impl RestateEncodableMessage for SetStateCommandMessage {
     ghost wire_form = { λ message _. plain_form tables.set_state_command (⟦<SetStateCommandMessage as WireRecord>⟧.parts message) };
 
     ghost is_rewritten = { λ _. false };
