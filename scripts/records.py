@@ -434,7 +434,8 @@ def write_message(source, name):
     source.uses |= {"shared_core_base::header::MessageType", "shared_core_parts::restate_message::RestateMessage"}
     # a suspension has a second record, of the form before V7
     own_schema = "inr (refl, refl)" if name in TYPE_OF else "inl refl"
-    source.prelude |= {"refl", own_schema.split()[0]}
+    source.prelude.add("refl")
+    source.ghosts.add(f"Rattle.std.proofs.Common.{{{own_schema.split()[0]}}}")
     source.body.append(
         f"\nimpl RestateMessage for {name} {{\n"
         f"    ghost message_type = {{ types.{ty} }};\n\n"

@@ -1,5 +1,5 @@
 -- What was written decodes to what was written.
-use Rattle.std.proofs.Common.{◌≡◌, ◌≢◌, ◌^◌, ◌<◌, ◌≤◌, Bool, true, false, not, Some, None, cond, eqb, refl, sym, ap, subst, arith}
+use Rattle.std.proofs.Common.{◌≡◌, ◌≢◌, ℕ, List, ◌++◌, Option, Result, Ok, Err, ◌^◌, ◌<◌, ◌≤◌, Bool, true, false, not, Some, None, cond, eqb, refl, sym, ap, subst, arith}
 use Rattle.shared_core_base.specs.declared.header.MessageType.{MessageType}
 use Rattle.shared_core_base.specs.declared.header.MessageType.TheVariants.{ProposeRunCompletion, Suspension}
 use Rattle.shared_core_base.specs.declared.version.Version.{Version}
@@ -10,12 +10,22 @@ use Rattle.shared_core_wire.specs.Fitting.{Fits}
 use Rattle.shared_core_wire.specs.Value.{Parts}
 use Rattle.shared_core_record.specs.Table.{table}
 use Rattle.shared_core_record.specs.Table as tables
-use Rattle.shared_core_parts.specs.Frames.{WireForm, plain_form, wire_frame, wire_payload, wire_size}
+use Rattle.shared_core_record.specs.Payloads.{IsReadBack}
+use Rattle.shared_core_record.proofs.PayloadLaws.{canonical_is_read_back}
+use Rattle.shared_core_parts.specs.Frames.{WireFits, WireForm, plain_form, wire_frame, wire_payload, wire_size}
 use Rattle.shared_core_runtime.specs.Flattening.{flattened}
 use Rattle.shared_core_runtime.specs.Versions.{is_before_v7, proposal_form, suspension_form}
 use Rattle.shared_core_runtime.proofs.FlattenedFits.{flattened_fits, flattened_levels}
-use Rattle.shared_core.specs.Decoded.{DecodesTo, FrameSpells, requested_ack_of}
+use Rattle.shared_core.specs.declared.encoding.DecodingError.{DecodingError}
+use Rattle.shared_core.specs.declared.encoding.DecodingError.TheVariants.{DecodeMessage, UnexpectedMessageType, MissingField, UnknownMessageType, OutOfMemory}
+use Rattle.shared_core.specs.declared.encoding.Item.{Item}
+use Rattle.shared_core.specs.declared.encoding.Item.TheVariants.{Message, Unknown}
+use Rattle.shared_core.specs.declared.encoding.RawMessage.{RawMessage}
+use Rattle.shared_core.specs.Decoded.{AnswersWritten, DecodesTo, FrameSpells, requested_ack_of}
+use Rattle.shared_core.specs.Items.{AnswersNext, IsItem, NoItemBegins, TakesItem}
 use Rattle.shared_core.specs.Typed.{IsWritten}
+use Rattle.shared_core.specs.Written.{item_written}
+use Rattle.shared_core.proofs.Items.{one_item as no_item_begins_another}
 use Rattle.shared_core.proofs.Frames.{frame_is_item}
 use Rattle.shared_core.proofs.TypedPayloads.{written_means}
 
@@ -26,6 +36,32 @@ form_decodes version ty form named small fits low =
     let written : IsWritten form.schema form.parts (wire_payload form) = ((fits, low, omega (arith, small)), refl) in
     let means = written_means form.schema form.parts (wire_payload form) written in
     (frame_is_item version ty form (wire_frame ty form) named small refl, (refl, written, (means.0, sym means.1)))
+
+-- what is written is accepted and means what was written
+pub frame_is_read_back : (form : WireForm) → WireFits form → wire_size form < 2 ^ 32 → IsReadBack form.schema form.parts (wire_payload form)
+frame_is_read_back form fits small low = canonical_is_read_back form.schema form.parts fits (omega (arith, small)) low
+
+-- a decoder before which a frame stands answers the message that was written, whatever follows it
+pub frame_comes_out : (version : Version) (ty : MessageType) (form : WireForm) (bytes : List ℕ) → IsNamed ty → WireFits form → wire_size form < 2 ^ 32 → bytes ≡ wire_frame ty form → levels form.parts ≤ 100
+    → (rest new : List ℕ) (answer : Result (Option RawMessage) DecodingError) → AnswersNext version (bytes ++ rest) answer new → AnswersWritten ty form (bytes ++ rest) answer rest new
+frame_comes_out version ty form bytes named fits small is low rest new answer = by_answer answer
+  where
+    written : IsItem version bytes (item_written ty form) × DecodesTo ty form.schema form.parts (item_written ty form)
+    written = rw is (form_decodes version ty form named small fits low)
+
+    comes : (item : Item) → TakesItem version (bytes ++ rest) item new → DecodesTo ty form.schema form.parts item × (new ≡ rest)
+    comes item (first, spelled, joined) =
+        let same = no_item_begins_another version bytes first rest new (item_written ty form) item written.0 spelled joined in
+        (subst (DecodesTo ty form.schema form.parts) same.1 written.1, sym same.2)
+
+    by_answer : (answer : Result (Option RawMessage) DecodingError) → AnswersNext version (bytes ++ rest) answer new → AnswersWritten ty form (bytes ++ rest) answer rest new
+    by_answer (Ok (Some message)) taken = comes (Message message) taken
+    by_answer (Ok None) answers = answers.0 (item_written ty form) rest (bytes, written.0, refl)
+    by_answer (Err (UnknownMessageType unknown)) taken = absurd (comes (Unknown unknown.0) taken).0
+    by_answer (Err OutOfMemory) answers = (refl, answers.0)
+    by_answer (Err (DecodeMessage found error)) answers = absurd answers
+    by_answer (Err (UnexpectedMessageType mismatch)) answers = absurd answers
+    by_answer (Err (MissingField expected field)) answers = absurd answers
 
 -- a suspension before V7 comes out as its three lists
 pub suspension_decodes : (version : Version) (suspension : Parts) → is_before_v7 version ≡ true → Fits table suspension (table tables.suspension) → wire_size (suspension_form suspension version) < 2 ^ 32

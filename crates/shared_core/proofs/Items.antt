@@ -1,5 +1,5 @@
 -- Which item stands at the front of a stream, and how streams split.
-use Rattle.std.proofs.Common.{◌≡◌, ℕ, ◌+◌, ◌/◌, ◌^◌, ◌<◌, ◌≤◌, List, [], ◌∷◌, ◌++◌, length, take, drop, Option, Some, None, refl, sym, ap, ◌∙◌, arith, subst, append_assoc, append-nil, length-append, zero, suc, inl, inr, Bool, true, false, leb}
+use Rattle.std.proofs.Common.{◌≡◌, ℕ, ◌+◌, ◌/◌, ◌^◌, ◌<◌, ◌≤◌, List, [], ◌∷◌, ◌++◌, length, take, drop, Option, Some, None, Result, Ok, Err, refl, sym, ap, ◌∙◌, arith, subst, append_assoc, append-nil, length-append, zero, suc, inl, inr, Bool, true, false, leb}
 use Rattle.std.specs.Prelude.{◌⊎◌}
 use Rattle.std.proofs.lemmas.Bool.{leb-true, leb-false}
 use Rattle.std.specs.Int.{w64, from_be_bytes}
@@ -8,9 +8,12 @@ use Rattle.std.proofs.Math.Seq.{take-append_seam, drop-append_seam}
 use Rattle.shared_core_base.specs.declared.header.MessageHeader.{MessageHeader}
 use Rattle.shared_core_base.specs.declared.version.Version.{Version}
 use Rattle.shared_core_base.specs.MessageHeader.{header_of, word_code}
+use Rattle.shared_core.specs.declared.encoding.DecodingError.{DecodingError}
+use Rattle.shared_core.specs.declared.encoding.DecodingError.TheVariants.{DecodeMessage, UnexpectedMessageType, MissingField, UnknownMessageType, OutOfMemory}
+use Rattle.shared_core.specs.declared.encoding.RawMessage.{RawMessage}
 use Rattle.shared_core.specs.declared.encoding.Item.{Item}
 use Rattle.shared_core.specs.declared.encoding.Item.TheVariants.{Message, Unknown}
-use Rattle.shared_core.specs.Items.{front_word, body_length, item_of, IsItem, AreItems, TakesItem, NoItemBegins, IsItemsThen, SplitsInto, BeginsWithWritten}
+use Rattle.shared_core.specs.Items.{front_word, body_length, item_of, IsItem, AnswersNext, AreItems, TakesEight, TakesItem, NoItemBegins, IsItemsThen, SplitsInto, BeginsWithWritten}
 
 take_exact : (n : ℕ) (front rest : List ℕ) → length front ≡ n → take n (front ++ rest) ≡ front
 take_exact n front rest e = subst (λ k. take k (front ++ rest) ≡ front) e (take-append_seam front rest)
@@ -69,6 +72,20 @@ module _ (version : Version) where
     none_partial header size typed sized short =
         let announced : body_length version word ≡ size = rw typed (sym sized) in
         none_short bytes (omega (arith, ap length whole, length-append head rest, ap (body_length version) (ap front_word whole ∙ front_word_head head rest eight ∙ sym reads), announced))
+
+  -- an item takes eight bytes at least
+  pub item_is_long : (old new : List ℕ) (item : Item) → TakesItem version old item new → length new + 8 ≤ length old
+  item_is_long old new item (first, is, splits) = omega (arith, is.whole, ap length splits, length-append first new)
+
+  -- what an answer takes is eight bytes at least
+  pub answer_is_long : (old new : List ℕ) (answer : Result (Option RawMessage) DecodingError) → AnswersNext version old answer new → TakesEight old answer new
+  answer_is_long old new (Ok (Some message)) taken = item_is_long old new (Message message) taken
+  answer_is_long old new (Ok None) answers = tt
+  answer_is_long old new (Err (UnknownMessageType unknown)) taken = item_is_long old new (Unknown unknown.0) taken
+  answer_is_long old new (Err (DecodeMessage found error)) answers = tt
+  answer_is_long old new (Err (UnexpectedMessageType mismatch)) answers = tt
+  answer_is_long old new (Err (MissingField expected field)) answers = tt
+  answer_is_long old new (Err OutOfMemory) answers = tt
 
   -- no item's bytes begin another's
   pub one_item : (a b x y : List ℕ) (i j : Item) → IsItem version a i → IsItem version b j → a ++ x ≡ b ++ y → (a ≡ b) × (i ≡ j) × (x ≡ y)

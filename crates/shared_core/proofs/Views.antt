@@ -1,9 +1,11 @@
 -- The view of a notification agrees with the notification's own type, and misses a field exactly where no record is one.
-use Rattle.std.proofs.Common.{◌≡◌, ℕ, List, [], ◌∷◌, Option, Some, None, Result, Ok, Err, Bool, true, false, cond, ◌||◌, inl, inr, refl, sym, ap, subst, ◌∙◌}
+use Rattle.std.proofs.Common.{◌≡◌, ◌≤◌, ℕ, leb, List, [], ◌∷◌, Option, Some, None, Result, Ok, Err, Bool, true, false, cond, ◌||◌, inl, inr, refl, sym, ap, subst, ◌∙◌}
 use Rattle.std.specs.List.{list_any}
+use Rattle.std.proofs.lemmas.Bool.{le-leb}
 use Rattle.std.specs.Prelude.{codes}
 use Rattle.shared_core_base.specs.declared.header.MessageType.{MessageType}
 use Rattle.shared_core_base.specs.declared.header.MessageType.TheVariants.{CustomEntry}
+use Rattle.shared_core_base.specs.MessageType.{IsNamed, code_of}
 use Rattle.shared_core_wire.specs.Grammar.{FieldRecord}
 use Rattle.shared_core_wire.specs.Schema.{Kind, OneOf, U32, Text, Message, includes, numbers}
 use Rattle.shared_core_wire.specs.Value.{Part, Parts, Absent, cons, nil}
@@ -15,38 +17,52 @@ use Rattle.shared_core_record.specs.Table.{table, notification_template}
 use Rattle.shared_core_record.specs.Table as tables
 use Rattle.shared_core_record.specs.Payloads.{IsAccepted}
 use Rattle.shared_core_record.proofs.Tables.{are_schemas}
+use Rattle.shared_core_parts.specs.Messages.{message_schema}
 use Rattle.shared_core_parts.specs.declared.notification.Notification.{Notification}
 use Rattle.shared_core.specs.declared.encoding.RawMessage.{RawMessage}
 use Rattle.shared_core.specs.declared.encoding.DecodingError.{DecodingError}
 use Rattle.shared_core.specs.declared.encoding.DecodingError.TheVariants.{DecodeMessage, MissingField, OutOfMemory, UnexpectedMessageType, UnknownMessageType}
 use Rattle.shared_core.specs.Typed.{MeansParts, RefusesPayload}
-use Rattle.shared_core.specs.View.{notification_schema, IsOfNotification, AgreesWithType, AnswersLacking, IsMissing, has_record, id_numbers, lacking_field, result_numbers}
+use Rattle.shared_core.specs.View.{IsOfNotification, AgreesWithType, AnswersLacking, IsMissing, has_record, id_numbers, lacking_field, result_numbers}
 
 -- whether the schema, if there is one, has rows of the template
 within : Option ℕ → Bool
 within None = true
 within (Some s) = is_within_template (table notification_template) (table s)
 
-all_within : (ty : MessageType) → within (notification_schema ty) ≡ true
+either_way : (b : Bool) → cond b true true ≡ true
+either_way true = refl
+either_way false = refl
+
+-- those of the types whose codes are notifications'
+all_within : (ty : MessageType) → cond (leb 0x8000 (code_of ty)) (within (message_schema ty)) true ≡ true
 unfolding within
-all_within ty = elim ty as (λ ty. within (notification_schema ty) ≡ true) [
-  | CustomEntry code ↦ refl
+all_within ty = elim ty as (λ ty. cond (leb 0x8000 (code_of ty)) (within (message_schema ty)) true ≡ true) [
+  | CustomEntry code ↦ either_way (leb 0x8000 code)
   | _ ↦ refl
 ]
 
-schema_within : (ty : MessageType) (s : ℕ) → notification_schema ty ≡ Some s → is_within_template (table notification_template) (table s) ≡ true
+pub schema_within : (ty : MessageType) (s : ℕ) → 0x8000 ≤ code_of ty → message_schema ty ≡ Some s → is_within_template (table notification_template) (table s) ≡ true
 unfolding within
-schema_within ty s is = ap within (sym is) ∙ all_within ty
+schema_within ty s high is =
+    ap within (sym is) ∙ ap (λ (b : Bool). cond b (within (message_schema ty)) true) (sym (le-leb _ _ high)) ∙ all_within ty
+
+-- each named type has a schema
+pub schema_of_named : (ty : MessageType) → IsNamed ty → (s : ℕ) × (message_schema ty ≡ Some s)
+schema_of_named ty = elim ty as (λ ty. IsNamed ty → (s : ℕ) × (message_schema ty ≡ Some s)) [
+  | CustomEntry code ↦ λ named. absurd named
+  | _ ↦ λ named. (_, refl)
+]
 
 -- what the type accepts, the template accepts
-pub view_accepts : (ty : MessageType) (s : ℕ) (payload : List ℕ) → notification_schema ty ≡ Some s → IsOfNotification s payload → IsAccepted notification_template payload
-view_accepts ty s payload is (accepted, apart) =
-    (payload_views table 100 notification_template s payload (are_schemas notification_template) (are_schemas s) (schema_within ty s is) apart accepted).0
+pub view_accepts : (ty : MessageType) (s : ℕ) (payload : List ℕ) → 0x8000 ≤ code_of ty → message_schema ty ≡ Some s → IsOfNotification s payload → IsAccepted notification_template payload
+view_accepts ty s payload high is (accepted, apart) =
+    (payload_views table 100 notification_template s payload (are_schemas notification_template) (are_schemas s) (schema_within ty s high is) apart accepted).0
 
 -- and it holds what the type's meaning holds
-pub view_agrees : (ty : MessageType) (s : ℕ) (payload : List ℕ) (parts : Parts) → MeansParts notification_template payload parts → notification_schema ty ≡ Some s → IsOfNotification s payload → AgreesWithType s payload parts
-view_agrees ty s payload parts means is (accepted, apart) n known stands =
-    rw means.1 ((payload_views table 100 notification_template s payload (are_schemas notification_template) (are_schemas s) (schema_within ty s is) apart accepted).1 n known stands)
+pub view_agrees : (ty : MessageType) (s : ℕ) (payload : List ℕ) (parts : Parts) → MeansParts notification_template payload parts → 0x8000 ≤ code_of ty → message_schema ty ≡ Some s → IsOfNotification s payload → AgreesWithType s payload parts
+view_agrees ty s payload parts means high is (accepted, apart) n known stands =
+    rw means.1 ((payload_views table 100 notification_template s payload (are_schemas notification_template) (are_schemas s) (schema_within ty s high is) apart accepted).1 n known stands)
 
 -- ---- the field that is missing
 

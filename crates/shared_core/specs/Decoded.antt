@@ -1,9 +1,12 @@
 -- What the item that a frame spells decodes to.
-use Rattle.std.specs.Prelude.{◌≡◌, ℕ, Bool, Option, None}
+use Rattle.std.specs.Prelude.{◌≡◌, ℕ, Bool, List, Option, Some, None, Result, Ok, Err}
 use Rattle.shared_core_base.specs.declared.header.MessageType.{MessageType}
 use Rattle.shared_core_base.specs.declared.version.Version.{Version}
 use Rattle.shared_core_wire.specs.Value.{Parts}
 use Rattle.shared_core_parts.specs.Frames.{WireForm, wire_frame}
+use Rattle.shared_core.specs.declared.encoding.DecodingError.{DecodingError}
+use Rattle.shared_core.specs.declared.encoding.DecodingError.TheVariants.{OutOfMemory}
+use Rattle.shared_core.specs.declared.encoding.RawMessage.{RawMessage}
 use Rattle.shared_core.specs.declared.encoding.Item.{Item}
 use Rattle.shared_core.specs.declared.encoding.Item.TheVariants.{Message, Unknown}
 use Rattle.shared_core.specs.Items.{IsItem}
@@ -25,3 +28,10 @@ requested_ack_of (Unknown code) = None
 abbrev pub FrameSpells : Version → MessageType → WireForm → (Item → Type 0) → Type 0
 FrameSpells version ty form HasProperty =
     IsItem version (wire_frame ty form) (item_written ty form) × HasProperty (item_written ty form)
+
+-- What a decoder answers before which the frame of a wire form stands, with the rest behind it: the message that decodes to what was written,
+-- and the rest is left; or memory was refused, and all bytes are left.
+abbrev pub AnswersWritten : MessageType → WireForm → List ℕ → Result (Option RawMessage) DecodingError → List ℕ → List ℕ → Type 0
+AnswersWritten ty form old (Ok (Some message)) rest new = DecodesTo ty form.schema form.parts (Message message) × (new ≡ rest)
+AnswersWritten ty form old (Ok None) rest new = ⊥
+AnswersWritten ty form old (Err refusal) rest new = (refusal ≡ OutOfMemory) × (new ≡ old)

@@ -72,6 +72,12 @@ AnswersNext version old (Err OutOfMemory) new =
     (new ≡ old) × (message : RawMessage) × (rest : List ℕ) × TakesItem version old (Message message) rest
 AnswersNext version old (Err other) new = ⊥
 
+-- A message and an unknown code leave at least eight bytes fewer.
+abbrev pub TakesEight : List ℕ → Result (Option RawMessage) DecodingError → List ℕ → Type 0
+TakesEight old (Ok (Some message)) new = length new + 8 ≤ length old
+TakesEight old (Err (UnknownMessageType unknown)) new = length new + 8 ≤ length old
+TakesEight old answer new = Unit {0}
+
 -- A refused piece comes back as it was, and is too long only where the bytes would be 2 ^ 64 or more.
 abbrev pub RefusesPiece : List ℕ → List ℕ → PushError → Type 0
 RefusesPiece old piece (NoMemory back) = back ≡ piece

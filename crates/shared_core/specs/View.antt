@@ -1,12 +1,9 @@
 -- The view of a notification, whatever its type.
 use Rattle.std.specs.Prelude.{◌≡◌, ◌≢◌, ◌⊎◌, ℕ, Bool, List, [], ◌∷◌, Option, Some, None, Result, Ok, Err, true, codes, nat_eq, if◌then◌else◌}
 use Rattle.std.specs.List.{list_any}
-use Rattle.shared_core_base.specs.declared.header.MessageType.{MessageType}
-use Rattle.shared_core_base.specs.declared.header.MessageType.TheVariants.{GetLazyStateCompletionNotification, GetLazyStateKeysCompletionNotification, GetPromiseCompletionNotification, PeekPromiseCompletionNotification, CompletePromiseCompletionNotification, SleepCompletionNotification, CallCompletionNotification, CallInvocationIdCompletionNotification, RunCompletionNotification, AttachInvocationCompletionNotification, GetInvocationOutputCompletionNotification, SignalNotification}
 use Rattle.shared_core_wire.specs.Schema.{includes, all_numbers}
 use Rattle.shared_core_wire.specs.Overlay.{payload_records}
 use Rattle.shared_core_wire.specs.Template.{are_apart, part_at}
-use Rattle.shared_core_record.specs.Table as schema
 use Rattle.shared_core_wire.specs.Value.{Part, Parts, Absent, nil, cons}
 use Rattle.shared_core_record.specs.Table.{table, notification_template}
 use Rattle.shared_core_record.specs.Payloads.{IsAccepted, payload_meaning}
@@ -61,22 +58,6 @@ AnswersLacking message None (Ok found) = Unit {0}
 AnswersLacking message (Some field) (Ok found) = ⊥
 AnswersLacking message None (Err refusal) = refusal ≡ OutOfMemory
 AnswersLacking message (Some field) (Err refusal) = IsMissing message field refusal ⊎ (refusal ≡ OutOfMemory)
-
--- The schema of a notification's type: the twelve named ones have one.
-abbrev pub notification_schema : MessageType → Option ℕ
-notification_schema GetLazyStateCompletionNotification = Some schema.get_lazy_state_completion
-notification_schema GetLazyStateKeysCompletionNotification = Some schema.get_lazy_state_keys_completion
-notification_schema GetPromiseCompletionNotification = Some schema.get_promise_completion
-notification_schema PeekPromiseCompletionNotification = Some schema.peek_promise_completion
-notification_schema CompletePromiseCompletionNotification = Some schema.complete_promise_completion
-notification_schema SleepCompletionNotification = Some schema.sleep_completion
-notification_schema CallCompletionNotification = Some schema.call_completion
-notification_schema CallInvocationIdCompletionNotification = Some schema.call_invocation_id_completion
-notification_schema RunCompletionNotification = Some schema.run_completion
-notification_schema AttachInvocationCompletionNotification = Some schema.attach_invocation_completion
-notification_schema GetInvocationOutputCompletionNotification = Some schema.get_invocation_output_completion
-notification_schema SignalNotification = Some schema.signal_notification
-notification_schema ty = None
 
 -- The payload is well-formed for the schema, and each of its numbers is one of the schema's or none of the template's.
 abbrev pub IsOfNotification : ℕ → List ℕ → Type 0

@@ -169,7 +169,7 @@ fn hold_head(head: &mut Option<[u8; 8]>, pending: &mut PendingBytes) -> Option<[
 impl Decoder {
     ghost use Rattle.std.specs.Prelude.{◌≡◌, ◌+◌, ◌≤◌, ◌++◌, [], length, OnOk, OnErr, IfOk, IfErr, IsOk, MatchOption, None, Ok};
     ghost use Rattle.shared_core_base.specs.Version.{version_number};
-    ghost use Rattle.shared_core.specs.Items.{AnswersNext, NoItemBegins, RefusesPiece, TakesItem};
+    ghost use Rattle.shared_core.specs.Items.{AnswersNext, NoItemBegins, RefusesPiece, TakesEight, TakesItem};
 
     /// A decoder of this version, which is at least V5, before any byte has come. It takes no memory.
     pub fn new(alloc: Global, version: Version) -> Decoder
@@ -223,6 +223,8 @@ impl Decoder {
         ensures next { AnswersNext self.old.version self.old.bytes result self.new.bytes }
         ensures version { self.new.version ≡ self.old.version }
         ensures short { result ≡ Ok None → length self.new.bytes ≤ 4294967302 }
+        // what is taken is eight bytes at least, so a loop over the messages ends
+        ensures shorter { TakesEight self.old.bytes result self.new.bytes }
     {
         let Some(head) = hold_head(&mut self.head, &mut self.pending) else {
             return Ok(None);
@@ -253,6 +255,7 @@ impl Decoder {
             × (length self.new.bytes ≤ 4294967302))
             (λ item. TakesItem self.old.version self.old.bytes item self.new.bytes)) }
         ensures refused { OnErr result (self.new.bytes ≡ self.old.bytes) }
+        ensures shorter { IfOk result (λ found. IfSome found (λ item. length self.new.bytes + 8 ≤ length self.old.bytes)) }
         ensures version { self.new.version ≡ self.old.version }
     {
         match self.consume_next() {

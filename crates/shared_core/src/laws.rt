@@ -7,11 +7,13 @@ ghost use Rattle.shared_core.specs.Written.{AreFrames, items_written, joined_fra
 ghost use Rattle.shared_core.specs.Decoded.{DecodesTo, FrameSpells, requested_ack_of};
 ghost use Rattle.shared_core_base.specs.declared.header.MessageType.{MessageType as AnyType};
 ghost use Rattle.shared_core_base.specs.declared.header.MessageType.TheVariants.{ProposeRunCompletion, Suspension};
-ghost use Rattle.shared_core_base.specs.MessageType.{IsNamed};
+ghost use Rattle.shared_core_base.specs.MessageType.{IsNamed, code_of};
 ghost use Rattle.shared_core_wire.specs.Canonical.{levels};
 ghost use Rattle.shared_core_wire.specs.Fitting.{Fits};
 ghost use Rattle.shared_core_wire.specs.Value.{Parts};
-ghost use Rattle.shared_core_record.specs.Table.{table};
+ghost use Rattle.shared_core_wire.specs.Template.{is_within_template};
+ghost use Rattle.shared_core_record.specs.Table.{notification_template, table};
+ghost use Rattle.shared_core_parts.specs.Messages.{message_schema};
 ghost use Rattle.shared_core_record.specs.Table as tables;
 ghost use Rattle.shared_core_parts.specs.Frames.{WireForm, wire_size};
 ghost use Rattle.shared_core_runtime.specs.Flattening.{flattened};
@@ -67,6 +69,13 @@ pub fn suspensions_decode_to_their_three_lists()
         → Fits table suspension (table tables.suspension) → wire_size (suspension_form suspension version) < 2 ^ 32
         → FrameSpells version Suspension (suspension_form suspension version)
         (DecodesTo Suspension tables.suspension_v6 (flattened suspension)) }
+{}
+
+/// Each named type has a schema, and the rows of each named notification's schema are rows of the notification template.
+pub fn notifications_are_within_the_template()
+    ensures named { (ty : AnyType) → IsNamed ty → (s : ℕ) × (message_schema ty ≡ Some s) }
+    ensures within { (ty : AnyType) (s : ℕ) → 0x8000 ≤ code_of ty → code_of ty < 0xFC00 → message_schema ty ≡ Some s
+        → is_within_template (table notification_template) (table s) ≡ true }
 {}
 
 /// A request for an acknowledgement comes out as it was asked: a proposal of a run's result asks from V7 on and not before, and the

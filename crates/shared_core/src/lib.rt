@@ -9,5 +9,6 @@ pub mod messages;
 mod pending_bytes;
 pub mod wire;
 
+pub use shared_core_base::command_type::CommandType;
 pub use shared_core_base::version::Version;
 pub use shared_core_base::{header, version};

@@ -1,9 +1,10 @@
 //! The record `GetStateEphemeralCommandMessage`.
 
-ghost use Rattle.std.specs.Prelude.{false, inl, refl};
+ghost use Rattle.std.specs.Prelude.{false, refl};
 ghost use Rattle.shared_core_wire.specs.Value.{Bytes as Content, Number, cons, nil};
 ghost use Rattle.shared_core_base.specs.declared.header.MessageType.TheVariants as types;
 ghost use Rattle.shared_core_parts.specs.Frames.{plain_form};
+ghost use Rattle.std.proofs.Common.{inl};
 ghost use Rattle.shared_core_record.specs.Table as tables;
 ghost use Rattle.shared_core_record.specs.EqualityRules.{equality_rules};
 

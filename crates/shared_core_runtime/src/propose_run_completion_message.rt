@@ -1,9 +1,10 @@
 //! The record `ProposeRunCompletionMessage`.
 
-ghost use Rattle.std.specs.Prelude.{[], inl, refl, ◌∷◌};
+ghost use Rattle.std.specs.Prelude.{[], refl, ◌∷◌};
 ghost use Rattle.shared_core_wire.specs.Schema.{ByteString, Message};
 ghost use Rattle.shared_core_wire.specs.Value.{Bytes as Content, Member, Number, cons, nil};
 ghost use Rattle.shared_core_base.specs.declared.header.MessageType.TheVariants as types;
+ghost use Rattle.std.proofs.Common.{inl};
 ghost use Rattle.shared_core_record.specs.Table as tables;
 ghost use Rattle.shared_core_record.specs.FieldParts.{message_part, option_part};
 ghost use Rattle.shared_core_record.specs.EqualityRules.{different_members, equality_rules};

@@ -1,8 +1,9 @@
 //! The record `SuspensionMessageV6`.
 
-ghost use Rattle.std.specs.Prelude.{inr, refl};
+ghost use Rattle.std.specs.Prelude.{refl};
 ghost use Rattle.shared_core_wire.specs.Value.{Number, cons, nil};
 ghost use Rattle.shared_core_base.specs.declared.header.MessageType.TheVariants as types;
+ghost use Rattle.std.proofs.Common.{inr};
 ghost use Rattle.shared_core_record.specs.Table as tables;
 ghost use Rattle.shared_core_record.specs.FieldParts.{elements_part, text_part};
 ghost use Rattle.shared_core_record.specs.EqualityRules.{equality_rules};

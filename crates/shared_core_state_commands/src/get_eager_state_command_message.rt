@@ -1,10 +1,11 @@
 //! The record `GetEagerStateCommandMessage`.
 
-ghost use Rattle.std.specs.Prelude.{[], false, inl, refl, ◌∷◌};
+ghost use Rattle.std.specs.Prelude.{[], false, refl, ◌∷◌};
 ghost use Rattle.shared_core_wire.specs.Schema.{Message};
 ghost use Rattle.shared_core_wire.specs.Value.{Bytes as Content, Member, cons, nil};
 ghost use Rattle.shared_core_base.specs.declared.header.MessageType.TheVariants as types;
 ghost use Rattle.shared_core_parts.specs.Frames.{plain_form};
+ghost use Rattle.std.proofs.Common.{inl};
 ghost use Rattle.shared_core_record.specs.Table as tables;
 ghost use Rattle.shared_core_record.specs.FieldParts.{message_part, option_part, text_part};
 ghost use Rattle.shared_core_record.specs.EqualityRules.{different_members, equality_rules};

@@ -18,8 +18,15 @@ pub struct Encoder {
 }
 
 impl Encoder {
-    ghost use Rattle.shared_core.specs.Items.{IsItem};
+    ghost use Rattle.std.specs.Prelude.{List, Option, Result, ℕ, ◌++◌};
+    ghost use Rattle.shared_core_wire.specs.Canonical.{levels};
+    ghost use Rattle.shared_core_record.specs.Payloads.{IsReadBack};
+    ghost use Rattle.shared_core_parts.specs.Frames.{wire_payload};
+    ghost use Rattle.shared_core.specs.Items.{AnswersNext, IsItem};
     ghost use Rattle.shared_core.specs.Written.{item_written};
+    ghost use Rattle.shared_core.specs.Decoded.{AnswersWritten};
+    ghost use Rattle.shared_core.specs.declared.encoding.RawMessage.{RawMessage};
+    ghost use Rattle.shared_core.specs.declared.encoding.DecodingError.{DecodingError};
 
     /// An encoder of this version, which is at least V5.
     pub fn new(version: Version) -> Encoder
@@ -35,14 +42,20 @@ impl Encoder {
     /// `PayloadTooLong` exactly where that payload has more than 4,294,967,295 bytes, which is known before memory is asked
     /// for, unless the message is rewritten first, as a suspension is before V7. `OutOfMemory` where a request for memory
     /// was refused. The message stands after either.
-    #[tactic(auto, using(crate::proofs::Frames::frame_is_item))]
+    #[tactic(auto, using(crate::proofs::Frames::frame_is_item, crate::proofs::DecodedFrames::frame_is_read_back, crate::proofs::DecodedFrames::frame_comes_out))]
     pub fn encode<M: RestateEncodableMessage>(
         &self,
         alloc: Global,
         message: &M,
     ) -> Result<Bytes, EncodingError>
-        ensures frame { IfOk result (λ bytes. bytes ≡ wire_frame M.encoded_type (M.wire_form message.now self.now.version)) }
-        ensures item { IfOk result (λ bytes. IsItem self.now.version bytes (item_written M.encoded_type (M.wire_form message.now self.now.version))) }
+        ensures frame { IfOk result (λ bytes. bytes ≡ wire_frame M.message_type (M.wire_form message.now self.now.version)) }
+        ensures item { IfOk result (λ bytes. IsItem self.now.version bytes (item_written M.message_type (M.wire_form message.now self.now.version))) }
+        // what is written means what was written, where it has at most one hundred levels
+        ensures reads_back { IfOk result (λ bytes. IsReadBack (M.wire_form message.now self.now.version).schema (M.wire_form message.now self.now.version).parts (wire_payload (M.wire_form message.now self.now.version))) }
+        // and a decoder that it was pushed to answers that message next
+        ensures comes_out { IfOk result (λ bytes. levels (M.wire_form message.now self.now.version).parts ≤ 100
+            → (rest new : List ℕ) (answer : Result (Option RawMessage) DecodingError) → AnswersNext self.now.version (bytes ++ rest) answer new
+            → AnswersWritten M.message_type (M.wire_form message.now self.now.version) (bytes ++ rest) answer rest new) }
         ensures too_long { IsErrOf result PayloadTooLong → 2 ^ 32 ≤ wire_size (M.wire_form message.now self.now.version) }
         ensures refused { 2 ^ 32 ≤ wire_size (M.wire_form message.now self.now.version)
             → MatchBool (M.is_rewritten self.now.version) (IsErr result) (result ≡ Err PayloadTooLong) }

@@ -4,6 +4,7 @@ ghost use Rattle.shared_core_record.specs.Payloads.{IsAccepted};
 ghost use Rattle.shared_core_wire.specs.Value.{Parts};
 ghost use Rattle.shared_core_base.specs.MessageType.{code_of};
 ghost use Rattle.shared_core_record.specs.Table.{notification_template};
+ghost use Rattle.shared_core_parts.specs.Messages.{message_schema};
 
 use crate::encoding::{DecodingError, RawMessage};
 use crate::errors::CommandTypeMismatchError;
@@ -16,7 +17,7 @@ use std::alloc::Global;
 
 impl RawMessage {
     ghost use Rattle.shared_core.specs.Typed.{MeansParts, IsWritten, RefusesPayload, RefusesTyped, mismatch_of};
-    ghost use Rattle.shared_core.specs.View.{notification_parts, notification_schema, lacking_field, AgreesWithType, AnswersLacking, IsMissing, IsOfNotification, RefusesNotification};
+    ghost use Rattle.shared_core.specs.View.{notification_parts, lacking_field, AgreesWithType, AnswersLacking, IsMissing, IsOfNotification, RefusesNotification};
     ghost use Rattle.shared_core.specs.declared.encoding.DecodingError.TheVariants as error;
 
     /// The message as a record of its type.
@@ -65,9 +66,9 @@ impl RawMessage {
         ensures ok { IfOk result (λ found. MeansParts notification_template self.now.payload (notification_parts found)) }
         ensures err { IfErr result (RefusesNotification self.now) }
         // what the notification's own type accepts is no refusal, and the view holds what its meaning holds
-        ensures accepts { (s : ℕ) → notification_schema self.now.header.ty ≡ Some s → IsOfNotification s self.now.payload
+        ensures accepts { (s : ℕ) → message_schema self.now.header.ty ≡ Some s → IsOfNotification s self.now.payload
             → IsAccepted notification_template self.now.payload }
-        ensures agrees { IfOk result (λ found. (s : ℕ) → notification_schema self.now.header.ty ≡ Some s
+        ensures agrees { IfOk result (λ found. (s : ℕ) → message_schema self.now.header.ty ≡ Some s
             → IsOfNotification s self.now.payload → AgreesWithType s self.now.payload (notification_parts found)) }
         // a field is missing exactly where no record is one
         ensures lacking { IsAccepted notification_template self.now.payload

@@ -12,7 +12,7 @@ use Rattle.shared_core.proofs.Views.{lacks_id, lacks_nothing, lacks_result, view
 use Rattle.shared_core.proofs.encoding.RawMessage.decode_as_notification.Goals as goal
 
 pub returns-in_err-id-clause-accepts : goal.returns-in_err-id-clause-accepts
-returns-in_err-id-clause-accepts c s is accepted = view_accepts _ s _ is accepted
+returns-in_err-id-clause-accepts c s is accepted = view_accepts _ s _ c.requires.first is accepted
 
 pub returns-in_default-clause-lacking : goal.returns-in_default-clause-lacking
 returns-in_default-clause-lacking c accepted =
@@ -27,7 +27,7 @@ returns-in_default-result-clause-lacking c accepted =
 pub returns-clause-agrees : goal.returns-clause-agrees
 returns-clause-agrees c s is accepted =
     let means : MeansParts notification_template c.args.self.now.payload (notification_parts (record { id = c.in-Some.id; result = c.in-Some-result.result })) = search rules in
-    view_agrees _ s _ _ means is accepted
+    view_agrees _ s _ _ means c.requires.first is accepted
 
 pub returns-clause-lacking : goal.returns-clause-lacking
 returns-clause-lacking c accepted =
