@@ -1,10 +1,13 @@
-"""Writes the records of proto/journal.proto as Rattle source, as prost-build does for Rust: scripts/records.py [CRATE..]
+"""Writes the records of proto/journal.proto as Rattle source, as prost-build does for Rust: scripts/records.py [--check] [CRATE..]
 
-One file a message, in the crates below. Run `rt fmt` in each crate afterwards. The records of shared_core_parts are written by hand: they
-are few, and Future, which leads back to itself, has a form of its own.
+One file a message, in the crates below, laid out as `rt fmt` does; a file whose text stays is not touched. With --check nothing is
+written; the status is 1 where a file is not up to date. The records of shared_core_parts are written by hand: they are few, and
+Future, which leads back to itself, has a form of its own.
 """
 import pathlib
+import subprocess
 import sys
+import tempfile
 import textwrap
 
 from journal import OneOf, camel, messages, snake
@@ -463,11 +466,10 @@ def write_message(source, name):
     )
 
 
-def write_crate(crate):
+def write_crate(crate, folder):
+    """Writes the files of a crate into a folder, not yet laid out."""
     about, names = CRATES[crate]
     table = {message.name: message for message in messages()}
-    folder = ROOT / crate / "src"
-    folder.mkdir(parents=True, exist_ok=True)
     homes = {}
     modules = []
     for module, enum, text, users in SHARED.get(crate, []):
@@ -511,6 +513,41 @@ def write_crate(crate):
     (folder / "lib.rt").write_text(lib)
 
 
+def lay_out(files):
+    """Gives files the layout of `rt fmt`. That formats a whole crate, so the program behind it is called; it lies in the folder of `rt doc`."""
+    try:
+        page = subprocess.run(["rt", "doc"], check=True, capture_output=True, text=True).stdout.strip()
+    except FileNotFoundError:
+        sys.exit("records.py: there is no rt, which lays the files out")
+    subprocess.run([pathlib.Path(page).parent / "bin" / "rattle", "fmt", "--write", *files], check=True)
+
+
+def main():
+    words = sys.argv[1:]
+    check = "--check" in words
+    crates = [word for word in words if word != "--check"] or list(CRATES)
+    if unknown := [crate for crate in crates if crate not in CRATES]:
+        sys.exit(f"records.py: no crate of written records: {' '.join(unknown)}")
+    stale = []
+    with tempfile.TemporaryDirectory() as work:
+        for crate in crates:
+            folder = pathlib.Path(work) / crate
+            folder.mkdir()
+            write_crate(crate, folder)
+        files = sorted(pathlib.Path(work).glob("*/*.rt"))
+        lay_out(files)
+        for file in files:
+            target = ROOT / file.parent.name / "src" / file.name
+            text = file.read_text()
+            if not target.exists() or target.read_text() != text:
+                stale.append(target.relative_to(ROOT.parent))
+                if not check:
+                    target.parent.mkdir(parents=True, exist_ok=True)
+                    target.write_text(text)
+    for path in stale:
+        print(f"failed: {path} is not what scripts/records.py writes" if check else f"wrote {path}")
+    return 1 if check and stale else 0
+
+
 if __name__ == "__main__":
-    for crate in sys.argv[1:] or CRATES:
-        write_crate(crate)
+    sys.exit(main())
