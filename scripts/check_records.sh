@@ -1,6 +1,6 @@
 #!/bin/sh
-# Shows that the records are what scripts/records.py writes from proto/journal.proto, laid out by rt fmt. Needs python3, and says
-# 'not run' where there is none. The last line is 'N passed, M failed'.
+# Shows that the written files are up to date: the records, which scripts/records.py writes, and those of the peer, which bench/records.py
+# writes. It takes seconds. Needs python3, and says 'not run' where there is none. The last line is 'N passed, M failed', of these programs.
 set -u
 cd "$(dirname "$0")/.." || exit 1
 
@@ -9,33 +9,23 @@ if ! command -v python3 > /dev/null; then
   echo "0 passed, 0 failed"
   exit 0
 fi
-work=$(mktemp -d) || exit 1
-trap 'rm -rf "$work"' EXIT
-
-crates='shared_core_runtime shared_core_state_commands shared_core_call_commands shared_core_notifications'
-mkdir "$work/crates"
-cp -R scripts proto "$work"
-for crate in $crates; do
-  mkdir "$work/crates/$crate"
-  echo "$crate:" >> "$work/crates.txt"
-done
-PYTHONDONTWRITEBYTECODE=1 python3 "$work/scripts/records.py"
+said=$(mktemp) || exit 1
+trap 'rm -f "$said"' EXIT
 
 passed=0
 failed=0
-for crate in $crates; do
-  (cd "$work/crates/$crate" && rt fmt > "$work/fmt" 2>&1) || cat "$work/fmt"
-  # a crate may have modules written by hand beside the written ones
-  same=yes
-  for file in "$work/crates/$crate/src"/*.rt; do
-    diff "$file" "crates/$crate/src/${file##*/}" || same=no
-  done
-  if [ "$same" = yes ]; then
+# check PROGRAM: whether what it writes stands already. What it says is shown, but for a count of its own.
+check() {
+  if PYTHONDONTWRITEBYTECODE=1 python3 "$1" --check > "$said" 2>&1; then
     passed=$((passed + 1))
   else
     failed=$((failed + 1))
-    echo "failed: crates/$crate is not what scripts/records.py writes"
+    echo "failed: what $1 writes is not up to date"
   fi
-done
+  grep -v '^[0-9]* passed, [0-9]* failed$' "$said"
+}
+check scripts/records.py
+check bench/records.py
+
 echo "$passed passed, $failed failed"
 [ "$failed" -eq 0 ]
