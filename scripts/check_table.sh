@@ -1,6 +1,7 @@
 #!/bin/sh
 # Shows that proto/journal.proto, the schemas that contracts cite and the code of the records say the same of every field: message,
-# name, number, kind, presence and oneof. The last line is 'N passed, M failed'; what differs is shown above it.
+# name, number, kind, presence and oneof. The last line is 'N passed, M failed'; what differs is shown above it. It reads the code as it
+# stands: whether the files that programs write are up to date is for check_records.sh.
 set -u
 cd "$(dirname "$0")/.." || exit 1
 
