@@ -1,6 +1,7 @@
 #!/bin/sh
-# Shows that the written files are up to date: the records, which scripts/records.py writes, and those of the peer, which bench/records.py
-# writes. It takes seconds. Needs python3, and says 'not run' where there is none. The last line is 'N passed, M failed', of these programs.
+# Shows that the written files are up to date: the records, which scripts/records.py writes, those of the peer, which bench/records.py
+# writes, and the payloads from protoc, which scripts/vectors.py writes. It takes seconds. Needs python3, and for the last protoc, and
+# says 'not run' where there is none. The last line is 'N passed, M failed', of these programs.
 set -u
 cd "$(dirname "$0")/.." || exit 1
 
@@ -26,6 +27,11 @@ check() {
 }
 check scripts/records.py
 check bench/records.py
+if command -v protoc > /dev/null; then
+  check scripts/vectors.py
+else
+  echo "check_records.sh: scripts/vectors.py not run, since there is no protoc"
+fi
 
 echo "$passed passed, $failed failed"
 [ "$failed" -eq 0 ]
