@@ -4,6 +4,4 @@
 pub mod command_type;
 pub mod header;
 pub mod laws;
-#[cfg(test)]
-mod tests;
 pub mod version;

@@ -1,10 +1,9 @@
-//! Tests of all messages: their bytes against those of an independent encoder, and worked examples from the protocol's description.
+//! Tests of all messages: values that are built by their fields, what shares its payload, and limits. The bytes of every message stand
+//! as data in the folder conformance.
 #![tactic(auto)]
 
 #[cfg(test)]
-mod agrees;
-#[cfg(test)]
-mod decoding;
+mod by_fields;
 #[cfg(test)]
 mod held_memory;
 #[cfg(test)]
@@ -15,7 +14,3 @@ mod limits;
 mod memory;
 #[cfg(test)]
 mod sharing;
-#[cfg(test)]
-mod vectors;
-#[cfg(test)]
-mod writing;

@@ -11,8 +11,6 @@ pub mod notification_template;
 pub mod restate_message;
 pub mod state_entry;
 pub mod state_keys;
-#[cfg(test)]
-mod tests;
 pub mod value;
 pub mod void;
 pub mod workflow_target;

@@ -12,6 +12,4 @@ pub mod oneof;
 pub mod packed;
 pub mod record;
 pub mod size;
-#[cfg(test)]
-mod tests;
 pub mod write;

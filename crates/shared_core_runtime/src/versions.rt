@@ -16,9 +16,6 @@ use shared_core_record::error::EncodingError;
 use shared_core_record::record::WireRecord;
 use std::alloc::{AllocError, Global};
 
-#[cfg(test)]
-mod tests;
-
 /// As it stands at every version. From V7 on the header asks for an acknowledgement; before V7 it does not.
 impl RestateEncodableMessage for ProposeRunCompletionMessage {
     ghost wire_form = { λ message version. proposal_form (⟦<ProposeRunCompletionMessage as WireRecord>⟧.parts message) version };

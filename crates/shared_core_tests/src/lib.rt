@@ -1,12 +1,16 @@
-//! Tests of the public calls together: what no contract says, and worked examples from the protocol's description.
+//! Tests of the public calls together: what no contract says and no line of data shows.
 #![tactic(auto)]
 
 #[cfg(test)]
 mod frames;
 #[cfg(test)]
-mod headers;
+mod loops;
+#[cfg(test)]
+mod notifications;
 #[cfg(test)]
 mod sharing;
+#[cfg(test)]
+mod steps;
 #[cfg(test)]
 mod stream;
 #[cfg(test)]

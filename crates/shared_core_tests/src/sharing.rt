@@ -1,63 +1,92 @@
 //! That payloads are cut from the pieces and not copied, and that nothing is held longer than it is used.
-ghost use Rattle.std.specs.Prelude.{◌≡◌, IfOk, vec_len};
 
+use crate::frames::{INPUT, THREE_FRAMES};
+use crate::steps::{expect, next, push};
 use bytes::Bytes;
 use shared_core::Version;
-use shared_core::encoding::{Decoder, RawMessage};
+use shared_core::encoding::{Decoder, Item, RawMessage, decode_pieces};
+use shared_core::messages::{
+    GetLazyStateCompletionNotificationMessage, InputCommandMessage, Notification,
+    ProposeRunCompletionMessage, RestateMessage, StartMessage,
+};
 use std::alloc::Global;
 use std::test::Fail;
 
-const PAYLOAD: usize = 65_536;
-
-/// An End with a payload of 65,536 bytes.
-fn large_frame(alloc: Global) -> Result<Vec<u8>, Fail>
-    ensures { IfOk result (λ frame. vec_len frame ≡ 65544) }
-{
-    let mut frame = Vec::from_elem(alloc, 0u8, 8 + PAYLOAD)?;
-    frame[1] = 3;
-    frame[5] = 1;
-    Ok(frame)
+/// A frame of End with a payload of 65,536 bytes, and behind it the first three bytes of a header where they are asked for.
+fn large_frame(alloc: Global, more: bool) -> Result<Bytes, Fail> {
+    let mut frame = [0x00, 0x03, 0, 0, 0, 1, 0, 0].to_vec(alloc)?;
+    frame.extend_from_slice(&Vec::from_elem(alloc, 0x6Bu8, 65_536)?)?;
+    if more {
+        frame.extend_from_slice(&[0x00, 0x03, 0])?;
+    }
+    Ok(Bytes::from_vec(frame)?)
 }
 
-/// The next message, which is to come.
-fn next(decoder: &mut Decoder) -> Result<RawMessage, Fail> {
-    let Ok(Some(message)) = decoder.consume_next() else {
-        return Err(Fail::new("no message"));
-    };
-    Ok(message)
+/// That this is the last that holds the piece.
+fn is_last_of<T: Drop>(held: T, piece: &Bytes) -> Result<(), Fail> {
+    expect(!piece.is_unique(), "a copy")?;
+    drop(held);
+    expect(piece.is_unique(), "another holds the piece")
 }
 
 #[test]
 fn a_payload_in_one_piece_shares_it(rt: HostRuntime) -> Result<(), Fail> {
-    let piece = Bytes::from_vec(large_frame(rt.alloc())?)?;
+    let piece = large_frame(rt.alloc(), false)?;
     let mut decoder = Decoder::new(rt.alloc(), Version::V8);
-    assert!(rt; decoder.push(piece.clone()?).is_ok());
+    push(&mut decoder, piece.clone()?)?;
     let message = next(&mut decoder)?;
-    assert_eq!(rt; message.payload().len(), PAYLOAD);
-    // The decoder has let the piece go, and the payload holds it.
-    assert!(rt; !piece.is_unique());
-    drop(message);
-    assert!(rt; piece.is_unique());
-    assert_eq!(rt; decoder.pending(), 0);
-    Ok(())
+    assert!(rt; message.payload().len() == 65_536 && decoder.pending() == 0);
+    // the decoder has let the piece go
+    is_last_of(message, &piece)
+}
+
+#[test]
+fn a_payload_that_does_not_end_its_piece_shares_it(rt: HostRuntime) -> Result<(), Fail> {
+    let piece = large_frame(rt.alloc(), true)?;
+    let mut decoder = Decoder::new(rt.alloc(), Version::V8);
+    push(&mut decoder, piece.clone()?)?;
+    let message = next(&mut decoder)?;
+    assert!(rt; message.payload().len() == 65_536 && decoder.pending() == 3);
+    // the decoder holds the piece for what is left of it
+    drop(decoder);
+    is_last_of(message, &piece)
+}
+
+#[test]
+fn the_decoder_holds_what_is_left_of_a_piece(rt: HostRuntime) -> Result<(), Fail> {
+    let piece = large_frame(rt.alloc(), true)?;
+    let mut decoder = Decoder::new(rt.alloc(), Version::V8);
+    push(&mut decoder, piece.clone()?)?;
+    drop(next(&mut decoder)?);
+    is_last_of(decoder, &piece)
+}
+
+#[test]
+fn payloads_of_pieces_behind_one_another_share_their_own(rt: HostRuntime) -> Result<(), Fail> {
+    let first = large_frame(rt.alloc(), false)?;
+    let second = large_frame(rt.alloc(), false)?;
+    let mut decoder = Decoder::new(rt.alloc(), Version::V8);
+    push(&mut decoder, first.clone()?)?;
+    push(&mut decoder, second.clone()?)?;
+    let front = next(&mut decoder)?;
+    let back = next(&mut decoder)?;
+    is_last_of(front, &first)?;
+    is_last_of(back, &second)
 }
 
 #[test]
 fn a_payload_in_two_pieces_is_joined_once(rt: HostRuntime) -> Result<(), Fail> {
-    let frame = large_frame(rt.alloc())?;
+    let frame = large_frame(rt.alloc(), false)?;
     let Some((front, back)) = frame.as_slice().split_at_checked(1000) else {
         return Err(Fail::new("a short frame"));
     };
     let front = Bytes::copy_from_slice(rt.alloc(), front)?;
     let back = Bytes::copy_from_slice(rt.alloc(), back)?;
     let mut decoder = Decoder::new(rt.alloc(), Version::V8);
-    assert!(rt; decoder.push(front.clone()?).is_ok());
-    assert!(rt; decoder.push(back.clone()?).is_ok());
+    push(&mut decoder, front.clone()?)?;
+    push(&mut decoder, back.clone()?)?;
     let message = next(&mut decoder)?;
-    assert_eq!(rt;
-        Some(message.payload().as_slice()),
-        frame.as_slice().get(8..)
-    );
+    assert!(rt; Some(message.payload().as_slice()) == frame.as_slice().get(8..));
     // Both pieces are used up, so the decoder holds neither.
     assert!(rt; front.is_unique() && back.is_unique());
     Ok(())
@@ -65,11 +94,106 @@ fn a_payload_in_two_pieces_is_joined_once(rt: HostRuntime) -> Result<(), Fail> {
 
 #[test]
 fn an_empty_piece_is_not_kept(rt: HostRuntime) -> Result<(), Fail> {
-    let piece = Bytes::from_vec(large_frame(rt.alloc())?)?;
-    let empty = piece.slice(8..8)?;
+    let piece = large_frame(rt.alloc(), false)?;
     let mut decoder = Decoder::new(rt.alloc(), Version::V8);
-    assert!(rt; decoder.push(empty).is_ok());
-    assert!(rt; piece.is_unique());
-    assert_eq!(rt; decoder.pending(), 0);
+    push(&mut decoder, piece.slice(8..8)?)?;
+    assert!(rt; piece.is_unique() && decoder.pending() == 0);
     Ok(())
+}
+
+/// The pieces of the three frames, a frame each.
+fn three_pieces(alloc: Global) -> Result<[Bytes; 3], Fail> {
+    Ok([
+        Bytes::copy_from_slice(alloc, &THREE_FRAMES[..27])?,
+        Bytes::copy_from_slice(alloc, &THREE_FRAMES[27..44])?,
+        Bytes::copy_from_slice(alloc, &THREE_FRAMES[44..])?,
+    ])
+}
+
+/// The message at this place of what these pieces give. Nothing else of it is kept.
+fn only_message(alloc: Global, pieces: &[Bytes], place: usize) -> Result<RawMessage, Fail> {
+    let (items, _) = decode_pieces(alloc, Version::V8, pieces)?;
+    match items.into_iter().nth(place) {
+        Some(Item::Message(message)) => Ok(message),
+        _ => Err(Fail::new("no message")),
+    }
+}
+
+#[test]
+fn each_payload_of_pieces_shares_its_piece(rt: HostRuntime) -> Result<(), Fail> {
+    let pieces = three_pieces(rt.alloc())?;
+    for (place, piece) in pieces.iter().enumerate() {
+        is_last_of(only_message(rt.alloc(), &pieces, place)?, piece)?;
+    }
+    Ok(())
+}
+
+#[test]
+fn payloads_of_one_piece_share_it(rt: HostRuntime) -> Result<(), Fail> {
+    let pieces = [Bytes::copy_from_slice(rt.alloc(), &THREE_FRAMES)?];
+    for place in 0..3usize {
+        is_last_of(only_message(rt.alloc(), &pieces, place)?, &pieces[0])?;
+    }
+    Ok(())
+}
+
+/// The message of a piece that is one frame.
+fn message_of(alloc: Global, piece: &Bytes) -> Result<RawMessage, Fail> {
+    let mut decoder = Decoder::new(alloc, Version::V8);
+    push(&mut decoder, piece.clone()?)?;
+    next(&mut decoder)
+}
+
+/// That the record of this frame, whose bytes are in one field, is the last that holds the piece of the frame.
+fn record_shares<M: RestateMessage>(alloc: Global, frame: &[u8]) -> Result<(), Fail> {
+    let piece = Bytes::copy_from_slice(alloc, frame)?;
+    let found: M = message_of(alloc, &piece)?.decode_to(alloc, 0)?;
+    is_last_of(found, &piece)
+}
+
+#[test]
+fn records_share_the_piece_of_their_frame(rt: HostRuntime) -> Result<(), Fail> {
+    record_shares::<InputCommandMessage>(rt.alloc(), &INPUT)?;
+    record_shares::<StartMessage>(rt.alloc(), &THREE_FRAMES[..27])?;
+    record_shares::<GetLazyStateCompletionNotificationMessage>(
+        rt.alloc(),
+        &[0x80, 0x02, 0, 0, 0, 0, 0, 5, 0x2A, 0x03, 0x0A, 0x01, 0x78],
+    )?;
+    record_shares::<ProposeRunCompletionMessage>(
+        rt.alloc(),
+        &[0x00, 0x05, 0, 0, 0, 0, 0, 3, 0x72, 0x01, 0x78],
+    )
+}
+
+/// The view of a piece that is the frame of a notification.
+fn view_of(alloc: Global, piece: &Bytes) -> Result<Notification, Fail> {
+    let message = message_of(alloc, piece)?;
+    if !message.ty().is_notification() {
+        return Err(Fail::new("no notification"));
+    }
+    Ok(message.decode_as_notification(alloc)?)
+}
+
+#[test]
+fn views_share_the_piece_of_their_frame(rt: HostRuntime) -> Result<(), Fail> {
+    for frame in [
+        // a value, and a state's key
+        &[
+            0x80, 0x02, 0, 0, 0, 0, 0, 7, 0x08, 0x01, 0x2A, 0x03, 0x0A, 0x01, 0x78,
+        ][..],
+        &[
+            0x80, 0x06, 0, 0, 0, 0, 0, 8, 0x08, 0x01, 0x8A, 0x01, 0x03, 0x0A, 0x01, 0x61,
+        ][..],
+    ] {
+        let piece = Bytes::copy_from_slice(rt.alloc(), frame)?;
+        is_last_of(view_of(rt.alloc(), &piece)?, &piece)?;
+    }
+    Ok(())
+}
+
+#[test]
+fn a_payload_outlives_its_message(rt: HostRuntime) -> Result<(), Fail> {
+    let piece = Bytes::copy_from_slice(rt.alloc(), &INPUT)?;
+    let payload = message_of(rt.alloc(), &piece)?.payload().clone()?;
+    is_last_of(payload, &piece)
 }

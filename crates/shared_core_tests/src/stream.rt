@@ -1,26 +1,15 @@
-//! Streams in any cut.
-ghost use Rattle.std.specs.Prelude.{◌≤◌};
+//! Streams in any cut, and the payloads that come out.
 
 use crate::frames::{
     INPUT, INPUT_PAYLOAD, START_PAYLOAD, STATE_PAYLOAD, THREE_FRAMES, UNKNOWN_THEN_END,
 };
+use crate::steps::{cut, expect, is_dry, message_in_two, next, push_copy};
 use bytes::Bytes;
 use shared_core::Version;
 use shared_core::encoding::{Decoder, DecodingError, Item, RawMessage, decode_pieces};
 use shared_core::header::MessageType;
 use std::alloc::Global;
 use std::test::Fail;
-
-/// The pieces of a stream, each of so many bytes, the last of what is left.
-pub fn cut(alloc: Global, stream: &[u8], size: usize) -> Result<Vec<Bytes>, Fail>
-    requires { 1 ≤ size }
-{
-    let mut pieces = Vec::new(alloc);
-    for piece in stream.chunks(size) {
-        pieces.push(Bytes::copy_from_slice(alloc, piece)?)?;
-    }
-    Ok(pieces)
-}
 
 /// Whether the message is of this type and has this payload.
 fn is_message(message: &RawMessage, ty: MessageType, payload: &[u8]) -> bool {
@@ -29,29 +18,23 @@ fn is_message(message: &RawMessage, ty: MessageType, payload: &[u8]) -> bool {
         && message.payload().as_slice() == payload
 }
 
-/// Pushes a copy of these bytes.
-fn push(alloc: Global, decoder: &mut Decoder, piece: &[u8]) -> Result<(), Fail> {
-    match decoder.push(Bytes::copy_from_slice(alloc, piece)?) {
-        Ok(()) => Ok(()),
-        Err(_) => Err(Fail::new("a refused piece")),
-    }
+/// The message of these two pieces of a frame.
+fn in_two(alloc: Global, front: &[u8], back: &[u8]) -> Result<RawMessage, Fail> {
+    message_in_two(
+        Decoder::new(alloc, Version::V8),
+        Bytes::copy_from_slice(alloc, front)?,
+        Bytes::copy_from_slice(alloc, back)?,
+    )
 }
 
 #[test]
-fn a_frame_in_two_pieces(rt: HostRuntime) -> Result<(), Fail> {
+fn a_frame_comes_with_its_last_piece(rt: HostRuntime) -> Result<(), Fail> {
     for place in 1..INPUT.len() {
-        let mut decoder = Decoder::new(rt.alloc(), Version::V8);
-        push(rt.alloc(), &mut decoder, &INPUT[..place])?;
-        let early = decoder.consume_next();
-        assert!(rt; matches!(&early, Ok(None)), "at {place}");
-        push(rt.alloc(), &mut decoder, &INPUT[place..])?;
-        let whole = decoder.consume_next();
+        let message = in_two(rt.alloc(), &INPUT[..place], &INPUT[place..])?;
         assert!(rt;
-            matches!(&whole, Ok(Some(message)) if is_message(message, MessageType::InputCommand, &INPUT_PAYLOAD)),
+            is_message(&message, MessageType::InputCommand, &INPUT_PAYLOAD),
             "at {place}"
         );
-        assert!(rt; matches!(decoder.consume_next(), Ok(None)), "at {place}");
-        assert_eq!(rt; decoder.pending(), 0, "at {place}");
     }
     Ok(())
 }
@@ -75,13 +58,17 @@ fn are_three(items: &[Item]) -> bool {
         )
 }
 
+/// Whether the three messages come out of these pieces, and nothing is left.
+fn gives_three(alloc: Global, pieces: &[Bytes]) -> Result<bool, Fail> {
+    let (items, decoder) = decode_pieces(alloc, Version::V8, pieces)?;
+    Ok(are_three(items.as_slice()) && decoder.pending() == 0)
+}
+
 #[test]
 fn three_frames_in_pieces_of_each_size(rt: HostRuntime) -> Result<(), Fail> {
     for size in 1..THREE_FRAMES.len() + 1 {
         let pieces = cut(rt.alloc(), &THREE_FRAMES, size)?;
-        let (items, decoder) = decode_pieces(rt.alloc(), Version::V8, pieces.as_slice())?;
-        assert!(rt; are_three(items.as_slice()), "at {size}");
-        assert_eq!(rt; decoder.pending(), 0, "at {size}");
+        assert!(rt; gives_three(rt.alloc(), pieces.as_slice())?, "at {size}");
     }
     Ok(())
 }
@@ -91,89 +78,77 @@ fn three_frames_cut_at_each_place(rt: HostRuntime) -> Result<(), Fail> {
     for place in 0..THREE_FRAMES.len() + 1 {
         let front = Bytes::copy_from_slice(rt.alloc(), &THREE_FRAMES[..place])?;
         let back = Bytes::copy_from_slice(rt.alloc(), &THREE_FRAMES[place..])?;
-        let (items, _) = decode_pieces(rt.alloc(), Version::V8, &[front, back])?;
-        assert!(rt; are_three(items.as_slice()), "at {place}");
+        assert!(rt; gives_three(rt.alloc(), &[front, back])?, "at {place}");
     }
     Ok(())
+}
+
+/// That an unknown code 8 is refused next, and takes eight bytes of sixteen.
+fn unknown_is_refused(decoder: &mut Decoder) -> Result<(), Fail> {
+    expect(decoder.pending() == 16, "another length")?;
+    let Err(DecodingError::UnknownMessageType(unknown)) = decoder.consume_next() else {
+        return Err(Fail::new("the code 8 has a type"));
+    };
+    expect(
+        unknown.code() == 8 && decoder.pending() == 8,
+        "another code or more than its header",
+    )
 }
 
 #[test]
 fn reading_goes_on_behind_an_unknown_header(rt: HostRuntime) -> Result<(), Fail> {
     let mut decoder = Decoder::new(rt.alloc(), Version::V5);
-    push(rt.alloc(), &mut decoder, &UNKNOWN_THEN_END)?;
-    assert_eq!(rt; decoder.pending(), 16);
-    let unknown = decoder.consume_next();
-    assert!(rt;
-        matches!(&unknown, Err(DecodingError::UnknownMessageType(code)) if code.code() == 8)
-    );
-    assert_eq!(rt; decoder.pending(), 8);
-    let end = decoder.consume_next();
-    assert!(rt; matches!(&end, Ok(Some(message)) if is_message(message, MessageType::End, &[])));
-    assert!(rt; matches!(decoder.consume_next(), Ok(None)));
-    assert_eq!(rt; decoder.pending(), 0);
+    push_copy(rt.alloc(), &mut decoder, &UNKNOWN_THEN_END)?;
+    unknown_is_refused(&mut decoder)?;
+    assert!(rt; is_message(&next(&mut decoder)?, MessageType::End, &[]));
+    assert!(rt; is_dry(&mut decoder)? && decoder.pending() == 0);
     Ok(())
 }
 
-#[test]
-fn what_is_not_whole_stays(rt: HostRuntime) -> Result<(), Fail> {
-    // A header that promises more than ever comes, a part of one, and no bytes at all.
-    for bytes in [
-        &[0x04, 0, 0, 0, 0xFF, 0xFF, 0xFF, 0xFF][..],
-        &[0x04, 0, 0][..],
-        &[][..],
-    ] {
-        let mut decoder = Decoder::new(rt.alloc(), Version::V8);
-        push(rt.alloc(), &mut decoder, bytes)?;
-        assert!(rt; matches!(decoder.consume_next(), Ok(None)));
-        assert_eq!(rt; decoder.pending(), bytes.len() as u64);
-    }
-    Ok(())
-}
-
-#[test]
-fn a_custom_entry_is_a_message(rt: HostRuntime) -> Result<(), Fail> {
-    let mut decoder = Decoder::new(rt.alloc(), Version::V8);
-    push(rt.alloc(), &mut decoder, &[0xFC, 0x01, 0, 0, 0, 0, 0, 0])?;
-    let custom = decoder.consume_next();
-    assert!(rt;
-        matches!(&custom, Ok(Some(message)) if is_message(message, MessageType::CustomEntry(64513), &[]))
-    );
-    Ok(())
-}
-
-#[test]
-fn idle_bits_of_a_header_say_nothing(rt: HostRuntime) -> Result<(), Fail> {
-    // Bits 32 to 47 are set where no flag stands there, and 32 to 46 where one does.
-    for (front, flag) in [
-        ([0x04, 0x00, 0xFF, 0xFF, 0x00, 0x00, 0x00, 0x09], None),
-        (
-            [0x00, 0x05, 0x7F, 0xFF, 0x00, 0x00, 0x00, 0x09],
-            Some(false),
-        ),
-    ] {
-        let mut frame = INPUT;
-        frame[..8].copy_from_slice(&front);
-        for size in 1..frame.len() + 1 {
-            let pieces = cut(rt.alloc(), &frame, size)?;
-            let (items, _) = decode_pieces(rt.alloc(), Version::V8, pieces.as_slice())?;
-            let [Item::Message(message)] = items.as_slice() else {
-                return Err(Fail::new("not one message"));
-            };
-            assert_eq!(rt; message.header().message_length(), 9);
-            assert_eq!(rt; message.header().requested_ack(), flag);
-            assert_eq!(rt; message.payload().as_slice(), INPUT_PAYLOAD.as_slice());
-        }
-    }
-    Ok(())
+/// The items of the three frames in pieces of this size.
+fn items_of(alloc: Global, size: usize) -> Result<Vec<Item>, Fail> {
+    let pieces = cut(alloc, &THREE_FRAMES, size)?;
+    let (items, _) = decode_pieces(alloc, Version::V8, pieces.as_slice())?;
+    Ok(items)
 }
 
 #[test]
 fn equality_sees_header_and_payload(rt: HostRuntime) -> Result<(), Fail> {
-    let pieces = cut(rt.alloc(), &THREE_FRAMES, 56)?;
-    let (one, _) = decode_pieces(rt.alloc(), Version::V8, pieces.as_slice())?;
-    let bytewise = cut(rt.alloc(), &THREE_FRAMES, 1)?;
-    let (other, _) = decode_pieces(rt.alloc(), Version::V8, bytewise.as_slice())?;
+    let one = items_of(rt.alloc(), 56)?;
+    let other = items_of(rt.alloc(), 1)?;
     assert!(rt; one == other);
     assert!(rt; matches!(one.as_slice(), [start, input, ..] if start != input));
+    Ok(())
+}
+
+/// So many frames of End, each with the last byte of its place as its payload.
+fn numbered_frames(alloc: Global, count: usize) -> Result<Vec<u8>, Fail> {
+    let mut frames = Vec::new(alloc);
+    for place in 0..count {
+        frames.extend_from_slice(&[0x00, 0x03, 0, 0, 0, 0, 0, 1, (place % 256) as u8])?;
+    }
+    Ok(frames)
+}
+
+/// Whether the items are so many numbered frames.
+fn are_numbered(items: &[Item], count: usize) -> bool {
+    items.len() == count
+        && items.iter().enumerate().all(|(place, item)| {
+            matches!(item, Item::Message(message) if is_message(message, MessageType::End, &[(place % 256) as u8]))
+        })
+}
+
+#[test]
+fn a_run_of_six_hundred_items(rt: HostRuntime) -> Result<(), Fail> {
+    let frames = numbered_frames(rt.alloc(), 600)?;
+    // one byte at a time, pieces that end within a header, and all at once
+    for size in [1usize, 100, 5400] {
+        let pieces = cut(rt.alloc(), frames.as_slice(), size)?;
+        let (items, decoder) = decode_pieces(rt.alloc(), Version::V8, pieces.as_slice())?;
+        assert!(rt;
+            are_numbered(items.as_slice(), 600) && decoder.pending() == 0,
+            "at {size}"
+        );
+    }
     Ok(())
 }

@@ -6,6 +6,4 @@ pub mod examples;
 pub mod laws;
 pub mod record;
 pub mod records;
-#[cfg(test)]
-mod tests;
 pub mod varint;

@@ -1,0 +1,248 @@
+//! Views of notifications, whatever their type.
+use crate::steps::{message_of, message_with, text};
+use shared_core::encoding::{DecodingError, RawMessage};
+use shared_core::header::MessageType;
+use shared_core::messages::{
+    CANCEL_SIGNAL_ID, GetLazyStateCompletionNotificationMessage, Notification, NotificationId,
+    NotificationResult, Void, get_lazy_state_completion_notification_message,
+};
+use std::alloc::Global;
+use std::hash::{DefaultHasher, Hash, Hasher};
+use std::test::Fail;
+
+/// What the message answers as a notification, which it is to be by its type.
+fn view(alloc: Global, message: &RawMessage) -> Result<Result<Notification, DecodingError>, Fail> {
+    if !message.ty().is_notification() {
+        return Err(Fail::new("no notification"));
+    }
+    Ok(message.decode_as_notification(alloc))
+}
+
+/// The view of a message of this code and payload.
+fn view_of(alloc: Global, code: u16, payload: &[u8]) -> Result<Notification, Fail> {
+    Ok(view(alloc, &message_with(alloc, code, payload)?)??)
+}
+
+/// Whether the view prints these texts, as Rust prints a derived Debug.
+fn shows(alloc: Global, view: &Notification, id: &str, outcome: &str) -> Result<bool, Fail> {
+    let shown = format!(in alloc; "{view:?}")?;
+    let expected = format!(in alloc; "Notification {{ id: {id}, result: {outcome} }}")?;
+    Ok(shown.as_str() == expected.as_str())
+}
+
+/// The payload of an id and a result.
+fn joined(alloc: Global, id: &[u8], outcome: &[u8]) -> Result<Vec<u8>, Fail> {
+    let mut payload = id.to_vec(alloc)?;
+    payload.extend_from_slice(outcome)?;
+    Ok(payload)
+}
+
+/// Whether the view of this id and each kind of result has both, before and behind one another.
+fn has_each_result(alloc: Global, code: u16, id: &[u8], id_text: &str) -> Result<bool, Fail> {
+    for (outcome, outcome_text) in [
+        (&[0x22, 0x00][..], "Void(Void)"),
+        (
+            &[0x2A, 0x03, 0x0A, 0x01, 0x78][..],
+            "Value(Value { content: b\"x\" })",
+        ),
+        (
+            &[0x32, 0x02, 0x08, 0x05][..],
+            "Failure(Failure { code: 5, message: \"\", metadata: [] })",
+        ),
+        (
+            &[0x82, 0x01, 0x03, 0x69, 0x6E, 0x76][..],
+            "InvocationId(\"inv\")",
+        ),
+        (
+            &[0x8A, 0x01, 0x03, 0x0A, 0x01, 0x61][..],
+            "StateKeys(StateKeys { keys: [b\"a\"] })",
+        ),
+    ] {
+        let payload = joined(alloc, id, outcome)?;
+        let view = view_of(alloc, code, payload.as_slice())?;
+        if !shows(alloc, &view, id_text, outcome_text)? {
+            return Err(Fail::new(format_args!("{view:?} is not {id_text}, {outcome_text}")));
+        }
+    }
+    Ok(true)
+}
+
+#[test]
+fn each_id_comes_with_each_result(rt: HostRuntime) -> Result<(), Fail> {
+    for (id, id_text) in [
+        (&[0x08, 0x01][..], "CompletionId(1)"),
+        (&[0x10, 0x11][..], "SignalId(17)"),
+        (&[0x1A, 0x01, 0x73][..], "SignalName(\"s\")"),
+    ] {
+        // a custom one, the state's and a signal's
+        for code in [0x8001u16, 0x8002, 0xFBFF] {
+            assert!(rt; has_each_result(rt.alloc(), code, id, id_text)?, "{code:x}");
+        }
+    }
+    Ok(())
+}
+
+#[test]
+fn records_stand_in_any_order(rt: HostRuntime) -> Result<(), Fail> {
+    for (code, payload, id, outcome) in [
+        (
+            0x8002u16,
+            &[0x22, 0x00, 0x08, 0x01][..],
+            "CompletionId(1)",
+            "Void(Void)",
+        ),
+        // an unknown field between the two
+        (
+            0x8002,
+            &[0x08, 0x01, 0x98, 0x06, 0x07, 0x22, 0x00][..],
+            "CompletionId(1)",
+            "Void(Void)",
+        ),
+        // the last id stands
+        (
+            0xFBFF,
+            &[0x10, 0x01, 0x1A, 0x01, 0x78, 0x22, 0x00][..],
+            "SignalName(\"x\")",
+            "Void(Void)",
+        ),
+        (
+            0x800E,
+            &[0x82, 0x01, 0x03, 0x69, 0x6E, 0x76, 0x08, 0x03][..],
+            "CompletionId(3)",
+            "InvocationId(\"inv\")",
+        ),
+    ] {
+        let view = view_of(rt.alloc(), code, payload)?;
+        assert!(rt; shows(rt.alloc(), &view, id, outcome)?, "{view:?}");
+    }
+    Ok(())
+}
+
+/// Whether the message is refused with this text, also when it is asked again.
+fn is_refused(alloc: Global, message: &RawMessage, text: &str) -> Result<bool, Fail> {
+    for _ in 0..2u32 {
+        let Err(error) = view(alloc, message)? else {
+            return Ok(false);
+        };
+        let said = format!(in alloc; "{error}")?;
+        if said.as_str() != text {
+            return Ok(false);
+        }
+    }
+    Ok(true)
+}
+
+#[test]
+fn a_view_misses_the_id_before_the_result(rt: HostRuntime) -> Result<(), Fail> {
+    let no_id = "expected message type GetLazyStateCompletionNotification to have field id";
+    let no_result = "expected message type GetLazyStateCompletionNotification to have field result";
+    let malformed =
+        "cannot decode protocol message type GetLazyStateCompletionNotification. Reason: malformed payload";
+    for (payload, text) in [
+        (&[0x22, 0x00][..], no_id),
+        (&[][..], no_id),
+        (&[0x08, 0x01][..], no_result),
+        (&[0xFF][..], malformed),
+    ] {
+        let message = message_with(rt.alloc(), 0x8002, payload)?;
+        assert!(rt; is_refused(rt.alloc(), &message, text)?, "{payload:?}");
+    }
+    Ok(())
+}
+
+/// The field that the view misses.
+fn missing_field(alloc: Global, payload: &[u8]) -> Result<&'static str, Fail> {
+    match view(alloc, &message_with(alloc, 0x8002, payload)?)? {
+        Err(DecodingError::MissingField { field, .. }) => Ok(field),
+        _ => Err(Fail::new("no field is missing")),
+    }
+}
+
+#[test]
+fn a_missing_field_is_named(rt: HostRuntime) -> Result<(), Fail> {
+    assert!(rt; missing_field(rt.alloc(), &[0x22, 0x00])? == "id");
+    assert!(rt; missing_field(rt.alloc(), &[0x08, 0x01])? == "result");
+    Ok(())
+}
+
+#[test]
+fn a_typed_message_needs_no_id(rt: HostRuntime) -> Result<(), Fail> {
+    let message = message_with(rt.alloc(), 0x8002, &[0x22, 0x00])?;
+    let found: GetLazyStateCompletionNotificationMessage = message.decode_to(rt.alloc(), 0)?;
+    assert!(rt; found.completion_id == 0);
+    assert!(rt;
+        found.result == Some(get_lazy_state_completion_notification_message::Result::Void(Void {}))
+    );
+    Ok(())
+}
+
+#[test]
+fn the_signal_that_cancels(rt: HostRuntime) -> Result<(), Fail> {
+    let frame = [0xFB, 0xFF, 0, 0, 0, 0, 0, 4, 0x10, 0x01, 0x22, 0x00];
+    let message = message_of(rt.alloc(), &frame)?;
+    assert!(rt; message.ty() == MessageType::SignalNotification);
+    let view = view(rt.alloc(), &message)??;
+    assert!(rt; view.id == NotificationId::SignalId(CANCEL_SIGNAL_ID));
+    Ok(())
+}
+
+#[test]
+fn a_failure_is_the_only_failure(rt: HostRuntime) -> Result<(), Fail> {
+    for (payload, fails) in [
+        (&[0x08, 0x01, 0x22, 0x00][..], false),
+        (&[0x08, 0x01, 0x32, 0x00][..], true),
+        (&[0x08, 0x01, 0x2A, 0x00][..], false),
+        (&[0x08, 0x01, 0x82, 0x01, 0x00][..], false),
+        (&[0x08, 0x01, 0x8A, 0x01, 0x00][..], false),
+    ] {
+        let view = view_of(rt.alloc(), 0x8002, payload)?;
+        assert!(rt; view.result.is_failure() == fails, "{payload:?}");
+    }
+    Ok(())
+}
+
+/// Whether a view is of these values, which are built by their fields.
+fn is(view: &Notification, id: NotificationId, outcome: NotificationResult) -> bool {
+    view.id == id && view.result == outcome
+}
+
+#[test]
+fn views_are_values_by_their_fields(rt: HostRuntime) -> Result<(), Fail> {
+    let alloc = rt.alloc();
+    let completion = view_of(alloc, 0x8002, &[0x08, 0x01, 0x22, 0x00])?;
+    assert!(rt;
+        is(
+            &completion,
+            NotificationId::CompletionId(1),
+            NotificationResult::Void(Void {})
+        )
+    );
+    let named = view_of(alloc, 0xFBFF, &[0x1A, 0x01, 0x78, 0x82, 0x01, 0x01, 0x79])?;
+    assert!(rt;
+        is(
+            &named,
+            NotificationId::SignalName(text(alloc, "x")?),
+            NotificationResult::InvocationId(text(alloc, "y")?)
+        )
+    );
+    Ok(())
+}
+
+/// The hash of an id.
+fn hash_of(id: &NotificationId) -> u64 {
+    let mut hasher = DefaultHasher::new();
+    id.hash(&mut hasher);
+    hasher.finish()
+}
+
+#[test]
+fn hashes_differ(rt: HostRuntime) -> Result<(), Fail> {
+    let one = hash_of(&NotificationId::CompletionId(1));
+    let name = hash_of(&NotificationId::SignalName(text(rt.alloc(), "x")?));
+    assert!(rt; one == hash_of(&NotificationId::CompletionId(1)));
+    assert!(rt; one != hash_of(&NotificationId::CompletionId(2)));
+    assert!(rt; one != hash_of(&NotificationId::SignalId(1)));
+    assert!(rt; one != name);
+    assert!(rt; name != hash_of(&NotificationId::SignalName(text(rt.alloc(), "y")?)));
+    Ok(())
+}

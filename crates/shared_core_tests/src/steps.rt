@@ -1,0 +1,81 @@
+//! Steps that the tests share. They refuse what does not hold by an error, which costs a proof less than an assertion.
+
+use bytes::Bytes;
+use shared_core::Version;
+use shared_core::encoding::{Decoder, RawMessage};
+use std::alloc::Global;
+use std::test::Fail;
+
+/// Refuses what does not hold.
+pub fn expect(holds: bool, what: &str) -> Result<(), Fail> {
+    if holds { Ok(()) } else { Err(Fail::new(what)) }
+}
+
+/// Pushes a piece.
+pub fn push(decoder: &mut Decoder, piece: Bytes) -> Result<(), Fail> {
+    match decoder.push(piece) {
+        Ok(()) => Ok(()),
+        Err(_) => Err(Fail::new("a refused piece")),
+    }
+}
+
+/// Pushes a copy of these bytes.
+pub fn push_copy(alloc: Global, decoder: &mut Decoder, piece: &[u8]) -> Result<(), Fail> {
+    push(decoder, Bytes::copy_from_slice(alloc, piece)?)
+}
+
+/// Whether no whole item is there.
+pub fn is_dry(decoder: &mut Decoder) -> Result<bool, Fail> {
+    Ok(decoder.consume_next()?.is_none())
+}
+
+/// The next message, which is to be there.
+pub fn next(decoder: &mut Decoder) -> Result<RawMessage, Fail> {
+    let Some(message) = decoder.consume_next()? else {
+        return Err(Fail::new("no message"));
+    };
+    Ok(message)
+}
+
+/// The message of a stream that is one frame.
+pub fn message_of(alloc: Global, frame: &[u8]) -> Result<RawMessage, Fail> {
+    let mut decoder = Decoder::new(alloc, Version::V8);
+    push_copy(alloc, &mut decoder, frame)?;
+    next(&mut decoder)
+}
+
+/// The message of a frame that comes in two pieces. It comes with the second, and nothing is left.
+pub fn message_in_two(mut decoder: Decoder, front: Bytes, back: Bytes) -> Result<RawMessage, Fail> {
+    push(&mut decoder, front)?;
+    expect(is_dry(&mut decoder)?, "a message before its end")?;
+    push(&mut decoder, back)?;
+    let message = next(&mut decoder)?;
+    expect(
+        is_dry(&mut decoder)? && decoder.pending() == 0,
+        "more than a message",
+    )?;
+    Ok(message)
+}
+
+/// The message of this code and payload, which has less than 256 bytes.
+pub fn message_with(alloc: Global, code: u16, payload: &[u8]) -> Result<RawMessage, Fail> {
+    let mut frame = Vec::new(alloc);
+    frame.extend_from_slice(&code.to_be_bytes())?;
+    frame.extend_from_slice(&[0, 0, 0, 0, 0, (payload.len() % 256) as u8])?;
+    frame.extend_from_slice(payload)?;
+    message_of(alloc, frame.as_slice())
+}
+
+/// The pieces of a stream, each of so many bytes, the last of what is left.
+pub fn cut(alloc: Global, stream: &[u8], size: usize) -> Result<Vec<Bytes>, Fail> {
+    let mut pieces = Vec::new(alloc);
+    for piece in stream.chunks(size.max(1)) {
+        pieces.push(Bytes::copy_from_slice(alloc, piece)?)?;
+    }
+    Ok(pieces)
+}
+
+/// A text.
+pub fn text(alloc: Global, text: &str) -> Result<String, Fail> {
+    Ok(String::from_str(alloc, text)?)
+}
