@@ -1,0 +1,110 @@
+//! Cases as lines: words with one space between them, ` = `, and the answer.
+
+use bytes::Bytes;
+use shared_core::version::Version;
+use std::alloc::{AllocError, Global};
+
+/// A version that is spoken.
+#[derive(Clone, Copy, Debug, PartialEq, Eq)]
+pub enum SpokenVersion {
+    V5,
+    V6,
+    V7,
+    V8,
+}
+
+/// What a case asks of its bytes. A schema or a type is named by its word.
+#[derive(Clone, Copy, Debug, PartialEq, Eq)]
+pub enum Question<'a> {
+    /// The canonical payload of what a payload means.
+    Payload(&'a str),
+    /// The canonical payload of what several mean, each merged into those before it.
+    Merge(&'a str),
+    /// How the record that a canonical payload means is printed for debugging.
+    Record(&'a str),
+    /// The frame, at a version, of the message that a payload means.
+    Frame(&'a str, SpokenVersion),
+    /// The listing of a stream.
+    Stream(SpokenVersion),
+}
+
+/// A line that was read.
+#[derive(Drop)]
+pub struct Case<'a> {
+    pub question: Question<'a>,
+    pub bytes: Vec<Bytes>,
+    pub answer: &'a str,
+}
+
+/// The case of a line, or None where it is none.
+pub fn read_case<'a>(alloc: Global, line: &'a str) -> Result<Option<Case<'a>>, AllocError> {
+    let Some((asked, answer)) = line.split_once(" = ") else {
+        return Ok(None);
+    };
+    let Some((question, words)) = read_question(asked) else {
+        return Ok(None);
+    };
+    let Some(bytes) = read_all_bytes(alloc, words)? else {
+        return Ok(None);
+    };
+    Ok(Some(Case {
+        question,
+        bytes,
+        answer,
+    }))
+}
+
+/// The question of a case, and the words of its bytes.
+fn read_question(asked: &str) -> Option<(Question<'_>, &str)> {
+    let (kind, words) = asked.split_once(' ')?;
+    let (subject, words) = words.split_once(' ')?;
+    match kind {
+        "payload" => Some((Question::Payload(subject), words)),
+        "merge" => Some((Question::Merge(subject), words)),
+        "record" => Some((Question::Record(subject), words)),
+        "stream" => Some((Question::Stream(read_version(subject)?), words)),
+        "frame" => {
+            let (version, words) = words.split_once(' ')?;
+            Some((Question::Frame(subject, read_version(version)?), words))
+        }
+        _ => None,
+    }
+}
+
+/// The version that a word names.
+fn read_version(word: &str) -> Option<SpokenVersion> {
+    match word {
+        "5" => Some(SpokenVersion::V5),
+        "6" => Some(SpokenVersion::V6),
+        "7" => Some(SpokenVersion::V7),
+        "8" => Some(SpokenVersion::V8),
+        _ => None,
+    }
+}
+
+/// The bytes that each of some words spells.
+fn read_all_bytes(alloc: Global, words: &str) -> Result<Option<Vec<Bytes>>, AllocError> {
+    let mut all = Vec::new(alloc);
+    for word in words.split(' ') {
+        let Some(bytes) = read_bytes(alloc, word)? else {
+            return Ok(None);
+        };
+        all.push(bytes)?;
+    }
+    Ok(Some(all))
+}
+
+/// The bytes that a word spells: hex digits in lower case, two a byte, or `-` for no bytes.
+fn read_bytes(alloc: Global, word: &str) -> Result<Option<Bytes>, AllocError> {
+    if word == "-" {
+        return Ok(Some(Bytes::new()));
+    }
+    if word.is_empty() || word.bytes().any(|digit| digit.is_ascii_uppercase()) {
+        return Ok(None);
+    }
+    match hex::decode(alloc, word) {
+        Ok(bytes) => Ok(Some(Bytes::from_vec(bytes)?)),
+        Err(hex::FromHexError::OutOfMemory) => Err(AllocError),
+        Err(_) => Ok(None),
+    }
+}

@@ -1,0 +1,104 @@
+//! The frames of a message, and what comes out of them.
+
+use crate::cases::SpokenVersion;
+use crate::payloads::decoded;
+use crate::verdict::{Failed, Verdict, copied};
+use bytes::Bytes;
+use shared_core::encoding::{Decoder, DecodingError, Encoder, RawMessage};
+use shared_core::messages::{RestateEncodableMessage, RestateMessage};
+use shared_core::version::Version;
+use std::alloc::Global;
+
+/// Checks the frame, at a version, of the message that a payload means, and that it comes out again as a message that is decoded to `D`.
+pub fn check_frame_of<M: RestateMessage + RestateEncodableMessage, D: RestateMessage>(
+    version: SpokenVersion,
+    payload: &Bytes,
+    verdict: &mut Verdict<'_>,
+) -> Result<(), Failed> {
+    let alloc = verdict.alloc;
+    let Some(message) = decoded::<M>(alloc, payload)? else {
+        return verdict.answer("malformed");
+    };
+    let frame = encoder(version).encode(alloc, &message)?;
+    verdict.answer_bytes(frame.as_slice())?;
+    let Some(message) = only_message(alloc, version, frame.as_slice())? else {
+        return verdict.refuse("no single message comes out of the frame");
+    };
+    let behind = frame.as_slice().get(8..);
+    verdict.require(
+        behind == Some(message.payload().as_slice()),
+        "another payload comes out of the frame",
+    )?;
+    check_decoded::<D>(&message, verdict)
+}
+
+/// Checks that a message is decoded to a record whose canonical payload it has.
+fn check_decoded<D: RestateMessage>(
+    message: &RawMessage,
+    verdict: &mut Verdict<'_>,
+) -> Result<(), Failed> {
+    let record = match message.decode_to::<D>(verdict.alloc, 0) {
+        Ok(record) => record,
+        Err(DecodingError::OutOfMemory) => return Err(Failed::OutOfMemory),
+        Err(_) => return verdict.refuse("the message of the frame is not decoded to its type"),
+    };
+    let canonical = record.encode_payload(verdict.alloc)?;
+    verdict.require(
+        canonical == *message.payload(),
+        "the message of the frame is written otherwise",
+    )
+}
+
+/// The message of a frame that is pushed one byte at a time, where it is the one answer and comes with the last byte.
+fn only_message(
+    alloc: Global,
+    version: SpokenVersion,
+    frame: &[u8],
+) -> Result<Option<RawMessage>, Failed> {
+    let mut decoder = decoder(alloc, version);
+    let Some((last, front)) = frame.split_last() else {
+        return Ok(None);
+    };
+    for byte in front {
+        if push_byte(&mut decoder, alloc, *byte)?.is_some() {
+            return Ok(None);
+        }
+    }
+    let message = push_byte(&mut decoder, alloc, *last)?;
+    if decoder.pending() != 0 {
+        return Ok(None);
+    }
+    Ok(message)
+}
+
+/// Pushes a byte, and answers the next message. An unknown header is none.
+fn push_byte(decoder: &mut Decoder, alloc: Global, byte: u8) -> Result<Option<RawMessage>, Failed> {
+    if decoder.push(copied(alloc, &[byte])?).is_err() {
+        return Err(Failed::OutOfMemory);
+    }
+    match decoder.consume_next() {
+        Ok(message) => Ok(message),
+        Err(DecodingError::OutOfMemory) => Err(Failed::OutOfMemory),
+        Err(_) => Ok(None),
+    }
+}
+
+/// An encoder of a version.
+fn encoder(version: SpokenVersion) -> Encoder {
+    match version {
+        SpokenVersion::V5 => Encoder::new(Version::V5),
+        SpokenVersion::V6 => Encoder::new(Version::V6),
+        SpokenVersion::V7 => Encoder::new(Version::V7),
+        SpokenVersion::V8 => Encoder::new(Version::V8),
+    }
+}
+
+/// A decoder of a version.
+fn decoder(alloc: Global, version: SpokenVersion) -> Decoder {
+    match version {
+        SpokenVersion::V5 => Decoder::new(alloc, Version::V5),
+        SpokenVersion::V6 => Decoder::new(alloc, Version::V6),
+        SpokenVersion::V7 => Decoder::new(alloc, Version::V7),
+        SpokenVersion::V8 => Decoder::new(alloc, Version::V8),
+    }
+}

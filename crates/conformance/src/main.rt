@@ -1,0 +1,51 @@
+//! Reads cases on the standard input, a line each, checks them against the library's public calls, and prints those that fail, each with
+//! what the library answers instead.
+#![tactic(auto)]
+
+mod cases;
+mod checks;
+mod frames;
+mod message_types;
+mod payloads;
+mod schemas;
+mod streams;
+mod verdict;
+
+use crate::checks::refutation;
+use std::io::{self, BufRead, BufReader, ErrorKind};
+use std::process::ExitCode;
+
+/// Checks every line, and answers whether none failed. An empty line, and one that begins with `#`, is no case.
+fn run(rt: &HostRuntime) -> io::Result<bool> {
+    let alloc = rt.alloc();
+    let mut passed = 0u64;
+    let mut failed = 0u64;
+    for line in BufReader::new(alloc, rt.reader())?.lines(alloc) {
+        let line = line?;
+        let line = line.as_str();
+        if line.is_empty() || line.starts_with('#') {
+            continue;
+        }
+        match refutation(alloc, line)? {
+            None => passed = passed.saturating_add(1),
+            Some(instead) => {
+                failed = failed.saturating_add(1);
+                println!(rt; "failed: {line}\n{instead}")?;
+            }
+        }
+    }
+    println!(rt; "{passed} passed, {failed} failed")?;
+    Ok(failed == 0)
+}
+
+fn main(rt: HostRuntime) -> ExitCode {
+    let why = match run(&rt) {
+        Ok(true) => return ExitCode::SUCCESS,
+        Ok(false) => return ExitCode::FAILURE,
+        Err(error) if error.kind() == ErrorKind::OutOfMemory => "out of memory",
+        Err(_) => "input or output failed",
+    };
+    // Nothing is left to do where that fails too.
+    let _ = eprintln!(rt; "conformance: {why}");
+    ExitCode::FAILURE
+}

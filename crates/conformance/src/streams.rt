@@ -1,0 +1,120 @@
+//! Listings of streams, however they are cut.
+
+ghost use Rattle.std.specs.Prelude.{◌≤◌};
+
+use crate::cases::SpokenVersion;
+use crate::verdict::{Failed, Verdict, copied};
+use bytes::Bytes;
+use shared_core::encoding::{Decoder, Item, PiecesError, RawMessage, decode_pieces};
+use shared_core::version::Version;
+use std::alloc::{AllocError, Global};
+
+/// Up to how many bytes a stream is cut in every way that is tried.
+const SHORT: usize = 64;
+
+/// The sizes of the pieces into which a longer stream is cut.
+const SIZES: [usize; 8] = [1, 2, 3, 7, 8, 9, 64, usize::MAX];
+
+/// Checks the listing of a stream that comes in pieces, and that it is the same in other pieces.
+pub fn check_stream(
+    version: SpokenVersion,
+    pieces: &[Bytes],
+    verdict: &mut Verdict<'_>,
+) -> Result<(), Failed> {
+    let listing = listing(verdict.alloc, version, pieces)?;
+    verdict.answer(listing.as_str())?;
+    let mut stream = Vec::new(verdict.alloc);
+    for piece in pieces {
+        stream.extend_from_slice(piece.as_slice())?;
+    }
+    let stream = stream.as_slice();
+    if stream.len() > SHORT {
+        for size in SIZES {
+            check_pieces(version, stream, size, verdict)?;
+        }
+        return Ok(());
+    }
+    for size in 1..stream.len() + 1 {
+        check_pieces(version, stream, size, verdict)?;
+    }
+    check_cuts(version, stream, verdict)
+}
+
+/// Checks that the listing is the same in pieces of a size.
+fn check_pieces(
+    version: SpokenVersion,
+    stream: &[u8],
+    size: usize,
+    verdict: &mut Verdict<'_>,
+) -> Result<(), Failed>
+    requires { 1 ≤ size }
+{
+    let mut pieces = Vec::new(verdict.alloc);
+    for piece in stream.chunks(size) {
+        pieces.push(copied(verdict.alloc, piece)?)?;
+    }
+    let listing = listing(verdict.alloc, version, pieces.as_slice())?;
+    let same = listing.as_str() == verdict.wanted;
+    verdict.require_at(same, "it is listed otherwise in pieces of", size)
+}
+
+/// Checks that the listing is the same in any two pieces.
+fn check_cuts(
+    version: SpokenVersion,
+    stream: &[u8],
+    verdict: &mut Verdict<'_>,
+) -> Result<(), Failed> {
+    for cut in 0..stream.len() + 1 {
+        let front = copied(verdict.alloc, &stream[..cut])?;
+        let back = copied(verdict.alloc, &stream[cut..])?;
+        let listing = listing(verdict.alloc, version, &[front, back])?;
+        let same = listing.as_str() == verdict.wanted;
+        verdict.require_at(same, "it is listed otherwise where it is cut at", cut)?;
+    }
+    Ok(())
+}
+
+/// The items of a stream that comes in pieces, each with a comma behind it, and the count of the bytes that are in none.
+fn listing(alloc: Global, version: SpokenVersion, pieces: &[Bytes]) -> Result<String, Failed> {
+    let (items, decoder) = items(alloc, version, pieces)?;
+    let mut text = String::new(alloc);
+    for item in items.as_slice() {
+        append_item(&mut text, item)?;
+    }
+    let rest = decoder.pending();
+    write!(text, "rest {rest}")?;
+    Ok(text)
+}
+
+/// Appends an item.
+fn append_item(text: &mut String, item: &Item) -> Result<(), AllocError> {
+    match item {
+        Item::Message(message) => append_message(text, message),
+        Item::Unknown(code) => write!(text, "unknown 0x{code:x}, "),
+    }
+}
+
+/// Appends a message: the name of its type, the length of its payload, and whether its header asks for an acknowledgement.
+fn append_message(text: &mut String, message: &RawMessage) -> Result<(), AllocError> {
+    let name = message.ty().debug_name();
+    let length = message.payload().len();
+    let mark = match message.header().requested_ack() {
+        Some(true) => " ack",
+        _ => "",
+    };
+    write!(text, "{name} {length}{mark}, ")
+}
+
+/// The items of a stream that comes in pieces, and the decoder that holds the rest.
+fn items(
+    alloc: Global,
+    version: SpokenVersion,
+    pieces: &[Bytes],
+) -> Result<(Vec<Item>, Decoder), PiecesError> {
+    match version {
+        SpokenVersion::V5 => decode_pieces(alloc, Version::V5, pieces),
+        SpokenVersion::V6 => decode_pieces(alloc, Version::V6, pieces),
+        SpokenVersion::V7 => decode_pieces(alloc, Version::V7, pieces),
+        SpokenVersion::V8 => decode_pieces(alloc, Version::V8, pieces),
+    }
+}
