@@ -1,4 +1,4 @@
-//! Links the library and the toolchain's C part, and into the measuring program a counter of requests for memory.
+//! Under the feature `library`, links the library and the toolchain's C part, and into the measuring program a counter of requests for memory.
 
 use std::env;
 use std::error::Error;
@@ -7,6 +7,9 @@ use std::process::Command;
 
 fn main() -> Result<(), Box<dyn Error>> {
     println!("cargo:rerun-if-changed=build.rs");
+    if env::var_os("CARGO_FEATURE_LIBRARY").is_none() {
+        return Ok(());
+    }
     link("JOURNAL_FFI", "journal_ffi")?;
     link("RATTLE_C", "libc_c")?;
     link_counter()

@@ -129,14 +129,15 @@ def message_types():
 
 
 def rows(message):
-    """The fields of a message, in the order of their numbers, each with its label."""
+    """The fields of a message, in the order in which a canonical payload has them, each with its label."""
     fields = []
     for row in message.rows:
         if isinstance(row, OneOf):
-            fields += [(member, "Member") for member in row.members]
+            least = min(member.number for member in row.members)
+            fields += [(member, f"Member({least})") for member in row.members]
         else:
             fields.append((row, LABELS[row.presence]))
-    return sorted(fields, key=lambda field: field[0].number)
+    return fields
 
 
 def schema(message, numbers):

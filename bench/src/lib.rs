@@ -1,5 +1,9 @@
-//! Compares and measures the library against a peer: an implementation of the same protocol over prost, in ordinary Rust.
+//! Readers of the protocol that are not this project's library, random cases for them, and the calls of the library, which are compared with
+//! them and measured beside one of them.
 
+pub mod cases;
+pub mod conformance;
+#[cfg(feature = "library")]
 pub mod ours;
 pub mod peer;
 pub mod random;
@@ -10,4 +14,5 @@ pub mod schema;
 pub mod streams;
 #[rustfmt::skip]
 pub mod table;
+pub mod tally;
 pub mod wire;

@@ -105,6 +105,11 @@ impl Decoder {
         }
     }
 
+    /// How many bytes came that no item has taken.
+    pub fn pending(&self) -> usize {
+        self.pending + self.header.map_or(0, |_| HEADER)
+    }
+
     /// The next item, where all of it has come.
     pub fn next_item(&mut self) -> Option<Item> {
         let header = match self.header.take() {
@@ -256,19 +261,30 @@ pub fn canonical(schema: usize, payload: &[u8]) -> Result<Vec<u8>, Refusal> {
     )
 }
 
-/// The canonical payload of what comes of merging the second payload into the first.
-pub fn merge(schema: usize, first: &[u8], second: &[u8]) -> Result<Vec<u8>, Refusal> {
-    let (first, second) = (
-        Bytes::copy_from_slice(first),
-        Bytes::copy_from_slice(second),
-    );
+/// The canonical payload of what comes of merging payloads, one after the other.
+pub fn merge<'a>(
+    schema: usize,
+    payloads: impl IntoIterator<Item = &'a [u8]>,
+) -> Result<Vec<u8>, Refusal> {
     with_schema!(
         schema,
         Record => {
-            let mut record = Record::decode(first)?;
-            record.merge(second)?;
+            let mut record = Record::default();
+            for payload in payloads {
+                record.merge(Bytes::copy_from_slice(payload))?;
+            }
             Ok(record.encode_to_vec())
         },
+        _ => Err(Refusal::Unknown),
+    )
+}
+
+/// The record that a payload means, as Rust's derived Debug prints it, but for enums: they are printed by the names of their numbers.
+pub fn text(schema: usize, payload: &[u8]) -> Result<String, Refusal> {
+    let payload = Bytes::copy_from_slice(payload);
+    with_schema!(
+        schema,
+        Record => Ok(format!("{:?}", Record::decode(payload)?)),
         _ => Err(Refusal::Unknown),
     )
 }

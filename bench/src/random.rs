@@ -188,7 +188,7 @@ impl<'a> Payloads<'a> {
             return None;
         }
         let field = self.random.pick(fields);
-        if field.label == Label::Member || self.random.one_in(2) {
+        if matches!(field.label, Label::Member(_)) || self.random.one_in(2) {
             return Some(field);
         }
         Some(self.random.pick(fields))

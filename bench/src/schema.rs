@@ -1,5 +1,7 @@
 //! What a schema says of its fields, and what a message type says of its messages.
 
+use crate::table::{SCHEMAS, TYPES};
+
 /// What a field holds. A message names its schema by number.
 #[derive(Clone, Copy, Debug, PartialEq, Eq)]
 pub enum Kind {
@@ -22,13 +24,14 @@ impl Kind {
     }
 }
 
-/// How often a field stands in a message. A message field that is no list and no member is optional.
+/// How often a field stands in a message. A message field that is no list and no member is optional. A member names its oneof by the least
+/// number of its members.
 #[derive(Clone, Copy, Debug, PartialEq, Eq)]
 pub enum Label {
     Plain,
     Optional,
     Repeated,
-    Member,
+    Member(u32),
 }
 
 /// A field of a schema.
@@ -54,7 +57,7 @@ impl Field {
     }
 }
 
-/// The fields of a message.
+/// The fields of a message, in the order in which a canonical payload has them.
 #[derive(Debug)]
 pub struct Schema {
     pub name: &'static str,
@@ -68,9 +71,24 @@ impl Schema {
 }
 
 /// A message type that has a name: its code in a header, and the schema of its payloads.
-#[derive(Debug)]
+#[derive(Debug, PartialEq, Eq)]
 pub struct MessageType {
     pub name: &'static str,
     pub code: u16,
     pub schema: usize,
+}
+
+/// The schema of a name.
+pub fn schema_of(name: &str) -> Option<usize> {
+    SCHEMAS.iter().position(|schema| schema.name == name)
+}
+
+/// The message type of a name.
+pub fn type_of(name: &str) -> Option<&'static MessageType> {
+    TYPES.iter().find(|message_type| message_type.name == name)
+}
+
+/// The named message type that has a code.
+pub fn type_of_code(code: u16) -> Option<&'static MessageType> {
+    TYPES.iter().find(|message_type| message_type.code == code)
 }

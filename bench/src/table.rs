@@ -129,8 +129,8 @@ pub static SCHEMAS: [Schema; 53] = [
         name: "ProposeRunCompletionMessage",
         fields: &[
             Field::new(1, U32, Plain),
-            Field::new(14, Bytes, Member),
-            Field::new(15, Message(2), Member),
+            Field::new(14, Bytes, Member(14)),
+            Field::new(15, Message(2), Member(14)),
         ],
     },
     Schema {
@@ -157,8 +157,8 @@ pub static SCHEMAS: [Schema; 53] = [
         name: "GetStateEphemeralNotificationMessage",
         fields: &[
             Field::new(1, U32, Plain),
-            Field::new(4, Message(0), Member),
-            Field::new(5, Message(1), Member),
+            Field::new(4, Message(0), Member(4)),
+            Field::new(5, Message(1), Member(4)),
         ],
     },
     Schema {
@@ -173,8 +173,8 @@ pub static SCHEMAS: [Schema; 53] = [
         name: "OutputCommandMessage",
         fields: &[
             Field::new(12, Text, Plain),
-            Field::new(14, Message(1), Member),
-            Field::new(15, Message(2), Member),
+            Field::new(14, Message(1), Member(14)),
+            Field::new(15, Message(2), Member(14)),
         ],
     },
     Schema {
@@ -218,8 +218,8 @@ pub static SCHEMAS: [Schema; 53] = [
         fields: &[
             Field::new(1, Bytes, Plain),
             Field::new(12, Text, Plain),
-            Field::new(13, Message(0), Member),
-            Field::new(14, Message(1), Member),
+            Field::new(13, Message(0), Member(13)),
+            Field::new(14, Message(1), Member(13)),
         ],
     },
     Schema {
@@ -249,8 +249,8 @@ pub static SCHEMAS: [Schema; 53] = [
         name: "CompletePromiseCommandMessage",
         fields: &[
             Field::new(1, Text, Plain),
-            Field::new(2, Message(1), Member),
-            Field::new(3, Message(2), Member),
+            Field::new(2, Message(1), Member(2)),
+            Field::new(3, Message(2), Member(2)),
             Field::new(11, U32, Plain),
             Field::new(12, Text, Plain),
         ],
@@ -299,11 +299,11 @@ pub static SCHEMAS: [Schema; 53] = [
         name: "SendSignalCommandMessage",
         fields: &[
             Field::new(1, Text, Plain),
-            Field::new(2, U32, Member),
-            Field::new(3, Text, Member),
-            Field::new(4, Message(0), Member),
-            Field::new(5, Message(1), Member),
-            Field::new(6, Message(2), Member),
+            Field::new(2, U32, Member(2)),
+            Field::new(3, Text, Member(2)),
+            Field::new(4, Message(0), Member(4)),
+            Field::new(5, Message(1), Member(4)),
+            Field::new(6, Message(2), Member(4)),
             Field::new(12, Text, Plain),
         ],
     },
@@ -317,9 +317,9 @@ pub static SCHEMAS: [Schema; 53] = [
     Schema {
         name: "AttachInvocationCommandMessage",
         fields: &[
-            Field::new(1, Text, Member),
-            Field::new(3, Message(9), Member),
-            Field::new(4, Message(8), Member),
+            Field::new(1, Text, Member(1)),
+            Field::new(3, Message(9), Member(1)),
+            Field::new(4, Message(8), Member(1)),
             Field::new(11, U32, Plain),
             Field::new(12, Text, Plain),
         ],
@@ -327,9 +327,9 @@ pub static SCHEMAS: [Schema; 53] = [
     Schema {
         name: "GetInvocationOutputCommandMessage",
         fields: &[
-            Field::new(1, Text, Member),
-            Field::new(3, Message(9), Member),
-            Field::new(4, Message(8), Member),
+            Field::new(1, Text, Member(1)),
+            Field::new(3, Message(9), Member(1)),
+            Field::new(4, Message(8), Member(1)),
             Field::new(11, U32, Plain),
             Field::new(12, Text, Plain),
         ],
@@ -338,8 +338,8 @@ pub static SCHEMAS: [Schema; 53] = [
         name: "CompleteAwakeableCommandMessage",
         fields: &[
             Field::new(1, Text, Plain),
-            Field::new(2, Message(1), Member),
-            Field::new(3, Message(2), Member),
+            Field::new(2, Message(1), Member(2)),
+            Field::new(3, Message(2), Member(2)),
             Field::new(12, Text, Plain),
         ],
     },
@@ -347,67 +347,67 @@ pub static SCHEMAS: [Schema; 53] = [
         name: "GetLazyStateCompletionNotificationMessage",
         fields: &[
             Field::new(1, U32, Plain),
-            Field::new(4, Message(0), Member),
-            Field::new(5, Message(1), Member),
+            Field::new(4, Message(0), Member(4)),
+            Field::new(5, Message(1), Member(4)),
         ],
     },
     Schema {
         name: "GetPromiseCompletionNotificationMessage",
         fields: &[
             Field::new(1, U32, Plain),
-            Field::new(4, Message(0), Member),
-            Field::new(5, Message(1), Member),
-            Field::new(6, Message(2), Member),
+            Field::new(4, Message(0), Member(4)),
+            Field::new(5, Message(1), Member(4)),
+            Field::new(6, Message(2), Member(4)),
         ],
     },
     Schema {
         name: "PeekPromiseCompletionNotificationMessage",
         fields: &[
             Field::new(1, U32, Plain),
-            Field::new(4, Message(0), Member),
-            Field::new(5, Message(1), Member),
-            Field::new(6, Message(2), Member),
+            Field::new(4, Message(0), Member(4)),
+            Field::new(5, Message(1), Member(4)),
+            Field::new(6, Message(2), Member(4)),
         ],
     },
     Schema {
         name: "GetInvocationOutputCompletionNotificationMessage",
         fields: &[
             Field::new(1, U32, Plain),
-            Field::new(4, Message(0), Member),
-            Field::new(5, Message(1), Member),
-            Field::new(6, Message(2), Member),
+            Field::new(4, Message(0), Member(4)),
+            Field::new(5, Message(1), Member(4)),
+            Field::new(6, Message(2), Member(4)),
         ],
     },
     Schema {
         name: "CompletePromiseCompletionNotificationMessage",
         fields: &[
             Field::new(1, U32, Plain),
-            Field::new(4, Message(0), Member),
-            Field::new(6, Message(2), Member),
+            Field::new(4, Message(0), Member(4)),
+            Field::new(6, Message(2), Member(4)),
         ],
     },
     Schema {
         name: "CallCompletionNotificationMessage",
         fields: &[
             Field::new(1, U32, Plain),
-            Field::new(5, Message(1), Member),
-            Field::new(6, Message(2), Member),
+            Field::new(5, Message(1), Member(5)),
+            Field::new(6, Message(2), Member(5)),
         ],
     },
     Schema {
         name: "RunCompletionNotificationMessage",
         fields: &[
             Field::new(1, U32, Plain),
-            Field::new(5, Message(1), Member),
-            Field::new(6, Message(2), Member),
+            Field::new(5, Message(1), Member(5)),
+            Field::new(6, Message(2), Member(5)),
         ],
     },
     Schema {
         name: "AttachInvocationCompletionNotificationMessage",
         fields: &[
             Field::new(1, U32, Plain),
-            Field::new(5, Message(1), Member),
-            Field::new(6, Message(2), Member),
+            Field::new(5, Message(1), Member(5)),
+            Field::new(6, Message(2), Member(5)),
         ],
     },
     Schema {
@@ -434,24 +434,24 @@ pub static SCHEMAS: [Schema; 53] = [
     Schema {
         name: "SignalNotificationMessage",
         fields: &[
-            Field::new(2, U32, Member),
-            Field::new(3, Text, Member),
-            Field::new(4, Message(0), Member),
-            Field::new(5, Message(1), Member),
-            Field::new(6, Message(2), Member),
+            Field::new(2, U32, Member(2)),
+            Field::new(3, Text, Member(2)),
+            Field::new(4, Message(0), Member(4)),
+            Field::new(5, Message(1), Member(4)),
+            Field::new(6, Message(2), Member(4)),
         ],
     },
     Schema {
         name: "NotificationTemplate",
         fields: &[
-            Field::new(1, U32, Member),
-            Field::new(2, U32, Member),
-            Field::new(3, Text, Member),
-            Field::new(4, Message(0), Member),
-            Field::new(5, Message(1), Member),
-            Field::new(6, Message(2), Member),
-            Field::new(16, Text, Member),
-            Field::new(17, Message(5), Member),
+            Field::new(1, U32, Member(1)),
+            Field::new(2, U32, Member(1)),
+            Field::new(3, Text, Member(1)),
+            Field::new(4, Message(0), Member(4)),
+            Field::new(5, Message(1), Member(4)),
+            Field::new(6, Message(2), Member(4)),
+            Field::new(16, Text, Member(4)),
+            Field::new(17, Message(5), Member(4)),
         ],
     },
 ];

@@ -1,0 +1,226 @@
+//! The answers of the library to random cases.
+
+use pendratsoa_bench::cases::{any, any_piece};
+use pendratsoa_bench::conformance::{hex, Case, Listing, MALFORMED};
+use pendratsoa_bench::ours::{self, Refusal};
+use pendratsoa_bench::peer;
+use pendratsoa_bench::random::Random;
+use pendratsoa_bench::rules::{self, Meaning};
+use pendratsoa_bench::schema::type_of_code;
+use pendratsoa_bench::table::SCHEMAS;
+use pendratsoa_bench::tally::Tally;
+
+/// Compares random cases by the words SEED, COUNT and FIRST, where these are no others. Answers whether all agree.
+pub fn compare(words: &[String]) -> Option<bool> {
+    let [seed, count, first] = options(words)?;
+    let mut tally = Tally::default();
+    compare_refusals(&mut tally);
+    for number in first..first.saturating_add(count) {
+        let failed = tally.failed();
+        let random = &mut Random::new(seed, number);
+        compare_case(&mut tally, random);
+        if tally.failed() > failed {
+            tally.again(format_args!("agree {seed} 1 {number}"));
+        }
+    }
+    Some(tally.print())
+}
+
+/// The numbers among the words, with others where there are fewer.
+fn options(words: &[String]) -> Option<[u64; 3]> {
+    let mut options = [1, 20_000, 0];
+    for (place, word) in words.iter().enumerate() {
+        *options.get_mut(place)? = word.parse().ok()?;
+    }
+    Some(options)
+}
+
+fn compare_case(tally: &mut Tally, random: &mut Random) {
+    let case = any(random);
+    let kind = match &case {
+        Case::Payload { .. } | Case::Record { .. } => "payloads",
+        Case::Merge { .. } => "merges",
+        Case::Frame { .. } => "frames",
+        Case::Stream { .. } => "streams",
+    };
+    let verdict = match case.judge() {
+        Ok(verdict) => verdict,
+        Err(answers) => return tally.fails(kind, case, answers),
+    };
+    if verdict.departs {
+        tally.departs();
+    }
+    match &case {
+        Case::Payload { schema, payload } | Case::Record { schema, payload } => {
+            let ours = ours::canonical(*schema, payload);
+            equal(tally, kind, &case, &written(&ours), &verdict.answer);
+            if let Ok(canonical) = ours {
+                let again = ours::canonical(*schema, &canonical);
+                let canonical = hex(&canonical);
+                equal(
+                    tally,
+                    "canonical payloads",
+                    &case,
+                    &written(&again),
+                    &canonical,
+                );
+            }
+        }
+        Case::Merge { schema, payloads } => {
+            let ours = merge(*schema, payloads);
+            equal(tally, kind, &case, &written(&ours), &verdict.answer);
+        }
+        Case::Frame {
+            message_type,
+            version,
+            payload,
+        } => {
+            let rounds = random.below(3);
+            let ours = ours::frame(*version, message_type.code, payload, rounds);
+            equal(tally, kind, &case, &written(&ours), &verdict.answer);
+        }
+        Case::Stream { version, pieces } => {
+            let stream = pieces.concat();
+            let piece = any_piece(random, stream.len());
+            let rounds = random.below(3);
+            let ours = list(*version, &stream, piece, rounds);
+            equal(tally, kind, &case, &ours, &verdict.answer);
+            compare_messages(tally, &case, *version, &stream, piece, rounds);
+        }
+    }
+}
+
+/// Merges payloads, one after the other.
+fn merge(schema: usize, payloads: &[Vec<u8>]) -> Result<Vec<u8>, Refusal> {
+    payloads.iter().try_fold(Vec::new(), |merged, payload| {
+        ours::merge(schema, &merged, payload)
+    })
+}
+
+/// The listing of the items that the library finds in a stream.
+fn list(version: u32, stream: &[u8], piece: usize, rounds: usize) -> String {
+    let mut words = vec![0; stream.len() / 8 + 1];
+    let count = match ours::items(version, stream, piece, rounds, &mut words) {
+        Ok(count) => count,
+        Err(refusal) => return refusal.to_string(),
+    };
+    let mut listing = Listing::default();
+    let mut rest = stream.len();
+    for word in &words[..count] {
+        let code = (word >> 48) as u16;
+        let length = *word as u32 as usize;
+        rest = rest.saturating_sub(8 + length);
+        if type_of_code(code).is_none() && code >> 10 == 0 {
+            listing.unknown(code);
+        } else {
+            listing.message(code, word & 1 << 47 != 0, length);
+        }
+    }
+    listing.rest(rest)
+}
+
+/// How many messages of named types a stream has, where all of their payloads are well-formed.
+fn compare_messages(
+    tally: &mut Tally,
+    case: &Case,
+    version: u32,
+    stream: &[u8],
+    piece: usize,
+    rounds: usize,
+) {
+    const KIND: &str = "messages of streams";
+    let ours = match ours::messages(version, stream, piece, rounds) {
+        Ok(count) => count.to_string(),
+        Err(refusal) => refusal.to_string(),
+    };
+    let (expected, departs) = messages_by_rules(stream);
+    let peer = peer::messages(stream, piece, rounds).ok();
+    if peer != expected && !departs {
+        let answers = format!("  prost:     {peer:?}\n  the rules: {expected:?}");
+        return tally.fails(KIND, case, answers);
+    }
+    let expected = expected.map_or_else(|| MALFORMED.into(), |count| count.to_string());
+    equal(tally, KIND, case, &ours, &expected);
+}
+
+/// How many messages of named types there are, and whether prost departs from the rules at one of them.
+fn messages_by_rules(stream: &[u8]) -> (Option<usize>, bool) {
+    let (items, _) = rules::items(stream);
+    let mut count = Some(0);
+    let mut departs = false;
+    for item in items {
+        let rules::Item::Message { code, payload, .. } = item else {
+            continue;
+        };
+        if let Some(message_type) = type_of_code(code) {
+            let meaning = Meaning::of(message_type.schema, [payload.as_slice()]);
+            departs |= matches!(&meaning, Some(meaning) if meaning.skips_on_last_level);
+            count = count.filter(|_| meaning.is_some()).map(|count| count + 1);
+        }
+    }
+    (count, departs)
+}
+
+/// Bytes or a refusal, as a line has them.
+fn written(answer: &Result<Vec<u8>, Refusal>) -> String {
+    match answer {
+        Ok(bytes) => hex(bytes),
+        Err(refusal) => refusal.to_string(),
+    }
+}
+
+/// Compares two answers.
+fn equal(tally: &mut Tally, kind: &'static str, case: &Case, ours: &str, expected: &str) {
+    if ours == expected {
+        tally.passes(kind);
+    } else {
+        let answers = format!("  ours:     {ours}\n  expected: {expected}");
+        tally.fails(kind, format_args!("{kind}, {case}"), answers);
+    }
+}
+
+/// The numbers that journal.h refuses, and room that is one too short.
+fn compare_refusals(tally: &mut Tally) {
+    use Refusal::{NoRoom, Unknown};
+    // an end, and then a code that stands for no type
+    const STREAM: [u8; 16] = [0, 3, 0, 0, 0, 0, 0, 0, 0, 8, 0, 0, 0, 0, 0, 0];
+    const END: u16 = 0x0003;
+    const CUSTOM: u16 = 0xFC01;
+    const KIND: &str = "refusals of numbers and room";
+    let mut words = [0; 2];
+    let mut out = [0; 8];
+    let answers = [
+        (ours::items(4, &STREAM, 0, 1, &mut words), Err(Unknown)),
+        (ours::items(9, &STREAM, 0, 1, &mut words), Err(Unknown)),
+        (ours::items(5, &STREAM, 0, 1, &mut words[..1]), Err(NoRoom)),
+        (ours::items(5, &STREAM, 0, 1, &mut words), Ok(2)),
+        (ours::messages(4, &STREAM, 0, 1), Err(Unknown)),
+        (ours::messages(9, &STREAM, 0, 1), Err(Unknown)),
+        (ours::messages(8, &STREAM, 0, 1), Ok(1)),
+        (
+            ours::canonical(SCHEMAS.len(), &[]).map(|payload| payload.len()),
+            Err(Unknown),
+        ),
+        (
+            ours::merge(SCHEMAS.len(), &[], &[]).map(|payload| payload.len()),
+            Err(Unknown),
+        ),
+        (ours::frame_to(4, END, &[], 1, &mut out), Err(Unknown)),
+        (ours::frame_to(9, END, &[], 1, &mut out), Err(Unknown)),
+        (ours::frame_to(8, CUSTOM, &[], 1, &mut out), Err(Unknown)),
+        (ours::frame_to(8, END, &[], 1, &mut out[..7]), Err(NoRoom)),
+        (ours::frame_to(8, END, &[], 1, &mut out), Ok(8)),
+    ];
+    for (place, (ours, expected)) in answers.into_iter().enumerate() {
+        if ours == expected {
+            tally.passes(KIND);
+        } else {
+            let answers = format!("  ours:     {ours:?}\n  expected: {expected:?}");
+            tally.fails(
+                KIND,
+                format_args!("{KIND}, the one at place {place}"),
+                answers,
+            );
+        }
+    }
+}

@@ -1,0 +1,125 @@
+//! Writes conformance lines: random cases with the answers of the peer and of the rules.
+//!
+//! - vectors [SEED [COUNT]]: to standard output, so many;
+//! - vectors --write FOLDER: the files of random cases that conformance/ has;
+//! - vectors --check FOLDER: compares these files with what it would write. The last line is 'N passed, M failed', of files.
+//!
+//! Where the two readers differ, and not as is known, the case is shown on standard error and the status is 1. How often they differed as is
+//! known is told there too.
+
+use std::env;
+use std::fmt;
+use std::fs;
+use std::io::{self, BufWriter, Write};
+use std::path::Path;
+use std::process::ExitCode;
+
+use pendratsoa_bench::cases::{self, any_handy, judge};
+use pendratsoa_bench::random::Random;
+
+const SEED: u64 = 1;
+const COUNT: u64 = 1000;
+
+/// Why no cases were written.
+#[derive(Debug)]
+enum Failed {
+    Differ(cases::Failed),
+    Io(io::Error),
+}
+
+impl From<cases::Failed> for Failed {
+    fn from(failed: cases::Failed) -> Failed {
+        Failed::Differ(failed)
+    }
+}
+
+impl From<io::Error> for Failed {
+    fn from(error: io::Error) -> Failed {
+        Failed::Io(error)
+    }
+}
+
+impl fmt::Display for Failed {
+    fn fmt(&self, f: &mut fmt::Formatter<'_>) -> fmt::Result {
+        match self {
+            Failed::Differ(failed) => {
+                write!(f, "the readers differ: {}\n{}", failed.case, failed.answers)
+            }
+            Failed::Io(error) => write!(f, "{error}"),
+        }
+    }
+}
+
+/// Writes so many random cases to standard output.
+fn print(seed: u64, count: u64) -> Result<bool, Failed> {
+    let mut out = BufWriter::new(io::stdout().lock());
+    let mut departures = 0;
+    for case in 0..count {
+        let case = any_handy(&mut Random::new(seed, case));
+        let verdict = judge(&case)?;
+        departures += usize::from(verdict.departs);
+        writeln!(out, "{case} = {}", verdict.answer)?;
+    }
+    out.flush()?;
+    tell(departures);
+    Ok(true)
+}
+
+/// Writes the files of a folder.
+fn write(folder: &Path) -> Result<bool, Failed> {
+    let files = cases::files()?;
+    for file in &files {
+        fs::write(folder.join(file.name), &file.text)?;
+    }
+    tell(files.iter().map(|file| file.departures).sum());
+    Ok(true)
+}
+
+/// Whether the files of a folder are what would be written.
+fn check(folder: &Path) -> Result<bool, Failed> {
+    let files = cases::files()?;
+    let mut stale = 0;
+    for file in &files {
+        if !matches!(fs::read_to_string(folder.join(file.name)), Ok(text) if text == file.text) {
+            println!("failed: {} is not what vectors writes", file.name);
+            stale += 1;
+        }
+    }
+    println!("{} passed, {stale} failed", files.len() - stale);
+    Ok(stale == 0)
+}
+
+fn tell(departures: usize) {
+    eprintln!("known departure, prost refuses a skipped record on the last level: {departures}");
+}
+
+/// Does what the command line asks for, if it asks for anything.
+fn run(words: &[&str]) -> Option<Result<bool, Failed>> {
+    Some(match words {
+        [] => print(SEED, COUNT),
+        ["--write", folder] => write(Path::new(folder)),
+        ["--check", folder] => check(Path::new(folder)),
+        [seed] => print(seed.parse().ok()?, COUNT),
+        [seed, count] => print(seed.parse().ok()?, count.parse().ok()?),
+        _ => return None,
+    })
+}
+
+fn main() -> ExitCode {
+    let words: Vec<String> = env::args().skip(1).collect();
+    let words: Vec<&str> = words.iter().map(String::as_str).collect();
+    match run(&words) {
+        None => {
+            eprintln!(
+                "usage: vectors [SEED [COUNT]] | vectors --write FOLDER | vectors --check FOLDER"
+            );
+            ExitCode::from(2)
+        }
+        Some(Ok(true)) => ExitCode::SUCCESS,
+        Some(Ok(false)) => ExitCode::FAILURE,
+        Some(Err(failed)) => {
+            eprintln!("failed: {failed}");
+            ExitCode::FAILURE
+        }
+    }
+}
