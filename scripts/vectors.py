@@ -1,30 +1,31 @@
-"""Writes the test of all messages' bytes, with protoc as the encoder: scripts/vectors.py
+"""Writes conformance/records.txt, with protoc as the encoder: scripts/vectors.py [--check]
 
-Each message has a value with every row present and each field a value of its own; of a oneof it has one member, and there is a value for
-each. The bytes come from protoc (Debian's protobuf-compiler) out of proto/journal.proto and a text that names the fields; nothing of this
-project's own code takes part. The values are written as Rust, in the source of crates/shared_core_message_tests. Run `rt fmt` there
-afterwards.
+For each message there is a value with every row present and each field a value of its own; of a oneof it has one member, and there is a value
+for each. Then comes the value of which nothing is present. A line names a message, the bytes that protoc (Debian's protobuf-compiler) makes out
+of proto/journal.proto and a text that names the fields, and the value as Rust's derived Debug prints it, made of the same names and values.
+Nothing of this project's own code takes part.
+
+With --check nothing is written; the last line is 'N passed, M failed', and the status 1 where the file is not what would be written. It says
+'not run' where there is no protoc.
 """
 import pathlib
+import shutil
 import subprocess
+import sys
 
-from journal import PROTO, OneOf, camel, messages, snake
-from records import CRATES
+from journal import PROTO, OneOf, camel, messages
 
 PACKAGE = "pendratsoa.journal"
-SOURCE = pathlib.Path(__file__).resolve().parent.parent / "crates" / "shared_core_message_tests" / "src" / "vectors.rt"
-PARTS = "shared_core_parts"
+FILE = pathlib.Path(__file__).resolve().parent.parent / "conformance" / "records.txt"
 
 HEAD = """\
-//! The bytes of a value of each message, and of each member of its oneofs, from an encoder that is not this project's.
-//!
-//! Written by scripts/vectors.py. The payloads come from protoc (Debian's protobuf-compiler), out of proto/journal.proto and texts that
-//! name the fields; nothing of this project's own code took part. In each value every field is present and has a value of its own.
+# The names of fields: for each message a value with every field present and each another, with each member of its oneofs in turn, and the
+# value of which nothing is present. Written by scripts/vectors.py; the payloads are those of protoc.
 """
 
 
 class Values:
-    """Values of fields, each another, as the text that protoc reads and as Rust."""
+    """Values of fields, each another, as the text that protoc reads and as Rust prints them."""
 
     def __init__(self, table):
         self.table = table
@@ -38,47 +39,61 @@ class Values:
             return str(number), str(number)
         if kind == "u64":
             number = (1 << 40) + n
-            return str(number), f"{number:_}"
+            return str(number), str(number)
         if kind == "bool":
             return "true", "true"
         if kind == "enum":
             return str(-n), str(-n)
         if kind == "text":
-            return f'"t\\303\\251{n}"', f'text(alloc, "t\\u{{e9}}{n}")?'
-        return f'"\\377{n}"', f'Bytes::from_static(b"\\xff{n}")'
+            return f'"t\\303\\251{n}"', f'"t\u00e9{n}"'
+        return f'"\\377{n}"', f'b"\\xff{n}"'
 
     def value(self, field, deep):
         if field.kind != "message":
             return self.scalar(field.kind)
-        text, rust = self.message(self.table[field.message], 0, deep + 1)
-        return "{ " + text + " }", rust
+        text, printed = self.message(self.table[field.message], 0, deep + 1)
+        return "{ " + text + " }", printed
 
     def field(self, field, deep):
-        """The field's text and its Rust."""
+        """The field's text, and its value as it is printed."""
         if field.presence == "repeated":
             if field.message == "Future" and deep > 1:
-                return "", "Vec::new(alloc)"
+                return "", "[]"
             values = [self.value(field, deep) for _ in range(2)]
             text = " ".join(f"{field.name}: {value[0]}" for value in values)
-            return text, f"vec![in alloc; {', '.join(value[1] for value in values)}]?"
-        text, rust = self.value(field, deep)
-        return f"{field.name}: {text}", rust if field.presence == "plain" else f"Some({rust})"
+            return text, f"[{', '.join(value[1] for value in values)}]"
+        text, printed = self.value(field, deep)
+        return f"{field.name}: {text}", printed if field.presence == "plain" else f"Some({printed})"
 
     def message(self, message, variant, deep):
-        """The message's text and its Rust, with the given member of each oneof."""
+        """The message's text, and how it is printed, with the given member of each oneof."""
         texts = []
         rows = []
         for row in message.rows:
             if isinstance(row, OneOf):
                 member = row.members[variant % len(row.members)]
-                text, rust = self.value(member, deep)
+                text, printed = self.value(member, deep)
                 texts.append(f"{member.name}: {text}")
-                rows.append(f"{row.name}: Some({snake(message.name)}::{camel(row.name)}::{camel(member.name)}({rust}))")
+                rows.append(f"{row.name}: Some({camel(member.name)}({printed}))")
             else:
-                text, rust = self.field(row, deep)
+                text, printed = self.field(row, deep)
                 texts.append(text)
-                rows.append(f"{row.name}: {rust}")
-        return " ".join(texts), f"{message.name} {{ {', '.join(rows)} }}"
+                rows.append(f"{row.name}: {printed}")
+        return " ".join(texts), struct(message.name, rows)
+
+
+def struct(name, rows):
+    """A struct as it is printed."""
+    return f"{name} {{ {', '.join(rows)} }}" if rows else name
+
+
+def absent(row):
+    """What is printed of a row that is not present."""
+    if isinstance(row, OneOf) or row.presence in ("optional", "message"):
+        return "None"
+    if row.presence == "repeated":
+        return "[]"
+    return {"bool": "false", "text": '""', "bytes": 'b""'}.get(row.kind, "0")
 
 
 def encoded(name, text):
@@ -92,46 +107,40 @@ def encoded(name, text):
     return made.stdout
 
 
-def vectors():
-    """For each message and each member of its oneofs: the message, which member it is, Rust for the value, and the bytes."""
+def values(message, table):
+    """The values of a message, each as the text that protoc reads and as it is printed."""
+    members = max([len(row.members) for row in message.rows if isinstance(row, OneOf)], default=1)
+    for member in range(members):
+        yield Values(table).message(message, member, 1)
+    if message.rows:
+        yield "", struct(message.name, [f"{row.name}: {absent(row)}" for row in message.rows])
+
+
+def records():
+    """The text of the file."""
     table = {message.name: message for message in messages()}
+    parts = [HEAD]
     for message in table.values():
-        members = max([len(row.members) for row in message.rows if isinstance(row, OneOf)], default=1)
-        for member in range(members):
-            text, rust = Values(table).message(message, member, 1)
-            yield message, member, rust, encoded(message.name, text)
+        parts.append(f"\n# {message.comment}\n")
+        for text, printed in values(message, table):
+            parts.append(f"record {message.name} {encoded(message.name, text).hex() or '-'} = {printed}\n")
+    return "".join(parts)
 
 
-def crate_of(name):
-    """The crate that a message stands in."""
-    return next((crate for crate, (_, names) in CRATES.items() if name in names), PARTS)
-
-
-def literal(data):
-    """Bytes as Rust."""
-    return 'b"' + "".join(f"\\x{byte:02x}" for byte in data) + '"'
-
-
-def source():
-    """The Rust source of the tests: two for each crate, of its messages with the first member of each oneof, and with the others."""
-    calls = {(crate, others): "" for crate in [PARTS, *CRATES] for others in ["", "_with_other_members"]}
-    uses = {"crate::agrees::{agrees, text}", "bytes::Bytes", "std::test::Fail"}
-    for message, member, rust, data in vectors():
-        crate = crate_of(message.name)
-        module = snake(message.name)
-        uses.add(f"{crate}::{module}::{message.name}" if crate == PARTS else f"{crate}::{message.name}")
-        if any(isinstance(row, OneOf) for row in message.rows):
-            uses.add(f"{crate}::{module}")
-        others = "_with_other_members" if member else ""
-        calls[crate, others] += f"    agrees(\n        alloc,\n        {rust},\n        {literal(data)},\n    )?;\n"
-    tests = "".join(
-        f"\n#[test]\nfn {crate.removeprefix('shared_core_')}{others}(rt: HostRuntime) -> Result<(), Fail> {{\n"
-        f"    let alloc = rt.alloc();\n{body}    Ok(())\n}}\n"
-        for (crate, others), body in calls.items()
-    )
-    lines = [f"use {path};\n" for path in sorted(uses, key=lambda path: (not path.startswith("crate::"), path))]
-    return HEAD + "\n" + "".join(lines) + tests
+def check():
+    """Whether the file is what would be written."""
+    if not shutil.which("protoc"):
+        print("not run: there is no protoc")
+        print("0 passed, 0 failed")
+        return True
+    same = FILE.exists() and FILE.read_text(encoding="utf-8") == records()
+    if not same:
+        print("failed: conformance/records.txt is not what scripts/vectors.py writes")
+    print("1 passed, 0 failed" if same else "0 passed, 1 failed")
+    return same
 
 
 if __name__ == "__main__":
-    SOURCE.write_text(source())
+    if sys.argv[1:] == ["--check"]:
+        sys.exit(0 if check() else 1)
+    FILE.write_text(records(), encoding="utf-8")
