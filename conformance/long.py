@@ -1,0 +1,232 @@
+"""Writes the lines that are too long to write by hand, levels.txt and long.txt: python3 conformance/long.py [--check]
+
+What a payload means follows from how it is put together here; no reader of payloads takes part. With --check nothing is written; the last
+line is 'N passed, M failed', of files.
+"""
+import pathlib
+import sys
+
+FOLDER = pathlib.Path(__file__).resolve().parent
+
+MALFORMED = "malformed"
+
+
+def varint(number):
+    """A number in its shortest spelling."""
+    out = bytearray()
+    while number >= 128:
+        out.append(number % 128 + 128)
+        number //= 128
+    return bytes(out) + bytes([number])
+
+
+def lengthy(number, content):
+    """A record of a field with a length."""
+    return varint(8 * number + 2) + varint(len(content)) + content
+
+
+def written(answer):
+    return (answer.hex() or "-") if isinstance(answer, bytes) else answer
+
+
+def line(*words, answer):
+    return " ".join(word.hex() or "-" if isinstance(word, bytes) else word for word in words) + f" = {written(answer)}\n"
+
+
+def payload(schema, content, answer):
+    return line("payload", schema, content, answer=answer)
+
+
+def header(code, length, flag=0):
+    return code.to_bytes(2, "big") + bytes([flag, 0]) + length.to_bytes(4, "big")
+
+
+def chain(futures, innermost=b"", outer=lambda number: b""):
+    """A future that is the first of a chain, each nested in the one before. Each but the innermost begins with what `outer` gives for its
+    number, from 1."""
+    content = innermost
+    for number in range(futures - 1, 0, -1):
+        content = outer(number) + lengthy(4, content)
+    return content
+
+
+def suspension(future):
+    return lengthy(4, future)
+
+
+def groups(count, content=b"", number=9):
+    """Groups in one another."""
+    return varint(8 * number + 3) * count + content + varint(8 * number + 4) * count
+
+
+def chains_of_futures():
+    yield "# A suspension's future stands on level 1, so a chain of 100 futures reaches level 100, the last. One more is malformed."
+    for futures in (1, 2, 99, 100):
+        whole = suspension(chain(futures))
+        yield payload("SuspensionMessage", whole, whole)
+    yield payload("SuspensionMessage", suspension(chain(101)), MALFORMED)
+    yield payload("SuspensionMessage", suspension(chain(150)), MALFORMED)
+
+    yield "# Read by itself a future stands on level 0, and in what is awaited on level 1."
+    yield payload("Future", chain(101), chain(101))
+    yield payload("Future", chain(102), MALFORMED)
+    yield payload("AwaitingOnMessage", lengthy(1, chain(100)), lengthy(1, chain(100)))
+    yield payload("AwaitingOnMessage", lengthy(1, chain(101)), MALFORMED)
+
+    yield "# Numbers, texts and empty messages of fields stand on the last level as on any other."
+    innermost = bytes.fromhex("0a0201021201111a016128ffffffffffffffffff01")
+    yield payload("SuspensionMessage", suspension(chain(100, innermost)), suspension(chain(100, innermost)))
+    yield payload("SuspensionMessage", suspension(chain(100, b"\x22\x00")), MALFORMED)
+    yield payload("SuspensionMessage", suspension(chain(99, b"\x22\x00\x22\x00")), suspension(chain(99, b"\x22\x00\x22\x00")))
+
+
+def groups_of_an_unknown_field():
+    yield "# Groups of a number that the schema does not have, in one another: the content of the hundredth stands on level 100."
+    for schema in ("EndMessage", "SuspensionMessage"):
+        for count in (1, 99, 100):
+            yield payload(schema, groups(count), b"")
+        yield payload(schema, groups(101), MALFORMED)
+
+    yield "# A group that is not closed, and one that is closed once too often."
+    yield payload("EndMessage", groups(100)[:-1], MALFORMED)
+    yield payload("EndMessage", groups(100) + b"\x4c", MALFORMED)
+
+    yield "# A group of another number within the groups."
+    yield payload("EndMessage", groups(99, b"\x0b\x0c"), b"")
+    yield payload("EndMessage", groups(100, b"\x0b\x0c"), MALFORMED)
+    yield payload("EndMessage", groups(99, b"\x0b\x0c\x0b\x0c"), b"")
+    yield payload("EndMessage", groups(50, groups(50, number=536_870_911)), b"")
+    yield payload("EndMessage", groups(50, groups(51, number=536_870_911)), MALFORMED)
+
+
+def groups_below_futures():
+    yield "# Levels of futures and of groups add up."
+    yield payload("SuspensionMessage", suspension(chain(99, b"\x4b\x4c")), suspension(chain(99)))
+    yield payload("SuspensionMessage", suspension(chain(99, b"\x4b\x4b\x4c\x4c")), MALFORMED)
+    yield payload("SuspensionMessage", suspension(chain(100, b"\x4b\x4c")), MALFORMED)
+    yield payload("SuspensionMessage", suspension(chain(50, groups(50))), suspension(chain(50)))
+    yield payload("SuspensionMessage", suspension(chain(50, groups(51))), MALFORMED)
+
+    yield "# What is skipped on the last level: a number, eight bytes, four bytes and bytes hold no further level. prost refuses each of these."
+    for record in ("1000", "110102030405060708", "1501020304", "120161"):
+        skipped = bytes.fromhex(record)
+        yield payload("EndMessage", groups(100, skipped), b"")
+    yield payload("SuspensionMessage", suspension(chain(100, bytes.fromhex("7801"))), suspension(chain(100)))
+    yield payload("Future", chain(101, bytes.fromhex("3a020101")), chain(101))
+
+    yield "# A level above it none of the readers refuses them."
+    for record in ("1000", "110102030405060708", "1501020304", "120161"):
+        yield payload("EndMessage", groups(99, bytes.fromhex(record)), b"")
+
+
+def merged_chains():
+    yield "# Merging does not add levels: each payload counts its own."
+    whole = suspension(chain(100))
+    yield line("merge", "SuspensionMessage", whole, b"\x22\x00", answer=whole)
+    yield line("merge", "SuspensionMessage", whole, whole, answer=suspension(lengthy(4, chain(99)) * 2))
+    yield line("merge", "Future", chain(101), b"\x22\x00", answer=chain(101) + b"\x22\x00")
+    yield line("merge", "SuspensionMessage", suspension(chain(101)), b"\x22\x00", answer=MALFORMED)
+    yield line("merge", "SuspensionMessage", b"\x22\x00", suspension(chain(101)), answer=MALFORMED)
+
+
+def frames_of_chains():
+    yield "# A chain of 100 futures, each with the completion of its number: a list before version 7, and from then on a chain."
+    whole = suspension(chain(100, b"\x0a\x01\x64", lambda number: lengthy(1, varint(number))))
+    lists = lengthy(1, bytes(range(1, 101)))
+    for version in (5, 6):
+        yield line("frame", "Suspension", str(version), whole, answer=header(1, len(lists)) + lists)
+    for version in (7, 8):
+        yield line("frame", "Suspension", str(version), whole, answer=header(1, len(whole)) + whole)
+
+    yield "# Of 101 futures there is no frame, since they are no payload."
+    whole = suspension(chain(101, b"\x0a\x01\x01", lambda number: b"\x0a\x01\x01"))
+    for version in (5, 6, 7, 8):
+        yield line("frame", "Suspension", str(version), whole, answer=MALFORMED)
+
+    yield "# A value of 101 futures, which no payload means, is a list before version 7: this is the payload of its frame, and the frame."
+    lists = lengthy(1, b"\x01" * 101)
+    yield payload("SuspensionMessageV6", lists, lists)
+    yield line("stream", "6", header(1, len(lists)) + lists, answer="Suspension 103, rest 0")
+    lists = lengthy(1, bytes(range(1, 102)))
+    yield payload("SuspensionMessageV6", lists, lists)
+
+
+def pattern(length):
+    """Bytes that tell where they stand."""
+    return bytes((place % 251) for place in range(length))
+
+
+def letters(length):
+    return bytes(ord("a") + place % 26 for place in range(length))
+
+
+def lengths():
+    yield "# Values around the lengths at which a length has another byte."
+    for length in (127, 128, 129, 16_383, 16_384):
+        value = lengthy(1, pattern(length))
+        yield payload("Value", value, value)
+
+    yield "# Texts of more than a thousand bytes, with letters of one byte and of several; one that ends in the middle of a letter."
+    text = ("a\u00e9\u4e2d\U0001f980" * 150).encode()
+    yield payload("ClearAllStateCommandMessage", lengthy(12, text), lengthy(12, text))
+    yield payload("ClearAllStateCommandMessage", lengthy(12, text[:-1]), MALFORMED)
+    yield payload("ClearAllStateCommandMessage", lengthy(12, letters(2_000)), lengthy(12, letters(2_000)))
+
+    yield "# Lists of a thousand elements: numbers in one record, each in a record of its own, and texts."
+    run = b"".join(varint(number) for number in range(1_000))
+    alone = b"".join(b"\x08" + varint(number) for number in range(1_000))
+    yield payload("SuspensionMessageV6", lengthy(1, run), lengthy(1, run))
+    yield payload("SuspensionMessageV6", alone, lengthy(1, run))
+    texts = b"".join(lengthy(3, str(number).encode()) for number in range(1_000))
+    yield payload("SuspensionMessageV6", texts, texts)
+
+    yield "# A thousand records of a plain field, of which the last counts; and a thousand of a message field."
+    yield payload("ProposeRunCompletionAckMessage", b"\x08\x01" * 1_000 + b"\x08\x02", b"\x08\x02")
+    yield payload("InputCommandMessage", b"\x72\x00" * 999 + b"\x72\x03\x0a\x01\x78", b"\x72\x03\x0a\x01\x78")
+    yield payload("SuspensionMessage", b"\x22\x02\x08\x07" * 300, suspension(lengthy(1, b"\x07" * 300)))
+
+    yield "# A payload of more than 65,535 bytes there and back, and its frame in pieces."
+    key = lengthy(1, pattern(65_536))
+    frame = header(0x0402, len(key)) + key
+    yield line("frame", "GetLazyStateCommand", "8", key, answer=frame)
+    yield line("stream", "8", frame[:5], frame[5:20_000], frame[20_000:], answer=f"GetLazyStateCommand {len(key)}, rest 0")
+
+
+def text(title, *makers):
+    parts = [f"# {title} Written by long.py.\n"]
+    for make in makers:
+        for part in make():
+            parts.append(f"\n{part}\n" if part.startswith("#") else part)
+    return "".join(parts)
+
+
+def files():
+    return {
+        "levels.txt": text(
+            "Levels: a payload's records stand on level 0, those of a message or a group one level deeper, and level 100 is the last.",
+            chains_of_futures,
+            groups_of_an_unknown_field,
+            groups_below_futures,
+            merged_chains,
+            frames_of_chains,
+        ),
+        "long.txt": text("Long values, and many of them.", lengths),
+    }
+
+
+def main():
+    stale = 0
+    for name, lines in files().items():
+        path = FOLDER / name
+        if sys.argv[1:] != ["--check"]:
+            path.write_text(lines, encoding="utf-8")
+        elif not path.exists() or path.read_text(encoding="utf-8") != lines:
+            print(f"failed: conformance/{name} is not what conformance/long.py writes")
+            stale += 1
+    if sys.argv[1:] == ["--check"]:
+        print(f"{len(files()) - stale} passed, {stale} failed")
+    return 1 if stale else 0
+
+
+if __name__ == "__main__":
+    sys.exit(main())
