@@ -31,4 +31,4 @@ fi
 JOURNAL_FFI=$(folder ../crates/journal_ffi/out/libjournal_ffi.a) || exit 1
 RATTLE_C=$(folder "$(dirname "$(rt doc)")/c/liblibc_c.a") || exit 1
 export JOURNAL_FFI RATTLE_C
-quietly cargo build --release
+quietly cargo build --release --features library

@@ -1,7 +1,8 @@
 //! Measures the library and the peer side by side, and prints a table in Markdown:
-//! speed [--only WORKLOAD] [--side ours|peer] [--what items|messages|encode] [--piece N] [--rounds N]
+//! speed [--check] [--only WORKLOAD] [--side ours|peer] [--what items|messages|encode] [--piece N] [--rounds N]
 //!
-//! With --side nothing is compared or printed: that side alone goes over the workload so many times, for a profiler.
+//! With --side nothing is compared or printed: that side alone goes over the workload so many times, for a profiler. Before a table is printed,
+//! and by `speed --check` alone, the requests for memory show that the rounds are made and the pieces used that are asked for.
 
 use std::env;
 use std::fmt;
@@ -14,6 +15,9 @@ use pendratsoa_bench::streams::{self, Frame};
 use pendratsoa_bench::{ours, peer};
 
 const VERSION: u32 = 8;
+
+/// The length of the pieces in which a stream comes, if not whole.
+const PIECE: usize = 4096;
 
 /// How often each side is measured; the best counts.
 const MEASUREMENTS: usize = 15;
@@ -69,6 +73,18 @@ impl Workload {
             frames,
             stream,
         }
+    }
+
+    /// How many payloads lie across pieces of a length.
+    fn straddling(&self, piece: usize) -> u64 {
+        let mut end = 0;
+        let mut count = 0;
+        for frame in &self.frames {
+            let start = end + 8;
+            end = start + frame.payload.len();
+            count += u64::from(end > start && start / piece != (end - 1) / piece);
+        }
+        count
     }
 
     fn all() -> [Workload; 3] {
@@ -191,12 +207,15 @@ impl<'a> Bench<'a> {
         Ok((ours / rounds as u32, peer / rounds as u32))
     }
 
-    /// Requests for memory for a frame: what further rounds ask for.
+    /// Requests for memory for a frame.
     fn requests(&mut self, side: Side) -> Result<f64, Failed> {
-        const FURTHER: usize = 10;
+        Ok(self.of_a_round(side)? as f64 / self.workload.frames.len() as f64)
+    }
+
+    /// Requests for memory of a round: what a further one asks for. What is done once only counts for none.
+    fn of_a_round(&mut self, side: Side) -> Result<u64, Failed> {
         let once = self.counted(side, 1)?;
-        let more = self.counted(side, 1 + FURTHER)?;
-        Ok((more - once) as f64 / (FURTHER * self.workload.frames.len()) as f64)
+        Ok(self.counted(side, 2)?.saturating_sub(once))
     }
 
     fn counted(&mut self, side: Side, rounds: usize) -> Result<u64, Failed> {
@@ -226,6 +245,39 @@ impl<'a> Bench<'a> {
     }
 }
 
+/// That a side makes the rounds that it is asked for, each with the same requests for memory, and that it takes the stream in the pieces that it
+/// is asked for: each payload that lies across pieces has to be joined.
+fn check(workload: &Workload, what: What, side: Side) -> Result<(), Failed> {
+    let failed = |why| {
+        Failed(format!(
+            "{} {}, {side:?}: {why}",
+            workload.name,
+            what.name()
+        ))
+    };
+    let piece = if what == What::Encode { 0 } else { PIECE };
+    let mut bench = Bench::new(workload, what, piece);
+    let of_a_round = bench.of_a_round(side)?;
+    let twice = bench.counted(side, 2)?;
+    let more = bench.counted(side, 5)?;
+    if of_a_round == 0 || more.saturating_sub(twice) != 3 * of_a_round {
+        return Err(failed(format!(
+            "{of_a_round} requests for memory in a round, {twice} in two and {more} in five"
+        )));
+    }
+    if what == What::Encode {
+        return Ok(());
+    }
+    let whole = Bench::new(workload, what, 0).of_a_round(side)?;
+    let straddling = workload.straddling(PIECE);
+    if of_a_round < whole + straddling {
+        return Err(failed(format!(
+            "{of_a_round} requests for memory in pieces and {whole} whole, for {straddling} payloads across pieces"
+        )));
+    }
+    Ok(())
+}
+
 fn pieces(what: What, piece: usize) -> String {
     match (what, piece) {
         (What::Encode, _) => "-".into(),
@@ -252,12 +304,17 @@ struct Options {
     what: Option<What>,
     piece: Option<usize>,
     rounds: Option<usize>,
+    check: bool,
 }
 
 impl Options {
     fn read(mut words: impl Iterator<Item = String>) -> Option<Options> {
         let mut options = Options::default();
         while let Some(word) = words.next() {
+            if word == "--check" {
+                options.check = true;
+                continue;
+            }
             let value = words.next()?;
             match word.as_str() {
                 "--only" => options.only = Some(value),
@@ -276,7 +333,7 @@ impl Options {
         let pieces = |what| match (self.piece, what) {
             (Some(piece), _) => vec![piece],
             (None, What::Encode) => vec![0],
-            (None, _) => vec![4096, 0],
+            (None, _) => vec![PIECE, 0],
         };
         What::ALL
             .into_iter()
@@ -312,11 +369,23 @@ fn measure(options: &Options) -> Result<(), Failed> {
     if workloads.is_empty() {
         return Err(Failed("no workload has that name".into()));
     }
-    let mut benches = workloads
-        .iter()
-        .flat_map(|workload| options.benches(workload));
+    let benches = || {
+        workloads
+            .iter()
+            .flat_map(|workload| options.benches(workload))
+    };
     if let Some(side) = options.side {
-        return benches.try_for_each(|mut bench| bench.go(side, options.rounds.unwrap_or(1)));
+        return benches().try_for_each(|mut bench| bench.go(side, options.rounds.unwrap_or(1)));
+    }
+    for workload in &workloads {
+        for what in What::ALL {
+            check(workload, what, Side::Ours)?;
+            check(workload, what, Side::Peer)?;
+        }
+    }
+    if options.check {
+        println!("rounds are made and pieces used");
+        return Ok(());
     }
     for workload in &workloads {
         let frames = workload.frames.len();
@@ -329,13 +398,13 @@ fn measure(options: &Options) -> Result<(), Failed> {
     println!();
     println!("| workload | what | pieces | ours a second | peer a second | ours / peer | requests a frame, ours | peer |");
     println!("|---|---|---|---|---|---|---|---|");
-    benches.try_for_each(|mut bench| bench.row())
+    benches().try_for_each(|mut bench| bench.row())
 }
 
 fn main() -> ExitCode {
     let Some(options) = Options::read(env::args().skip(1)) else {
         eprintln!(
-            "usage: speed [--only WORKLOAD] [--side ours|peer] [--what items|messages|encode] [--piece N] [--rounds N]"
+            "usage: speed [--check] [--only WORKLOAD] [--side ours|peer] [--what items|messages|encode] [--piece N] [--rounds N]"
         );
         return ExitCode::from(2);
     };
