@@ -7,6 +7,7 @@ mod frames;
 mod loops;
 #[cfg(test)]
 mod notifications;
+pub mod round_trip;
 #[cfg(test)]
 mod sharing;
 #[cfg(test)]

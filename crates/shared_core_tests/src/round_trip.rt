@@ -1,0 +1,57 @@
+//! A message through all calls: what the contracts of encoding, pushing, consuming and decoding say together, of any message.
+ghost use Rattle.std.specs.Prelude.{◌≡◌, ◌≤◌, IfOk};
+ghost use Rattle.shared_core_base.specs.Version.{version_number};
+ghost use Rattle.shared_core_wire.specs.Canonical.{levels};
+
+use shared_core::Version;
+use shared_core::encoding::{Decoder, DecodingError, Encoder, PushError};
+use shared_core::messages::{EncodingError, RestateEncodableMessage};
+use std::alloc::Global;
+
+/// Why a message did not come out again.
+#[derive(Debug, Drop)]
+pub enum RoundTripError {
+    /// Its payload has more than 4,294,967,295 bytes.
+    PayloadTooLong,
+    /// A request for memory was refused.
+    OutOfMemory,
+}
+
+/// Encodes a message, pushes its frame to a new decoder, takes the message out and decodes it. It is written as a record of its own schema,
+/// which has at most one hundred levels; then nothing but its length or want of memory is in the way, and it comes out as it was written.
+pub fn there_and_back<M: RestateEncodableMessage>(
+    alloc: Global,
+    version: Version,
+    message: &M,
+) -> Result<M, RoundTripError>
+    requires spoken { 5 ≤ version_number version }
+    requires own { (M.wire_form message.now version).schema ≡ M.schema }
+    requires low { levels (M.wire_form message.now version).parts ≤ 100 }
+    ensures { IfOk result (λ found. M.parts found ≡ (M.wire_form message.now version).parts) }
+{
+    let frame = match Encoder::new(version).encode(alloc, message) {
+        Ok(frame) => frame,
+        Err(EncodingError::PayloadTooLong) => return Err(RoundTripError::PayloadTooLong),
+        Err(EncodingError::OutOfMemory) => return Err(RoundTripError::OutOfMemory),
+    };
+    let mut decoder = Decoder::new(alloc, version);
+    match decoder.push(frame) {
+        Ok(()) => (),
+        Err(PushError::OutOfMemory(_)) => return Err(RoundTripError::OutOfMemory),
+        // a slice has less than 2^64 bytes
+        Err(PushError::TooLong(_)) => unreachable!(),
+    }
+    let received = match decoder.consume_next() {
+        Ok(Some(received)) => received,
+        // the frame is one whole message
+        Ok(None) => unreachable!(),
+        Err(DecodingError::OutOfMemory) => return Err(RoundTripError::OutOfMemory),
+        Err(_other) => unreachable!(),
+    };
+    match received.decode_to::<M>(alloc, 0) {
+        Ok(found) => Ok(found),
+        Err(DecodingError::OutOfMemory) => Err(RoundTripError::OutOfMemory),
+        // its type and its payload are those that were written
+        Err(_other) => unreachable!(),
+    }
+}
