@@ -232,42 +232,58 @@ pub fn judge(case: &Case) -> Result<Verdict, Failed> {
     })
 }
 
-/// The files of random cases that conformance/ has.
-pub fn files() -> Result<Vec<File>, Failed> {
-    const GROUPS: [(&str, &str, fn(usize) -> bool); 5] = [
-        (
-            "random_parts.txt",
-            "Messages that stand in other messages, and those that no message type has.",
-            |schema| code_of(schema).is_none(),
-        ),
-        (
-            "random_runtime.txt",
-            "How an invocation starts, suspends, fails and ends.",
-            |schema| matches!(code_of(schema), Some(0..=0x03FF)),
-        ),
-        (
-            "random_state_commands.txt",
-            "Commands on input, output and state.",
-            |schema| matches!(code_of(schema), Some(0x0400..=0x0408)),
-        ),
-        (
-            "random_call_commands.txt",
-            "Commands on promises, time, calls, signals and invocations.",
-            |schema| matches!(code_of(schema), Some(0x0409..=0x7FFF)),
-        ),
-        ("random_notifications.txt", "Notifications.", |schema| {
-            matches!(code_of(schema), Some(0x8000..))
-        }),
-    ];
-    let mut files = Vec::new();
-    for (name, what, belongs) in GROUPS {
-        let mut file = File::new(name, what);
-        for schema in (0..SCHEMAS.len()).filter(|schema| belongs(*schema)) {
+/// A file of payloads and merges: its name, what its messages are, and the least and the greatest code of their types, where they have one.
+struct Group(&'static str, &'static str, Option<(u16, u16)>);
+
+const GROUPS: [Group; 5] = [
+    Group(
+        "random_parts.txt",
+        "Messages that stand in other messages, and those that no message type has.",
+        None,
+    ),
+    Group(
+        "random_runtime.txt",
+        "How an invocation starts, suspends, fails and ends.",
+        Some((0, 0x03FF)),
+    ),
+    Group(
+        "random_state_commands.txt",
+        "Commands on input, output and state.",
+        Some((0x0400, 0x0408)),
+    ),
+    Group(
+        "random_call_commands.txt",
+        "Commands on promises, time, calls, signals and invocations.",
+        Some((0x0409, 0x7FFF)),
+    ),
+    Group(
+        "random_notifications.txt",
+        "Notifications.",
+        Some((0x8000, 0xFBFF)),
+    ),
+];
+
+impl Group {
+    fn has(&self, schema: usize) -> bool {
+        match (self.2, code_of(schema)) {
+            (Some((least, greatest)), Some(code)) => (least..=greatest).contains(&code),
+            (codes, code) => codes.is_none() && code.is_none(),
+        }
+    }
+
+    fn file(&self) -> Result<File, Failed> {
+        let mut file = File::new(self.0, self.1);
+        for schema in (0..SCHEMAS.len()).filter(|schema| self.has(*schema)) {
             file.section(SCHEMAS[schema].name);
             of_schema(&mut file, schema)?;
         }
-        files.push(file);
+        Ok(file)
     }
+}
+
+/// The files of random cases that conformance/ has.
+pub fn files() -> Result<Vec<File>, Failed> {
+    let mut files: Vec<File> = GROUPS.iter().map(Group::file).collect::<Result<_, _>>()?;
     files.push(frames()?);
     files.push(random_streams()?);
     Ok(files)

@@ -46,7 +46,7 @@ impl Case {
             },
             "merge" => Case::Merge {
                 schema: schema_of(words.next()?)?,
-                payloads: several_bytes(&mut words)?,
+                payloads: several_bytes(&mut words).filter(|payloads| payloads.len() > 1)?,
             },
             "frame" => Case::Frame {
                 message_type: type_of(words.next()?)?,
@@ -258,8 +258,7 @@ fn bytes(word: &str) -> Option<Vec<u8>> {
         return Some(Vec::new());
     }
     let is_digit = |digit: &u8| digit.is_ascii_digit() || (b'a'..=b'f').contains(digit);
-    if word.is_empty() || word.len() % 2 != 0 || !word.as_bytes().iter().all(|byte| is_digit(byte))
-    {
+    if word.is_empty() || word.len() % 2 != 0 || !word.as_bytes().iter().all(is_digit) {
         return None;
     }
     (0..word.len() / 2)
