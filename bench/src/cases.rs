@@ -192,6 +192,8 @@ pub struct File {
     pub text: String,
     /// How many of its answers are those of the rules alone.
     pub departures: usize,
+    /// The cases that it has.
+    seen: HashSet<String>,
 }
 
 impl File {
@@ -202,6 +204,7 @@ impl File {
                 "# {what}\n# Random cases with the answers of prost and of the rules, written by bench/src/bin/vectors.rs; see README.md.\n"
             ),
             departures: 0,
+            seen: HashSet::new(),
         }
     }
 
@@ -209,10 +212,16 @@ impl File {
         self.text += &format!("\n# {what}\n");
     }
 
+    /// Adds a case, where the file does not have it already.
     fn add(&mut self, case: &Case) -> Result<(), Failed> {
+        let text = case.to_string();
+        if self.seen.contains(&text) {
+            return Ok(());
+        }
         let Verdict { answer, departs } = judge(case)?;
-        self.text += &format!("{case} = {answer}\n");
+        self.text += &format!("{text} = {answer}\n");
         self.departures += usize::from(departs);
+        self.seen.insert(text);
         Ok(())
     }
 }
@@ -298,7 +307,6 @@ fn code_of(schema: usize) -> Option<u16> {
 }
 
 fn of_schema(file: &mut File, schema: usize) -> Result<(), Failed> {
-    let mut seen = HashSet::new();
     for place in 0..OF_A_SCHEMA {
         let random = &mut Random::new(SEED, (schema * OF_A_SCHEMA + place) as u64);
         let case = match place % 50 {
@@ -307,9 +315,7 @@ fn of_schema(file: &mut File, schema: usize) -> Result<(), Failed> {
             4..=15 => within(random, SHORT, |random| a_merge(random, schema)),
             _ => within(random, SHORT, |random| a_payload(random, schema)),
         };
-        if seen.insert(case.to_string()) {
-            file.add(&case)?;
-        }
+        file.add(&case)?;
     }
     Ok(())
 }
@@ -324,16 +330,12 @@ fn frames() -> Result<File, Failed> {
         file.section(message_type.name);
         let changes = matches!(message_type.name, "Suspension" | "ProposeRunCompletion");
         let count = if changes { 4 * OF_A_TYPE } else { OF_A_TYPE };
-        let mut seen = HashSet::new();
         for version in 5..=8 {
             for _ in 0..count {
                 number += 1;
                 let random = &mut Random::new(SEED, number);
                 let make = |random: &mut Random| a_frame(random, message_type, version);
-                let case = within(random, SHORT, make);
-                if seen.insert(case.to_string()) {
-                    file.add(&case)?;
-                }
+                file.add(&within(random, SHORT, make))?;
             }
         }
     }
