@@ -212,17 +212,17 @@ impl File {
         self.text += &format!("\n# {what}\n");
     }
 
-    /// Adds a case, where the file does not have it already.
-    fn add(&mut self, case: &Case) -> Result<(), Failed> {
+    /// Adds a case, and answers whether the file did not have it already.
+    fn add(&mut self, case: &Case) -> Result<bool, Failed> {
         let text = case.to_string();
         if self.seen.contains(&text) {
-            return Ok(());
+            return Ok(false);
         }
         let Verdict { answer, departs } = judge(case)?;
         self.text += &format!("{text} = {answer}\n");
         self.departures += usize::from(departs);
         self.seen.insert(text);
-        Ok(())
+        Ok(true)
     }
 }
 
@@ -307,15 +307,20 @@ fn code_of(schema: usize) -> Option<u16> {
 }
 
 fn of_schema(file: &mut File, schema: usize) -> Result<(), Failed> {
-    for place in 0..OF_A_SCHEMA {
-        let random = &mut Random::new(SEED, (schema * OF_A_SCHEMA + place) as u64);
+    let mut count = 0;
+    // where few cases are different, not as many are found
+    for place in 0..2 * OF_A_SCHEMA {
+        if count == OF_A_SCHEMA {
+            break;
+        }
+        let random = &mut Random::new(SEED, (2 * OF_A_SCHEMA * schema + place) as u64);
         let case = match place % 50 {
             0 => within(random, DEEP, |random| a_deep_payload(random, schema)),
             1..=3 => within(random, SHORT, |random| a_canonical_payload(random, schema)),
             4..=15 => within(random, SHORT, |random| a_merge(random, schema)),
             _ => within(random, SHORT, |random| a_payload(random, schema)),
         };
-        file.add(&case)?;
+        count += usize::from(file.add(&case)?);
     }
     Ok(())
 }
