@@ -1,6 +1,8 @@
 //! One read or one write of a listing fails.
 use crate::faults::{FaultyReader, FaultyWriter};
 use crate::list::{ListError, list};
+use crate::run::{Outcome, run};
+use crate::test_words::words_of;
 use std::io::ErrorKind;
 use std::test::Fail;
 
@@ -10,6 +12,30 @@ const STREAM: [u8; 16] = [
 ];
 
 const LISTING: &str = "unknown 0x8\nEnd 0\nrest 0\n";
+
+#[test]
+fn a_read_asks_for_the_piece_of_the_word(rt: HostRuntime) -> Result<(), Fail> {
+    for (texts, piece) in [
+        (&[][..], 4096),
+        (&["1"][..], 1),
+        (&["00003"][..], 3),
+        (&["65536"][..], 65536),
+    ] {
+        let words = words_of(rt.alloc(), texts)?;
+        let mut input = FaultyReader {
+            unread: &STREAM,
+            calls_left: 17,
+            error: ErrorKind::Other,
+            most_room: 0,
+        };
+        let mut output = Vec::new(rt.alloc());
+        let outcome = run(rt.alloc(), words.as_slice(), &mut input, &mut output);
+        assert!(rt; matches!(&outcome, Outcome::Listed(Ok(()))), "at {texts:?}");
+        assert_eq!(rt; output.as_slice(), LISTING.as_bytes(), "at {texts:?}");
+        assert_eq!(rt; input.most_room, piece, "at {texts:?}");
+    }
+    Ok(())
+}
 
 #[test]
 fn a_failed_read_leaves_the_lines_so_far(rt: HostRuntime) -> Result<(), Fail> {

@@ -9,9 +9,12 @@ mod list;
 #[cfg(test)]
 mod list_tests;
 mod options;
+mod run;
+#[cfg(test)]
+mod test_words;
 
-use crate::list::{ListError, list};
-use crate::options::options;
+use crate::list::ListError;
+use crate::run::{Outcome, exit_code, message, run};
 use std::process::ExitCode;
 use std::{env, io};
 
@@ -24,24 +27,18 @@ fn words(rt: &HostRuntime) -> io::Result<Vec<String>> {
     Ok(words)
 }
 
-/// Says why on the standard error. Nothing is left to do where that fails too.
-fn failed(rt: &HostRuntime, why: &str) -> ExitCode {
-    let _ = eprintln!(rt; "journal_list: {why}");
-    ExitCode::FAILURE
-}
-
 fn main(rt: HostRuntime) -> ExitCode {
-    let Ok(words) = words(&rt) else {
-        return failed(&rt, "input failed");
+    let outcome = match words(&rt) {
+        Ok(words) => run(
+            rt.alloc(),
+            words.as_slice(),
+            &mut rt.stdin(),
+            &mut rt.stdout(),
+        ),
+        // words that cannot be fetched are input too
+        Err(_) => Outcome::Listed(Err(ListError::Input)),
     };
-    let Some((_version, piece)) = options(words.as_slice()) else {
-        let _ = eprintln!(rt; "usage: journal_list [1..65536]");
-        return ExitCode::from(2);
-    };
-    match list(rt.alloc(), &mut rt.stdin(), &mut rt.stdout(), piece) {
-        Ok(()) => ExitCode::SUCCESS,
-        Err(ListError::Input) => failed(&rt, "input failed"),
-        Err(ListError::Output) => failed(&rt, "output failed"),
-        Err(ListError::OutOfMemory) => failed(&rt, "out of memory"),
-    }
+    // nothing is left to do where the standard error fails too
+    let _ = eprint!(rt; "{}", message(&outcome));
+    exit_code(&outcome)
 }

@@ -46,37 +46,32 @@ fn piece_of(word: &str) -> Option<usize>
 #[cfg(test)]
 mod tests {
     use super::*;
+    use crate::test_words::words_of;
     use std::test::Fail;
 
     #[test]
     fn takes_no_word_or_a_small_number(rt: HostRuntime) -> Result<(), Fail> {
-        let alloc = rt.alloc();
-        for (words, piece) in [
-            ("", Some(4096)),
-            ("3", Some(3)),
-            ("00003", Some(3)),
-            ("65536", Some(65536)),
-            ("0", None),
-            ("65537", None),
-            ("000003", None),
-            ("x", None),
-            ("+3", None),
-            ("3 3", None),
-            ("v9", None),
+        for (texts, piece) in [
+            (&[][..], Some(4096)),
+            (&["3"][..], Some(3)),
+            (&["00003"][..], Some(3)),
+            (&["65536"][..], Some(65536)),
+            (&["0"][..], None),
+            (&["65537"][..], None),
+            (&["000003"][..], None),
+            (&["x"][..], None),
+            (&["+3"][..], None),
+            (&["3", "3"][..], None),
+            (&["v9"][..], None),
+            (&[""][..], None),
         ] {
-            let mut args = Vec::new(alloc);
-            for word in words.split_whitespace() {
-                args.push(String::from_str(alloc, word)?)?;
-            }
+            let words = words_of(rt.alloc(), texts)?;
             let want = match piece {
                 Some(piece) => Some((Version::V8, piece)),
                 None => None,
             };
-            assert_eq!(rt; options(args.as_slice()), want, "at {words}");
+            assert_eq!(rt; options(words.as_slice()), want, "at {texts:?}");
         }
-        let mut empty = Vec::new(alloc);
-        empty.push(String::new(alloc))?;
-        assert_eq!(rt; options(empty.as_slice()), None);
         Ok(())
     }
 }

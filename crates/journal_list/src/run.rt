@@ -1,0 +1,73 @@
+//! A run of the program over any reader and writer, and what it says of how it ended.
+ghost use Rattle.std.specs.Prelude.{◌≡◌, ℕ, List, map, string_bytes};
+ghost use Rattle.std.specs.Io.KnownBytes.{Appends, Consumes};
+ghost use Rattle.std.specs.Process.{exit_status};
+ghost use Rattle.shared_core_base.specs.declared.version.Version.{Version as AnyVersion};
+ghost use Rattle.shared_core_base.specs.declared.version.Version.TheVariants.{V8};
+ghost use Rattle.journal_list.specs.Listing.{IsListed};
+ghost use Rattle.journal_list.specs.Options.{AreOptions};
+ghost use Rattle.journal_list.specs.Run.{message_of, status_of, IsRefused, IfListed};
+
+use crate::list::{ListError, list};
+use crate::options::options;
+use std::alloc::Global;
+use std::io::{Read, Write};
+use std::process::ExitCode;
+
+/// How a run ended.
+#[derive(Drop)]
+pub enum Outcome {
+    /// The words are not the program's.
+    Refused,
+    /// The listing's answer.
+    Listed(Result<(), ListError>),
+}
+
+/// Lists the input in pieces of the size that the words say. Words that say none leave input and output untouched.
+///
+/// No contract sees how much a read asks for: the tests show that it is the piece of the words.
+pub fn run<R: Read, W: Write>(
+    alloc: Global,
+    words: &[String],
+    input: &mut R,
+    output: &mut W,
+) -> Outcome
+    ensures refused { IsRefused result → (version : AnyVersion) → (piece : ℕ) → AreOptions (map string_bytes words.now) version piece → ⊥ }
+    ensures unread { IsRefused result → input.new ≡ input.old }
+    ensures unwritten { IsRefused result → output.new ≡ output.old }
+    ensures listed { IfListed result (λ answer.
+        (piece : ℕ) × AreOptions (map string_bytes words.now) V8 piece
+        × (read : List ℕ) × (written : List ℕ)
+        × Consumes (R.remaining input.old) (R.remaining input.new) read
+        × Appends (W.contents output.old) (W.contents output.new) written
+        × IsListed V8 answer read written (R.remaining input.new)) }
+{
+    let Some((_version, piece)) = options(words) else {
+        return Outcome::Refused;
+    };
+    Outcome::Listed(list(alloc, input, output, piece))
+}
+
+/// The line for the standard error, empty after a whole listing.
+pub fn message(outcome: &Outcome) -> &'static str
+    ensures { result.now ≡ message_of outcome.now }
+{
+    match outcome {
+        Outcome::Refused => "usage: journal_list [1..65536]\n",
+        Outcome::Listed(Ok(())) => "",
+        Outcome::Listed(Err(ListError::Input)) => "journal_list: input failed\n",
+        Outcome::Listed(Err(ListError::Output)) => "journal_list: output failed\n",
+        Outcome::Listed(Err(ListError::OutOfMemory)) => "journal_list: out of memory\n",
+    }
+}
+
+/// The status that the program ends with.
+pub fn exit_code(outcome: &Outcome) -> ExitCode
+    ensures { exit_status result ≡ status_of outcome.now }
+{
+    match outcome {
+        Outcome::Refused => ExitCode::from(2),
+        Outcome::Listed(Ok(())) => ExitCode::SUCCESS,
+        Outcome::Listed(Err(_)) => ExitCode::FAILURE,
+    }
+}
