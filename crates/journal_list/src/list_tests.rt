@@ -1,5 +1,8 @@
 //! Listings of known streams, read in pieces of every size.
+ghost use Rattle.std.specs.Prelude.{◌≤◌};
+
 use crate::list::list;
+use std::alloc::Global;
 use std::test::Fail;
 
 const UNKNOWN_AND_END: [u8; 16] = [
@@ -52,12 +55,20 @@ fn lists_every_item_however_the_stream_is_cut(rt: HostRuntime) -> Result<(), Fai
         (&THREE_FRAMES[..], three_lines),
     ] {
         for piece in 1..60usize {
-            let mut input = stream;
-            let mut output = Vec::new(rt.alloc());
-            let result = list(rt.alloc(), &mut input, &mut output, piece);
-            assert!(rt; result.is_ok(), "at {piece}");
-            assert_eq!(rt; output.as_slice(), want.as_bytes(), "at {piece}");
+            let is_listed = lists(rt.alloc(), stream, piece, want);
+            assert!(rt; is_listed, "{want} at {piece}");
         }
     }
     Ok(())
+}
+
+/// Whether the listing of a stream in pieces of this size is the wanted one.
+fn lists(alloc: Global, stream: &[u8], piece: usize, want: &str) -> bool
+    requires low { 1 ≤ piece }
+    requires high { piece ≤ 65536 }
+{
+    let mut input = stream;
+    let mut output = Vec::new(alloc);
+    let result = list(alloc, &mut input, &mut output, piece);
+    result.is_ok() && output.as_slice() == want.as_bytes()
 }
