@@ -4,8 +4,6 @@
 #[cfg(test)]
 mod frames;
 #[cfg(test)]
-mod loops;
-#[cfg(test)]
 mod notifications;
 pub mod round_trip;
 #[cfg(test)]

@@ -1,5 +1,5 @@
 //! Views of notifications, whatever their type.
-use crate::steps::{message_of, message_with, text};
+use crate::steps::{expect, message_of, message_with, text};
 use shared_core::encoding::{DecodingError, RawMessage};
 use shared_core::header::MessageType;
 use shared_core::messages::{
@@ -37,49 +37,72 @@ fn joined(alloc: Global, id: &[u8], outcome: &[u8]) -> Result<Vec<u8>, Fail> {
     Ok(payload)
 }
 
-/// Whether the view of this id and each kind of result has both, before and behind one another.
-fn has_each_result(alloc: Global, code: u16, id: &[u8], id_text: &str) -> Result<bool, Fail> {
-    for (outcome, outcome_text) in [
-        (&[0x22, 0x00][..], "Void(Void)"),
+/// That the view of this id and this result is printed as these texts.
+fn is_printed(
+    alloc: Global,
+    code: u16,
+    (id, id_text): (&[u8], &str),
+    (outcome, outcome_text): (&[u8], &str),
+) -> Result<(), Fail> {
+    let payload = joined(alloc, id, outcome)?;
+    let view = view_of(alloc, code, payload.as_slice())?;
+    expect(shows(alloc, &view, id_text, outcome_text)?, outcome_text)
+}
+
+/// That the view of this id and each kind of result has both.
+fn has_each_result(alloc: Global, code: u16, id: (&[u8], &str)) -> Result<(), Fail> {
+    is_printed(alloc, code, id, (&[0x22, 0x00], "Void(Void)"))?;
+    is_printed(
+        alloc,
+        code,
+        id,
         (
-            &[0x2A, 0x03, 0x0A, 0x01, 0x78][..],
+            &[0x2A, 0x03, 0x0A, 0x01, 0x78],
             "Value(Value { content: b\"x\" })",
         ),
+    )?;
+    is_printed(
+        alloc,
+        code,
+        id,
         (
-            &[0x32, 0x02, 0x08, 0x05][..],
+            &[0x32, 0x02, 0x08, 0x05],
             "Failure(Failure { code: 5, message: \"\", metadata: [] })",
         ),
+    )?;
+    is_printed(
+        alloc,
+        code,
+        id,
         (
-            &[0x82, 0x01, 0x03, 0x69, 0x6E, 0x76][..],
+            &[0x82, 0x01, 0x03, 0x69, 0x6E, 0x76],
             "InvocationId(\"inv\")",
         ),
+    )?;
+    is_printed(
+        alloc,
+        code,
+        id,
         (
-            &[0x8A, 0x01, 0x03, 0x0A, 0x01, 0x61][..],
+            &[0x8A, 0x01, 0x03, 0x0A, 0x01, 0x61],
             "StateKeys(StateKeys { keys: [b\"a\"] })",
         ),
-    ] {
-        let payload = joined(alloc, id, outcome)?;
-        let view = view_of(alloc, code, payload.as_slice())?;
-        if !shows(alloc, &view, id_text, outcome_text)? {
-            return Err(Fail::new(format_args!("{view:?} is not {id_text}, {outcome_text}")));
-        }
-    }
-    Ok(true)
+    )
+}
+
+/// That the view of each id and each kind of result has both.
+fn has_each_id(alloc: Global, code: u16) -> Result<(), Fail> {
+    has_each_result(alloc, code, (&[0x08, 0x01], "CompletionId(1)"))?;
+    has_each_result(alloc, code, (&[0x10, 0x11], "SignalId(17)"))?;
+    has_each_result(alloc, code, (&[0x1A, 0x01, 0x73], "SignalName(\"s\")"))
 }
 
 #[test]
 fn each_id_comes_with_each_result(rt: HostRuntime) -> Result<(), Fail> {
-    for (id, id_text) in [
-        (&[0x08, 0x01][..], "CompletionId(1)"),
-        (&[0x10, 0x11][..], "SignalId(17)"),
-        (&[0x1A, 0x01, 0x73][..], "SignalName(\"s\")"),
-    ] {
-        // a custom one, the state's and a signal's
-        for code in [0x8001u16, 0x8002, 0xFBFF] {
-            assert!(rt; has_each_result(rt.alloc(), code, id, id_text)?, "{code:x}");
-        }
-    }
-    Ok(())
+    // a custom notification, the state's and a signal's
+    has_each_id(rt.alloc(), 0x8001)?;
+    has_each_id(rt.alloc(), 0x8002)?;
+    has_each_id(rt.alloc(), 0xFBFF)
 }
 
 #[test]
@@ -160,8 +183,9 @@ fn missing_field(alloc: Global, payload: &[u8]) -> Result<&'static str, Fail> {
 
 #[test]
 fn a_missing_field_is_named(rt: HostRuntime) -> Result<(), Fail> {
-    assert!(rt; missing_field(rt.alloc(), &[0x22, 0x00])? == "id");
-    assert!(rt; missing_field(rt.alloc(), &[0x08, 0x01])? == "result");
+    for (payload, field) in [(&[0x22, 0x00], "id"), (&[0x08, 0x01], "result")] {
+        assert!(rt; missing_field(rt.alloc(), payload)? == field);
+    }
     Ok(())
 }
 
@@ -186,45 +210,50 @@ fn the_signal_that_cancels(rt: HostRuntime) -> Result<(), Fail> {
     Ok(())
 }
 
+/// Whether the result of a notification of this payload is a failure.
+fn fails(alloc: Global, payload: &[u8]) -> Result<bool, Fail> {
+    Ok(view_of(alloc, 0x8002, payload)?.result.is_failure())
+}
+
 #[test]
 fn a_failure_is_the_only_failure(rt: HostRuntime) -> Result<(), Fail> {
-    for (payload, fails) in [
+    for (payload, expected) in [
         (&[0x08, 0x01, 0x22, 0x00][..], false),
         (&[0x08, 0x01, 0x32, 0x00][..], true),
         (&[0x08, 0x01, 0x2A, 0x00][..], false),
         (&[0x08, 0x01, 0x82, 0x01, 0x00][..], false),
         (&[0x08, 0x01, 0x8A, 0x01, 0x00][..], false),
     ] {
-        let view = view_of(rt.alloc(), 0x8002, payload)?;
-        assert!(rt; view.result.is_failure() == fails, "{payload:?}");
+        assert!(rt; fails(rt.alloc(), payload)? == expected, "{payload:?}");
     }
     Ok(())
 }
 
-/// Whether a view is of these values, which are built by their fields.
-fn is(view: &Notification, id: NotificationId, outcome: NotificationResult) -> bool {
-    view.id == id && view.result == outcome
+/// Whether a view of this payload has these values, which are built by their fields.
+fn has(
+    alloc: Global,
+    payload: &[u8],
+    id: &NotificationId,
+    outcome: &NotificationResult,
+) -> Result<bool, Fail> {
+    let view = view_of(alloc, 0xFBFF, payload)?;
+    Ok(view.id == *id && view.result == *outcome)
 }
 
 #[test]
-fn views_are_values_by_their_fields(rt: HostRuntime) -> Result<(), Fail> {
-    let alloc = rt.alloc();
-    let completion = view_of(alloc, 0x8002, &[0x08, 0x01, 0x22, 0x00])?;
-    assert!(rt;
-        is(
-            &completion,
-            NotificationId::CompletionId(1),
-            NotificationResult::Void(Void {})
-        )
-    );
-    let named = view_of(alloc, 0xFBFF, &[0x1A, 0x01, 0x78, 0x82, 0x01, 0x01, 0x79])?;
-    assert!(rt;
-        is(
-            &named,
-            NotificationId::SignalName(text(alloc, "x")?),
-            NotificationResult::InvocationId(text(alloc, "y")?)
-        )
-    );
+fn a_completion_by_its_fields(rt: HostRuntime) -> Result<(), Fail> {
+    let id = NotificationId::CompletionId(1);
+    let outcome = NotificationResult::Void(Void {});
+    assert!(rt; has(rt.alloc(), &[0x08, 0x01, 0x22, 0x00], &id, &outcome)?);
+    Ok(())
+}
+
+#[test]
+fn a_named_signal_by_its_fields(rt: HostRuntime) -> Result<(), Fail> {
+    let id = NotificationId::SignalName(text(rt.alloc(), "x")?);
+    let outcome = NotificationResult::InvocationId(text(rt.alloc(), "y")?);
+    let payload = [0x1A, 0x01, 0x78, 0x82, 0x01, 0x01, 0x79];
+    assert!(rt; has(rt.alloc(), &payload, &id, &outcome)?);
     Ok(())
 }
 

@@ -61,42 +61,79 @@ fn the_decoder_holds_what_is_left_of_a_piece(rt: HostRuntime) -> Result<(), Fail
     is_last_of(decoder, &piece)
 }
 
+/// Pushes each of these pieces.
+fn push_all(decoder: &mut Decoder, pieces: &[Bytes]) -> Result<(), Fail> {
+    for piece in pieces {
+        push(decoder, piece.clone()?)?;
+    }
+    Ok(())
+}
+
 #[test]
 fn payloads_of_pieces_behind_one_another_share_their_own(rt: HostRuntime) -> Result<(), Fail> {
-    let first = large_frame(rt.alloc(), false)?;
-    let second = large_frame(rt.alloc(), false)?;
+    let pieces = [
+        large_frame(rt.alloc(), false)?,
+        large_frame(rt.alloc(), false)?,
+    ];
     let mut decoder = Decoder::new(rt.alloc(), Version::V8);
-    push(&mut decoder, first.clone()?)?;
-    push(&mut decoder, second.clone()?)?;
+    push_all(&mut decoder, &pieces)?;
+    for piece in &pieces {
+        is_last_of(next(&mut decoder)?, piece)?;
+    }
+    Ok(())
+}
+
+#[test]
+fn a_payload_shares_its_piece_before_the_piece_in_front_is_gone(
+    rt: HostRuntime,
+) -> Result<(), Fail> {
+    let pieces = [
+        large_frame(rt.alloc(), false)?,
+        large_frame(rt.alloc(), false)?,
+    ];
+    let mut decoder = Decoder::new(rt.alloc(), Version::V8);
+    push_all(&mut decoder, &pieces)?;
     let front = next(&mut decoder)?;
-    let back = next(&mut decoder)?;
-    is_last_of(front, &first)?;
-    is_last_of(back, &second)
+    is_last_of(next(&mut decoder)?, &pieces[1])?;
+    is_last_of(front, &pieces[0])
+}
+
+/// The frame in two pieces, the first of a thousand bytes.
+fn two_pieces(alloc: Global) -> Result<[Bytes; 2], Fail> {
+    let frame = large_frame(alloc, false)?;
+    let Some((front, back)) = frame.as_slice().split_at_checked(1000) else {
+        return Err(Fail::new("a short frame"));
+    };
+    Ok([
+        Bytes::copy_from_slice(alloc, front)?,
+        Bytes::copy_from_slice(alloc, back)?,
+    ])
+}
+
+/// Whether the message has the payload of the large frame.
+fn has_large_payload(alloc: Global, message: &RawMessage) -> Result<bool, Fail> {
+    let frame = large_frame(alloc, false)?;
+    Ok(Some(message.payload().as_slice()) == frame.as_slice().get(8..))
 }
 
 #[test]
 fn a_payload_in_two_pieces_is_joined_once(rt: HostRuntime) -> Result<(), Fail> {
-    let frame = large_frame(rt.alloc(), false)?;
-    let Some((front, back)) = frame.as_slice().split_at_checked(1000) else {
-        return Err(Fail::new("a short frame"));
-    };
-    let front = Bytes::copy_from_slice(rt.alloc(), front)?;
-    let back = Bytes::copy_from_slice(rt.alloc(), back)?;
+    let pieces = two_pieces(rt.alloc())?;
     let mut decoder = Decoder::new(rt.alloc(), Version::V8);
-    push(&mut decoder, front.clone()?)?;
-    push(&mut decoder, back.clone()?)?;
+    push_all(&mut decoder, &pieces)?;
     let message = next(&mut decoder)?;
-    assert!(rt; Some(message.payload().as_slice()) == frame.as_slice().get(8..));
+    assert!(rt; has_large_payload(rt.alloc(), &message)?);
     // Both pieces are used up, so the decoder holds neither.
-    assert!(rt; front.is_unique() && back.is_unique());
+    assert!(rt; pieces[0].is_unique() && pieces[1].is_unique());
     Ok(())
 }
 
 #[test]
 fn an_empty_piece_is_not_kept(rt: HostRuntime) -> Result<(), Fail> {
     let piece = large_frame(rt.alloc(), false)?;
+    let end = piece.len();
     let mut decoder = Decoder::new(rt.alloc(), Version::V8);
-    push(&mut decoder, piece.slice(8..8)?)?;
+    push(&mut decoder, piece.slice(end..end)?)?;
     assert!(rt; piece.is_unique() && decoder.pending() == 0);
     Ok(())
 }

@@ -45,10 +45,15 @@ pub fn message_of(alloc: Global, frame: &[u8]) -> Result<RawMessage, Fail> {
 }
 
 /// The message of a frame that comes in two pieces. It comes with the second, and nothing is left.
-pub fn message_in_two(mut decoder: Decoder, front: Bytes, back: Bytes) -> Result<RawMessage, Fail> {
-    push(&mut decoder, front)?;
+pub fn message_in_two(
+    alloc: Global,
+    mut decoder: Decoder,
+    front: &[u8],
+    back: &[u8],
+) -> Result<RawMessage, Fail> {
+    push_copy(alloc, &mut decoder, front)?;
     expect(is_dry(&mut decoder)?, "a message before its end")?;
-    push(&mut decoder, back)?;
+    push_copy(alloc, &mut decoder, back)?;
     let message = next(&mut decoder)?;
     expect(
         is_dry(&mut decoder)? && decoder.pending() == 0,
@@ -59,11 +64,12 @@ pub fn message_in_two(mut decoder: Decoder, front: Bytes, back: Bytes) -> Result
 
 /// The message of this code and payload, which has less than 256 bytes.
 pub fn message_with(alloc: Global, code: u16, payload: &[u8]) -> Result<RawMessage, Fail> {
-    let mut frame = Vec::new(alloc);
-    frame.extend_from_slice(&code.to_be_bytes())?;
-    frame.extend_from_slice(&[0, 0, 0, 0, 0, (payload.len() % 256) as u8])?;
-    frame.extend_from_slice(payload)?;
-    message_of(alloc, frame.as_slice())
+    let [high, low] = code.to_be_bytes();
+    let header = [high, low, 0, 0, 0, 0, 0, (payload.len() % 256) as u8];
+    let mut decoder = Decoder::new(alloc, Version::V8);
+    push_copy(alloc, &mut decoder, &header)?;
+    push_copy(alloc, &mut decoder, payload)?;
+    next(&mut decoder)
 }
 
 /// The pieces of a stream, each of so many bytes, the last of what is left.

@@ -18,19 +18,12 @@ fn is_message(message: &RawMessage, ty: MessageType, payload: &[u8]) -> bool {
         && message.payload().as_slice() == payload
 }
 
-/// The message of these two pieces of a frame.
-fn in_two(alloc: Global, front: &[u8], back: &[u8]) -> Result<RawMessage, Fail> {
-    message_in_two(
-        Decoder::new(alloc, Version::V8),
-        Bytes::copy_from_slice(alloc, front)?,
-        Bytes::copy_from_slice(alloc, back)?,
-    )
-}
-
 #[test]
 fn a_frame_comes_with_its_last_piece(rt: HostRuntime) -> Result<(), Fail> {
+    let alloc = rt.alloc();
     for place in 1..INPUT.len() {
-        let message = in_two(rt.alloc(), &INPUT[..place], &INPUT[place..])?;
+        let decoder = Decoder::new(alloc, Version::V8);
+        let message = message_in_two(alloc, decoder, &INPUT[..place], &INPUT[place..])?;
         assert!(rt;
             is_message(&message, MessageType::InputCommand, &INPUT_PAYLOAD),
             "at {place}"

@@ -125,11 +125,7 @@ fn frames_are_the_literal_bytes(rt: HostRuntime) -> Result<(), Fail> {
 
 /// The input of a frame that comes in two pieces.
 fn in_two(alloc: Global, front: &[u8], back: &[u8]) -> Result<InputCommandMessage, Fail> {
-    let message = message_in_two(
-        Decoder::new(alloc, Version::V8),
-        Bytes::copy_from_slice(alloc, front)?,
-        Bytes::copy_from_slice(alloc, back)?,
-    )?;
+    let message = message_in_two(alloc, Decoder::new(alloc, Version::V8), front, back)?;
     Ok(message.decode_to(alloc, 4)?)
 }
 

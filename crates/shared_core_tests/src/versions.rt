@@ -70,23 +70,6 @@ fn chain_lists(alloc: Global) -> Result<SuspensionMessageV6, Fail> {
     Ok(lists)
 }
 
-/// The message of a frame that is cut at this place.
-fn cut_at(
-    alloc: Global,
-    decoder: Decoder,
-    frame: &Bytes,
-    place: usize,
-) -> Result<RawMessage, Fail> {
-    let Some((front, back)) = frame.as_slice().split_at_checked(place) else {
-        return Err(Fail::new("a place behind the frame"));
-    };
-    message_in_two(
-        decoder,
-        Bytes::copy_from_slice(alloc, front)?,
-        Bytes::copy_from_slice(alloc, back)?,
-    )
-}
-
 /// That the message's frame comes out in any cut as this record, and asks for an acknowledgement as is said.
 fn comes_out<E: RestateEncodableMessage, M: RestateMessage>(
     alloc: Global,
@@ -99,7 +82,8 @@ fn comes_out<E: RestateEncodableMessage, M: RestateMessage>(
 {
     let frame = Encoder::new(version).encode(alloc, message)?;
     for place in 1..frame.len() {
-        let received = cut_at(alloc, Decoder::new(alloc, version), &frame, place)?;
+        let (front, back) = frame.as_slice().split_at(place);
+        let received = message_in_two(alloc, Decoder::new(alloc, version), front, back)?;
         let found: M = received.decode_to(alloc, 0)?;
         if found != *expected || received.header().requested_ack() != asks {
             return Err(Fail::new(format_args!("{version:?}, at {place}")));
@@ -148,7 +132,8 @@ fn is_refused(alloc: Global, version: Version, suspension: &SuspensionMessage) -
 {
     let frame = Encoder::new(version).encode(alloc, suspension)?;
     for place in 1..frame.len() {
-        let received = cut_at(alloc, Decoder::new(alloc, version), &frame, place)?;
+        let (front, back) = frame.as_slice().split_at(place);
+        let received = message_in_two(alloc, Decoder::new(alloc, version), front, back)?;
         expect(is_malformed(alloc, &received), "the first answer")?;
         expect(is_malformed(alloc, &received), "the second answer")?;
     }
