@@ -3,21 +3,16 @@
 //! Each call answers a count, or a refusal's number, which is negative. It keeps nothing that it is handed, and leaves nothing behind.
 #![tactic(auto)]
 
-ghost use Rattle.journal_ffi.specs.Answers.{Answers};
-ghost use Rattle.journal_ffi.specs.Streams.{AnswersItems, AnswersMessages};
-ghost use Rattle.journal_ffi.specs.Payloads.{AnswersCanonical, AnswersFrame};
+ghost use Rattle.journal_calls.specs.Answers.{Answers};
+ghost use Rattle.journal_calls.specs.Streams.{AnswersItems, AnswersMessages};
+ghost use Rattle.journal_calls.specs.Payloads.{AnswersCanonical, AnswersFrame};
 ghost use Rattle.std.specs.Prelude.{[], ◌∷◌};
 
-mod answer;
-mod canonical;
-mod frames;
-mod messages;
-mod pieced_stream;
-mod streams;
 #[cfg(test)]
 mod tests;
 
-use crate::answer::answer_of;
+use journal_calls::answer::answer_of;
+use journal_calls::{canonical, frames, streams};
 use std::alloc::Global;
 
 /// Reads a stream of a version from 5 to 8, which comes in pieces of so many bytes (0: in one piece), and writes a word for each item: the

@@ -1,8 +1,8 @@
 //! Messages decoded to their records.
 
 ghost use Rattle.std.specs.Prelude.{◌≡◌, Some};
-ghost use Rattle.journal_ffi.specs.Schemas.{message_schema};
-ghost use Rattle.journal_ffi.specs.Streams.{DecodesPayload};
+ghost use Rattle.journal_calls.specs.Schemas.{message_schema};
+ghost use Rattle.journal_calls.specs.Streams.{DecodesPayload};
 
 use crate::answer::Refusal;
 use shared_core::encoding::{DecodingError, RawMessage};

@@ -2,11 +2,12 @@
 
 ghost use Rattle.std.specs.Prelude.{◌≡◌, ◌≤◌};
 ghost use Rattle.shared_core_base.specs.Version.{version_number};
-ghost use Rattle.journal_ffi.specs.Streams.{AnswersItems, AnswersMessages, WritesWords, DecodesAll, DecodesItem, item_word};
+ghost use Rattle.journal_calls.specs.Streams.{AnswersItems, AnswersMessages, WritesWords, DecodesAll, DecodesItem, item_word};
 
 use crate::answer::{Refusal, version_of};
 use crate::messages::decode;
 use crate::pieced_stream::PiecedStream;
+use crate::rounds::repeated;
 use bytes::Bytes;
 use shared_core::encoding::Item;
 use shared_core::version::Version;
@@ -25,10 +26,9 @@ pub fn items(
 {
     let version = version_of(version)?;
     let stream = Bytes::copy_from_slice(alloc, stream)?;
-    for _ in 1..rounds {
-        write_words(alloc, version, &stream, piece, words)?;
-    }
-    write_words(alloc, version, &stream, piece, words)
+    repeated(rounds, words, |words| {
+        write_words(alloc, version, &stream, piece, words)
+    })
 }
 
 /// The messages of named types of a stream, which is read so many times over, each decoded to its record.
@@ -43,10 +43,9 @@ pub fn messages(
 {
     let version = version_of(version)?;
     let stream = Bytes::copy_from_slice(alloc, stream)?;
-    for _ in 1..rounds {
-        decode_all(alloc, version, &stream, piece)?;
-    }
-    decode_all(alloc, version, &stream, piece)
+    repeated(rounds, &mut [], |_words| {
+        decode_all(alloc, version, &stream, piece)
+    })
 }
 
 /// Writes the word of each item, and answers how many items there are.

@@ -1,4 +1,6 @@
 pub mod Schemas
 pub mod Answers
+pub mod Pieces
+pub mod Rounds
 pub mod Streams
 pub mod Payloads

@@ -4,8 +4,8 @@ use Rattle.shared_core_base.specs.declared.version.Version.{Version}
 use Rattle.shared_core_base.specs.declared.version.Version.TheVariants.{V5, V6, V7, V8}
 use Rattle.shared_core_record.specs.declared.error.EncodingError.{EncodingError}
 use Rattle.shared_core_record.specs.declared.error.EncodingError.TheVariants.{PayloadTooLong, OutOfMemory}
-use Rattle.journal_ffi.specs.declared.answer.Refusal.{Refusal}
-use Rattle.journal_ffi.specs.declared.answer.Refusal.TheVariants.{Malformed, OutOfMemory as NoMemory, NoRoom, TooLong, Unknown}
+use Rattle.journal_calls.specs.declared.answer.Refusal.{Refusal}
+use Rattle.journal_calls.specs.declared.answer.Refusal.TheVariants.{Malformed, OutOfMemory as NoMemory, NoRoom, TooLong, Unknown}
 
 -- The number that stands for a refusal.
 abbrev pub refusal_number : Refusal → ℤ

@@ -1,15 +1,15 @@
 -- What the calls on streams answer.
-use Rattle.std.specs.Prelude.{◌≡◌, ℕ, ◌+◌, ◌*◌, ◌^◌, ◌<◌, suc, List, [], ◌∷◌, ◌++◌, take, map, length, Option, Some, None, Result, Ok, Err}
+use Rattle.std.specs.Prelude.{◌≡◌, ℕ, ◌+◌, ◌*◌, ◌^◌, ◌<◌, List, [], ◌∷◌, ◌++◌, take, map, length, Option, Some, None, Result, Ok, Err}
 use Rattle.shared_core_base.specs.declared.version.Version.{Version}
 use Rattle.shared_core_base.specs.MessageHeader.{word_of}
 use Rattle.shared_core_record.specs.Payloads.{IsAccepted}
 use Rattle.shared_core.specs.declared.encoding.Item.{Item}
 use Rattle.shared_core.specs.declared.encoding.Item.TheVariants.{Message, Unknown}
 use Rattle.shared_core.specs.Items.{IsItemsThen, SplitsInto}
-use Rattle.journal_ffi.specs.declared.answer.Refusal.{Refusal}
-use Rattle.journal_ffi.specs.declared.answer.Refusal.TheVariants.{Malformed, OutOfMemory, NoRoom, TooLong}
-use Rattle.journal_ffi.specs.Answers.{AtVersion, spoken_version}
-use Rattle.journal_ffi.specs.Schemas.{message_schema}
+use Rattle.journal_calls.specs.declared.answer.Refusal.{Refusal}
+use Rattle.journal_calls.specs.declared.answer.Refusal.TheVariants.{Malformed, OutOfMemory, NoRoom}
+use Rattle.journal_calls.specs.Answers.{AtVersion, spoken_version}
+use Rattle.journal_calls.specs.Schemas.{message_schema}
 
 -- An item's word: that of a message's header, or an unknown code in bits 48 to 63.
 abbrev pub item_word : Item → ℕ

@@ -2,7 +2,7 @@
 
 ghost use Rattle.std.specs.Prelude.{[], ◌∷◌, ◌++◌, List};
 ghost use Rattle.std.specs.List.{concat};
-ghost use Rattle.journal_ffi.specs.Payloads.{AnswersCanonical, WritesMeaning};
+ghost use Rattle.journal_calls.specs.Payloads.{AnswersCanonical, WritesMeaning};
 
 use crate::answer::{Refusal, write_bytes};
 use bytes::Bytes;

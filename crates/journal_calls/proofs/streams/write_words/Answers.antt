@@ -1,21 +1,25 @@
-use Rattle.std.proofs.Common.{◌∙◌, ◌++◌, ◌∷◌, [], sym, ap, arith, ◌<◌, length, length-set}
+use Rattle.std.proofs.Common.{◌∙◌, ◌++◌, ◌∷◌, [], arith, ◌<◌, length, length-set}
 use Rattle.shared_core.proofs.Items.{then_takes}
-use Rattle.journal_ffi.proofs.Counting.{word_written, length_more}
-use Rattle.journal_ffi.proofs.streams.write_words.Goals as goal
+use Rattle.journal_calls.proofs.Counting.{word_written, length_more}
+use Rattle.journal_calls.proofs.Pieces.{none_of_all, one_taken, same_version, taken_of_all}
+use Rattle.journal_calls.specs.Pieces.{untaken}
+use Rattle.journal_calls.proofs.streams.write_words.Goals as goal
 
 pub returns-then-count-words : goal.returns-then-count-words
 returns-then-count-words c =
     let (version, items, front, counted, fits, written) = c.loop-stream.invariant in
-    let taken = rw (c.in-Some.is, version) at c.in_ok-item.ensures.taken in
+    let step = rw c.in-Some.is at c.in_ok-item.ensures in
+    let taken = taken_of_all c.args.version _ _ c.in-Some.item version step in
     (items ++ c.in-Some.item ∷ [], _, then_takes c.args.version _ _ _ items _ front taken, omega (arith, length_more items c.in-Some.item, counted, c.if-count-words.true))
 
 pub loop-stream-preserved : goal.loop-stream-preserved
 loop-stream-preserved c =
     let (version, items, front, counted, fits, written) = c.loop-stream.invariant in
-    let taken = rw (c.in-Some.is, version) at c.in_ok-item.ensures.taken in
+    let step = rw c.in-Some.is at c.in_ok-item.ensures in
+    let taken = taken_of_all c.args.version _ _ c.in-Some.item version step in
     let item = c.in-Some.item in
     let room : c.loop-stream.count < length c.loop-stream.words = omega (arith, fits, c.if-count-words.false) in (
-      c.in_ok-item.ensures.version ∙ version,
+      same_version _ _ item step ∙ version,
       items ++ item ∷ [],
       then_takes c.args.version _ _ _ items item front taken,
       omega (arith, length_more items item, counted),
@@ -23,8 +27,11 @@ loop-stream-preserved c =
       rw c.word_of.ensures (word_written c.loop-stream.words c.loop-stream.count items item room written),
     )
 
+pub loop-stream-smaller : goal.loop-stream-smaller
+loop-stream-smaller c = one_taken c.args.version _ _ c.in-Some.item c.loop-stream.invariant.0 (rw c.in-Some.is at c.in_ok-item.ensures)
+
 pub returns : goal.returns
 returns c =
     let (version, items, front, counted, fits, written) = c.loop-stream.invariant in
-    let none = rw (c.in_default.is, version) at c.in_ok-item.ensures.taken in
-    (items, c.loop-stream.stream.bytes, record { items_then = front; no_more = none.0 }, counted, written)
+    let none = none_of_all c.args.version c.loop-stream.stream _ version (rw c.in_default.is at c.in_ok-item.ensures) in
+    (items, untaken c.loop-stream.stream, record { items_then = front; no_more = none }, counted, written)

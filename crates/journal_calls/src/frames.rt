@@ -2,10 +2,11 @@
 
 ghost use Rattle.std.specs.Prelude.{◌≡◌, ◌≤◌};
 ghost use Rattle.shared_core_base.specs.Version.{version_number};
-ghost use Rattle.journal_ffi.specs.Schemas.{message_schema};
-ghost use Rattle.journal_ffi.specs.Payloads.{AnswersFrame, AnswersFrameOf, WritesRecord};
+ghost use Rattle.journal_calls.specs.Schemas.{message_schema};
+ghost use Rattle.journal_calls.specs.Payloads.{AnswersFrame, AnswersFrameOf, WritesRecord};
 
 use crate::answer::{Refusal, version_of, write_bytes};
+use crate::rounds::repeated;
 use bytes::Bytes;
 use shared_core::encoding::Encoder;
 use shared_core::header::MessageType;
@@ -198,8 +199,8 @@ fn write_frame_as<M: RestateMessage + RestateEncodableMessage>(
         Err(WireError::Malformed) => return Err(Refusal::Malformed),
         Err(WireError::OutOfMemory) => return Err(Refusal::OutOfMemory),
     };
-    for _ in 1..rounds {
-        encoder.encode(alloc, &message)?;
-    }
-    write_bytes(&encoder.encode(alloc, &message)?, out)
+    let frame = repeated(rounds, &mut [], |_words| {
+        Ok(encoder.encode(alloc, &message)?)
+    })?;
+    write_bytes(&frame, out)
 }

@@ -11,10 +11,10 @@ use Rattle.shared_core_record.specs.Table.{table}
 use Rattle.shared_core_record.specs.Payloads.{IsAccepted, payload_meaning}
 use Rattle.shared_core_parts.specs.Frames.{WireForm, plain_form, wire_size, wire_frame}
 use Rattle.shared_core_runtime.specs.Versions.{suspension_form, proposal_form}
-use Rattle.journal_ffi.specs.declared.answer.Refusal.{Refusal}
-use Rattle.journal_ffi.specs.declared.answer.Refusal.TheVariants.{Malformed, OutOfMemory, NoRoom, TooLong, Unknown}
-use Rattle.journal_ffi.specs.Answers.{AreWritten, AtVersion, spoken_version}
-use Rattle.journal_ffi.specs.Schemas.{message_schema, schema_count}
+use Rattle.journal_calls.specs.declared.answer.Refusal.{Refusal}
+use Rattle.journal_calls.specs.declared.answer.Refusal.TheVariants.{Malformed, OutOfMemory, NoRoom, TooLong, Unknown}
+use Rattle.journal_calls.specs.Answers.{AreWritten, AtVersion, spoken_version}
+use Rattle.journal_calls.specs.Schemas.{message_schema, schema_count}
 
 -- The canonical payload of a value stands at the front of the slice, or it is too long for the slice or for a header.
 abbrev pub WritesCanonical : ℕ → Parts → List ℕ → Result ℕ Refusal → Type 0

@@ -6,10 +6,10 @@ use Rattle.shared_core.specs.declared.encoding.Item.{Item}
 use Rattle.shared_core.specs.declared.encoding.Item.TheVariants.{Message, Unknown}
 use Rattle.shared_core.specs.Items.{TakesItem, IsItemsThen}
 use Rattle.shared_core.proofs.Items.{then_takes}
-use Rattle.journal_ffi.specs.declared.answer.Refusal.{Refusal}
-use Rattle.journal_ffi.specs.declared.answer.Refusal.TheVariants.{Malformed, OutOfMemory, NoRoom, TooLong, Unknown as NoNumber}
-use Rattle.journal_ffi.specs.Streams.{item_word, count_named, named_count, Decodes, AllDecode, DecodesItem, DecodesAll}
-use Rattle.journal_ffi.specs.Schemas.{message_schema}
+use Rattle.journal_calls.specs.declared.answer.Refusal.{Refusal}
+use Rattle.journal_calls.specs.declared.answer.Refusal.TheVariants.{Malformed, OutOfMemory, NoRoom, TooLong, Unknown as NoNumber}
+use Rattle.journal_calls.specs.Streams.{item_word, count_named, named_count, Decodes, AllDecode, DecodesItem, DecodesAll}
+use Rattle.journal_calls.specs.Schemas.{message_schema}
 
 map_more : {A B : Type 0} (f : A → B) (xs : List A) (x : A) → map f (xs ++ x ∷ []) ≡ map f xs ++ f x ∷ []
 map_more f [] x = refl

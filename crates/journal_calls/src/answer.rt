@@ -1,7 +1,7 @@
 //! What the calls answer.
 
 ghost use Rattle.std.specs.Prelude.{◌≡◌, MatchOption};
-ghost use Rattle.journal_ffi.specs.Answers.{answer_number, spoken_version, IsSpoken, WritesBytes};
+ghost use Rattle.journal_calls.specs.Answers.{answer_number, spoken_version, IsSpoken, WritesBytes};
 
 use shared_core::messages::EncodingError;
 use shared_core::version::Version;
@@ -24,7 +24,7 @@ pub enum Refusal {
 
 impl From<AllocError> for Refusal {
     ghost use Rattle.std.specs.Prelude.{◌≡◌};
-    ghost use Rattle.journal_ffi.specs.declared.answer.Refusal.TheVariants.{OutOfMemory};
+    ghost use Rattle.journal_calls.specs.declared.answer.Refusal.TheVariants.{OutOfMemory};
 
     ghost from_gives = { λ _ refusal. refusal ≡ OutOfMemory };
 
@@ -35,7 +35,7 @@ impl From<AllocError> for Refusal {
 
 impl From<EncodingError> for Refusal {
     ghost use Rattle.std.specs.Prelude.{◌≡◌};
-    ghost use Rattle.journal_ffi.specs.Answers.{encoding_refusal};
+    ghost use Rattle.journal_calls.specs.Answers.{encoding_refusal};
 
     ghost from_gives = { λ error refusal. refusal ≡ encoding_refusal error };
 

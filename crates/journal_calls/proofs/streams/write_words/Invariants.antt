@@ -1,14 +1,15 @@
-use Rattle.std.proofs.Common.{◌≡◌, ◌<◌, ◌≤◌, List, length, take, map}
+use Rattle.std.proofs.Common.{◌≡◌, ◌≤◌, List, length, take, map}
 use Rattle.shared_core.specs.declared.encoding.Item.{Item}
 use Rattle.shared_core.specs.Items.{IsItemsThen}
-use Rattle.journal_ffi.specs.Streams.{item_word}
-use Rattle.journal_ffi.proofs.streams.write_words.Given as goal
+use Rattle.journal_calls.specs.Pieces.{untaken}
+use Rattle.journal_calls.specs.Streams.{item_word}
+use Rattle.journal_calls.proofs.streams.write_words.Given as goal
 
 abbrev pub invariant-loop-stream : goal.invariant-loop-stream
 invariant-loop-stream l =
     (l.stream.version ≡ l.fn.version)
-    × (items : List Item) × IsItemsThen l.fn.version l.whole items l.stream.bytes
+    × (items : List Item) × IsItemsThen l.fn.version l.whole items (untaken l.stream)
     × (l.count ≡ length items) × (l.count ≤ length l.words) × (take l.count l.words ≡ map item_word items)
 
 abbrev pub decreases-loop-stream : goal.decreases-loop-stream
-decreases-loop-stream l = length l.stream.bytes
+decreases-loop-stream l = length (untaken l.stream)

@@ -1,0 +1,10 @@
+//! What the calls of `journal_ffi` do, over slices of bytes and numbers.
+#![tactic(auto)]
+
+pub mod answer;
+pub mod canonical;
+pub mod frames;
+mod messages;
+mod pieced_stream;
+mod rounds;
+pub mod streams;
