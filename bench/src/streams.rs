@@ -4,7 +4,7 @@ use prost::Message;
 
 use crate::random::{damage, Payloads, Random, Style};
 use crate::records::*;
-use crate::table::{SCHEMAS, TYPES};
+use crate::table::TYPES;
 
 /// A message on its way: its type's code and its payload.
 pub struct Frame {
@@ -321,9 +321,4 @@ fn run(random: &mut Random, id: u32) -> [Frame; 2] {
             },
         ),
     ]
-}
-
-/// The name of a schema.
-pub fn schema_name(schema: usize) -> &'static str {
-    SCHEMAS[schema].name
 }
