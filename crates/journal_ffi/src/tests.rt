@@ -1,6 +1,15 @@
-//! The five calls, on worked examples of the protocol's description.
+//! The five calls: each on worked examples of the protocol's description and with each refusal, and each schema and each named type through
+//! them, since a body that gives up for want of memory would be proved.
 
 use crate::{journal_canonical, journal_frame, journal_items, journal_merge, journal_messages};
+
+/// The code of each named type.
+const CODES: [u16; 41] = [
+    0x0000, 0x0001, 0x0002, 0x0003, 0x0005, 0x0006, 0x0007, 0x0200, 0x0300, 0x0400, 0x0401, 0x0402,
+    0x0403, 0x0404, 0x0405, 0x0406, 0x0407, 0x0408, 0x0409, 0x040A, 0x040B, 0x040C, 0x040D, 0x040E,
+    0x0410, 0x0411, 0x0412, 0x0413, 0x0414, 0x8002, 0x8006, 0x8009, 0x800A, 0x800B, 0x800C, 0x800D,
+    0x800E, 0x8011, 0x8012, 0x8013, 0xFBFF,
+];
 
 /// An unknown code 8, and an End.
 const UNKNOWN_THEN_END: [u8; 16] = [
@@ -22,9 +31,57 @@ const SUSPENSION: [u8; 18] = [
     0x62, 0x63,
 ];
 
-/// Whether the answer is the count of these bytes, and they stand at the front of the slice.
-fn is_written(answer: i64, out: &[u8], bytes: &[u8]) -> bool {
-    matches!(usize::try_from(answer), Ok(count) if out.get(..count) == Some(bytes))
+/// Whether the answer is the count of these bytes, which stand at the front of the slice, or this refusal.
+fn is_answered(answer: i64, out: &[u8], expected: Result<&[u8], i64>) -> bool {
+    match expected {
+        Ok(bytes) => {
+            matches!(usize::try_from(answer), Ok(count) if out.get(..count) == Some(bytes))
+        }
+        Err(refusal) => answer == refusal,
+    }
+}
+
+#[test]
+fn each_schema(rt: HostRuntime) {
+    for schema in 0..53 {
+        assert_eq!(rt;
+            journal_canonical(rt.alloc(), schema, &[], &mut []),
+            0,
+            "schema {schema}"
+        );
+    }
+}
+
+#[test]
+fn each_named_type_written(rt: HostRuntime) {
+    for code in CODES {
+        let [high, low] = code.to_be_bytes();
+        // An acknowledgement is asked for with a proposal alone, from V7 on.
+        let ack = if code == 0x0005 { 0x80 } else { 0 };
+        for (version, flags) in [(5, 0), (8, ack)] {
+            let mut out = [0xFF; 8];
+            let answer = journal_frame(rt.alloc(), version, code, &[], 1, &mut out);
+            assert!(rt;
+                answer == 8 && out == [high, low, flags, 0, 0, 0, 0, 0],
+                "code {code} at {version}: {answer}, {out:?}"
+            );
+        }
+    }
+}
+
+#[test]
+fn each_named_type_read(rt: HostRuntime) {
+    for code in CODES {
+        let [high, low] = code.to_be_bytes();
+        let stream = [high, low, 0, 0, 0, 0, 0, 0];
+        let mut word = [0; 1];
+        let items = journal_items(rt.alloc(), 8, &stream, 0, 1, &mut word);
+        let messages = journal_messages(rt.alloc(), 8, &stream, 0, 1);
+        assert!(rt;
+            items == 1 && word == [u64::from(code) << 48] && messages == 1,
+            "code {code}: {items}, {word:?}, {messages}"
+        );
+    }
 }
 
 #[test]
@@ -33,46 +90,35 @@ fn items_in_pieces_of_each_size(rt: HostRuntime) {
         for rounds in [0, 1, 3] {
             let mut words = [0; 2];
             let count = journal_items(rt.alloc(), 8, &UNKNOWN_THEN_END, piece, rounds, &mut words);
-            assert_eq!(rt; count, 2, "pieces of {piece}, {rounds} rounds");
-            assert_eq!(rt;
-                words,
-                [0x0008_0000_0000_0000, 0x0003_0000_0000_0000],
-                "pieces of {piece}, {rounds} rounds"
+            assert!(rt;
+                count == 2 && words == [0x0008_0000_0000_0000, 0x0003_0000_0000_0000],
+                "pieces of {piece}, {rounds} rounds: {count}, {words:?}"
             );
         }
     }
 }
 
 #[test]
-fn items_at_each_version(rt: HostRuntime) {
-    for (version, answer) in [(4, -5), (5, 2), (6, 2), (7, 2), (8, 2), (9, -5)] {
-        let mut words = [0; 2];
-        let count = journal_items(rt.alloc(), version, &UNKNOWN_THEN_END, 0, 1, &mut words);
-        assert_eq!(rt; count, answer, "at {version}");
-        if count == 2 {
-            assert_eq!(rt;
-                words,
-                [0x0008_0000_0000_0000, 0x0003_0000_0000_0000],
-                "at {version}"
-            );
-        }
+fn items_and_no_items(rt: HostRuntime) {
+    // Each version, too little room, a message with a payload, one that is not whole, and nothing.
+    for (version, stream, answer) in [
+        (4, &INPUT[..], -5),
+        (5, &INPUT[..], 1),
+        (6, &INPUT[..], 1),
+        (7, &INPUT[..], 1),
+        (8, &INPUT[..], 1),
+        (9, &INPUT[..], -5),
+        (8, &UNKNOWN_THEN_END[..], -3),
+        (8, &INPUT[..16], 0),
+        (8, &[][..], 0),
+    ] {
+        let mut word = [0; 1];
+        let count = journal_items(rt.alloc(), version, stream, 0, 1, &mut word);
+        assert!(rt;
+            count == answer && (count != 1 || word == [0x0400_0000_0000_0009]),
+            "{stream:?} at {version}: {count}, {word:?}"
+        );
     }
-}
-
-#[test]
-fn items_that_are_more_or_fewer(rt: HostRuntime) {
-    let mut word = [0; 1];
-    assert_eq!(rt;
-        journal_items(rt.alloc(), 8, &UNKNOWN_THEN_END, 0, 1, &mut word),
-        -3
-    );
-    assert_eq!(rt; journal_items(rt.alloc(), 8, &INPUT, 0, 1, &mut word), 1);
-    assert_eq!(rt; word, [0x0400_0000_0000_0009]);
-    assert_eq!(rt;
-        journal_items(rt.alloc(), 8, &UNKNOWN_THEN_END[..4], 0, 1, &mut word),
-        0
-    );
-    assert_eq!(rt; journal_items(rt.alloc(), 8, &[], 0, 1, &mut []), 0);
 }
 
 #[test]
@@ -97,100 +143,81 @@ fn messages_of_named_types(rt: HostRuntime) {
 
 #[test]
 fn canonical_payloads(rt: HostRuntime) {
-    for (schema, payload, canonical) in [
+    // Numbers in two forms, a field that comes twice, content that is no list of numbers, too little room, and no schema.
+    let numbers = [0x08, 0x01, 0x0A, 0x02, 0x02, 0x03, 0x08, 0x04];
+    let twice = [
+        0x08, 0x01, 0x32, 0x02, 0x08, 0x05, 0x32, 0x03, 0x12, 0x01, 0x78,
+    ];
+    for (schema, payload, expected) in [
         (
             12,
-            &[0x08, 0x01, 0x0A, 0x02, 0x02, 0x03, 0x08, 0x04][..],
-            &[0x0A, 0x04, 0x01, 0x02, 0x03, 0x04][..],
+            &numbers[..],
+            Ok(&[0x0A, 0x04, 0x01, 0x02, 0x03, 0x04][..]),
         ),
         (
             41,
-            &[
-                0x08, 0x01, 0x32, 0x02, 0x08, 0x05, 0x32, 0x03, 0x12, 0x01, 0x78,
-            ][..],
-            &[0x08, 0x01, 0x32, 0x05, 0x08, 0x05, 0x12, 0x01, 0x78][..],
+            &twice[..],
+            Ok(&[0x08, 0x01, 0x32, 0x05, 0x08, 0x05, 0x12, 0x01, 0x78][..]),
         ),
+        (12, &[0x0A, 0x02, 0x01, 0x80][..], Err(-1)),
+        (12, &[0x0A, 0x08, 1, 2, 3, 4, 5, 6, 7, 8][..], Err(-3)),
+        (53, &[][..], Err(-5)),
     ] {
-        let mut out = [0; 16];
+        let mut out = [0; 9];
         let answer = journal_canonical(rt.alloc(), schema, payload, &mut out);
         assert!(rt;
-            is_written(answer, &out, canonical),
-            "schema {schema}: {answer}, {out:?}"
+            is_answered(answer, &out, expected),
+            "schema {schema}, {payload:?}: {answer}, {out:?}"
         );
     }
 }
 
 #[test]
-fn no_canonical_payload(rt: HostRuntime) {
-    let elements = [0x08, 0x01, 0x0A, 0x02, 0x02, 0x03, 0x08, 0x04];
-    let mut out = [0; 6];
-    assert_eq!(rt; journal_canonical(rt.alloc(), 12, &elements, &mut out), 6);
-    assert_eq!(rt;
-        journal_canonical(rt.alloc(), 12, &elements, &mut out[..5]),
-        -3
-    );
-    assert_eq!(rt;
-        journal_canonical(rt.alloc(), 12, &[0x0A, 0x02, 0x01, 0x80], &mut out),
-        -1
-    );
-    assert_eq!(rt; journal_canonical(rt.alloc(), 52, &[], &mut out), 0);
-    assert_eq!(rt; journal_canonical(rt.alloc(), 53, &[], &mut out), -5);
-}
-
-#[test]
 fn merged_payloads(rt: HostRuntime) {
-    for (schema, first, second, canonical) in [
+    // Another member between two breaks their run. Each of the two is to be well-formed by itself, also where the joined bytes are.
+    for (schema, first, second, expected) in [
         (
             41,
             &[0x32, 0x02, 0x08, 0x05][..],
             &[0x32, 0x03, 0x12, 0x01, 0x78][..],
-            &[0x32, 0x05, 0x08, 0x05, 0x12, 0x01, 0x78][..],
+            Ok(&[0x32, 0x05, 0x08, 0x05, 0x12, 0x01, 0x78][..]),
         ),
-        // Another member between the two breaks the run.
         (
             41,
             &[0x32, 0x02, 0x08, 0x05][..],
             &[0x22, 0x00, 0x32, 0x03, 0x12, 0x01, 0x78][..],
-            &[0x32, 0x03, 0x12, 0x01, 0x78][..],
+            Ok(&[0x32, 0x03, 0x12, 0x01, 0x78][..]),
         ),
         (
             12,
             &[0x08, 0x01][..],
             &[0x0A, 0x02, 0x02, 0x03][..],
-            &[0x0A, 0x03, 0x01, 0x02, 0x03][..],
+            Ok(&[0x0A, 0x03, 0x01, 0x02, 0x03][..]),
         ),
+        (41, &[0x32, 0x02, 0x08][..], &[0x05][..], Err(-1)),
+        (41, &[0xFF][..], &[0x08, 0x01][..], Err(-1)),
+        (41, &[0x08, 0x01][..], &[0xFF][..], Err(-1)),
+        (
+            12,
+            &[0x0A, 0x03, 1, 2, 3][..],
+            &[0x0A, 0x03, 4, 5, 6][..],
+            Err(-3),
+        ),
+        (53, &[][..], &[][..], Err(-5)),
     ] {
-        let mut out = [0; 16];
+        let mut out = [0; 7];
         let answer = journal_merge(rt.alloc(), schema, first, second, &mut out);
         assert!(rt;
-            is_written(answer, &out, canonical),
-            "schema {schema}, {second:?}: {answer}, {out:?}"
+            is_answered(answer, &out, expected),
+            "schema {schema}, {first:?}, {second:?}: {answer}, {out:?}"
         );
     }
 }
 
 #[test]
-fn no_merged_payload(rt: HostRuntime) {
-    // Each of the two is to be well-formed by itself, also where the joined bytes are.
-    for (schema, first, second, answer) in [
-        (41, &[0x32, 0x02, 0x08][..], &[0x05][..], -1),
-        (41, &[0xFF][..], &[0x08, 0x01][..], -1),
-        (41, &[0x08, 0x01][..], &[0xFF][..], -1),
-        (53, &[][..], &[][..], -5),
-        (41, &[0x08, 0x01][..], &[0x22, 0x00][..], -3),
-    ] {
-        let mut out = [0; 3];
-        assert_eq!(rt;
-            journal_merge(rt.alloc(), schema, first, second, &mut out),
-            answer,
-            "schema {schema}: {first:?}, {second:?}"
-        );
-    }
-}
-
-#[test]
-fn frames_at_versions(rt: HostRuntime) {
-    // An acknowledgement is asked for from V7 on, and before it a suspension has one flat list of each kind.
+fn frames(rt: HostRuntime) {
+    // An acknowledgement is asked for from V7 on, and before it a suspension has one flat list of each kind. Then a payload that is no record
+    // list, too little room, custom types, an unknown code, and versions that are not spoken.
     let plain = [
         0x00, 0x05, 0x00, 0x00, 0x00, 0x00, 0x00, 0x05, 0x08, 0x01, 0x72, 0x01, 0x78,
     ];
@@ -205,41 +232,32 @@ fn frames_at_versions(rt: HostRuntime) {
         0x00, 0x01, 0x00, 0x00, 0x00, 0x00, 0x00, 0x12, 0x22, 0x10, 0x12, 0x01, 0x01, 0x22, 0x0B,
         0x0A, 0x01, 0x01, 0x12, 0x01, 0x11, 0x1A, 0x03, 0x61, 0x62, 0x63,
     ];
-    for (version, code, payload, bytes) in [
-        (6, 0x0005, &PROPOSAL[..], &plain[..]),
-        (7, 0x0005, &PROPOSAL[..], &flagged[..]),
-        (8, 0x0005, &PROPOSAL[..], &flagged[..]),
-        (6, 0x0001, &SUSPENSION[..], &flat[..]),
-        (8, 0x0001, &SUSPENSION[..], &nested[..]),
+    // An error whose message is 17 letters.
+    let long = [
+        0x12, 0x11, 0x61, 0x61, 0x61, 0x61, 0x61, 0x61, 0x61, 0x61, 0x61, 0x61, 0x61, 0x61, 0x61,
+        0x61, 0x61, 0x61, 0x61,
+    ];
+    for (version, code, payload, expected) in [
+        (6, 0x0005, &PROPOSAL[..], Ok(&plain[..])),
+        (7, 0x0005, &PROPOSAL[..], Ok(&flagged[..])),
+        (8, 0x0005, &PROPOSAL[..], Ok(&flagged[..])),
+        (6, 0x0001, &SUSPENSION[..], Ok(&flat[..])),
+        (8, 0x0001, &SUSPENSION[..], Ok(&nested[..])),
+        (8, 0x0005, &[0xFF][..], Err(-1)),
+        (8, 0x0002, &long[..], Err(-3)),
+        (8, 0x0500, &[][..], Err(-5)),
+        (8, 0xFC01, &[][..], Err(-5)),
+        (8, 0x0008, &[][..], Err(-5)),
+        (4, 0x0005, &PROPOSAL[..], Err(-5)),
+        (9, 0x0005, &PROPOSAL[..], Err(-5)),
     ] {
         for rounds in [0, 1, 5] {
-            let mut out = [0; 32];
+            let mut out = [0; 26];
             let answer = journal_frame(rt.alloc(), version, code, payload, rounds, &mut out);
             assert!(rt;
-                is_written(answer, &out, bytes),
+                is_answered(answer, &out, expected),
                 "code {code} at {version}, {rounds} rounds: {answer}, {out:?}"
             );
         }
-    }
-}
-
-#[test]
-fn no_frame(rt: HostRuntime) {
-    // Custom types, an unknown code, versions that are not spoken, a payload that is no record list, and room for one byte too few.
-    for (version, code, payload, answer) in [
-        (8, 0x0500, &[][..], -5),
-        (8, 0xFC01, &[][..], -5),
-        (8, 0x0008, &[][..], -5),
-        (4, 0x0005, &PROPOSAL[..], -5),
-        (9, 0x0005, &PROPOSAL[..], -5),
-        (8, 0x0005, &[0xFF][..], -1),
-        (8, 0x0005, &PROPOSAL[..], -3),
-    ] {
-        let mut out = [0; 12];
-        assert_eq!(rt;
-            journal_frame(rt.alloc(), version, code, payload, 1, &mut out),
-            answer,
-            "code {code} at {version}, {payload:?}"
-        );
     }
 }
