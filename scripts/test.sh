@@ -1,6 +1,7 @@
 #!/bin/sh
 # All tests: the gate (every proof from nothing, the edits that must fail, each test and the stored runs of the programs), then
-# that the table of fields is one everywhere, the program on the examples, and the library beside prost. The last line is 'N passed, M failed', of all.
+# that the table of fields is one everywhere and written files are up to date, the program on the examples and where it fails, the library on all
+# conformance lines, and prost on the same lines and on random ones. The last line is 'N passed, M failed', of all.
 set -u
 cd "$(dirname "$0")/.." || exit 1
 
@@ -28,8 +29,10 @@ stage rt ci
 stage sh scripts/check_table.sh
 stage sh scripts/check_records.sh
 stage sh scripts/check_program.sh
+# these take the proved programs that rt ci has built
+stage sh scripts/conformance.sh
 # 50,000 random cases beside prost, where cargo and its packages are there
-stage sh bench/agree.sh --no-install 1 50000
+stage sh bench/vectors.sh --no-install 1 50000
 
 echo "$passed passed, $failed failed"
 [ "$failed" -eq 0 ]

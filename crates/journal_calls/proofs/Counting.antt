@@ -9,7 +9,7 @@ use Rattle.shared_core.proofs.Items.{then_takes}
 use Rattle.journal_calls.specs.declared.answer.Refusal.{Refusal}
 use Rattle.journal_calls.specs.declared.answer.Refusal.TheVariants.{Malformed, OutOfMemory, NoRoom, TooLong, Unknown as NoNumber}
 use Rattle.journal_calls.specs.Streams.{item_word, count_named, named_count, Decodes, AllDecode, DecodesItem, DecodesAll}
-use Rattle.journal_calls.specs.Schemas.{message_schema}
+use Rattle.shared_core_parts.specs.Messages.{message_schema}
 
 map_more : {A B : Type 0} (f : A → B) (xs : List A) (x : A) → map f (xs ++ x ∷ []) ≡ map f xs ++ f x ∷ []
 map_more f [] x = refl
@@ -33,10 +33,6 @@ pub count_more : (items : List Item) (item : Item) → count_named (items ++ ite
 count_more [] item = omega (arith, none_named)
 count_more (Message message ∷ items) item = omega (arith, count_more items item)
 count_more (Unknown code ∷ items) item = count_more items item
-
--- an item takes bytes
-pub item_is_long : (version : Version) (old new : List ℕ) (item : Item) → TakesItem version old item new → length new + 8 ≤ length old
-item_is_long version old new item (first, is, splits) = omega (arith, is.whole, ap length splits, length-append first new)
 
 -- what a decoded item says of the items behind which it stands
 pub item_decoded : (item : Item) (count : ℕ) → DecodesItem item (Ok count) → Decodes item × (count ≡ count_named (item ∷ []))

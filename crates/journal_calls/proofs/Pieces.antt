@@ -5,7 +5,7 @@ use Rattle.std.proofs.Math.Seq.{take-add}
 use Rattle.shared_core_base.specs.declared.version.Version.{Version}
 use Rattle.shared_core.specs.declared.encoding.Item.{Item}
 use Rattle.shared_core.specs.Items.{IsItem, NoItemBegins, TakesItem}
-use Rattle.journal_calls.proofs.Counting.{item_is_long}
+use Rattle.shared_core.proofs.Items.{item_is_long}
 use Rattle.journal_calls.specs.Pieces.{Pieced, AreNeeded, TakesInPieces, arrived_after, untaken}
 
 abbrev stream_of : Version → List ℕ → List ℕ → ℕ → Pieced
@@ -20,9 +20,9 @@ same_or_less n m less = eq-or-lt_of_le (omega (arith, less))
 pub needed_more : (stream : Pieced) (pieces : ℕ) → AreNeeded stream pieces → NoItemBegins stream.version (arrived_after stream pieces) → AreNeeded stream (pieces + 1)
 needed_more stream pieces needed none fewer is_fewer =
     ⊎_elim
-      (λ same. subst (λ n. NoItemBegins stream.version (arrived_after stream n)) (sym same) none)
-      (λ less. needed fewer less)
-      (same_or_less fewer pieces is_fewer)
+    (λ same. subst (λ n. NoItemBegins stream.version (arrived_after stream n)) (sym same) none)
+    (λ less. needed fewer less)
+    (same_or_less fewer pieces is_fewer)
 
 arrived_more : (stream : Pieced) (pieces : ℕ)
     → arrived_after stream pieces ++ take stream.piece (drop (pieces * stream.piece) stream.awaited) ≡ arrived_after stream (pieces + 1)
@@ -49,12 +49,12 @@ next_awaited stream pieces piece left awaited same = rw (awaited, same) (awaited
 pub all_arrived : (stream : Pieced) (pieces : ℕ) → drop (pieces * stream.piece) stream.awaited ≡ [] → arrived_after stream pieces ≡ stream.arrived ++ stream.awaited
 all_arrived stream pieces none =
     ap
-      (λ l. stream.arrived ++ l)
-      (
-        sym (append-nil (take (pieces * stream.piece) stream.awaited))
-        ∙ ap (λ l. take (pieces * stream.piece) stream.awaited ++ l) (sym none)
-        ∙ take-append-drop (pieces * stream.piece) stream.awaited
-      )
+    (λ l. stream.arrived ++ l)
+    (
+    sym (append-nil (take (pieces * stream.piece) stream.awaited))
+    ∙ ap (λ l. take (pieces * stream.piece) stream.awaited ++ l) (sym none)
+    ∙ take-append-drop (pieces * stream.piece) stream.awaited
+    )
 
 pub same_stream : {v w : Version} {a b c d : List ℕ} {p q : ℕ} → v ≡ w → a ≡ b → c ≡ d → p ≡ q → stream_of v a c p ≡ stream_of w b d q
 same_stream version arrived awaited piece = cc (version, arrived, awaited, piece)
@@ -66,15 +66,14 @@ taken_of_all version old new item same (pieces, needed, (first, is, splits), sta
     let left = drop (pieces * old.piece) old.awaited in
     let awaited : new.awaited ≡ left = ap (λ s. s.awaited) state in
     let parts : untaken old ≡ arrived_after old pieces ++ left =
-        ap (λ l. old.arrived ++ l) (sym (take-append-drop (pieces * old.piece) old.awaited))
-        ∙ sym (append_assoc old.arrived (take (pieces * old.piece) old.awaited) left) in
-    (
+    ap (λ l. old.arrived ++ l) (sym (take-append-drop (pieces * old.piece) old.awaited))
+    ∙ sym (append_assoc old.arrived (take (pieces * old.piece) old.awaited) left) in (
       first,
       subst (λ v. IsItem v first item) same is,
       parts
-      ∙ ap (λ l. l ++ left) splits
-      ∙ append_assoc first new.arrived left
-      ∙ ap (λ l. first ++ (new.arrived ++ l)) (sym awaited),
+          ∙ ap (λ l. l ++ left) splits
+          ∙ append_assoc first new.arrived left
+          ∙ ap (λ l. first ++ (new.arrived ++ l)) (sym awaited),
     )
 
 pub one_taken : (version : Version) (old new : Pieced) (item : Item) → old.version ≡ version → TakesInPieces old (Some item) new

@@ -1,4 +1,3 @@
-pub mod Schemas
 pub mod Answers
 pub mod Pieces
 pub mod Rounds

@@ -7,14 +7,14 @@ use Rattle.shared_core_base.specs.declared.header.MessageType.TheVariants.{Suspe
 use Rattle.shared_core_base.specs.MessageType.{type_of}
 use Rattle.shared_core_wire.specs.Value.{Parts}
 use Rattle.shared_core_wire.specs.Canonical.{canonical_payload, size}
-use Rattle.shared_core_record.specs.Table.{table}
+use Rattle.shared_core_record.specs.Table.{schemas, table}
 use Rattle.shared_core_record.specs.Payloads.{IsAccepted, payload_meaning}
 use Rattle.shared_core_parts.specs.Frames.{WireForm, plain_form, wire_size, wire_frame}
+use Rattle.shared_core_parts.specs.Messages.{message_schema}
 use Rattle.shared_core_runtime.specs.Versions.{suspension_form, proposal_form}
 use Rattle.journal_calls.specs.declared.answer.Refusal.{Refusal}
 use Rattle.journal_calls.specs.declared.answer.Refusal.TheVariants.{Malformed, OutOfMemory, NoRoom, TooLong, Unknown}
 use Rattle.journal_calls.specs.Answers.{AreWritten, AtVersion, spoken_version}
-use Rattle.journal_calls.specs.Schemas.{message_schema, schema_count}
 
 -- The canonical payload of a value stands at the front of the slice, or it is too long for the slice or for a header.
 abbrev pub WritesCanonical : ℕ → Parts → List ℕ → Result ℕ Refusal → Type 0
@@ -34,7 +34,7 @@ WritesMeaning s first rest out answer =
 -- What journal_canonical and journal_merge answer.
 abbrev pub AnswersCanonical : ℕ → List ℕ → List (List ℕ) → List ℕ → Result ℕ Refusal → Type 0
 AnswersCanonical s first rest out answer =
-    MatchBool (nat_lt s schema_count) (WritesMeaning s first rest out answer) (answer ≡ Err Unknown)
+    MatchBool (nat_lt s (length schemas)) (WritesMeaning s first rest out answer) (answer ≡ Err Unknown)
 
 -- What a value of a named type is written as at a version.
 abbrev pub written_form : MessageType → ℕ → Version → Parts → WireForm

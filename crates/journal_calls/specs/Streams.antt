@@ -9,7 +9,7 @@ use Rattle.shared_core.specs.Items.{IsItemsThen, SplitsInto}
 use Rattle.journal_calls.specs.declared.answer.Refusal.{Refusal}
 use Rattle.journal_calls.specs.declared.answer.Refusal.TheVariants.{Malformed, OutOfMemory, NoRoom}
 use Rattle.journal_calls.specs.Answers.{AtVersion, spoken_version}
-use Rattle.journal_calls.specs.Schemas.{message_schema}
+use Rattle.shared_core_parts.specs.Messages.{message_schema}
 
 -- An item's word: that of a message's header, or an unknown code in bits 48 to 63.
 abbrev pub item_word : Item → ℕ

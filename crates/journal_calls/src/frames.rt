@@ -2,7 +2,7 @@
 
 ghost use Rattle.std.specs.Prelude.{◌≡◌, ◌≤◌};
 ghost use Rattle.shared_core_base.specs.Version.{version_number};
-ghost use Rattle.journal_calls.specs.Schemas.{message_schema};
+ghost use Rattle.shared_core_parts.specs.Messages.{message_schema};
 ghost use Rattle.journal_calls.specs.Payloads.{AnswersFrame, AnswersFrameOf, WritesRecord};
 
 use crate::answer::{Refusal, version_of, write_bytes};
@@ -191,7 +191,7 @@ fn write_frame_as<M: RestateMessage + RestateEncodableMessage>(
     rounds: usize,
     out: &mut [u8],
 ) -> Result<usize, Refusal>
-    ensures { WritesRecord M.encoded_type M.schema M.parts (λ message. M.wire_form message encoder.version) payload.now out.new result }
+    ensures { WritesRecord M.message_type M.schema M.parts (λ message. M.wire_form message encoder.version) payload.now out.new result }
 {
     let payload = Bytes::copy_from_slice(alloc, payload)?;
     let message = match M::decode(alloc, payload) {

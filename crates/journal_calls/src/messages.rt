@@ -1,7 +1,7 @@
 //! Messages decoded to their records.
 
 ghost use Rattle.std.specs.Prelude.{◌≡◌, Some};
-ghost use Rattle.journal_calls.specs.Schemas.{message_schema};
+ghost use Rattle.shared_core_parts.specs.Messages.{message_schema};
 ghost use Rattle.journal_calls.specs.Streams.{DecodesPayload};
 
 use crate::answer::Refusal;

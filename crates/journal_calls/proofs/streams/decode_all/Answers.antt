@@ -1,7 +1,7 @@
 use Rattle.std.proofs.Common.{◌∙◌, ◌++◌, ◌∷◌, [], arith}
 use Rattle.std.proofs.lemmas.Result.{err_from_is_err_and}
-use Rattle.shared_core.proofs.Items.{then_takes}
-use Rattle.journal_calls.proofs.Counting.{all_decode_more, count_more, item_counts, item_decoded, item_is_long, item_refused}
+use Rattle.shared_core.proofs.Items.{item_is_long, then_takes}
+use Rattle.journal_calls.proofs.Counting.{all_decode_more, count_more, item_counts, item_decoded, item_refused}
 use Rattle.journal_calls.proofs.Pieces.{none_of_all, one_taken, same_version, taken_of_all}
 use Rattle.journal_calls.specs.Pieces.{untaken}
 use Rattle.journal_calls.proofs.streams.decode_all.Goals as goal
