@@ -5,7 +5,7 @@ use shared_core::version::Version;
 use std::alloc::{AllocError, Global};
 
 /// A version that is spoken.
-#[derive(Clone, Copy, Debug, PartialEq, Eq)]
+#[derive(Clone, Copy)]
 pub enum SpokenVersion {
     V5,
     V6,
@@ -14,7 +14,7 @@ pub enum SpokenVersion {
 }
 
 /// What a case asks of its bytes. A schema or a type is named by its word.
-#[derive(Clone, Copy, Debug, PartialEq, Eq)]
+#[derive(Clone, Copy)]
 pub enum Question<'a> {
     /// The canonical payload of what a payload means.
     Payload(&'a str),

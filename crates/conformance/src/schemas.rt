@@ -27,7 +27,7 @@ use shared_core::wire::WireRecord;
 use std::fmt::Debug;
 
 /// What is asked of payloads of a schema.
-#[derive(Clone, Copy, Debug, PartialEq, Eq)]
+#[derive(Clone, Copy)]
 pub enum RecordQuestion {
     /// The canonical payload of what one means.
     Payload,

@@ -6,7 +6,7 @@ use shared_core::messages::EncodingError;
 use std::alloc::{AllocError, AllocFailed, Global};
 
 /// Why a case does not pass.
-#[derive(Clone, Copy, Debug, PartialEq, Eq)]
+#[derive(Clone, Copy)]
 pub enum Failed {
     /// The line is no case.
     Unreadable,
