@@ -1,13 +1,11 @@
-//! Tests of the public calls together: what no contract says and no line of data shows.
+//! Tests of the public calls together: streams in any cut, typed messages, and what is written otherwise at some versions.
 #![tactic(auto)]
 
 #[cfg(test)]
 mod frames;
 #[cfg(test)]
-mod notifications;
+mod loops;
 pub mod round_trip;
-#[cfg(test)]
-mod sharing;
 #[cfg(test)]
 mod steps;
 #[cfg(test)]

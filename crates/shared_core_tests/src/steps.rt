@@ -62,16 +62,6 @@ pub fn message_in_two(
     Ok(message)
 }
 
-/// The message of this code and payload, which has less than 256 bytes.
-pub fn message_with(alloc: Global, code: u16, payload: &[u8]) -> Result<RawMessage, Fail> {
-    let [high, low] = code.to_be_bytes();
-    let header = [high, low, 0, 0, 0, 0, 0, (payload.len() % 256) as u8];
-    let mut decoder = Decoder::new(alloc, Version::V8);
-    push_copy(alloc, &mut decoder, &header)?;
-    push_copy(alloc, &mut decoder, payload)?;
-    next(&mut decoder)
-}
-
 /// The pieces of a stream, each of so many bytes, the last of what is left.
 pub fn cut(alloc: Global, stream: &[u8], size: usize) -> Result<Vec<Bytes>, Fail> {
     let mut pieces = Vec::new(alloc);

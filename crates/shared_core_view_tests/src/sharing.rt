@@ -1,7 +1,7 @@
 //! That payloads are cut from the pieces and not copied, and that nothing is held longer than it is used.
 
-use crate::frames::{INPUT, THREE_FRAMES};
-use crate::steps::{expect, next, push};
+use crate::frames::THREE_FRAMES;
+use crate::steps::{expect, message_of, next, push};
 use bytes::Bytes;
 use shared_core::Version;
 use shared_core::encoding::{Decoder, Item, RawMessage, decode_pieces};
@@ -174,13 +174,6 @@ fn payloads_of_one_piece_share_it(rt: HostRuntime) -> Result<(), Fail> {
     Ok(())
 }
 
-/// The message of a piece that is one frame.
-fn message_of(alloc: Global, piece: &Bytes) -> Result<RawMessage, Fail> {
-    let mut decoder = Decoder::new(alloc, Version::V8);
-    push(&mut decoder, piece.clone()?)?;
-    next(&mut decoder)
-}
-
 /// That the record of this frame, whose bytes are in one field, is the last that holds the piece of the frame.
 fn record_shares<M: RestateMessage>(alloc: Global, frame: &[u8]) -> Result<(), Fail> {
     let piece = Bytes::copy_from_slice(alloc, frame)?;
@@ -190,7 +183,7 @@ fn record_shares<M: RestateMessage>(alloc: Global, frame: &[u8]) -> Result<(), F
 
 #[test]
 fn records_share_the_piece_of_their_frame(rt: HostRuntime) -> Result<(), Fail> {
-    record_shares::<InputCommandMessage>(rt.alloc(), &INPUT)?;
+    record_shares::<InputCommandMessage>(rt.alloc(), &THREE_FRAMES[27..44])?;
     record_shares::<StartMessage>(rt.alloc(), &THREE_FRAMES[..27])?;
     record_shares::<GetLazyStateCompletionNotificationMessage>(
         rt.alloc(),
@@ -230,7 +223,7 @@ fn views_share_the_piece_of_their_frame(rt: HostRuntime) -> Result<(), Fail> {
 
 #[test]
 fn a_payload_outlives_its_message(rt: HostRuntime) -> Result<(), Fail> {
-    let piece = Bytes::copy_from_slice(rt.alloc(), &INPUT)?;
+    let piece = Bytes::copy_from_slice(rt.alloc(), &THREE_FRAMES[27..44])?;
     let payload = message_of(rt.alloc(), &piece)?.payload().clone()?;
     is_last_of(payload, &piece)
 }

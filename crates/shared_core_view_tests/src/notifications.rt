@@ -1,11 +1,13 @@
 //! Views of notifications, whatever their type.
-use crate::steps::{expect, message_of, message_with, text};
+use crate::steps::{expect, message_of, message_with};
+use bytes::Bytes;
 use shared_core::encoding::{DecodingError, RawMessage};
 use shared_core::header::MessageType;
 use shared_core::messages::{
     CANCEL_SIGNAL_ID, GetLazyStateCompletionNotificationMessage, Notification, NotificationId,
     NotificationResult, Void, get_lazy_state_completion_notification_message,
 };
+use shared_core::wire::WireRecord;
 use std::alloc::Global;
 use std::hash::{DefaultHasher, Hash, Hasher};
 use std::test::Fail;
@@ -100,9 +102,10 @@ fn has_each_id(alloc: Global, code: u16) -> Result<(), Fail> {
 #[test]
 fn each_id_comes_with_each_result(rt: HostRuntime) -> Result<(), Fail> {
     // a custom notification, the state's and a signal's
-    has_each_id(rt.alloc(), 0x8001)?;
-    has_each_id(rt.alloc(), 0x8002)?;
-    has_each_id(rt.alloc(), 0xFBFF)
+    for code in [0x8001u16, 0x8002, 0xFBFF] {
+        has_each_id(rt.alloc(), code)?;
+    }
+    Ok(())
 }
 
 #[test]
@@ -141,18 +144,20 @@ fn records_stand_in_any_order(rt: HostRuntime) -> Result<(), Fail> {
     Ok(())
 }
 
-/// Whether the message is refused with this text, also when it is asked again.
-fn is_refused(alloc: Global, message: &RawMessage, text: &str) -> Result<bool, Fail> {
+/// What the refusal of a view says.
+fn refusal(alloc: Global, message: &RawMessage) -> Result<String, Fail> {
+    let Err(error) = view(alloc, message)? else {
+        return Err(Fail::new("a view"));
+    };
+    Ok(format!(in alloc; "{error}")?)
+}
+
+/// That the view is refused with this text, also when it is asked for again.
+fn is_refused(alloc: Global, message: &RawMessage, text: &str) -> Result<(), Fail> {
     for _ in 0..2u32 {
-        let Err(error) = view(alloc, message)? else {
-            return Ok(false);
-        };
-        let said = format!(in alloc; "{error}")?;
-        if said.as_str() != text {
-            return Ok(false);
-        }
+        expect(refusal(alloc, message)?.as_str() == text, text)?;
     }
-    Ok(true)
+    Ok(())
 }
 
 #[test]
@@ -167,8 +172,11 @@ fn a_view_misses_the_id_before_the_result(rt: HostRuntime) -> Result<(), Fail> {
         (&[0x08, 0x01][..], no_result),
         (&[0xFF][..], malformed),
     ] {
-        let message = message_with(rt.alloc(), 0x8002, payload)?;
-        assert!(rt; is_refused(rt.alloc(), &message, text)?, "{payload:?}");
+        is_refused(
+            rt.alloc(),
+            &message_with(rt.alloc(), 0x8002, payload)?,
+            text,
+        )?;
     }
     Ok(())
 }
@@ -189,21 +197,30 @@ fn a_missing_field_is_named(rt: HostRuntime) -> Result<(), Fail> {
     Ok(())
 }
 
+/// A state that is nothing, with no completion id.
+fn nothing(alloc: Global) -> GetLazyStateCompletionNotificationMessage {
+    let mut nothing = GetLazyStateCompletionNotificationMessage::empty(alloc);
+    nothing.result = Some(get_lazy_state_completion_notification_message::Result::Void(Void {}));
+    nothing
+}
+
 #[test]
 fn a_typed_message_needs_no_id(rt: HostRuntime) -> Result<(), Fail> {
     let message = message_with(rt.alloc(), 0x8002, &[0x22, 0x00])?;
     let found: GetLazyStateCompletionNotificationMessage = message.decode_to(rt.alloc(), 0)?;
-    assert!(rt; found.completion_id == 0);
-    assert!(rt;
-        found.result == Some(get_lazy_state_completion_notification_message::Result::Void(Void {}))
-    );
+    assert!(rt; found == nothing(rt.alloc()));
     Ok(())
+}
+
+/// The message of the frame that cancels an invocation.
+fn cancellation(alloc: Global) -> Result<RawMessage, Fail> {
+    let frame = [0xFB, 0xFF, 0, 0, 0, 0, 0, 4, 0x10, 0x01, 0x22, 0x00];
+    message_of(alloc, &Bytes::copy_from_slice(alloc, &frame)?)
 }
 
 #[test]
 fn the_signal_that_cancels(rt: HostRuntime) -> Result<(), Fail> {
-    let frame = [0xFB, 0xFF, 0, 0, 0, 0, 0, 4, 0x10, 0x01, 0x22, 0x00];
-    let message = message_of(rt.alloc(), &frame)?;
+    let message = cancellation(rt.alloc())?;
     assert!(rt; message.ty() == MessageType::SignalNotification);
     let view = view(rt.alloc(), &message)??;
     assert!(rt; view.id == NotificationId::SignalId(CANCEL_SIGNAL_ID));
@@ -250,8 +267,8 @@ fn a_completion_by_its_fields(rt: HostRuntime) -> Result<(), Fail> {
 
 #[test]
 fn a_named_signal_by_its_fields(rt: HostRuntime) -> Result<(), Fail> {
-    let id = NotificationId::SignalName(text(rt.alloc(), "x")?);
-    let outcome = NotificationResult::InvocationId(text(rt.alloc(), "y")?);
+    let id = NotificationId::SignalName(String::from_str(rt.alloc(), "x")?);
+    let outcome = NotificationResult::InvocationId(String::from_str(rt.alloc(), "y")?);
     let payload = [0x1A, 0x01, 0x78, 0x82, 0x01, 0x01, 0x79];
     assert!(rt; has(rt.alloc(), &payload, &id, &outcome)?);
     Ok(())
@@ -267,11 +284,11 @@ fn hash_of(id: &NotificationId) -> u64 {
 #[test]
 fn hashes_differ(rt: HostRuntime) -> Result<(), Fail> {
     let one = hash_of(&NotificationId::CompletionId(1));
-    let name = hash_of(&NotificationId::SignalName(text(rt.alloc(), "x")?));
+    let name = hash_of(&NotificationId::SignalName(String::from_str(rt.alloc(), "x")?));
     assert!(rt; one == hash_of(&NotificationId::CompletionId(1)));
     assert!(rt; one != hash_of(&NotificationId::CompletionId(2)));
     assert!(rt; one != hash_of(&NotificationId::SignalId(1)));
     assert!(rt; one != name);
-    assert!(rt; name != hash_of(&NotificationId::SignalName(text(rt.alloc(), "y")?)));
+    assert!(rt; name != hash_of(&NotificationId::SignalName(String::from_str(rt.alloc(), "y")?)));
     Ok(())
 }
