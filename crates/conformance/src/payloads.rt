@@ -6,6 +6,9 @@ use shared_core::wire::{Records, WireError, WireRecord, decode_parts};
 use std::alloc::{AllocError, Global};
 use std::fmt::Debug;
 
+/// Up to how many bytes every canonical payload is cut at each byte.
+const SHORT: usize = 1024;
+
 /// What a reading call answers, where None stands for `Malformed`.
 fn unless_malformed<M: WireRecord>(read: Result<M, WireError>) -> Result<Option<M>, AllocError> {
     match read {
@@ -90,7 +93,11 @@ fn check_meaning<M: WireRecord>(
     };
     let canonical = record.encode_payload(verdict.alloc)?;
     verdict.answer_bytes(canonical.as_slice())?;
-    check_canonical(record, &canonical, verdict)
+    check_canonical(record, &canonical, verdict)?;
+    if canonical.len() > SHORT {
+        return Ok(());
+    }
+    check_cuts(record, canonical.as_slice(), verdict)
 }
 
 /// Checks that a record's canonical payload has the length that is measured, means the record and is written again.
