@@ -22,7 +22,7 @@ use Rattle.shared_core.specs.declared.encoding.Item.{Item}
 use Rattle.shared_core.specs.declared.encoding.Item.TheVariants.{Message, Unknown}
 use Rattle.shared_core.specs.declared.encoding.RawMessage.{RawMessage}
 use Rattle.shared_core.specs.Decoded.{AnswersWritten, DecodesTo, FrameSpells, requested_ack_of}
-use Rattle.shared_core.specs.Items.{AnswersNext, IsItem, NoItemBegins, TakesItem}
+use Rattle.shared_core.specs.Items.{AnswersNext, IsItem, TakesItem}
 use Rattle.shared_core.specs.Typed.{IsWritten}
 use Rattle.shared_core.specs.Written.{item_written}
 use Rattle.shared_core.proofs.Items.{one_item as no_item_begins_another}

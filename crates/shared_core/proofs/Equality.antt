@@ -1,7 +1,6 @@
 -- Messages and items that are found equal are the same.
-use Rattle.std.proofs.Common.{◌≡◌, ℕ, Bool, true, false, List, ap, refl, sym, ◌∙◌, eqb}
+use Rattle.std.proofs.Common.{◌≡◌, ℕ, true, List, ap, refl, sym, ◌∙◌}
 use Rattle.std.proofs.lemmas.Bool.{eqb-true, eq-eqb, and_parts, and_from}
-use Rattle.std.specs.Bool.{Decides}
 use Rattle.std.proofs.lemmas.Slice.Eq.{bytes_eq-Decides}
 use Rattle.shared_core_base.proofs.Types.{headers_equal, headers_same}
 use Rattle.shared_core_base.specs.declared.header.MessageHeader.{MessageHeader}

@@ -1,6 +1,6 @@
 -- A frame spells one item.
-use Rattle.std.proofs.Common.{◌≡◌, ℕ, ◌+◌, ◌*◌, ◌/◌, ◌%◌, ◌^◌, ◌<◌, List, [], ◌∷◌, ◌++◌, length, drop, Option, Some, None, Bool, true, false, cond, eqb, ltb, refl, sym, ap, ◌∙◌, arith, length-append}
-use Rattle.std.specs.Int.{w64, to_be_bytes, from_be_bytes}
+use Rattle.std.proofs.Common.{◌≡◌, ℕ, ◌+◌, ◌*◌, ◌/◌, ◌%◌, ◌^◌, ◌<◌, List, [], ◌∷◌, ◌++◌, length, Option, Some, None, Bool, true, false, cond, eqb, ltb, refl, ap, ◌∙◌, arith, length-append}
+use Rattle.std.specs.Int.{w64, to_be_bytes}
 use Rattle.std.specs.Option.{option_map}
 use Rattle.std.proofs.lemmas.Nat.{from_be_bytes-to_be_bytes_8}
 use Rattle.std.proofs.lemmas.Bool.{ltb-true}
@@ -9,9 +9,9 @@ use Rattle.shared_core_base.specs.declared.header.MessageType.TheVariants.{Custo
 use Rattle.shared_core_base.specs.declared.header.MessageHeader.{MessageHeader}
 use Rattle.shared_core_base.specs.declared.version.Version.{Version}
 use Rattle.shared_core_base.specs.MessageType.{code_of, type_of, allows_ack, IsNamed}
-use Rattle.shared_core_base.specs.MessageHeader.{header_of, word_of, word_code, ack_bit}
+use Rattle.shared_core_base.specs.MessageHeader.{header_of, word_of, ack_bit}
 use Rattle.shared_core_base.proofs.Types.{type_of_code}
-use Rattle.shared_core_parts.specs.Frames.{frame, WireForm, wire_payload, wire_frame, header_of_payload}
+use Rattle.shared_core_parts.specs.Frames.{WireForm, wire_payload, wire_frame, header_of_payload}
 use Rattle.shared_core.specs.Items.{IsItem, AreItems, IsItemsThen, front_word, body_length, item_of}
 use Rattle.shared_core.specs.Written.{header_read, item_written, joined_frames, items_written, AreFrames}
 use Rattle.shared_core.proofs.Items.{front_word_head, drop_exact}

@@ -1,7 +1,7 @@
 -- The items of a stream: which bytes spell an item, and how a stream splits into items and a rest.
 --
 -- A version decides how a header is read, so each of these relations takes it. Versions 5 to 8 read headers alike.
-use Rattle.std.specs.Prelude.{◌≡◌, ℕ, ◌+◌, ◌/◌, ◌^◌, ◌≤◌, List, [], ◌∷◌, ◌++◌, length, take, drop, Option, Some, None, Result, Ok, Err}
+use Rattle.std.specs.Prelude.{◌≡◌, ℕ, ◌+◌, ◌^◌, ◌≤◌, List, [], ◌∷◌, ◌++◌, length, take, drop, Option, Some, None, Result, Ok, Err}
 use Rattle.std.specs.Option.{option_map_or}
 use Rattle.std.specs.Int.{w64, from_be_bytes}
 use Rattle.shared_core_base.specs.declared.version.Version.{Version}

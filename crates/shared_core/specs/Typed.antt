@@ -10,7 +10,7 @@ use Rattle.shared_core_record.specs.Payloads.{IsAccepted, payload_meaning}
 use Rattle.shared_core.specs.declared.errors.CommandTypeMismatchError.{CommandTypeMismatchError}
 use Rattle.shared_core.specs.declared.encoding.RawMessage.{RawMessage}
 use Rattle.shared_core.specs.declared.encoding.DecodingError.{DecodingError}
-use Rattle.shared_core.specs.declared.encoding.DecodingError.TheVariants.{DecodeMessage, UnexpectedMessageType, MissingField, UnknownMessageType, OutOfMemory}
+use Rattle.shared_core.specs.declared.encoding.DecodingError.TheVariants.{DecodeMessage, UnexpectedMessageType, OutOfMemory}
 
 -- The mismatch that is answered where a message is not of the type that is expected.
 abbrev pub mismatch_of : MessageType → RawMessage → ℤ → CommandTypeMismatchError

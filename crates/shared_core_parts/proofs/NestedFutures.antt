@@ -1,5 +1,5 @@
 -- The futures in a future.
-use Rattle.std.proofs.Common.{◌≡◌, List, [], ◌∷◌, ◌++◌, map, refl, sym, ap, ◌∙◌}
+use Rattle.std.proofs.Common.{◌≡◌, List, [], ◌∷◌, ◌++◌, refl, sym, ap, ◌∙◌}
 use Rattle.shared_core_wire.specs.Value.{Part, Parts, Elements, Nested, cons, ◌+++◌}
 use Rattle.shared_core_record.specs.FieldParts.{elements_part, parts_of}
 use Rattle.shared_core_parts.specs.Futures.{future_parts, future_elements, futures_part}

@@ -1,4 +1,4 @@
-use Rattle.std.proofs.Common.{◌≡◌, ◌∙◌, ap, sym, refl, subst, arith, rules}
+use Rattle.std.proofs.Common.{◌∙◌, ap, sym, refl, subst, arith, rules}
 use Rattle.shared_core_parts.specs.declared.future.Future.TheFolds.{the_lemmas}
 use Rattle.shared_core_parts.proofs.NestedFutures.{future_part, all_parts}
 use Rattle.shared_core_record.proofs.ElementLoops.{write_step}

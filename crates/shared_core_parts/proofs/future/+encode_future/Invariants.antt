@@ -1,4 +1,4 @@
-use Rattle.std.proofs.Common.{◌≡◌, ◌+◌, ◌≤◌, ◌^◌, ◌++◌, length}
+use Rattle.std.proofs.Common.{◌≡◌, ◌++◌}
 use Rattle.shared_core_parts.proofs.NestedFutures.{future_part}
 use Rattle.shared_core_record.proofs.Measuring.{from_index}
 use Rattle.shared_core_record.proofs.SmallParts.{SmallFrom}

@@ -1,4 +1,4 @@
-use Rattle.std.proofs.Common.{◌≡◌, ◌∙◌, ap, refl, subst, arith}
+use Rattle.std.proofs.Common.{◌∙◌, ap, refl, subst, arith}
 use Rattle.shared_core_parts.proofs.NestedFutures.{future_part, all_parts}
 use Rattle.shared_core_record.proofs.ElementLoops.{measure_step}
 use Rattle.shared_core_record.proofs.FittingRows.{fit_end}

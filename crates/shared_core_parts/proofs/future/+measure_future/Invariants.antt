@@ -1,4 +1,3 @@
-use Rattle.std.proofs.Common.{◌≡◌, ◌+◌, ◌≤◌, ◌^◌, ◌++◌, length}
 use Rattle.shared_core_parts.proofs.NestedFutures.{future_part}
 use Rattle.shared_core_record.proofs.ElementLoops.{IsMeasured}
 use Rattle.shared_core_record.specs.Table.{future}

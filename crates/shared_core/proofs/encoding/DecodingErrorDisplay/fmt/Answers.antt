@@ -1,4 +1,4 @@
-use Rattle.std.proofs.Common.{rules, ap, ◌≡◌, ◌++◌, List, ℕ}
+use Rattle.std.proofs.Common.{ap, ◌≡◌, ◌++◌}
 use Rattle.std.specs.Prelude.{codes}
 use Rattle.shared_core_base.specs.MessageType.{debug_name_of}
 use Rattle.shared_core.specs.Errors.{decoding_error_text}

@@ -1,5 +1,4 @@
-use Rattle.std.proofs.Common.{◌∙◌, ap, subst, sym}
-use Rattle.shared_core.specs.Items.{TakesItem, NoItemBegins}
+use Rattle.std.proofs.Common.{◌∙◌}
 use Rattle.shared_core.proofs.Items.{then_takes}
 use Rattle.shared_core.proofs.encoding.pieces.drain.Goals as goal
 

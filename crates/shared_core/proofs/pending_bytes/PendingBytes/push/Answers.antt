@@ -1,5 +1,4 @@
-use Rattle.std.proofs.Common.{◌≡◌, ap, ◌∙◌, ◌++◌, ◌+◌, ◌<◌, length, rules, subst, sym}
-use Rattle.shared_core.specs.Segments.{AreSegments}
+use Rattle.std.proofs.Common.{ap, ◌∙◌, ◌++◌, ◌<◌, length, rules}
 use Rattle.std.specs.List.{concat}
 use Rattle.shared_core.proofs.Segments.{segments_push, joined_push}
 use Rattle.shared_core.proofs.pending_bytes.PendingBytes.push.Goals as goal
