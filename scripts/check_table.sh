@@ -1,6 +1,6 @@
 #!/bin/sh
 # Shows that proto/journal.proto, the schemas that contracts cite and the code of the records say the same of every field: message,
-# name, number, kind, presence and oneof. The last line is 'N passed, M failed'; what differs is shown above it. It reads the code as it
+# name, number, kind, presence and oneof; and that conformance/ has lines of every message and message type. The last line is 'N passed, M failed'; what differs is shown above it. It reads the code as it
 # stands: whether the files that programs write are up to date is for check_records.sh.
 set -u
 cd "$(dirname "$0")/.." || exit 1
@@ -164,6 +164,16 @@ same() {
 }
 same "proto/journal.proto and the schemas of shared_core_record" "$work/proto_rows" "$work/schemas"
 same "proto/journal.proto and the code of the records" "$work/proto" "$work/code"
+
+# Each message has conformance lines of its own, and each message type frames: a type is named as its message without 'Message'.
+awk '$1 == "message" { print $2 }' proto/journal.proto | sort > "$work/messages"
+sed -n 's/Message$//p' "$work/messages" > "$work/types"
+for kind in record payload; do
+  awk -v kind=$kind '$1 == kind { print $2 }' conformance/*.txt | sort -u > "$work/lines"
+  same "proto/journal.proto and the $kind lines of conformance" "$work/messages" "$work/lines"
+done
+awk '$1 == "frame" { print $2 }' conformance/*.txt | sort -u > "$work/lines"
+same "proto/journal.proto and the frame lines of conformance" "$work/types" "$work/lines"
 
 echo "$passed passed, $failed failed"
 [ "$failed" -eq 0 ]
