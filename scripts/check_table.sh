@@ -1,7 +1,8 @@
 #!/bin/sh
 # Shows that proto/journal.proto, the schemas that contracts cite and the code of the records say the same of every field: message,
-# name, number, kind, presence and oneof; and that conformance/ has lines of every message and message type. The last line is 'N passed, M failed'; what differs is shown above it. It reads the code as it
-# stands: whether the files that programs write are up to date is for check_records.sh.
+# name, number, kind, presence and oneof; and that conformance/ has lines of every message and message type. It reads the code as it
+# stands: whether the files that programs write are up to date is for check_records.sh. The last line is 'N passed, M failed'; what
+# differs is shown above it.
 set -u
 cd "$(dirname "$0")/.." || exit 1
 
@@ -167,7 +168,7 @@ same "proto/journal.proto and the code of the records" "$work/proto" "$work/code
 
 # Each message has conformance lines of its own, and each message type frames: a type is named as its message without 'Message'.
 awk '$1 == "message" { print $2 }' proto/journal.proto | sort > "$work/messages"
-sed -n 's/Message$//p' "$work/messages" > "$work/types"
+sed -n 's/Message$//p' "$work/messages" | sort > "$work/types"
 for kind in record payload; do
   awk -v kind=$kind '$1 == kind { print $2 }' conformance/*.txt | sort -u > "$work/lines"
   same "proto/journal.proto and the $kind lines of conformance" "$work/messages" "$work/lines"
