@@ -50,3 +50,12 @@ fn payloads_above_four_gibibytes(rt: HostRuntime) -> Result<(), Fail> {
     assert!(rt; is_too_long(rt.alloc(), &command(rt.alloc(), 4096)?));
     Ok(())
 }
+
+/// A large payload is written and read: memory suffices, and no size below the greatest is one to give up at.
+#[test]
+fn a_payload_of_17_mebibytes_is_read_back(rt: HostRuntime) -> Result<(), Fail> {
+    let payload = state_keys(rt.alloc(), 17)?.encode_payload(rt.alloc())?;
+    let decoded = StateKeys::decode(rt.alloc(), payload)?;
+    assert!(rt; decoded == state_keys(rt.alloc(), 17)?);
+    Ok(())
+}
