@@ -10,7 +10,7 @@ use shared_core::version::Version;
 use std::alloc::Global;
 
 /// Checks the frame, at a version, of the message that a payload means, and that it comes out again as a message that is decoded to `D`.
-pub fn check_frame_of<M: RestateMessage + RestateEncodableMessage, D: RestateMessage>(
+pub fn check_frame_of<M: RestateEncodableMessage, D: RestateMessage>(
     version: SpokenVersion,
     payload: &Bytes,
     verdict: &mut Verdict<'_>,

@@ -18,7 +18,7 @@ use shared_core::messages::{
     GetStateEphemeralCommandMessage, GetStateEphemeralNotificationMessage, InputCommandMessage,
     OneWayCallCommandMessage, OutputCommandMessage, PeekPromiseCommandMessage,
     PeekPromiseCompletionNotificationMessage, ProposeRunCompletionAckMessage,
-    ProposeRunCompletionMessage, RestateEncodableMessage, RestateMessage, RunCommandMessage,
+    ProposeRunCompletionMessage, RestateEncodableMessage, RunCommandMessage,
     RunCompletionNotificationMessage, SendSignalCommandMessage, SetStateCommandMessage,
     SignalNotificationMessage, SleepCommandMessage, SleepCompletionNotificationMessage,
     StartMessage, SuspensionMessage, SuspensionMessageV6,
@@ -138,7 +138,7 @@ fn check_place(
 }
 
 /// Checks the frame of a message that is decoded to the record that was written.
-fn check_as<M: RestateMessage + RestateEncodableMessage>(
+fn check_as<M: RestateEncodableMessage>(
     version: SpokenVersion,
     payload: &Bytes,
     verdict: &mut Verdict<'_>,

@@ -24,7 +24,7 @@ use shared_core::messages::{
     GetStateEphemeralCommandMessage, GetStateEphemeralNotificationMessage, InputCommandMessage,
     OneWayCallCommandMessage, OutputCommandMessage, PeekPromiseCommandMessage,
     PeekPromiseCompletionNotificationMessage, ProposeRunCompletionAckMessage,
-    ProposeRunCompletionMessage, RestateEncodableMessage, RestateMessage, RunCommandMessage,
+    ProposeRunCompletionMessage, RestateEncodableMessage, RunCommandMessage,
     RunCompletionNotificationMessage, SendSignalCommandMessage, SetStateCommandMessage,
     SignalNotificationMessage, SleepCommandMessage, SleepCompletionNotificationMessage,
     StartMessage, SuspensionMessage,
@@ -184,7 +184,7 @@ fn write_frame(
 }
 
 /// Decodes a payload to a record, and writes its frame.
-fn write_frame_as<M: RestateMessage + RestateEncodableMessage>(
+fn write_frame_as<M: RestateEncodableMessage>(
     alloc: Global,
     encoder: Encoder,
     payload: &[u8],
