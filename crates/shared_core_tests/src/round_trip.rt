@@ -1,7 +1,9 @@
 //! A message through all calls: what the contracts of encoding, pushing, consuming and decoding say together, of any message.
-ghost use Rattle.std.specs.Prelude.{◌≡◌, ◌≤◌, IfOk};
+ghost use Rattle.std.specs.Prelude.{◌≡◌, ◌≤◌, ◌^◌, IfOk};
+ghost use Rattle.std.specs.Result.{IsErrOf};
 ghost use Rattle.shared_core_base.specs.Version.{version_number};
 ghost use Rattle.shared_core_wire.specs.Canonical.{levels};
+ghost use Rattle.shared_core_parts.specs.Frames.{wire_size};
 
 use shared_core::Version;
 use shared_core::encoding::{Decoder, DecodingError, Encoder, PushError};
@@ -27,7 +29,8 @@ pub fn there_and_back<M: RestateEncodableMessage>(
     requires spoken { 5 ≤ version_number version }
     requires own { (M.wire_form message.now version).schema ≡ M.schema }
     requires low { levels (M.wire_form message.now version).parts ≤ 100 }
-    ensures { IfOk result (λ found. M.parts found ≡ (M.wire_form message.now version).parts) }
+    ensures same { IfOk result (λ found. M.parts found ≡ (M.wire_form message.now version).parts) }
+    ensures too_long { IsErrOf result RoundTripError.PayloadTooLong → 2 ^ 32 ≤ wire_size (M.wire_form message.now version) }
 {
     let frame = match Encoder::new(version).encode(alloc, message) {
         Ok(frame) => frame,
@@ -53,5 +56,23 @@ pub fn there_and_back<M: RestateEncodableMessage>(
         Err(DecodingError::OutOfMemory) => Err(RoundTripError::OutOfMemory),
         // its type and its payload are those that were written
         Err(_other) => unreachable!(),
+    }
+}
+
+#[cfg(test)]
+mod tests {
+    use super::there_and_back;
+    use shared_core::Version;
+    use shared_core::messages::SleepCommandMessage;
+    use shared_core::wire::WireRecord;
+    use std::test::Fail;
+
+    #[test]
+    fn a_sleep_goes_there_and_back(rt: HostRuntime) -> Result<(), Fail> {
+        let mut sleep = SleepCommandMessage::empty(rt.alloc());
+        sleep.wake_up_time = 300;
+        let again = there_and_back(rt.alloc(), Version::V8, &sleep)?;
+        assert!(rt; again == sleep);
+        Ok(())
     }
 }

@@ -16,8 +16,8 @@ unreachable-requires-in-Err g c =
     _ c.new-decoder.ensures _ c.in-Ok-push.ensures.ok (Err c.in-Err._other) c.consume_next.new.self.bytes c.in-Err.ensures.next in
     search (rules, came.0)
 
-pub returns-in-Ok-decode_to : goal.returns-in-Ok-decode_to
-returns-in-Ok-decode_to g c =
+pub returns-in-Ok-decode_to-clause-same : goal.returns-in-Ok-decode_to-clause-same
+returns-in-Ok-decode_to-clause-same g c =
     let came = alone _ (g.M.RestateEncodableMessage.wire_form c.args.message.now) _ _ _ (ap (λ e. e.version) c.new.ensures) c.requires.low c.in-Ok.ensures.comes_out
     _ c.new-decoder.ensures _ c.in-Ok-push.ensures.ok (Ok c.in-Ok-Some.field-0) c.consume_next.new.self.bytes c.in-Ok-Some.ensures.next in
     let came = rw c.in-Ok-Some.field-0-is at came in
