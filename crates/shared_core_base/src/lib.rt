@@ -1,7 +1,8 @@
-//! What every part of the journal wire protocol stands on: message types, command types, headers and versions.
+//! What every part of the journal wire protocol stands on: message types, command types, headers, versions, and the lines of differences.
 #![tactic(auto)]
 
 pub mod command_type;
+pub mod fmt;
 pub mod header;
 pub mod laws;
 pub mod version;

@@ -2,3 +2,4 @@ pub mod Futures
 pub mod Frames
 pub mod Notifications
 pub mod Messages
+pub mod Texts

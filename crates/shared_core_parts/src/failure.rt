@@ -1,9 +1,12 @@
 //! A terminal failure.
 
+ghost use Rattle.std.specs.Prelude.{Some};
+ghost use Rattle.std.specs.String.{string_bytes};
 ghost use Rattle.shared_core_wire.specs.Value.{Number, nil, cons};
 ghost use Rattle.shared_core_record.specs.Table as tables;
 ghost use Rattle.shared_core_record.specs.FieldParts.{text_part, message_part, elements_part};
 ghost use Rattle.shared_core_record.specs.EqualityRules.{equality_rules};
+ghost use Rattle.shared_core_parts.specs.Texts.{failure_text};
 
 use crate::failure_metadata::FailureMetadata;
 use shared_core_record::occurrence::Occurrence;
@@ -12,6 +15,7 @@ use shared_core_record::size::Size;
 use shared_core_record::write::{write_messages, write_text, write_u32};
 use shared_core_wire::error::WireError;
 use std::alloc::{AllocError, Global};
+use std::fmt;
 
 /// A terminal failure, which is a result as a value is.
 #[derive(Debug, PartialEq, Drop)]
@@ -64,4 +68,15 @@ impl WireRecord for Failure {
     ghost use Rattle.shared_core_parts.specs.contracts.failure_metadata.FailureMetadataWireRecord.TheImpl.Laws.{equality-law as failure_metadata_equality};
 
     ghost equality = { Prim.search (equality_rules, failure_metadata_equality) depth 18 };
+}
+
+/// Prints `error [code] 'message'`, without the metadata.
+impl fmt::Display for Failure {
+    ghost output = { λ failure. Some (failure_text failure.code (string_bytes failure.message)) };
+
+    fn fmt<W: fmt::Write>(&self, f: &mut fmt::Formatter<W>) -> fmt::Result {
+        let code = self.code;
+        let message = self.message.as_str();
+        write!(f, "error [{code}] '{message}'")
+    }
 }

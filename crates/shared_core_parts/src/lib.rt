@@ -1,6 +1,7 @@
 //! The messages that stand in other messages, and the template of notifications.
 #![tactic(auto)]
 
+mod escape;
 pub mod failure;
 pub mod failure_metadata;
 pub mod future;
@@ -18,11 +19,11 @@ pub mod workflow_target;
 pub use failure::Failure;
 pub use failure_metadata::FailureMetadata;
 pub use future::Future;
-pub use header::Header;
+pub use header::{Header, HeadersText};
 pub use idempotent_request_target::IdempotentRequestTarget;
 pub use notification_template::NotificationTemplate;
 pub use state_entry::StateEntry;
-pub use state_keys::StateKeys;
+pub use state_keys::{StateKeys, StateKeysText};
 pub use value::Value;
 pub use void::Void;
 pub use workflow_target::WorkflowTarget;

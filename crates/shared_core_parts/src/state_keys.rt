@@ -1,10 +1,15 @@
 //! The keys of a state.
 
+ghost use Rattle.std.specs.Prelude.{Some};
+ghost use Rattle.std.specs.Fmt.{WritesOnOk, comma_space};
+ghost use Rattle.std.specs.List.{join_by};
 ghost use Rattle.shared_core_wire.specs.Value.{Bytes as Content, nil, cons};
 ghost use Rattle.shared_core_record.specs.Table as tables;
 ghost use Rattle.shared_core_record.specs.FieldParts.{elements_part};
 ghost use Rattle.shared_core_record.specs.EqualityRules.{equality_rules};
+ghost use Rattle.shared_core_parts.specs.Texts.{state_key_text, state_keys_text};
 
+use bstr::BStr;
 use bytes::Bytes;
 use shared_core_record::occurrence::Occurrence;
 use shared_core_record::record::WireRecord;
@@ -12,6 +17,7 @@ use shared_core_record::size::Size;
 use shared_core_record::write::write_byte_strings;
 use shared_core_wire::error::WireError;
 use std::alloc::{AllocError, Global};
+use std::fmt;
 
 /// The keys of a state.
 #[derive(Debug, PartialEq, Drop)]
@@ -48,4 +54,41 @@ impl WireRecord for StateKeys {
     }
 
     ghost equality = { Prim.search equality_rules };
+}
+
+/// Prints state keys, as `['a', 'b']`, with U+FFFD for each piece of a key that is not UTF-8.
+#[derive(Clone, Copy)]
+pub struct StateKeysText<'a>(pub &'a StateKeys);
+
+impl<'a> fmt::Display for StateKeysText<'a> {
+    ghost output = { λ text. Some (state_keys_text text.0.now.keys.items) };
+
+    fn fmt<W: fmt::Write>(&self, f: &mut fmt::Formatter<W>) -> fmt::Result {
+        f.write_str("[")?;
+        write_keys(f, &self.0.keys)?;
+        f.write_str("]")
+    }
+}
+
+fn write_keys<W: fmt::Write>(f: &mut fmt::Formatter<W>, keys: &[Bytes]) -> fmt::Result
+    ensures { WritesOnOk W.write_str_gives f.old result (join_by state_key_text comma_space keys.now) f.new }
+{
+    match keys {
+        [] => Ok(()),
+        [first, rest @ ..] => {
+            write_key(f, first)?;
+            for key in rest {
+                f.write_str(", ")?;
+                write_key(f, key)?;
+            }
+            Ok(())
+        }
+    }
+}
+
+fn write_key<W: fmt::Write>(f: &mut fmt::Formatter<W>, key: &Bytes) -> fmt::Result
+    ensures { WritesOnOk W.write_str_gives f.old result (state_key_text key.now) f.new }
+{
+    let key = BStr::new(key);
+    write!(f, "'{key}'")
 }

@@ -1,16 +1,21 @@
 //! A value of the service.
 
+ghost use Rattle.std.specs.Prelude.{Some};
 ghost use Rattle.shared_core_wire.specs.Value.{Bytes as Content, nil, cons};
 ghost use Rattle.shared_core_record.specs.Table as tables;
 ghost use Rattle.shared_core_record.specs.EqualityRules.{equality_rules};
+ghost use Rattle.shared_core_parts.specs.Texts.{value_text};
 
+use crate::escape::write_escaped;
 use bytes::Bytes;
+use shared_core_base::fmt::as_utf8;
 use shared_core_record::occurrence::Occurrence;
 use shared_core_record::record::WireRecord;
 use shared_core_record::size::Size;
 use shared_core_record::write::write_bytes;
 use shared_core_wire::error::WireError;
 use std::alloc::{AllocError, Global};
+use std::fmt;
 
 /// A value of the service.
 #[derive(Debug, PartialEq, Drop)]
@@ -47,4 +52,20 @@ impl WireRecord for Value {
     }
 
     ghost equality = { Prim.search equality_rules };
+}
+
+/// Prints `'text'` where the content is UTF-8, else `b".."` with escapes.
+impl fmt::Display for Value {
+    ghost output = { λ value. Some (value_text value.content) };
+
+    fn fmt<W: fmt::Write>(&self, f: &mut fmt::Formatter<W>) -> fmt::Result {
+        match as_utf8(&self.content) {
+            Some(text) => write!(f, "'{text}'"),
+            None => {
+                f.write_str("b\"")?;
+                write_escaped(f, &self.content)?;
+                f.write_str("\"")
+            }
+        }
+    }
 }
