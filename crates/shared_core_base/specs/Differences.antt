@@ -1,6 +1,6 @@
 -- The lines that a difference of two messages prints, and the texts of bytes in them.
-use Rattle.std.specs.Prelude.{ℕ, List, [], ◌∷◌, ◌++◌, Option, Some, codes, if◌then◌else◌}
-use Rattle.std.specs.Fmt.{decimal, comma_space, ◌++?◌}
+use Rattle.std.specs.Prelude.{ℕ, List, ◌∷◌, ◌++◌, Option, Some, None, codes, if◌then◌else◌}
+use Rattle.std.specs.Fmt.{decimal, comma_space}
 use Rattle.std.specs.List.{join_by}
 use Rattle.std.specs.Str.{is_utf8}
 
@@ -16,5 +16,5 @@ diff_line indentation field actual expected = 10 ∷ (indentation ++ (field ++ (
 
 -- The same line of two outputs; it is unspecified where one of them is.
 abbrev pub diff_output : List ℕ → List ℕ → Option (List ℕ) → Option (List ℕ) → Option (List ℕ)
-diff_output indentation field actual expected =
-    Some (10 ∷ []) ++? Some indentation ++? Some field ++? Some (codes ": ") ++? actual ++? Some (codes " != ") ++? expected
+diff_output indentation field (Some actual) (Some expected) = Some (diff_line indentation field actual expected)
+diff_output indentation field actual expected = None
