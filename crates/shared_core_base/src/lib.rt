@@ -2,6 +2,7 @@
 #![tactic(auto)]
 
 pub mod command_type;
+pub mod error;
 pub mod fmt;
 pub mod header;
 pub mod laws;

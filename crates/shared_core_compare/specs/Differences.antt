@@ -1,0 +1,109 @@
+-- The difference of two commands, as it is printed: what values print, and the lines.
+use Rattle.std.specs.Prelude.{ℕ, Bool, true, false, ◌&&◌, ◌||◌, not, List, [], ◌∷◌, ◌++◌, map, flat_map, filter, nat_eq, codes, if◌then◌else◌}
+use Rattle.std.specs.Fmt.{decimal, comma_space}
+use Rattle.std.specs.List.{join_by, list_any}
+use Rattle.shared_core_base.specs.Differences.{bytes_text, diff_line}
+use Rattle.shared_core_wire.specs.Schema.{Kind, Row, Text, ByteString, Message, Plain, Optional, Repeated, OneOf, numbers, includes, member_kind}
+use Rattle.shared_core_wire.specs.Value.{Part, Parts, Absent, Number, Bytes, Nested, Elements, Member, nil, cons}
+use Rattle.shared_core_wire.specs.Template.{part_at}
+use Rattle.shared_core_record.specs.Table.{table}
+use Rattle.shared_core_record.specs.Table as schema
+use Rattle.shared_core_record.specs.Equality.{is_present, part_equal}
+use Rattle.shared_core_parts.specs.Texts.{value_text, failure_text, header_text, state_keys_text}
+use Rattle.shared_core_compare.specs.Commands.{command_fields, first_part, rest_parts, name_number}
+use Rattle.shared_core_compare.specs.Erasure.{has_any}
+
+-- ---- what values print
+
+-- The bytes that a part holds.
+abbrev pub bytes_of : Part → List ℕ
+bytes_of (Bytes b) = b
+bytes_of p = []
+
+-- The number that a part holds.
+abbrev pub number_of : Part → ℕ
+number_of (Number n) = n
+number_of p = 0
+
+-- The parts in order.
+abbrev pub listed : Parts → List Part
+listed nil = []
+listed (cons p ps) = p ∷ listed ps
+
+-- The elements that a part holds.
+abbrev pub elements_of : Part → List Part
+elements_of (Elements ps) = listed ps
+elements_of p = []
+
+-- What a message prints, by its schema: a target other than an invocation's id prints its type.
+abbrev pub message_text : ℕ → Parts → List ℕ
+message_text s v =
+    let at = part_at (table s) v in
+    if nat_eq s schema.void then codes "void"
+    else (if nat_eq s schema.value then value_text (bytes_of (at 1))
+    else (if nat_eq s schema.failure then failure_text (number_of (at 1)) (bytes_of (at 2))
+    else (if nat_eq s schema.header then header_text (bytes_of (at 1)) (bytes_of (at 2))
+    else (if nat_eq s schema.state_keys then state_keys_text (map bytes_of (elements_of (at 1)))
+    else (if nat_eq s schema.idempotent_request_target then codes "IdempotentRequestTarget"
+    else (if nat_eq s schema.workflow_target then codes "WorkflowTarget"
+    else []))))))
+
+-- What a part of a kind prints.
+abbrev pub kind_text : Kind → Part → List ℕ
+kind_text Text (Bytes b) = b
+kind_text ByteString (Bytes b) = bytes_text b
+kind_text (Message s) (Nested v) = message_text s v
+kind_text k (Number n) = decimal n
+kind_text k p = []
+
+-- What the member of a oneof prints.
+abbrev pub member_text : List (ℕ × Kind) → Part → List ℕ
+member_text members (Member n p) = kind_text (member_kind members n) p
+member_text members p = []
+
+-- What may be absent prints `<empty>` where it is.
+abbrev pub present_text : (Part → List ℕ) → Part → List ℕ
+present_text text p = if is_present p then text p else codes "<empty>"
+
+-- What elements print: their texts, joined by `, `.
+abbrev pub elements_text : (Part → List ℕ) → Part → List ℕ
+elements_text text p = join_by text comma_space (elements_of p)
+
+-- What the part of a row prints.
+abbrev pub row_text : Row → Part → List ℕ
+row_text (Plain n k) = kind_text k
+row_text (Optional n k) = present_text (kind_text k)
+row_text (Repeated n k) = elements_text (kind_text k)
+row_text (OneOf members) = present_text (member_text members)
+
+-- ---- lines
+
+-- The line of a field, at an indentation, with what prints it: none where the two are the same.
+unfoldable pub field_line : List ℕ → List ℕ → (Part → List ℕ) → Part → Part → List ℕ
+field_line indentation field text actual expected =
+    if part_equal actual expected then [] else diff_line indentation field (text actual) (text expected)
+
+-- The line of the field with this number and name.
+abbrev pub numbered_line : List ℕ → ℕ × List ℕ → List Row → Parts → Parts → List ℕ
+numbered_line indentation field [] actual expected = []
+numbered_line indentation field (row ∷ rows) actual expected =
+    if includes (numbers row) field.0 then field_line indentation field.1 (row_text row) (first_part actual) (first_part expected)
+    else numbered_line indentation field rows (rest_parts actual) (rest_parts expected)
+
+-- The difference of two commands of a schema: a line for each printed field in which they differ, in their order.
+abbrev pub difference : ℕ → List ℕ → Parts → Parts → List ℕ
+difference s indentation actual expected =
+    flat_map (λ field. numbered_line indentation field (table s) actual expected) (command_fields s).printed
+
+-- ---- what a difference leaves out
+
+-- Whether each of these rows is never compared, or has one of these fields.
+abbrev pub are_covered : List ℕ → List (ℕ × List ℕ) → List Row → Bool
+are_covered not_compared fields [] = true
+are_covered not_compared fields (row ∷ rows) =
+    (has_any not_compared row || list_any (λ field. includes (numbers row) field.0) fields)
+    && are_covered not_compared (filter (λ field. not (includes (numbers row) field.0)) fields) rows
+
+-- Whether each field of a command that is compared is its name or printed.
+abbrev pub is_printed_whole : ℕ → Bool
+is_printed_whole s = are_covered (command_fields s).not_compared ((name_number, []) ∷ (command_fields s).printed) (table s)

@@ -1,0 +1,45 @@
+//! Whether two commands are the same, but for what replay may change.
+
+ghost use Rattle.std.specs.Prelude.{◌≡◌, ◌↔◌, IsTrue};
+ghost use Rattle.shared_core_record.specs.FieldParts.{elements_part, message_part, option_part};
+ghost use Rattle.shared_core_compare.specs.Erasure.{erased};
+
+use shared_core_record::oneof::OneOf;
+use shared_core_record::record::WireRecord;
+
+/// Commands that are compared with those that were recorded.
+pub trait CommandMessageHeaderEq: WireRecord {
+    /// Whether the two are the same but for the fields that replay may change and, where these are ignored, their payloads. It asks for no
+    /// memory and stops at the first field that differs.
+    fn header_eq(&self, other: &Self, ignore_payload_equality: bool) -> bool
+        ensures { IsTrue result ↔ (erased Self.schema ignore_payload_equality (Self.parts self.now)
+            ≡ erased Self.schema ignore_payload_equality (Self.parts other.now)) };
+}
+
+/// Whether two records are the same value.
+pub(crate) fn same_record<M: WireRecord>(record: &M, other: &M) -> bool
+    ensures { IsTrue result ↔ (M.parts record.now ≡ M.parts other.now) }
+{
+    record == other
+}
+
+/// Whether two messages that may be absent are the same.
+pub(crate) fn same_message<M: WireRecord>(message: &Option<M>, other: &Option<M>) -> bool
+    ensures { IsTrue result ↔ (option_part (message_part M.parts) message.now ≡ option_part (message_part M.parts) other.now) }
+{
+    message == other
+}
+
+/// Whether two lists of messages are the same.
+pub(crate) fn same_messages<M: WireRecord>(messages: &Vec<M>, others: &Vec<M>) -> bool
+    ensures { IsTrue result ↔ (elements_part (message_part M.parts) messages.now.items ≡ elements_part (message_part M.parts) others.now.items) }
+{
+    messages == others
+}
+
+/// Whether two oneofs are the same.
+pub(crate) fn same_oneof<T: OneOf>(oneof: &Option<T>, other: &Option<T>) -> bool
+    ensures { IsTrue result ↔ (option_part T.part oneof.now ≡ option_part T.part other.now) }
+{
+    oneof == other
+}

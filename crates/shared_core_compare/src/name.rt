@@ -1,0 +1,23 @@
+//! The names of commands.
+
+ghost use Rattle.std.specs.Prelude.{◌≡◌, IfOk, string_bytes};
+ghost use Rattle.shared_core_wire.specs.Value.{Bytes as Content};
+ghost use Rattle.shared_core_compare.specs.Commands.{name_part};
+
+use shared_core_base::error::OutOfMemory;
+use shared_core_record::record::WireRecord;
+use std::alloc::Global;
+
+/// Commands that people name.
+pub trait NamedCommandMessage: WireRecord {
+    /// The name of the command, lent.
+    fn command_name(&self) -> &str
+        ensures { Content result.now ≡ name_part Self.schema (Self.parts self.now) };
+
+    /// The name of the command. It fails where a request for memory was refused.
+    final fn name(&self, alloc: Global) -> Result<String, OutOfMemory>
+        ensures { IfOk result (λ name. Content (string_bytes name) ≡ name_part Self.schema (Self.parts self.now)) }
+    {
+        Ok(String::from_str(alloc, self.command_name())?)
+    }
+}

@@ -1,0 +1,68 @@
+//! What stands in fields, as a difference prints it.
+
+ghost use Rattle.std.specs.Prelude.{◌≡◌};
+ghost use Rattle.std.specs.Fmt.{WritesOnOk};
+ghost use Rattle.shared_core_compare.specs.Differences.{member_text, message_text};
+
+use shared_core_parts::failure::Failure;
+use shared_core_parts::idempotent_request_target::IdempotentRequestTarget;
+use shared_core_parts::state_keys::{StateKeys, StateKeysText};
+use shared_core_parts::value::Value;
+use shared_core_parts::void::Void;
+use shared_core_parts::workflow_target::WorkflowTarget;
+use shared_core_record::oneof::OneOf;
+use shared_core_record::record::WireRecord;
+use std::fmt;
+use std::fmt::Formatter;
+
+/// A message that stands in another, as a difference prints it.
+pub trait PrintedMessage: WireRecord {
+    /// Writes what the message prints.
+    fn write_message<W: fmt::Write>(&self, f: &mut Formatter<W>) -> fmt::Result
+        ensures { WritesOnOk W.write_str_gives f.old result (message_text Self.schema (Self.parts self.now)) f.new };
+}
+
+/// A oneof, as a difference prints it.
+pub trait PrintedOneOf: OneOf {
+    /// Writes what the member prints.
+    fn write_member<W: fmt::Write>(&self, f: &mut Formatter<W>) -> fmt::Result
+        ensures { WritesOnOk W.write_str_gives f.old result (member_text Self.members (Self.part self.now)) f.new };
+}
+
+impl PrintedMessage for Void {
+    fn write_message<W: fmt::Write>(&self, f: &mut Formatter<W>) -> fmt::Result {
+        f.write_str("void")
+    }
+}
+
+impl PrintedMessage for Value {
+    fn write_message<W: fmt::Write>(&self, f: &mut Formatter<W>) -> fmt::Result {
+        write!(f, "{self}")
+    }
+}
+
+impl PrintedMessage for Failure {
+    fn write_message<W: fmt::Write>(&self, f: &mut Formatter<W>) -> fmt::Result {
+        write!(f, "{self}")
+    }
+}
+
+#[tactic(auto, using(crate::proofs::Elements::byte_strings))]
+impl PrintedMessage for StateKeys {
+    fn write_message<W: fmt::Write>(&self, f: &mut Formatter<W>) -> fmt::Result {
+        let keys = StateKeysText(self);
+        write!(f, "{keys}")
+    }
+}
+
+impl PrintedMessage for IdempotentRequestTarget {
+    fn write_message<W: fmt::Write>(&self, f: &mut Formatter<W>) -> fmt::Result {
+        f.write_str("IdempotentRequestTarget")
+    }
+}
+
+impl PrintedMessage for WorkflowTarget {
+    fn write_message<W: fmt::Write>(&self, f: &mut Formatter<W>) -> fmt::Result {
+        f.write_str("WorkflowTarget")
+    }
+}
