@@ -1,12 +1,11 @@
 -- Lines of fields, from a test of the two values.
-use Rattle.std.proofs.Common.{◌≡◌, Bool, true, List, ℕ, [], ◌∙◌, refl, ap, sym, if◌then◌else◌}
+use Rattle.std.proofs.Common.{◌≡◌, Bool, true, List, ℕ, [], ◌∙◌, refl, ap, if◌then◌else◌}
 use Rattle.std.specs.Fmt.{HasWritten, IsPlainFormatter, comma_space}
 use Rattle.std.proofs.Output.{writes_in_calls_nil}
 use Rattle.std.specs.declared.fmt.Formatter.{Formatter}
 use Rattle.shared_core_base.specs.Differences.{diff_line}
 use Rattle.shared_core_wire.specs.Schema.{Message}
 use Rattle.shared_core_wire.specs.Value.{Part}
-use Rattle.shared_core_record.specs.Equality.{part_equal}
 use Rattle.shared_core_record.specs.EqualityRules.{part_test_is}
 use Rattle.shared_core_record.specs.FieldParts.{elements_part, message_part}
 use Rattle.shared_core_record.specs.Table as schema

@@ -1,10 +1,10 @@
 -- The difference of two commands, as it is printed: what values print, and the lines.
-use Rattle.std.specs.Prelude.{ℕ, Bool, true, false, ◌&&◌, ◌||◌, not, List, [], ◌∷◌, ◌++◌, map, flat_map, filter, nat_eq, codes, if◌then◌else◌}
+use Rattle.std.specs.Prelude.{ℕ, Bool, true, ◌&&◌, ◌||◌, not, List, [], ◌∷◌, map, flat_map, filter, nat_eq, codes, if◌then◌else◌}
 use Rattle.std.specs.Fmt.{decimal, comma_space}
 use Rattle.std.specs.List.{join_by, list_any}
 use Rattle.shared_core_base.specs.Differences.{bytes_text, diff_line}
 use Rattle.shared_core_wire.specs.Schema.{Kind, Row, Text, ByteString, Message, Plain, Optional, Repeated, OneOf, numbers, includes, member_kind}
-use Rattle.shared_core_wire.specs.Value.{Part, Parts, Absent, Number, Bytes, Nested, Elements, Member, nil, cons}
+use Rattle.shared_core_wire.specs.Value.{Part, Parts, Number, Bytes, Nested, Elements, Member, nil, cons}
 use Rattle.shared_core_wire.specs.Template.{part_at}
 use Rattle.shared_core_record.specs.Table.{table}
 use Rattle.shared_core_record.specs.Table as schema

@@ -5,6 +5,7 @@ pub mod call_command_message;
 pub mod clear_state_command_message;
 pub mod difference;
 pub mod equality;
+pub mod laws;
 pub mod name;
 pub mod output_command_message;
 pub mod printed;

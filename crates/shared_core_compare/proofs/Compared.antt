@@ -1,0 +1,111 @@
+-- What erasure and differences say of each other.
+use Rattle.std.proofs.Common.{◌≡◌, Bool, true, false, ◌&&◌, ◌||◌, not, List, ℕ, [], ◌∷◌, ◌++◌, refl, if◌then◌else◌}
+use Rattle.std.specs.Prelude.{filter, flat_map}
+use Rattle.std.specs.List.{list_any}
+use Rattle.shared_core_wire.specs.Schema.{Row, numbers, includes}
+use Rattle.shared_core_wire.specs.Value.{Part, Parts, cons, empty_part}
+use Rattle.shared_core_record.specs.Equality.{part_equal}
+use Rattle.shared_core_record.specs.EqualityRules.{part_equal_sound, part_equal_refl, both_of}
+use Rattle.shared_core_record.specs.Table.{table}
+use Rattle.shared_core_compare.specs.Commands.{CommandFields, command_fields, first_part, rest_parts, row_part, name_part, name_number}
+use Rattle.shared_core_compare.specs.Erasure.{erased, erased_part, erased_parts, has_any, without_payloads}
+use Rattle.shared_core_compare.specs.Differences.{are_covered, difference, field_line, is_printed_whole, numbered_line, row_text}
+
+-- ---- erasure where payloads are ignored, after erasure where they are not
+
+erased_twice : (among payload : Bool) (empty p : Part) (without : Part → Part) →
+    (if among then empty else (if payload && true then without (if among then empty else (if payload && false then without p else p)) else (if among then empty else (if payload && false then without p else p))))
+    ≡ (if among then empty else (if payload && true then without p else p))
+erased_twice true payload empty p without = refl
+erased_twice false true empty p without = refl
+erased_twice false false empty p without = refl
+
+erased_again : (fields : CommandFields) (rows : List Row) (v : Parts)
+    → erased_parts fields true rows (erased_parts fields false rows v) ≡ erased_parts fields true rows v
+erased_again fields [] v = refl
+erased_again fields (row ∷ rows) v =
+    let head = erased_twice (has_any fields.not_compared row) (has_any fields.payloads row) (empty_part row) (first_part v) (without_payloads fields.payloads row) in
+    let tail = erased_again fields rows (rest_parts v) in cc
+
+-- Commands that are the same with their payloads are the same without.
+pub same_without_payloads : (s : ℕ) (a b : Parts) → erased s false a ≡ erased s false b → erased s true a ≡ erased s true b
+same_without_payloads s a b e =
+    let p = erased_again (command_fields s) (table s) a in
+    let q = erased_again (command_fields s) (table s) b in cc
+
+-- ---- no line, no difference
+
+first_nothing : (x y : List ℕ) → x ++ y ≡ [] → x ≡ []
+first_nothing [] y e = refl
+first_nothing (b ∷ x) y e = cc
+
+second_nothing : (x y : List ℕ) → x ++ y ≡ [] → y ≡ []
+second_nothing [] y e = e
+second_nothing (b ∷ x) y e = cc
+
+no_line_test : (test : Bool) (b : ℕ) (bytes : List ℕ) → (if test then [] else (b ∷ bytes)) ≡ [] → test ≡ true
+no_line_test true b bytes e = refl
+no_line_test false b bytes e = cc
+
+-- A field without a line holds the same.
+no_line_same : (indentation name : List ℕ) (text : Part → List ℕ) (p q : Part) → field_line indentation name text p q ≡ [] → p ≡ q
+unfolding field_line
+no_line_same indentation name text p q e = part_equal_sound p q (no_line_test (part_equal p q) _ _ e)
+
+-- A field that holds the same has no line.
+same_no_line : (indentation name : List ℕ) (text : Part → List ℕ) (p q : Part) → p ≡ q → field_line indentation name text p q ≡ []
+unfolding field_line
+same_no_line indentation name text p q e = rw (e, part_equal_refl q) refl
+
+-- By whether a test holds.
+by_test : {A : Type 0} (test : Bool) → (test ≡ true → A) → (test ≡ false → A) → A
+by_test true holds fails = holds refl
+by_test false holds fails = fails refl
+
+-- A name that is the same has no line.
+name_no_line : (indentation : List ℕ) (rows : List Row) (a b : Parts) (n : ℕ) (name : List ℕ) → row_part rows a n ≡ row_part rows b n
+    → numbered_line indentation (n, name) rows a b ≡ []
+name_no_line indentation [] a b n name e = refl
+name_no_line indentation (row ∷ rows) a b n name e = by_test (includes (numbers row) n)
+    (λ t. rw t (same_no_line indentation name (row_text row) (first_part a) (first_part b) (rw t at e)))
+    (λ t. rw t (name_no_line indentation rows (rest_parts a) (rest_parts b) n name (rw t at e)))
+
+-- The lines of some fields of two values.
+abbrev lines_of : List ℕ → List (ℕ × List ℕ) → List Row → Parts → Parts → List ℕ
+lines_of indentation fields rows a b = flat_map (λ field. numbered_line indentation field rows a b) fields
+
+-- Where no field has a line, the first row holds the same, if it has one of them.
+covered_same : (indentation : List ℕ) (row : Row) (rows : List Row) (a b : Parts) (fields : List (ℕ × List ℕ))
+    → list_any (λ field. includes (numbers row) field.0) fields ≡ true → lines_of indentation fields (row ∷ rows) a b ≡ [] → first_part a ≡ first_part b
+covered_same indentation row rows a b [] covered none = cc
+covered_same indentation row rows a b (f ∷ fields) covered none = by_test (includes (numbers row) f.0)
+    (λ t. no_line_same indentation f.1 (row_text row) (first_part a) (first_part b) (first_nothing _ _ (rw t at none)))
+    (λ t. covered_same indentation row rows a b fields (rw t at covered) (second_nothing _ _ none))
+
+-- Where no field has a line, none of the other rows' has one.
+rest_none : (indentation : List ℕ) (row : Row) (rows : List Row) (a b : Parts) (fields : List (ℕ × List ℕ)) → lines_of indentation fields (row ∷ rows) a b ≡ []
+    → lines_of indentation (filter (λ field. not (includes (numbers row) field.0)) fields) rows (rest_parts a) (rest_parts b) ≡ []
+rest_none indentation row rows a b [] none = refl
+rest_none indentation row rows a b (f ∷ fields) none =
+    let behind = rest_none indentation row rows a b fields (second_nothing _ _ none) in
+    by_test (includes (numbers row) f.0) (λ t. rw t behind) (λ t. rw (t, first_nothing (numbered_line indentation f rows (rest_parts a) (rest_parts b)) (lines_of indentation fields (row ∷ rows) a b) (rw t at none)) behind)
+
+-- Where no field has a line, the rows that have one of them hold the same, and the others are erased.
+covered_rows_same : (fields : CommandFields) (indentation : List ℕ) (printed : List (ℕ × List ℕ)) (rows : List Row) (a b : Parts)
+    → are_covered fields.not_compared printed rows ≡ true → lines_of indentation printed rows a b ≡ []
+    → erased_parts fields false rows a ≡ erased_parts fields false rows b
+covered_rows_same fields indentation printed [] a b covered none = refl
+covered_rows_same fields indentation printed (row ∷ rows) a b covered none =
+    let both = both_of (has_any fields.not_compared row || list_any (λ field. includes (numbers row) field.0) printed) _ covered in
+    let head : erased_part fields false row (first_part a) ≡ erased_part fields false row (first_part b) =
+    by_test (has_any fields.not_compared row) (λ t. rw t refl)
+    (λ t. rw (t, covered_same indentation row rows a b printed (rw t at both.0) none) refl) in
+    let tail = covered_rows_same fields indentation (filter (λ field. not (includes (numbers row) field.0)) printed) rows (rest_parts a) (rest_parts b) both.1 (rest_none indentation row rows a b printed none) in
+    λ i. cons (head i) (tail i)
+
+-- Commands of one name and without a difference are the same, if each field that is compared is printed.
+pub same_without_lines : (s : ℕ) (indentation : List ℕ) (a b : Parts) → is_printed_whole s ≡ true → name_part s a ≡ name_part s b
+    → difference s indentation a b ≡ [] → erased s false a ≡ erased s false b
+same_without_lines s indentation a b whole name none =
+    covered_rows_same (command_fields s) indentation ((name_number, []) ∷ (command_fields s).printed) (table s) a b whole
+    (rw (name_no_line indentation (table s) a b name_number [] name) none)

@@ -1,0 +1,69 @@
+//! What holds of every command, by the contracts of its calls alone. A law is the contract of a function that does nothing but compare.
+
+ghost use Rattle.std.specs.Prelude.{◌≡◌, IsFalse, IsTrue, List, ℕ, [], true};
+ghost use Rattle.shared_core_compare.specs.Commands.{name_part};
+ghost use Rattle.shared_core_compare.specs.Differences.{difference};
+
+use crate::difference::CommandMessageHeaderDiff;
+use crate::equality::CommandMessageHeaderEq;
+
+/// A command is the same as itself.
+pub fn each_is_the_same_as_itself<M: CommandMessageHeaderEq>(
+    command: &M,
+    ignore_payload_equality: bool,
+) -> bool
+    ensures { IsTrue result }
+{
+    command.header_eq(command, ignore_payload_equality)
+}
+
+/// It does not matter which of two commands is asked.
+pub fn either_is_asked<M: CommandMessageHeaderEq>(
+    a: &M,
+    b: &M,
+    ignore_payload_equality: bool,
+) -> (bool, bool)
+    ensures { result.0 ≡ result.1 }
+{
+    (
+        a.header_eq(b, ignore_payload_equality),
+        b.header_eq(a, ignore_payload_equality),
+    )
+}
+
+/// What is the same as one command is the same as each that this one is the same as.
+pub fn sameness_goes_on<M: CommandMessageHeaderEq>(
+    a: &M,
+    b: &M,
+    c: &M,
+    ignore_payload_equality: bool,
+) -> (bool, bool, bool)
+    ensures { IsTrue result.0 → IsTrue result.1 → IsTrue result.2 }
+{
+    (
+        a.header_eq(b, ignore_payload_equality),
+        b.header_eq(c, ignore_payload_equality),
+        a.header_eq(c, ignore_payload_equality),
+    )
+}
+
+/// Commands that are the same with their payloads are the same where payloads are ignored.
+pub fn the_same_with_payloads_is_the_same_without<M: CommandMessageHeaderEq>(
+    a: &M,
+    b: &M,
+) -> (bool, bool)
+    ensures { IsTrue result.0 → IsTrue result.1 }
+{
+    (a.header_eq(b, false), a.header_eq(b, true))
+}
+
+/// Where commands are not the same with their payloads, their names differ or their difference has at least one line.
+pub fn what_differs_is_named_or_printed<M: CommandMessageHeaderEq + CommandMessageHeaderDiff>(
+    a: &M,
+    b: &M,
+) -> bool
+    ensures { IsFalse result → (indentation : List ℕ) → name_part M.schema (M.parts a.now) ≡ name_part M.schema (M.parts b.now)
+        → difference M.schema indentation (M.parts a.now) (M.parts b.now) ≡ [] → ⊥ }
+{
+    a.header_eq(b, false)
+}
