@@ -19,6 +19,13 @@ command_type_mismatch_text index actual expected =
     ++ (codes "' (index '" ++ (signed_decimal index
     ++ (codes "')\n - The current execution attempts to perform the following: '" ++ (message_type_text expected ++ codes "'"))))))
 
+-- The text of a mismatch of two commands of a type at a command index, with their difference.
+abbrev pub command_mismatch_text : MessageType → ℤ → List ℕ → List ℕ
+command_mismatch_text ty index difference =
+    mismatch_head
+    ++ (codes "- The mismatch happened while executing '" ++ (message_type_text ty
+    ++ (codes "' (index '" ++ (signed_decimal index ++ (codes "')\n- Difference:" ++ difference)))))
+
 -- The text of a refusal to decode.
 abbrev pub decoding_error_text : DecodingError → List ℕ
 decoding_error_text (DecodeMessage ty error) =

@@ -4,11 +4,13 @@
 
 pub mod encoding;
 pub mod errors;
+pub mod fmt;
 pub mod laws;
 pub mod messages;
 mod pending_bytes;
 pub mod wire;
 
 pub use shared_core_base::command_type::CommandType;
+pub use shared_core_base::error::OutOfMemory;
 pub use shared_core_base::version::Version;
 pub use shared_core_base::{header, version};

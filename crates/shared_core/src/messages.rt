@@ -1,5 +1,8 @@
 //! The records of the protocol: one struct a message, with the enums of its oneofs in a module named as the message.
 
+pub use shared_core_compare::difference::CommandMessageHeaderDiff;
+pub use shared_core_compare::equality::CommandMessageHeaderEq;
+pub use shared_core_compare::name::NamedCommandMessage;
 pub use shared_core_parts::notification::{
     CANCEL_SIGNAL_ID, CompletionId, Notification, NotificationId, NotificationResult,
 };
