@@ -2,7 +2,8 @@
 
 One file a message, in the crates below, laid out as `rt fmt` does; a file whose text stays is not touched. With --check nothing is
 written; the status is 1 where a file is not up to date. The records of shared_core_parts are written by hand: they are few, and
-Future, which leads back to itself, has a form of its own.
+Future, which leads back to itself, has a form of its own. How commands are compared is written by scripts/commands.py, for the crate
+shared_core_compare.
 """
 import pathlib
 import subprocess
@@ -10,6 +11,7 @@ import sys
 import tempfile
 import textwrap
 
+import commands
 from journal import OneOf, camel, messages, snake
 
 ROOT = pathlib.Path(__file__).resolve().parent.parent / "crates"
@@ -79,6 +81,9 @@ CRATES = {
         ],
     ),
 }
+
+# The crates whose commands are compared.
+COMMAND_CRATES = ["shared_core_state_commands", "shared_core_call_commands"]
 
 # Oneofs that several messages of a crate have alike: their module, the enum's name, what it is, and the messages.
 SHARED = {
@@ -466,21 +471,33 @@ def write_message(source, name):
     )
 
 
-def write_crate(crate, folder):
-    """Writes the files of a crate into a folder, not yet laid out."""
-    about, names = CRATES[crate]
-    table = {message.name: message for message in messages()}
-    homes = {}
-    modules = []
-    for module, enum, text, users in SHARED.get(crate, []):
-        oneof = None
-        for user in users:
-            for row in table[user].rows:
+def shared_oneofs(crate, table):
+    """The oneofs that messages of a crate share: the module, the enum's name, what it is, the oneof, and each message with its field."""
+    found = []
+    for module, enum, about, names in SHARED.get(crate, []):
+        oneof, users = None, []
+        for name in names:
+            for row in table[name].rows:
                 if isinstance(row, OneOf) and (oneof is None or [m.name for m in row.members] == [m.name for m in oneof.members]):
                     if row.name == "signal_id":
                         continue
                     oneof = row
-                    homes.setdefault(user, {})[row.name] = (module, enum)
+                    users.append((name, row.name))
+        found.append((module, enum, about, oneof, users))
+    return found
+
+
+def write_crate(crate, folder):
+    """Writes the files of a crate into a folder, not yet laid out."""
+    about, names = CRATES[crate]
+    table = {message.name: message for message in messages()}
+    folder = folder / "src"
+    folder.mkdir(parents=True)
+    homes = {}
+    modules = []
+    for module, enum, text, oneof, users in shared_oneofs(crate, table):
+        for user, field in users:
+            homes.setdefault(user, {})[field] = (module, enum)
         source = Source(crate, text)
         write_oneof(source, module, enum, oneof, text)
         (folder / f"{module}.rt").write_text(source.text().rstrip("\n") + "\n")
@@ -525,19 +542,24 @@ def lay_out(files):
 def main():
     words = sys.argv[1:]
     check = "--check" in words
-    crates = [word for word in words if word != "--check"] or list(CRATES)
-    if unknown := [crate for crate in crates if crate not in CRATES]:
+    known = [*CRATES, commands.CRATE]
+    crates = [word for word in words if word != "--check"] or known
+    if unknown := [crate for crate in crates if crate not in known]:
         sys.exit(f"records.py: no crate of written records: {' '.join(unknown)}")
     stale = []
     with tempfile.TemporaryDirectory() as work:
         for crate in crates:
             folder = pathlib.Path(work) / crate
-            folder.mkdir()
-            write_crate(crate, folder)
-        files = sorted(pathlib.Path(work).glob("*/*.rt"))
+            if crate == commands.CRATE:
+                compared = {name: CRATES[name][1] for name in COMMAND_CRATES}
+                table = {message.name: message for message in messages()}
+                commands.write_crate(folder, compared, table, schema_name, shared_oneofs)
+            else:
+                write_crate(crate, folder)
+        files = sorted(file for file in pathlib.Path(work).rglob("*") if file.suffix in (".rt", ".antt"))
         lay_out(files)
         for file in files:
-            target = ROOT / file.parent.name / "src" / file.name
+            target = ROOT / file.relative_to(work)
             text = file.read_text()
             if not target.exists() or target.read_text() != text:
                 stale.append(target.relative_to(ROOT.parent))

@@ -2,11 +2,21 @@
 
 ghost use Rattle.std.specs.Prelude.{refl};
 
-use crate::difference::*;
+use crate::difference::{
+    CommandMessageHeaderDiff, write_bytes, write_headers, write_number, write_optional_text,
+    write_text,
+};
 use crate::equality::{CommandMessageHeaderEq, same_messages};
+use crate::name::NamedCommandMessage;
 use shared_core_call_commands::CallCommandMessage;
 use std::fmt;
 use std::fmt::Formatter;
+
+impl NamedCommandMessage for CallCommandMessage {
+    fn command_name(&self) -> &str {
+        &self.name
+    }
+}
 
 impl CommandMessageHeaderEq for CallCommandMessage {
     fn header_eq(&self, other: &Self, ignore_payload_equality: bool) -> bool {

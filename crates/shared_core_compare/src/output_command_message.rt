@@ -1,12 +1,13 @@
 //! `OutputCommandMessage` compared.
 
-ghost use Rattle.std.specs.Prelude.{◌≡◌, ◌↔◌, ◌∷◌, [], IsTrue, refl};
-ghost use Rattle.shared_core_wire.specs.Schema as row;
+ghost use Rattle.std.specs.Prelude.{IsTrue, [], refl, ◌↔◌, ◌∷◌, ◌≡◌};
 ghost use Rattle.shared_core_record.specs.FieldParts.{option_part};
 ghost use Rattle.shared_core_compare.specs.Erasure.{without_payloads};
+ghost use Rattle.shared_core_wire.specs.Schema as row;
 
 use crate::difference::{CommandMessageHeaderDiff, write_oneof};
 use crate::equality::{CommandMessageHeaderEq, same_oneof};
+use crate::name::NamedCommandMessage;
 use crate::printed::{PrintedMessage, PrintedOneOf};
 use shared_core_record::oneof::OneOf;
 use shared_core_state_commands::OutputCommandMessage;
@@ -14,6 +15,7 @@ use shared_core_state_commands::output_command_message::Result;
 use std::fmt;
 use std::fmt::Formatter;
 
+/// Whether two results are the same but for the content of a value.
 fn same_but_payload(oneof: &Option<Result>, other: &Option<Result>) -> bool
     ensures { IsTrue result ↔ (without_payloads (14 ∷ []) (row.OneOf ⟦<Result as OneOf>⟧.members) (option_part ⟦<Result as OneOf>⟧.part oneof.now)
         ≡ without_payloads (14 ∷ []) (row.OneOf ⟦<Result as OneOf>⟧.members) (option_part ⟦<Result as OneOf>⟧.part other.now)) }
@@ -21,6 +23,12 @@ fn same_but_payload(oneof: &Option<Result>, other: &Option<Result>) -> bool
     match (oneof, other) {
         (Some(Result::Value(_)), Some(Result::Value(_))) => true,
         _ => same_oneof(oneof, other),
+    }
+}
+
+impl NamedCommandMessage for OutputCommandMessage {
+    fn command_name(&self) -> &str {
+        &self.name
     }
 }
 

@@ -16,14 +16,14 @@ use std::fmt;
 use std::fmt::Formatter;
 
 /// A message that stands in another, as a difference prints it.
-pub trait PrintedMessage: WireRecord {
+pub(crate) trait PrintedMessage: WireRecord {
     /// Writes what the message prints.
     fn write_message<W: fmt::Write>(&self, f: &mut Formatter<W>) -> fmt::Result
         ensures { WritesOnOk W.write_str_gives f.old result (message_text Self.schema (Self.parts self.now)) f.new };
 }
 
 /// A oneof, as a difference prints it.
-pub trait PrintedOneOf: OneOf {
+pub(crate) trait PrintedOneOf: OneOf {
     /// Writes what the member prints.
     fn write_member<W: fmt::Write>(&self, f: &mut Formatter<W>) -> fmt::Result
         ensures { WritesOnOk W.write_str_gives f.old result (member_text Self.members (Self.part self.now)) f.new };

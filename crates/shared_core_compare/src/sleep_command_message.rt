@@ -9,6 +9,12 @@ use shared_core_call_commands::SleepCommandMessage;
 use std::fmt;
 use std::fmt::Formatter;
 
+impl NamedCommandMessage for SleepCommandMessage {
+    fn command_name(&self) -> &str {
+        &self.name
+    }
+}
+
 impl CommandMessageHeaderEq for SleepCommandMessage {
     fn header_eq(&self, other: &Self, _ignore_payload_equality: bool) -> bool {
         self.name == other.name
@@ -33,10 +39,4 @@ impl CommandMessageHeaderDiff for SleepCommandMessage {
     }
 
     ghost printed_whole = { refl };
-}
-
-impl NamedCommandMessage for SleepCommandMessage {
-    fn command_name(&self) -> &str {
-        &self.name
-    }
 }

@@ -1,0 +1,42 @@
+//! `GetPromiseCommandMessage` compared.
+
+ghost use Rattle.std.specs.Prelude.{refl};
+
+use crate::difference::{CommandMessageHeaderDiff, write_number, write_text};
+use crate::equality::{CommandMessageHeaderEq, same_record};
+use crate::name::NamedCommandMessage;
+use shared_core_call_commands::GetPromiseCommandMessage;
+use std::fmt;
+use std::fmt::Formatter;
+
+impl NamedCommandMessage for GetPromiseCommandMessage {
+    fn command_name(&self) -> &str {
+        &self.name
+    }
+}
+
+impl CommandMessageHeaderEq for GetPromiseCommandMessage {
+    fn header_eq(&self, other: &Self, _ignore_payload_equality: bool) -> bool {
+        same_record(self, other)
+    }
+}
+
+impl CommandMessageHeaderDiff for GetPromiseCommandMessage {
+    fn write_lines<W: fmt::Write>(
+        &self,
+        expected: &Self,
+        f: &mut Formatter<W>,
+        indentation: &str,
+    ) -> fmt::Result {
+        write_text(f, indentation, "key", &self.key, &expected.key)?;
+        write_number(
+            f,
+            indentation,
+            "result_completion_id",
+            self.result_completion_id,
+            expected.result_completion_id,
+        )
+    }
+
+    ghost printed_whole = { refl };
+}

@@ -1,0 +1,375 @@
+"""Writes how the commands of proto/journal.proto are compared and how their differences are printed, from the entries of
+crates/shared_core_compare/specs/Commands.antt: a part of scripts/records.py.
+
+One file a command, one for each oneof that several commands share, the root file of the crate, and for a command with two or more
+printed lines the proof that they follow each other.
+"""
+import pathlib
+import re
+import sys
+
+from journal import OneOf, camel, snake
+
+CRATE = "shared_core_compare"
+FOLDER = pathlib.Path(__file__).resolve().parent.parent / "crates" / CRATE
+ENTRIES = FOLDER / "specs" / "Commands.antt"
+
+ABOUT = "Commands compared: their names, whether two are the same but for what replay may change, and how they differ."
+
+# Modules that are written by hand, and whether other crates see them.
+BY_HAND = {"difference": True, "equality": True, "laws": True, "name": True, "printed": False}
+
+# The number of the field that names a command.
+NAME_NUMBER = 12
+
+# The function that writes the line of a field, by its presence and its kind.
+WRITERS = {
+    ("plain", "u32"): "write_number",
+    ("plain", "text"): "write_text",
+    ("plain", "bytes"): "write_bytes",
+    ("optional", "text"): "write_optional_text",
+    ("message", "message"): "write_message",
+}
+
+# The presences and kinds that `==` compares.
+COMPARED = {(presence, kind) for presence in ("plain", "optional") for kind in ("u32", "u64", "bool", "enum", "text", "bytes")}
+
+
+class Entry:
+    """What Commands.antt says of a command: the fields that are never compared, its payloads, and the numbers and names of the printed
+    fields, in order."""
+
+    def __init__(self, not_compared, payloads, printed):
+        self.not_compared = not_compared
+        self.payloads = payloads
+        self.printed = printed
+
+
+def refuse(text):
+    sys.exit(f"commands.py: {ENTRIES.relative_to(FOLDER.parent.parent)}: {text}")
+
+
+def entries():
+    """The entries, by the names of their schemas."""
+    match = re.search(r"^commands =\s(.*?)\n\n", ENTRIES.read_text(), re.M | re.S)
+    if not match:
+        refuse("there is no list `commands`")
+    rest = " ".join(match[1].split())
+    numbers = r"((?:\d+ ∷ )*)\[\];"
+    entry = re.compile(
+        rf"\( schema\.(\w+), record \{{ not_compared = {numbers} payloads = {numbers}"
+        r' printed = ((?:\(\d+, codes "\w+"\) ∷ )*)\[\]; \}, \) ∷ '
+    )
+    found = {}
+    while rest != "[]":
+        match = entry.match(rest)
+        if not match:
+            refuse(f"an entry has another layout than those before it: {rest[:80]}")
+        schema, not_compared, payloads, printed = match.groups()
+        if schema in found:
+            refuse(f"{schema} has two entries")
+        found[schema] = Entry(
+            [int(number) for number in re.findall(r"\d+", not_compared)],
+            [int(number) for number in re.findall(r"\d+", payloads)],
+            [(int(number), name) for number, name in re.findall(r'(\d+), codes "(\w+)"', printed)],
+        )
+        rest = rest[match.end() :]
+    return found
+
+
+def numbers(row):
+    """The numbers of a field, or of a oneof's members."""
+    return [member.number for member in row.members] if isinstance(row, OneOf) else [row.number]
+
+
+class Command:
+    """A command: its message, the crate of its record and its entry."""
+
+    def __init__(self, message, crate, entry):
+        self.message = message
+        self.crate = crate
+        self.entry = entry
+        self.module = snake(message.name)
+        self.check_entry()
+
+    def check_entry(self):
+        """Refuses an entry that is not about this message's fields."""
+        fields = {number for row in self.message.rows for number in numbers(row)}
+        for number in self.entry.not_compared + self.entry.payloads:
+            if number not in fields:
+                refuse(f"{self.message.name} has no field {number}")
+        for number, name in self.entry.printed:
+            row = self.row(number)
+            if row is None:
+                refuse(f"{self.message.name} has no field {number}, and no oneof whose least number it is")
+            if row.name != name:
+                refuse(f"field {number} of {self.message.name} is called {row.name} and printed as {name}")
+        name = self.row(NAME_NUMBER)
+        if name is None or isinstance(name, OneOf) or (name.presence, name.kind) != ("plain", "text"):
+            refuse(f"{self.message.name} has no text {NAME_NUMBER}, its name")
+
+    def row(self, number):
+        """The field of this number, or the oneof whose least number it is."""
+        return next((row for row in self.message.rows if min(numbers(row)) == number), None)
+
+    def compared(self):
+        """The fields that are compared, those with payloads last."""
+        rows = [row for row in self.message.rows if not set(numbers(row)) & set(self.entry.not_compared)]
+        return sorted(rows, key=self.is_payload)
+
+    def is_payload(self, row):
+        return bool(set(numbers(row)) & set(self.entry.payloads))
+
+    def printed(self):
+        """The printed fields, in order."""
+        return [self.row(number) for number, _ in self.entry.printed]
+
+
+def commands(crates, table, schema_name):
+    """The commands of some crates, each with its entry."""
+    found = entries()
+    in_order = []
+    for crate, names in crates.items():
+        for name in names:
+            if not name.endswith("CommandMessage"):
+                continue
+            entry = found.pop(schema_name(name), None)
+            if entry is None:
+                refuse(f"{name} has no entry")
+            in_order.append(Command(table[name], crate, entry))
+    if found:
+        refuse(f"there is no such command: {' '.join(found)}")
+    return in_order
+
+
+class Source:
+    """The source of one file, with the names that it uses."""
+
+    def __init__(self, heading):
+        self.heading = heading
+        self.uses = {}
+        self.ghosts = {}
+        self.aliases = set()
+        self.body = []
+
+    def use(self, module, name):
+        """Brings a name of a module into scope, and answers it."""
+        self.uses.setdefault(module, set()).add(name)
+        return name
+
+    def ghost(self, module, *names):
+        self.ghosts.setdefault(module, set()).update(names)
+
+    def text(self):
+        ghosts = [f"ghost use Rattle.{module}.{{{', '.join(sorted(names))}}};\n" for module, names in self.ghosts.items()]
+        ghosts += [f"ghost use Rattle.{alias};\n" for alias in sorted(self.aliases)]
+        uses = []
+        for module, names in self.uses.items():
+            listed = ", ".join(sorted(names))
+            uses.append(f"use {module}::{{{listed}}};\n" if len(names) > 1 else f"use {module}::{listed};\n")
+        blocks = ["".join(ghosts), "".join(sorted(uses)), *self.body]
+        return "\n".join([f"//! {self.heading}\n", *(block for block in blocks if block)])
+
+
+def write_same_but_payload(source, command, oneof):
+    """The function that compares a oneof where payloads are ignored."""
+    enum = source.use(f"{command.crate}::{command.module}", camel(oneof.name))
+    source.use("crate::equality", "same_oneof")
+    source.use("shared_core_record::oneof", "OneOf")
+    source.ghost("std.specs.Prelude", "◌≡◌", "◌↔◌", "◌∷◌", "[]", "IsTrue")
+    source.aliases.add("shared_core_wire.specs.Schema as row")
+    source.ghost("shared_core_record.specs.FieldParts", "option_part")
+    source.ghost("shared_core_compare.specs.Erasure", "without_payloads")
+    members = [member for member in oneof.members if member.number in command.entry.payloads]
+    erased = " ∷ ".join([str(member.number) for member in members] + ["[]"])
+    contents = " or a ".join(member.name.replace("_", " ") for member in members)
+    arms = "".join(f"        (Some({enum}::{camel(member.name)}(_)), Some({enum}::{camel(member.name)}(_))) => true,\n" for member in members)
+
+    def without(value):
+        return f"without_payloads ({erased}) (row.OneOf ⟦<{enum} as OneOf>⟧.members) (option_part ⟦<{enum} as OneOf>⟧.part {value}.now)"
+
+    source.body.append(
+        f"/// Whether two {oneof.name}s are the same but for the content of a {contents}.\n"
+        f"fn same_but_payload(oneof: &Option<{enum}>, other: &Option<{enum}>) -> bool\n"
+        f"    ensures {{ IsTrue result ↔ ({without('oneof')}\n        ≡ {without('other')}) }}\n"
+        f"{{\n    match (oneof, other) {{\n{arms}        _ => same_oneof(oneof, other),\n    }}\n}}\n"
+    )
+
+
+def same(source, command, row):
+    """The test whether a field is the same in two commands."""
+    both = f"self.{row.name}", f"other.{row.name}"
+    equal = f"{both[0]} == {both[1]}"
+    lent = f"(&{both[0]}, &{both[1]})"
+    if isinstance(row, OneOf):
+        test = source.use("crate::equality", "same_oneof") + lent
+        if not command.is_payload(row):
+            return test
+        return f"if ignore_payload_equality {{ same_but_payload{lent} }} else {{ {test} }}"
+    if command.is_payload(row):
+        if row.presence == "message":
+            return f"if ignore_payload_equality {{ {both[0]}.is_some() == {both[1]}.is_some() }} else {{ {equal} }}"
+        if (row.presence, row.kind) == ("plain", "bytes"):
+            return f"(ignore_payload_equality || {equal})"
+    elif row.presence == "message":
+        return source.use("crate::equality", "same_message") + lent
+    elif (row.presence, row.kind) == ("repeated", "message"):
+        return source.use("crate::equality", "same_messages") + lent
+    elif (row.presence, row.kind) in COMPARED:
+        return equal
+    refuse(f"there is no form yet that compares {row.name} of {command.message.name}")
+
+
+def write_equality(source, command):
+    """The impl that compares a command."""
+    trait = source.use("crate::equality", "CommandMessageHeaderEq")
+    rows = command.compared()
+    other, ignored = "other", "_ignore_payload_equality"
+    if not rows:
+        other, test = "_other", "true"
+    elif not command.entry.not_compared and not command.entry.payloads:
+        test = source.use("crate::equality", "same_record") + "(self, other)"
+    else:
+        if any(command.is_payload(row) for row in rows):
+            ignored = ignored.removeprefix("_")
+        test = " && ".join(same(source, command, row) for row in rows)
+    source.body.append(
+        f"impl {trait} for {command.message.name} {{\n"
+        f"    fn header_eq(&self, {other}: &Self, {ignored}: bool) -> bool {{\n        {test}\n    }}\n}}\n"
+    )
+
+
+def write_printed_oneof(source, path, oneof):
+    """The impl that prints the members of a oneof, whose enum stands at a path."""
+    module, enum = path
+    source.use(module, enum)
+    source.use("crate::printed", "PrintedOneOf")
+    source.use("std", "fmt")
+    source.use("std::fmt", "Formatter")
+    arms = ""
+    for member in oneof.members:
+        if member.kind == "message":
+            source.use("crate::printed", "PrintedMessage")
+            print_member = f"{member.name}.write_message(f)"
+        elif member.kind in ("u32", "text"):
+            print_member = f'write!(f, "{{{member.name}}}")'
+        else:
+            refuse(f"there is no form yet that prints {member.name} of a oneof")
+        arms += f"            {enum}::{camel(member.name)}({member.name}) => {print_member},\n"
+    source.body.append(
+        f"impl PrintedOneOf for {enum} {{\n"
+        "    fn write_member<W: fmt::Write>(&self, f: &mut Formatter<W>) -> fmt::Result {\n"
+        f"        match self {{\n{arms}        }}\n    }}\n}}\n"
+    )
+
+
+def writer(command, row):
+    """The function that writes the line of a field."""
+    if isinstance(row, OneOf):
+        return "write_oneof"
+    if (row.presence, row.message) == ("repeated", "Header"):
+        return "write_headers"
+    if (row.presence, row.kind) not in WRITERS:
+        refuse(f"there is no form yet that prints {row.name} of {command.message.name}")
+    return WRITERS[row.presence, row.kind]
+
+
+def write_difference(source, command):
+    """The impl that prints how two commands differ."""
+    trait = source.use("crate::difference", "CommandMessageHeaderDiff")
+    source.use("std", "fmt")
+    source.use("std::fmt", "Formatter")
+    source.ghost("std.specs.Prelude", "refl")
+    calls = []
+    for row in command.printed():
+        by = "" if writer(command, row) == "write_number" else "&"
+        function = source.use("crate::difference", writer(command, row))
+        calls.append(f'{function}(f, indentation, "{row.name}", {by}self.{row.name}, {by}expected.{row.name})')
+    unused = "" if calls else "_"
+    lines = "".join(f"        {call}?;\n" for call in calls[:-1]) + f"        {calls[-1] if calls else 'Ok(())'}\n"
+    source.body.append(
+        f"impl {trait} for {command.message.name} {{\n"
+        f"    fn write_lines<W: fmt::Write>(&self, {unused}expected: &Self, {unused}f: &mut Formatter<W>, {unused}indentation: &str)"
+        f" -> fmt::Result {{\n{lines}    }}\n\n"
+        "    ghost printed_whole = { refl };\n}\n"
+    )
+
+
+def write_command(command, shared):
+    """The source of a command's file. Oneofs that are shared have files of their own."""
+    message = command.message
+    source = Source(f"`{message.name}` compared.")
+    source.use(command.crate, message.name)
+    for row in message.rows:
+        if isinstance(row, OneOf) and command.is_payload(row):
+            write_same_but_payload(source, command, row)
+    trait = source.use("crate::name", "NamedCommandMessage")
+    source.body.append(
+        f"impl {trait} for {message.name} {{\n"
+        f"    fn command_name(&self) -> &str {{\n        &self.{command.row(NAME_NUMBER).name}\n    }}\n}}\n"
+    )
+    write_equality(source, command)
+    for row in command.printed():
+        if isinstance(row, OneOf) and row.name not in shared:
+            write_printed_oneof(source, (f"{command.crate}::{command.module}", camel(row.name)), row)
+    write_difference(source, command)
+    return source.text()
+
+
+def answers(command):
+    """The proof that a command's lines follow each other."""
+    path = f"Rattle.{CRATE}.proofs.{command.module}.{command.message.name}CommandMessageHeaderDiff.write_lines.Goals"
+    counts = {}
+    steps, plain = "", "plain"
+    rows = command.printed()
+    for at, row in enumerate(rows, 1):
+        call = writer(command, row)
+        counts[call] = counts.get(call, 0) + 1
+        if counts[call] > 1:
+            call += f"-{counts[call]}"
+        last = at == len(rows)
+        steps += f"    let w{at} = c.{call if last else f'in_ok-{call}'}.ensures {plain} {'ok' if last else 'refl'} in\n"
+        plain = f"w{at}.plain"
+    chain = f"nothing_written g.W.Write.write_str_gives _ {plain}"
+    for at in range(len(rows), 0, -1):
+        chain = f"append _ _ _ _ _ w{at} ({chain})"
+    return (
+        "use Rattle.std.proofs.Common.{refl}\n"
+        "use Rattle.std.proofs.Output.{has_written_append}\n"
+        f"use Rattle.{CRATE}.proofs.Lines.{{nothing_written}}\n"
+        f"use {path} as goal\n\n"
+        f"pub returns : goal.returns\nreturns g c plain ok =\n{steps}"
+        f"    let append = has_written_append g.W.Write.write_str_gives in\n    {chain}\n"
+    )
+
+
+def write_crate(folder, crates, table, schema_name, shared_oneofs):
+    """Writes the files of the crate into a folder, not yet laid out: for the commands of some crates, with their shared oneofs."""
+    sources = folder / "src"
+    sources.mkdir(parents=True)
+    modules = {module: seen for module, seen in BY_HAND.items() if module != "laws" or (FOLDER / "src" / "laws.rt").exists()}
+    homes = {}
+    printed = {}
+    for crate in crates:
+        for module, enum, _, oneof, users in shared_oneofs(crate, table):
+            for user, name in users:
+                homes.setdefault(user, {})[name] = (crate, module, enum, oneof)
+    for command in commands(crates, table, schema_name):
+        shared = homes.get(command.message.name, {})
+        (sources / f"{command.module}.rt").write_text(write_command(command, shared))
+        modules[command.module] = True
+        for row in command.printed():
+            if row.name in shared:
+                crate, module, enum, oneof = shared[row.name]
+                printed[module] = (f"{crate}::{module}", enum), oneof
+        if len(command.printed()) > 1:
+            proofs = folder / "proofs" / command.module / f"{command.message.name}CommandMessageHeaderDiff" / "write_lines"
+            proofs.mkdir(parents=True)
+            (proofs / "Answers.antt").write_text(answers(command))
+    for module, (path, oneof) in printed.items():
+        source = Source(f"`{path[1]}` printed.")
+        write_printed_oneof(source, path, oneof)
+        (sources / f"{module}.rt").write_text(source.text())
+        modules[module] = False
+    declared = "".join(f"{'pub ' if seen else ''}mod {module};\n" for module, seen in sorted(modules.items()))
+    (sources / "lib.rt").write_text(f"//! {ABOUT}\n#![tactic(auto)]\n\n{declared}")
