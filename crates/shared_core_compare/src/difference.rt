@@ -20,9 +20,10 @@ use shared_core_record::record::WireRecord;
 use std::fmt;
 use std::fmt::{Display, Formatter};
 
-/// Commands whose difference can be printed.
+/// Commands whose difference can be printed: a line for each field that a person looks at, where the two differ. Which fields these are, in what
+/// order and under what names, is this project's own table, as the Rust has it (`commands`); it knows nothing of payloads that are ignored.
 pub trait CommandMessageHeaderDiff: WireRecord {
-    /// Writes a line for each printed field that differs. (For the code of commands.)
+    /// Writes the lines, each behind the indentation. It fails where the writer fails. (For the code of commands.)
     fn write_lines<W: fmt::Write>(
         &self,
         expected: &Self,
@@ -35,7 +36,8 @@ pub trait CommandMessageHeaderDiff: WireRecord {
     /// Each field that is compared is printed, or is the name.
     ghost printed_whole: { is_printed_whole Self.schema ≡ true };
 
-    /// Writes a line for each printed field in which this command, the actual one, differs from the expected one.
+    /// Writes a line for each printed field in which this command, the actual one, differs from the expected one: a line feed, the formatter's
+    /// indentation and `field: actual != expected`. It fails where the writer fails; what was written then is a beginning of the lines.
     final fn write_diff<W: fmt::Write>(
         &self,
         expected: &Self,

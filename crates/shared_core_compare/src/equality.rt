@@ -8,9 +8,15 @@ use shared_core_record::oneof::OneOf;
 use shared_core_record::record::WireRecord;
 
 /// Commands that are compared with those that were recorded.
+///
+/// Replay may change some fields, which are never compared: all of `InputCommandMessage`, the time and the completion id of
+/// `SleepCommandMessage`, the time of `OneWayCallCommandMessage`. Payloads are what the code hands over as bytes: the parameters of calls, the
+/// value of `SetStateCommandMessage`, and the value (no failure) that `OutputCommandMessage`, `GetEagerStateCommandMessage`,
+/// `CompletePromiseCommandMessage` and `CompleteAwakeableCommandMessage` hold. What a signal carries is no payload. (This project's own, as the
+/// Rust has it; the table is `commands`.)
 pub trait CommandMessageHeaderEq: WireRecord {
-    /// Whether the two are the same but for the fields that replay may change and, where these are ignored, their payloads. It asks for no
-    /// memory and stops at the first field that differs.
+    /// Whether the two are the same but for the fields that are never compared and, where payloads are ignored, the bytes of payloads. That a
+    /// payload is there is always compared. It asks for no memory and stops at the first field that differs.
     fn header_eq(&self, other: &Self, ignore_payload_equality: bool) -> bool
         ensures { IsTrue result ↔ (erased Self.schema ignore_payload_equality (Self.parts self.now)
             ≡ erased Self.schema ignore_payload_equality (Self.parts other.now)) };
