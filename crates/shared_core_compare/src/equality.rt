@@ -23,10 +23,10 @@ pub trait CommandMessageHeaderEq: WireRecord {
 }
 
 /// Whether two records are the same value.
-pub(crate) fn same_record<M: WireRecord>(record: &M, other: &M) -> bool
-    ensures { IsTrue result ↔ (M.parts record.now ≡ M.parts other.now) }
+pub(crate) fn same_record<M: WireRecord>(message: &M, other: &M) -> bool
+    ensures { IsTrue result ↔ (M.parts message.now ≡ M.parts other.now) }
 {
-    record == other
+    message == other
 }
 
 /// Whether two messages that may be absent are the same.
