@@ -1,7 +1,7 @@
 #!/bin/sh
-# Shows that the written files are up to date: the records, which scripts/records.py writes, those of the peer, which bench/records.py
-# writes, and the payloads from protoc, which scripts/vectors.py writes. It takes seconds. Needs python3, and for the last protoc, and
-# says 'not run' where there is none. The last line is 'N passed, M failed', of these programs.
+# Shows that the written files are up to date: the records and how commands are compared, which scripts/records.py writes, the records
+# of the peer, which bench/records.py writes, and the payloads from protoc, which scripts/vectors.py writes. It takes seconds. Needs
+# python3, and for the last protoc, and says 'not run' where there is none. The last line is 'N passed, M failed', of these programs.
 set -u
 cd "$(dirname "$0")/.." || exit 1
 
