@@ -16,7 +16,7 @@ ENTRIES = FOLDER / "specs" / "Commands.antt"
 
 ABOUT = "Commands compared: their names, whether two are the same but for what replay may change, and how they differ."
 
-# Modules that are written by hand, and whether other crates see them.
+# Modules that are written by hand, and whether other crates see them. What is written holds impls alone, which need no name.
 BY_HAND = {"difference": True, "equality": True, "laws": True, "name": True, "printed": False}
 
 # The number of the field that names a command.
@@ -344,20 +344,22 @@ def answers(command):
 
 
 def write_crate(folder, crates, table, schema_name, shared_oneofs):
-    """Writes the files of the crate into a folder, not yet laid out: for the commands of some crates, with their shared oneofs."""
+    """Writes the files of the crate into a folder, not yet laid out: for the commands of some crates, with the oneofs that they share."""
     sources = folder / "src"
     sources.mkdir(parents=True)
-    modules = {module: seen for module, seen in BY_HAND.items() if module != "laws" or (FOLDER / "src" / "laws.rt").exists()}
+    modules = dict(BY_HAND)
+    if not (FOLDER / "src" / "laws.rt").exists():
+        del modules["laws"]
     homes = {}
-    printed = {}
     for crate in crates:
         for module, enum, _, oneof, users in shared_oneofs(crate, table):
             for user, name in users:
                 homes.setdefault(user, {})[name] = (crate, module, enum, oneof)
+    printed = {}
     for command in commands(crates, table, schema_name):
         shared = homes.get(command.message.name, {})
         (sources / f"{command.module}.rt").write_text(write_command(command, shared))
-        modules[command.module] = True
+        modules[command.module] = False
         for row in command.printed():
             if row.name in shared:
                 crate, module, enum, oneof = shared[row.name]
