@@ -1,5 +1,5 @@
 -- Commands with what is not compared erased.
-use Rattle.std.specs.Prelude.{ℕ, Bool, ◌&&◌, List, [], ◌∷◌, if◌then◌else◌}
+use Rattle.std.specs.Prelude.{◌≡◌, ℕ, Bool, ◌&&◌, List, [], ◌∷◌, if◌then◌else◌}
 use Rattle.std.specs.List.{list_any}
 use Rattle.shared_core_wire.specs.Schema.{Kind, Row, Message, Plain, Optional, Repeated, OneOf, numbers, includes, member_kind}
 use Rattle.shared_core_wire.specs.Value.{Part, Parts, Absent, Nested, Elements, Member, nil, cons, default_of, empty_part, empty_value}
@@ -39,3 +39,7 @@ erased_parts fields ignore_payloads (row ∷ rows) v =
 -- A command of a schema with what is not compared erased.
 abbrev pub erased : ℕ → Bool → Parts → Parts
 erased s ignore_payloads command = erased_parts (command_fields s) ignore_payloads (table s) command
+
+-- Two commands of a schema are the same but for what is erased.
+abbrev pub AreSame : ℕ → Bool → Parts → Parts → Type 0
+AreSame s ignore_payloads a b = erased s ignore_payloads a ≡ erased s ignore_payloads b

@@ -1,8 +1,10 @@
-//! What holds of every command, by the contracts of its calls alone. A law is the contract of a function that does nothing but compare.
+//! What holds of every command, by the contracts of its calls alone. A law is the contract of a function that does nothing but compare; its
+//! other clauses tie its answers to the commands, so that no other function has them.
 
-ghost use Rattle.std.specs.Prelude.{◌≡◌, IsFalse, IsTrue, List, ℕ, [], true};
+ghost use Rattle.std.specs.Prelude.{◌≡◌, ◌↔◌, IsFalse, IsTrue, List, ℕ, [], false, true};
 ghost use Rattle.shared_core_compare.specs.Commands.{name_part};
 ghost use Rattle.shared_core_compare.specs.Differences.{difference};
+ghost use Rattle.shared_core_compare.specs.Erasure.{AreSame};
 
 use crate::difference::CommandMessageHeaderDiff;
 use crate::equality::CommandMessageHeaderEq;
@@ -23,7 +25,8 @@ pub fn either_is_asked<M: CommandMessageHeaderEq>(
     b: &M,
     ignore_payload_equality: bool,
 ) -> (bool, bool)
-    ensures { result.0 ≡ result.1 }
+    ensures asked { IsTrue result.0 ↔ AreSame M.schema ignore_payload_equality (M.parts a.now) (M.parts b.now) }
+    ensures law { result.0 ≡ result.1 }
 {
     (
         a.header_eq(b, ignore_payload_equality),
@@ -38,7 +41,10 @@ pub fn sameness_goes_on<M: CommandMessageHeaderEq>(
     c: &M,
     ignore_payload_equality: bool,
 ) -> (bool, bool, bool)
-    ensures { IsTrue result.0 → IsTrue result.1 → IsTrue result.2 }
+    ensures first { IsTrue result.0 ↔ AreSame M.schema ignore_payload_equality (M.parts a.now) (M.parts b.now) }
+    ensures second { IsTrue result.1 ↔ AreSame M.schema ignore_payload_equality (M.parts b.now) (M.parts c.now) }
+    ensures third { IsTrue result.2 ↔ AreSame M.schema ignore_payload_equality (M.parts a.now) (M.parts c.now) }
+    ensures law { IsTrue result.0 → IsTrue result.1 → IsTrue result.2 }
 {
     (
         a.header_eq(b, ignore_payload_equality),
@@ -52,7 +58,9 @@ pub fn the_same_with_payloads_is_the_same_without<M: CommandMessageHeaderEq>(
     a: &M,
     b: &M,
 ) -> (bool, bool)
-    ensures { IsTrue result.0 → IsTrue result.1 }
+    ensures with_payloads { IsTrue result.0 ↔ AreSame M.schema false (M.parts a.now) (M.parts b.now) }
+    ensures without { IsTrue result.1 ↔ AreSame M.schema true (M.parts a.now) (M.parts b.now) }
+    ensures law { IsTrue result.0 → IsTrue result.1 }
 {
     (a.header_eq(b, false), a.header_eq(b, true))
 }
@@ -62,7 +70,8 @@ pub fn what_differs_is_named_or_printed<M: CommandMessageHeaderEq + CommandMessa
     a: &M,
     b: &M,
 ) -> bool
-    ensures { IsFalse result → (indentation : List ℕ) → name_part M.schema (M.parts a.now) ≡ name_part M.schema (M.parts b.now)
+    ensures asked { IsTrue result ↔ AreSame M.schema false (M.parts a.now) (M.parts b.now) }
+    ensures law { IsFalse result → (indentation : List ℕ) → name_part M.schema (M.parts a.now) ≡ name_part M.schema (M.parts b.now)
         → difference M.schema indentation (M.parts a.now) (M.parts b.now) ≡ [] → ⊥ }
 {
     a.header_eq(b, false)
