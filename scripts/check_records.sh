@@ -1,7 +1,8 @@
 #!/bin/sh
 # Shows that the written files are up to date: the records and how commands are compared, which scripts/records.py writes, the records
-# of the peer, which bench/records.py writes, and the payloads from protoc, which scripts/vectors.py writes. It takes seconds. Needs
-# python3, and for the last protoc, and says 'not run' where there is none. The last line is 'N passed, M failed', of these programs.
+# of the peer, which bench/records.py writes, the lines on comparisons, which scripts/compare.py writes, and the payloads from protoc,
+# which scripts/vectors.py writes. It takes seconds. Needs python3, and for the last protoc, and says 'not run' where there is none. The
+# last line is 'N passed, M failed', of these programs.
 set -u
 cd "$(dirname "$0")/.." || exit 1
 
@@ -27,6 +28,7 @@ check() {
 }
 check scripts/records.py
 check bench/records.py
+check scripts/compare.py
 if command -v protoc > /dev/null; then
   check scripts/vectors.py
 else

@@ -1,7 +1,7 @@
 #!/bin/sh
 # Shows that proto/journal.proto, the schemas that contracts cite and the code of the records say the same of every field: message,
-# name, number, kind, presence and oneof; and that conformance/ has lines of every message and message type. It reads the code as it
-# stands: whether the files that programs write are up to date is for check_records.sh. The last line is 'N passed, M failed'; what
+# name, number, kind, presence and oneof; and that conformance/ has lines of every message, message type and command. It reads the code as
+# it stands: whether the files that programs write are up to date is for check_records.sh. The last line is 'N passed, M failed'; what
 # differs is shown above it.
 set -u
 cd "$(dirname "$0")/.." || exit 1
@@ -175,6 +175,11 @@ for kind in record payload; do
 done
 awk '$1 == "frame" { print $2 }' conformance/*.txt | sort -u > "$work/lines"
 same "proto/journal.proto and the frame lines of conformance" "$work/types" "$work/lines"
+
+# Each command has comparisons: a type whose code, with which its frames begin, is from 0400 to below 8000.
+awk '$1 == "frame" && $NF ~ /^(0[4-9a-f]|[1-7])/ { print $2 }' conformance/*.txt | sort -u > "$work/commands"
+awk '$1 == "compare" { print $2 }' conformance/*.txt | sort -u > "$work/lines"
+same "the commands and the compare lines of conformance" "$work/commands" "$work/lines"
 
 echo "$passed passed, $failed failed"
 [ "$failed" -eq 0 ]

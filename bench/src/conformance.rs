@@ -233,11 +233,16 @@ impl Line<'_> {
     }
 }
 
-/// The lines of a text that are neither empty nor remarks, each with its number.
+/// What a line begins with that compares two commands. The readers say nothing of it, since they know payloads and no texts.
+const COMPARISON: &str = "compare ";
+
+/// The lines of a text that are neither empty nor remarks nor comparisons, each with its number.
 pub fn lines(text: &str) -> impl Iterator<Item = (usize, &str)> {
     text.lines()
         .enumerate()
-        .filter(|(_, line)| !line.is_empty() && !line.starts_with('#'))
+        .filter(|(_, line)| {
+            !line.is_empty() && !line.starts_with('#') && !line.starts_with(COMPARISON)
+        })
         .map(|(place, line)| (place + 1, line))
 }
 

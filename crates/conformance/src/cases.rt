@@ -26,6 +26,8 @@ pub enum Question<'a> {
     Frame(&'a str, SpokenVersion),
     /// The listing of a stream.
     Stream(SpokenVersion),
+    /// Whether two commands are the same, and their difference.
+    Compare(&'a str),
 }
 
 /// A line that was read.
@@ -62,6 +64,7 @@ fn read_question(asked: &str) -> Option<(Question<'_>, &str)> {
         "payload" => Some((Question::Payload(subject), words)),
         "merge" => Some((Question::Merge(subject), words)),
         "record" => Some((Question::Record(subject), words)),
+        "compare" => Some((Question::Compare(subject), words)),
         "stream" => Some((Question::Stream(read_version(subject)?), words)),
         "frame" => {
             let (version, words) = words.split_once(' ')?;

@@ -1,6 +1,7 @@
 //! A line checked.
 
 use crate::cases::{Case, Question, read_case};
+use crate::comparisons::check_comparison;
 use crate::message_types::check_frame;
 use crate::schemas::{RecordQuestion, check_record};
 use crate::streams::check_stream;
@@ -41,5 +42,11 @@ fn check(case: &Case<'_>, verdict: &mut Verdict<'_>) -> Result<(), Failed> {
             check_frame(ty, version, payload, verdict)
         }
         Question::Stream(version) => check_stream(version, bytes, verdict),
+        Question::Compare(ty) => {
+            let [actual, expected] = bytes else {
+                return Err(Failed::Unreadable);
+            };
+            check_comparison(ty, actual, expected, verdict)
+        }
     }
 }

@@ -4,6 +4,7 @@
 
 mod cases;
 mod checks;
+mod comparisons;
 mod frames;
 mod message_types;
 mod payloads;

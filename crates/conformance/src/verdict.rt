@@ -76,10 +76,7 @@ impl<'a> Verdict<'a> {
 
     /// The library's answer where it is bytes.
     pub fn answer_bytes(&mut self, given: &[u8]) -> Result<(), Failed> {
-        if given.is_empty() {
-            return self.answer("-");
-        }
-        let given = hex::encode(self.alloc, given)?;
+        let given = spelled(self.alloc, given)?;
         self.answer(given.as_str())
     }
 
@@ -112,4 +109,12 @@ impl<'a> Verdict<'a> {
 /// A copy of some bytes as a piece or a payload.
 pub fn copied(alloc: Global, bytes: &[u8]) -> Result<Bytes, Failed> {
     Ok(Bytes::copy_from_slice(alloc, bytes)?)
+}
+
+/// Bytes as a line spells them: hex digits in lower case, two a byte, or `-` for no bytes.
+pub fn spelled(alloc: Global, bytes: &[u8]) -> Result<String, AllocError> {
+    if bytes.is_empty() {
+        return String::from_str(alloc, "-");
+    }
+    hex::encode(alloc, bytes)
 }
