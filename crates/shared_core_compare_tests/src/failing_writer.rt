@@ -1,0 +1,45 @@
+//! Differences to a writer that fails.
+
+use crate::room::Room;
+use crate::steps::read;
+use shared_core::fmt::DiffFormatter;
+use shared_core::messages::{CallCommandMessage, CommandMessageHeaderDiff};
+use std::alloc::Global;
+use std::fmt;
+use std::fmt::Formatter;
+use std::test::Fail;
+
+/// A call with something in each field.
+pub const FULL_CALL: &[u8] =
+    b"\x0a\x01a\x12\x01b\x1a\x01c\x22\x06\x0a\x01k\x12\x01v\x2a\x01d\x32\x01e\x3a\x01f\x42\x01g\x50\x01\x58\x02\x62\x01h";
+
+/// How it differs from one with nothing in any.
+pub const DIFFERENCE: &str =
+    "\n   service_name: a != \n   handler_name: b != \n   parameter: 'c' != ''\n   key: d != \n   headers: k: v != \n   name: h != \n   idempotency_key: e != <empty>\n   scope: f != <empty>\n   limit_key: g != <empty>\n   invocation_id_notification_idx: 1 != 0\n   result_completion_id: 2 != 0";
+
+/// What two calls answer where their difference has so much room, and what stands there then.
+pub fn write_to_room(
+    room: Room,
+    actual: &CallCommandMessage,
+    expected: &CallCommandMessage,
+) -> (fmt::Result, Room) {
+    let mut f = Formatter::new(room);
+    let result = actual.write_diff(expected, DiffFormatter::new(&mut f, "   "));
+    (result, f.into_inner())
+}
+
+// A room that is smaller than the difference takes its beginning, and one of its size all of it.
+#[test]
+fn a_writer_fails_after_each_count_of_bytes(rt: HostRuntime) -> Result<(), Fail> {
+    let full: CallCommandMessage = read(rt.alloc(), FULL_CALL)?;
+    let empty: CallCommandMessage = read(rt.alloc(), b"")?;
+    for size in 0..DIFFERENCE.len() + 1 {
+        let (result, room) = write_to_room(Room::new(rt.alloc(), size)?, &full, &empty);
+        assert!(rt; result.is_ok() == (size == DIFFERENCE.len()), "at {size}");
+        assert!(rt;
+            Some(room.written()) == DIFFERENCE.as_bytes().get(..size),
+            "at {size}"
+        );
+    }
+    Ok(())
+}

@@ -1,0 +1,56 @@
+//! What commands answer while all memory is held.
+
+use crate::failing_writer::{DIFFERENCE, FULL_CALL, write_to_room};
+use crate::held_memory::HeldMemory;
+use crate::room::Room;
+use crate::steps::read;
+use shared_core::OutOfMemory;
+use shared_core::messages::{CallCommandMessage, CommandMessageHeaderEq, NamedCommandMessage};
+use std::alloc::{AllocError, Global};
+use std::test::Fail;
+
+/// What two calls answer.
+#[derive(Drop)]
+struct Answers {
+    name: Result<String, OutOfMemory>,
+    same_as_itself: bool,
+    same_as_other: bool,
+    difference: Room,
+}
+
+/// What the call and another one answer while all memory is held, or None where one more request for memory is granted nevertheless.
+fn answer_without_memory(
+    alloc: Global,
+    call: &CallCommandMessage,
+    other: &CallCommandMessage,
+) -> Result<Option<Answers>, AllocError> {
+    let room = Room::new(alloc, DIFFERENCE.len())?;
+    let held = HeldMemory::take(alloc)?;
+    let more: Result<Vec<u8>, AllocError> = Vec::with_capacity(alloc, 1);
+    let (_, difference) = write_to_room(room, call, other);
+    let answers = Answers {
+        name: call.name(alloc),
+        same_as_itself: call.header_eq(call, false),
+        same_as_other: call.header_eq(other, true),
+        difference,
+    };
+    drop(held);
+    if more.is_ok() {
+        return Ok(None);
+    }
+    Ok(Some(answers))
+}
+
+#[test]
+fn a_name_takes_memory_and_a_comparison_none(rt: HostRuntime) -> Result<(), Fail> {
+    let call: CallCommandMessage = read(rt.alloc(), FULL_CALL)?;
+    let other: CallCommandMessage = read(rt.alloc(), b"")?;
+    let Some(answers) = answer_without_memory(rt.alloc(), &call, &other)? else {
+        println!(rt; "not run: this allocator never refuses memory")?;
+        return Ok(());
+    };
+    assert!(rt; answers.name == Err(OutOfMemory));
+    assert!(rt; answers.same_as_itself && !answers.same_as_other);
+    assert!(rt; answers.difference.written() == DIFFERENCE.as_bytes());
+    Ok(())
+}
