@@ -1,7 +1,11 @@
--- The versions of the protocol.
-use Rattle.std.specs.Prelude.{ℕ}
+-- The versions of the protocol, and the content types that name them.
+use Rattle.std.specs.Prelude.{◌≡◌, ◌≢◌, ℕ, List, ◌++◌, codes, decimal, true, false, Result, Ok, Err, nat_eq}
+use Rattle.std.specs.List.{starts_with}
+use Rattle.std.specs.String.{string_bytes}
 use Rattle.shared_core_base.specs.declared.version.Version.{Version}
 use Rattle.shared_core_base.specs.declared.version.Version.TheVariants.{V1, V2, V3, V4, V5, V6, V7, V8}
+use Rattle.shared_core_base.specs.declared.version.ContentTypeError.{ContentTypeError}
+use Rattle.shared_core_base.specs.declared.version.ContentTypeError.TheVariants.{RestateContentType, OtherContentType, OutOfMemory}
 
 -- A version's number.
 abbrev pub version_number : Version → ℕ
@@ -13,3 +17,31 @@ version_number V5 = 5
 version_number V6 = 6
 version_number V7 = 7
 version_number V8 = 8
+
+-- What the content types of the protocol begin with.
+abbrev pub restate_content_types : List ℕ
+restate_content_types = codes "application/vnd.restate.invocation."
+
+-- The content type of a version: `v` and the version's number stand at its end.
+abbrev pub content_type_of : Version → List ℕ
+content_type_of version = restate_content_types ++ (codes "v" ++ decimal (version_number version))
+
+-- The text is the content type of no version.
+abbrev pub NamesNoVersion : List ℕ → Type 0
+NamesNoVersion text = (version : Version) → text ≢ content_type_of version
+
+-- Reading a text answers the version whose content type it is. The text of no version comes back, in the error for the content types of the
+-- protocol where it begins as these do; want of memory may come in the place of a refusal alone.
+abbrev pub ReadsVersion : List ℕ → Result Version ContentTypeError → Type 0
+ReadsVersion text (Ok version) = text ≡ content_type_of version
+ReadsVersion text (Err (RestateContentType kept)) =
+    NamesNoVersion text × (starts_with nat_eq text restate_content_types ≡ true) × (string_bytes kept ≡ text)
+ReadsVersion text (Err (OtherContentType kept)) =
+    NamesNoVersion text × (starts_with nat_eq text restate_content_types ≡ false) × (string_bytes kept ≡ text)
+ReadsVersion text (Err OutOfMemory) = NamesNoVersion text
+
+-- The code of a refusal: that of a media type which is not supported, or of want of memory.
+abbrev pub content_type_error_code : ContentTypeError → ℕ
+content_type_error_code (RestateContentType kept) = 415
+content_type_error_code (OtherContentType kept) = 415
+content_type_error_code OutOfMemory = 500
