@@ -1,5 +1,5 @@
 -- The errors of an invocation: codes, parts and texts.
-use Rattle.std.specs.Prelude.{◌≡◌, ℕ, ℤ, ◌^◌, List, ◌++◌, Option, Some, None, option_map, codes, if◌then◌else◌, nat_lt}
+use Rattle.std.specs.Prelude.{◌≡◌, ℕ, ℤ, pos, ◌^◌, List, ◌++◌, Option, Some, None, option_map, codes, if◌then◌else◌, nat_lt}
 use Rattle.std.specs.Fmt.{decimal}
 use Rattle.std.specs.Cow.{cow_str_bytes}
 use Rattle.std.specs.String.{string_bytes}
@@ -19,8 +19,8 @@ code_of_number number = if nat_lt number (2 ^ 16) then number else 500
 
 -- The number by which the protocol names a behavior.
 abbrev pub behavior_number : ErrorBehavior → ℤ
-behavior_number Retry = 0
-behavior_number Pause = 1
+behavior_number Retry = pos 0
+behavior_number Pause = pos 1
 
 -- The text of a command's metadata: its type, and in brackets its name, or its index where it has no name.
 abbrev pub command_metadata_text : CommandMetadata → List ℕ

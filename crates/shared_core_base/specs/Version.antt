@@ -1,5 +1,5 @@
 -- The versions of the protocol, and the content types that name them.
-use Rattle.std.specs.Prelude.{◌≡◌, ◌≢◌, ℕ, List, ◌++◌, codes, decimal, true, false, Result, Ok, Err, nat_eq}
+use Rattle.std.specs.Prelude.{◌≡◌, ◌≢◌, ⊤, ℕ, List, ◌++◌, codes, decimal, true, false, Result, Ok, Err, nat_eq}
 use Rattle.std.specs.List.{starts_with}
 use Rattle.std.specs.String.{string_bytes}
 use Rattle.shared_core_base.specs.declared.version.Version.{Version}
@@ -30,15 +30,17 @@ content_type_of version = restate_content_types ++ (codes "v" ++ decimal (versio
 abbrev pub NamesNoVersion : List ℕ → Type 0
 NamesNoVersion text = (version : Version) → text ≢ content_type_of version
 
--- Reading a text answers the version whose content type it is. The text of no version comes back, in the error for the content types of the
--- protocol where it begins as these do; want of memory may come in the place of a refusal alone.
+-- A refused text comes back: in the error for the content types of the protocol where it begins as these do, else in the other, unless there
+-- was no memory to keep it.
+abbrev pub RefusesContentType : List ℕ → ContentTypeError → Type 0
+RefusesContentType text (RestateContentType kept) = (starts_with nat_eq text restate_content_types ≡ true) × (string_bytes kept ≡ text)
+RefusesContentType text (OtherContentType kept) = (starts_with nat_eq text restate_content_types ≡ false) × (string_bytes kept ≡ text)
+RefusesContentType text OutOfMemory = ⊤
+
+-- Reading a text answers the version whose content type it is, and refuses the text of no version.
 abbrev pub ReadsVersion : List ℕ → Result Version ContentTypeError → Type 0
 ReadsVersion text (Ok version) = text ≡ content_type_of version
-ReadsVersion text (Err (RestateContentType kept)) =
-    NamesNoVersion text × (starts_with nat_eq text restate_content_types ≡ true) × (string_bytes kept ≡ text)
-ReadsVersion text (Err (OtherContentType kept)) =
-    NamesNoVersion text × (starts_with nat_eq text restate_content_types ≡ false) × (string_bytes kept ≡ text)
-ReadsVersion text (Err OutOfMemory) = NamesNoVersion text
+ReadsVersion text (Err refusal) = NamesNoVersion text × RefusesContentType text refusal
 
 -- The code of a refusal: that of a media type which is not supported, or of want of memory.
 abbrev pub content_type_error_code : ContentTypeError → ℕ

@@ -1,10 +1,10 @@
 //! The versions of the protocol, and the content types that name them.
 ghost use Rattle.std.specs.Prelude.{◌≡◌, IfOk, Some};
-ghost use Rattle.shared_core_base.specs.Version.{content_type_of, ReadsVersion, content_type_error_code};
+ghost use Rattle.shared_core_base.specs.Version.{content_type_of, ReadsVersion, RefusesContentType, content_type_error_code};
 ghost use Rattle.shared_core_base.specs.Error.{IsErrorOf};
 
 use crate::error::{Error, InvocationErrorCode, OutOfMemory, codes, error_of};
-use std::alloc::{AllocError, Global};
+use std::alloc::Global;
 use std::fmt;
 use std::fmt::Display;
 
@@ -25,6 +25,7 @@ const RESTATE_CONTENT_TYPES: &str = "application/vnd.restate.invocation.";
 
 impl Version {
     /// The content type that names the version, as `application/vnd.restate.invocation.v5`.
+    #[tactic(auto, using(std::proofs::lemmas::Fmt::decimal_digit))]
     pub fn content_type(&self) -> &'static str
         ensures { result.now ≡ content_type_of self.now }
     {
@@ -58,6 +59,7 @@ impl Version {
     ///
     /// A text that names no version is refused, and comes back in the error: `RestateContentType` where it begins as a
     /// content type of the protocol does, else `OtherContentType`. `OutOfMemory` comes only where such a text cannot be kept.
+    #[tactic(auto, using(std::proofs::lemmas::Fmt::decimal_digit))]
     pub fn from_str(alloc: Global, text: &str) -> Result<Version, ContentTypeError>
         ensures { ReadsVersion text.now result }
     {
@@ -70,15 +72,24 @@ impl Version {
             "application/vnd.restate.invocation.v6" => Ok(Version::V6),
             "application/vnd.restate.invocation.v7" => Ok(Version::V7),
             "application/vnd.restate.invocation.v8" => Ok(Version::V8),
-            _ => {
-                let kept = String::from_str(alloc, text)?;
-                if text.starts_with(RESTATE_CONTENT_TYPES) {
-                    Err(ContentTypeError::RestateContentType(kept))
-                } else {
-                    Err(ContentTypeError::OtherContentType(kept))
-                }
+            _ => Err(refusal(alloc, text)),
+        }
+    }
+}
+
+/// Why a text that names no version is refused.
+fn refusal(alloc: Global, text: &str) -> ContentTypeError
+    ensures { RefusesContentType text.now result }
+{
+    match String::from_str(alloc, text) {
+        Ok(kept) => {
+            if text.starts_with(RESTATE_CONTENT_TYPES) {
+                ContentTypeError::RestateContentType(kept)
+            } else {
+                ContentTypeError::OtherContentType(kept)
             }
         }
+        Err(_) => ContentTypeError::OutOfMemory,
     }
 }
 
@@ -103,17 +114,6 @@ pub enum ContentTypeError {
     /// The text names no version, and a request for memory to keep it was refused.
     #[error("out of memory")]
     OutOfMemory,
-}
-
-impl From<AllocError> for ContentTypeError {
-    ghost use Rattle.std.specs.Prelude.{◌≡◌};
-    ghost use Rattle.shared_core_base.specs.declared.version.ContentTypeError.TheVariants.{OutOfMemory};
-
-    ghost from_gives = { λ _ error. error ≡ OutOfMemory };
-
-    fn from(_error: AllocError) -> ContentTypeError {
-        ContentTypeError::OutOfMemory
-    }
 }
 
 impl ContentTypeError {
