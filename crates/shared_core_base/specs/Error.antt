@@ -54,6 +54,18 @@ pub record CommandParts : Type 0 where
 abbrev pub command_parts : CommandMetadata → CommandParts
 command_parts command = record { index = command.index; ty = command.ty; name = option_map cow_str_bytes command.name }
 
+-- What there is to a notification's metadata, wherever its texts lie in memory.
+pub data NotificationParts : Type 0 where
+  OfCommand : CommandParts → NotificationParts
+  OfAwakeable : List ℕ → NotificationParts
+  OfCancellation : NotificationParts
+
+-- The parts of a notification's metadata.
+abbrev pub notification_parts : NotificationMetadata → NotificationParts
+notification_parts (RelatedToCommand command) = OfCommand (command_parts command)
+notification_parts (Awakeable id) = OfAwakeable (string_bytes id)
+notification_parts Cancellation = OfCancellation
+
 -- What there is to an error, wherever its texts lie in memory.
 pub record ErrorParts : Type 0 where
   pub code : ℕ

@@ -1,17 +1,27 @@
 //! What holds of the definitions of this crate, and of the traits that its types derive.
-ghost use Rattle.std.specs.Prelude.{◌≡◌, ◌↔◌, ◌==◌, ◌≢◌, ℕ, IsTrue, Ok, Some, None, find, bit_and};
+ghost use Rattle.std.specs.Prelude.{◌≡◌, ◌↔◌, ◌==◌, ◌≢◌, ℕ, IsTrue, false, Ok, Some, None, find, bit_and};
 ghost use Rattle.std.specs.Option.{ok_or};
 ghost use Rattle.std.specs.Ordering.{nat_cmp};
 ghost use Rattle.shared_core_base.specs.MessageType.{code_of, type_of, named_types, IsNamed};
 ghost use Rattle.shared_core_base.specs.CommandType.{command_type_of};
 ghost use Rattle.shared_core_base.specs.Version.{version_number};
+ghost use Rattle.shared_core_base.specs.Error.{command_parts, notification_parts, error_parts};
+ghost use Rattle.shared_core_base.specs.Values.{failure_parts, value_parts, header_parts, relationship_parts};
 ghost use Rattle.shared_core_base.specs.declared.header.MessageType.{MessageType as AnyType};
 ghost use Rattle.shared_core_base.specs.declared.header.MessageType.TheVariants.{CustomEntry};
 
 use crate::command_type::CommandType;
+use crate::error::codes::{
+    AWAITING_TWO_ASYNC_RESULTS, BAD_REQUEST, CLOSED, INTERNAL, JOURNAL_MISMATCH,
+    PROTOCOL_VIOLATION, SUSPENDED, UNSUPPORTED_FEATURE, UNSUPPORTED_MEDIA_TYPE,
+};
+use crate::error::{
+    CommandMetadata, Error, ErrorBehavior, InvocationErrorCode, NotificationMetadata, codes,
+};
 use crate::header::{MessageHeader, MessageType};
-use crate::version::Version;
-use std::alloc::AllocError;
+use crate::values::{CommandRelationship, Header, PayloadOptions, TerminalFailure, Value};
+use crate::version::{ContentTypeError, Version};
+use std::alloc::{AllocError, Global};
 use std::cmp::Ordering;
 
 /// A named type's code stands for it, and a custom entry's exactly where no named type has the code and one of its upper
@@ -46,6 +56,29 @@ pub fn compare_versions(a: Version, b: Version) -> Ordering
 {
     a.cmp(&b)
 }
+
+/// Each version is read again from its content type.
+pub fn content_types_convert_back(
+    alloc: Global,
+    version: Version,
+) -> Result<Version, ContentTypeError>
+    ensures { result ≡ Ok version }
+{
+    Version::from_str(alloc, version.content_type())
+}
+
+/// The codes have the numbers that the protocol gives them.
+pub fn codes_have_their_numbers()
+    ensures bad_request { BAD_REQUEST.0 ≡ 400 }
+    ensures unsupported_media_type { UNSUPPORTED_MEDIA_TYPE.0 ≡ 415 }
+    ensures internal { INTERNAL.0 ≡ 500 }
+    ensures journal_mismatch { JOURNAL_MISMATCH.0 ≡ 570 }
+    ensures protocol_violation { PROTOCOL_VIOLATION.0 ≡ 571 }
+    ensures awaiting_two_async_results { AWAITING_TWO_ASYNC_RESULTS.0 ≡ 572 }
+    ensures unsupported_feature { UNSUPPORTED_FEATURE.0 ≡ 573 }
+    ensures closed { CLOSED.0 ≡ 598 }
+    ensures suspended { SUSPENDED.0 ≡ 599 }
+{}
 
 /// `==` of types compares all of them.
 pub fn equal_types(a: MessageType, b: MessageType) -> bool
@@ -91,4 +124,85 @@ pub fn clone_command_type(command: &CommandType) -> Result<CommandType, AllocErr
     ensures { result ≡ Ok command.now }
 {
     command.clone()
+}
+
+/// `==` of codes compares their numbers.
+pub fn equal_codes(a: InvocationErrorCode, b: InvocationErrorCode) -> bool
+    ensures { IsTrue result ↔ (a ≡ b) }
+{
+    a == b
+}
+
+/// `==` of behaviors compares all of them.
+pub fn equal_behaviors(a: ErrorBehavior, b: ErrorBehavior) -> bool
+    ensures { IsTrue result ↔ (a ≡ b) }
+{
+    a == b
+}
+
+/// `==` of commands' metadata compares all three parts.
+pub fn equal_command_metadata(a: &CommandMetadata, b: &CommandMetadata) -> bool
+    ensures { IsTrue result ↔ (command_parts a.now ≡ command_parts b.now) }
+{
+    a == b
+}
+
+/// `==` of notifications' metadata compares the variants and all that is in them.
+pub fn equal_notification_metadata(a: &NotificationMetadata, b: &NotificationMetadata) -> bool
+    ensures { IsTrue result ↔ (notification_parts a.now ≡ notification_parts b.now) }
+{
+    a == b
+}
+
+/// `==` of errors compares all five parts.
+pub fn equal_errors(a: &Error, b: &Error) -> bool
+    ensures { IsTrue result ↔ (error_parts a.now ≡ error_parts b.now) }
+{
+    a == b
+}
+
+/// `==` of values compares the variants and all that is in them.
+pub fn equal_values(a: &Value, b: &Value) -> bool
+    ensures { IsTrue result ↔ (value_parts a.now ≡ value_parts b.now) }
+{
+    a == b
+}
+
+/// `==` of terminal failures compares all three parts.
+pub fn equal_failures(a: &TerminalFailure, b: &TerminalFailure) -> bool
+    ensures { IsTrue result ↔ (failure_parts a.now ≡ failure_parts b.now) }
+{
+    a == b
+}
+
+/// `==` of a request's headers compares both parts.
+pub fn equal_request_headers(a: &Header, b: &Header) -> bool
+    ensures { IsTrue result ↔ (header_parts a.now ≡ header_parts b.now) }
+{
+    a == b
+}
+
+/// `==` of commands that an error is about compares the variants and all that is in them.
+pub fn equal_relationships(a: &CommandRelationship, b: &CommandRelationship) -> bool
+    ensures { IsTrue result ↔ (relationship_parts a.now ≡ relationship_parts b.now) }
+{
+    a == b
+}
+
+/// A clone of a code, a behavior or options equals its source, and takes no memory.
+pub fn clone_small(
+    code: &InvocationErrorCode,
+    behavior: &ErrorBehavior,
+    options: &PayloadOptions,
+) -> Result<(InvocationErrorCode, ErrorBehavior, PayloadOptions), AllocError>
+    ensures { result ≡ Ok (code.now, behavior.now, options.now) }
+{
+    Ok((code.clone()?, behavior.clone()?, options.clone()?))
+}
+
+/// By default a payload's bytes are the same each time.
+pub fn default_options() -> PayloadOptions
+    ensures { result ≡ record { unstable_serialization = false } }
+{
+    PayloadOptions::default()
 }

@@ -1,0 +1,27 @@
+-- The content types of two versions differ.
+use Rattle.std.proofs.Common.{◌≡◌, ℕ, ◌++◌, codes, drop, length, ◌<◌, ◌^◌, ◌==◌, if◌then◌else◌, refl, sym, ap, ◌∙◌, arith}
+use Rattle.std.proofs.lemmas.Fmt.{decimal_injective}
+use Rattle.std.specs.Fmt.{decimal}
+use Rattle.shared_core_base.specs.declared.version.Version.{Version}
+use Rattle.shared_core_base.specs.declared.version.Version.TheVariants.{V1, V2, V3, V4, V5, V6, V7, V8}
+use Rattle.shared_core_base.specs.Version.{version_number, restate_content_types, content_type_of}
+
+-- the version of a number
+version_of_number : ℕ → Version
+version_of_number number =
+    if number == 1
+    then V1
+    else (if number == 2 then V2 else (if number == 3 then V3 else (if number == 4 then V4 else (if number == 5 then V5 else (if number == 6 then V6 else (if number == 7 then V7 else V8))))))
+
+numbers_convert_back : (version : Version) → version_of_number (version_number version) ≡ version
+unfolding version_of_number
+numbers_convert_back version = elim version as (λ version. version_of_number (version_number version) ≡ version) [ V1 ↦ refl | _ ↦ refl ]
+
+numbers_fit : (version : Version) → version_number version < 2 ^ 64
+numbers_fit version = elim version as (λ version. version_number version < 2 ^ 64) [ V1 ↦ omega arith | _ ↦ omega arith ]
+
+pub content_types_differ : (a b : Version) → content_type_of a ≡ content_type_of b → a ≡ b
+content_types_differ a b same =
+    let digits_are : decimal (version_number a) ≡ decimal (version_number b) = ap (drop (length (restate_content_types ++ codes "v"))) same in
+    let number_is = decimal_injective (version_number a) (version_number b) (numbers_fit a) (numbers_fit b) digits_are in
+    sym (numbers_convert_back a) ∙ ap version_of_number number_is ∙ numbers_convert_back b
