@@ -1,8 +1,9 @@
-//! The journal wire protocol of the Restate SDKs: the decoder of a stream that comes in pieces, headers and versions, and the
-//! messages with their payloads.
+//! The journal wire protocol of the Restate SDKs: the decoder of a stream that comes in pieces, headers and versions, the messages with
+//! their payloads, commands compared, and the errors and values of the layer above.
 #![tactic(auto)]
 
 pub mod encoding;
+pub mod error;
 pub mod errors;
 pub mod fmt;
 pub mod laws;
@@ -11,6 +12,10 @@ mod pending_bytes;
 pub mod wire;
 
 pub use shared_core_base::command_type::CommandType;
-pub use shared_core_base::error::OutOfMemory;
+pub use shared_core_base::error::{Error, OutOfMemory};
+pub use shared_core_base::headers::HeaderMap;
+pub use shared_core_base::values::{
+    CommandRelationship, Header, NonEmptyValue, PayloadOptions, TerminalFailure, Value,
+};
 pub use shared_core_base::version::Version;
-pub use shared_core_base::{header, version};
+pub use shared_core_base::{header, headers, version};

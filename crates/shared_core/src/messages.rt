@@ -1,5 +1,6 @@
 //! The records of the protocol: one struct a message, with the enums of its oneofs in a module named as the message.
 
+pub use shared_core_base::error::ErrorBehavior;
 pub use shared_core_compare::difference::CommandMessageHeaderDiff;
 pub use shared_core_compare::equality::CommandMessageHeaderEq;
 pub use shared_core_compare::name::NamedCommandMessage;
