@@ -42,7 +42,7 @@ fn answer_without_memory(
 }
 
 #[test]
-fn a_name_takes_memory_and_a_comparison_none(rt: HostRuntime) -> Result<(), Fail> {
+fn a_name_needs_memory_and_a_comparison_none(rt: HostRuntime) -> Result<(), Fail> {
     let call: CallCommandMessage = read(rt.alloc(), FULL_CALL)?;
     let other: CallCommandMessage = read(rt.alloc(), b"")?;
     let Some(answers) = answer_without_memory(rt.alloc(), &call, &other)? else {
