@@ -3,3 +3,4 @@ pub mod Frames
 pub mod Notifications
 pub mod Messages
 pub mod Texts
+pub mod Conversions

@@ -36,9 +36,13 @@ header_text key value = key ++ (codes ": " ++ value)
 abbrev pub headers_text : List Header → List ℕ
 headers_text headers = join_by (λ header. header_text (string_bytes header.key) (string_bytes header.value)) comma_space headers
 
+-- Bytes as text, with U+FFFD for each piece that is not UTF-8.
+abbrev pub lossy_text : List ℕ → List ℕ
+lossy_text bytes = encode_utf8_all (lossy_chars bytes)
+
 -- The text of a state key: `'key'`, with U+FFFD for each piece that is not UTF-8.
 abbrev pub state_key_text : List ℕ → List ℕ
-state_key_text key = codes "'" ++ (encode_utf8_all (lossy_chars key) ++ codes "'")
+state_key_text key = codes "'" ++ (lossy_text key ++ codes "'")
 
 -- The text of state keys: each key's, joined by `, `, in brackets.
 abbrev pub state_keys_text : List (List ℕ) → List ℕ

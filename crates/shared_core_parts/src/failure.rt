@@ -1,14 +1,17 @@
 //! A terminal failure.
 
-ghost use Rattle.std.specs.Prelude.{Some};
+ghost use Rattle.std.specs.Prelude.{◌≡◌, Some, IfOk};
 ghost use Rattle.std.specs.String.{string_bytes};
 ghost use Rattle.shared_core_wire.specs.Value.{Number, nil, cons};
 ghost use Rattle.shared_core_record.specs.Table as tables;
 ghost use Rattle.shared_core_record.specs.FieldParts.{text_part, message_part, elements_part};
 ghost use Rattle.shared_core_record.specs.EqualityRules.{equality_rules};
 ghost use Rattle.shared_core_parts.specs.Texts.{failure_text};
+ghost use Rattle.shared_core_parts.specs.Conversions.{failure_contents, terminal_contents, terminal_contents_of};
 
 use crate::failure_metadata::FailureMetadata;
+use shared_core_base::error::OutOfMemory;
+use shared_core_base::values::TerminalFailure;
 use shared_core_record::occurrence::Occurrence;
 use shared_core_record::record::WireRecord;
 use shared_core_record::size::Size;
@@ -26,6 +29,42 @@ pub struct Failure {
     pub message: String,
     /// Further entries, in order.
     pub metadata: Vec<FailureMetadata>,
+}
+
+impl Failure {
+    /// The failure with the code, the message and the metadata of a terminal failure. Texts are moved; memory is asked for the list of the
+    /// metadata alone.
+    pub fn from_terminal(alloc: Global, terminal: TerminalFailure) -> Result<Failure, OutOfMemory>
+        ensures { IfOk result (λ failure. failure_contents failure ≡ terminal_contents terminal) }
+    {
+        let metadata = terminal
+            .metadata
+            .into_iter()
+            .map(|(key, value)| FailureMetadata { key, value })
+            .collect(alloc)?;
+        Ok(Failure {
+            code: u32::from(terminal.code),
+            message: terminal.message,
+            metadata,
+        })
+    }
+
+    /// The terminal failure with the message, the metadata and the low 16 bits of the code. Texts are moved; memory is asked for the list of
+    /// the metadata alone.
+    pub fn into_terminal(self, alloc: Global) -> Result<TerminalFailure, OutOfMemory>
+        ensures { IfOk result (λ terminal. terminal_contents terminal ≡ terminal_contents_of self) }
+    {
+        let metadata = self
+            .metadata
+            .into_iter()
+            .map(|entry| (entry.key, entry.value))
+            .collect(alloc)?;
+        Ok(TerminalFailure {
+            code: (self.code & 0xFFFF) as u16,
+            message: self.message,
+            metadata,
+        })
+    }
 }
 
 impl WireRecord for Failure {

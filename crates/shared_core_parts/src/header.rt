@@ -1,19 +1,24 @@
 //! A header of a call.
 
-ghost use Rattle.std.specs.Prelude.{Some};
+ghost use Rattle.std.specs.Prelude.{◌≡◌, Some, IfOk, IsOk};
+ghost use Rattle.std.specs.Cow.{IsOwnedStr};
 ghost use Rattle.std.specs.String.{string_bytes};
 ghost use Rattle.shared_core_wire.specs.Value.{nil, cons};
 ghost use Rattle.shared_core_record.specs.Table as tables;
 ghost use Rattle.shared_core_record.specs.FieldParts.{text_part};
 ghost use Rattle.shared_core_record.specs.EqualityRules.{equality_rules};
+ghost use Rattle.shared_core_parts.specs.Conversions.{root_header_of, IsOwnedTextOf, IsHeaderOf, OwnsTexts};
 
+use shared_core_base::error::OutOfMemory;
 use shared_core_base::fmt::{ListItem, write_joined};
+use shared_core_base::values;
 use shared_core_record::occurrence::Occurrence;
 use shared_core_record::record::WireRecord;
 use shared_core_record::size::Size;
 use shared_core_record::write::write_text;
 use shared_core_wire::error::WireError;
 use std::alloc::{AllocError, Global};
+use std::borrow::CowStr;
 use std::fmt;
 
 /// A header of a call.
@@ -23,6 +28,43 @@ pub struct Header {
     pub key: String,
     /// The value.
     pub value: String,
+}
+
+impl Header {
+    /// The header with the key and the value of one of the layer above. A text that is owned is moved; one that is borrowed is copied, and
+    /// memory is asked for that alone.
+    pub fn from_root(alloc: Global, root: values::Header) -> Result<Header, OutOfMemory>
+        ensures ok { IfOk result (IsHeaderOf root.entry) }
+        ensures succeeds { OwnsTexts root.entry → IsOk result }
+    {
+        Ok(Header {
+            key: owned_text(alloc, root.key)?,
+            value: owned_text(alloc, root.value)?,
+        })
+    }
+}
+
+/// The text itself where it is owned, else a copy.
+fn owned_text(alloc: Global, text: CowStr<'static>) -> Result<String, OutOfMemory>
+    ensures ok { IfOk result (IsOwnedTextOf text.entry) }
+    ensures succeeds { IsOwnedStr text.entry → IsOk result }
+{
+    match text {
+        CowStr::Owned(owned) => Ok(owned),
+        CowStr::Borrowed(borrowed) => Ok(String::from_str(alloc, borrowed)?),
+    }
+}
+
+/// The same key and value, moved.
+impl From<Header> for values::Header {
+    ghost from_gives = { λ header root. root ≡ root_header_of header };
+
+    fn from(header: Header) -> values::Header {
+        values::Header {
+            key: CowStr::Owned(header.key),
+            value: CowStr::Owned(header.value),
+        }
+    }
 }
 
 impl WireRecord for Header {

@@ -7,6 +7,7 @@ pub mod failure_metadata;
 pub mod future;
 pub mod header;
 pub mod idempotent_request_target;
+pub mod laws;
 pub mod notification;
 pub mod notification_template;
 pub mod restate_message;

@@ -8,9 +8,11 @@ ghost use Rattle.shared_core_record.specs.FieldParts.{text_part, option_part, me
 ghost use Rattle.shared_core_record.specs.EqualityRules.{equality_rules, different_members};
 
 use crate::failure::Failure;
-use crate::state_keys::StateKeys;
+use crate::state_keys::{StateKeys, texts_of_keys};
 use crate::value::Value;
 use crate::void::Void;
+use shared_core_base::error::OutOfMemory;
+use shared_core_base::values;
 use shared_core_record::occurrence::Occurrence;
 use shared_core_record::oneof::OneOf;
 use shared_core_record::record::WireRecord;
@@ -153,6 +155,26 @@ impl Result {
         ensures { IsTrue result ↔ IsFailure self.now }
     {
         matches!(self, Result::Failure(_))
+    }
+
+    ghost use Rattle.std.specs.Prelude.{IfOk, IsOk};
+    ghost use Rattle.shared_core_parts.specs.Conversions.{IsValueOf, TakesNoMemory};
+
+    /// The value that it brings: keys of a state as text, with U+FFFD for each piece that is not UTF-8, a failure as `Failure::into_terminal`
+    /// makes it terminal, and all else as it is. Nothing, a value and the id of an invocation take no memory.
+    pub fn into_value(self, alloc: Global) -> result::Result<values::Value, OutOfMemory>
+        ensures ok { IfOk result (IsValueOf self) }
+        ensures succeeds { TakesNoMemory self → IsOk result }
+    {
+        Ok(match self {
+            Result::Void(_) => values::Value::Void,
+            Result::Value(value) => values::Value::Success(value.content),
+            Result::Failure(failure) => values::Value::Failure(failure.into_terminal(alloc)?),
+            Result::InvocationId(invocation_id) => values::Value::InvocationId(invocation_id),
+            Result::StateKeys(state_keys) => {
+                values::Value::StateKeys(texts_of_keys(alloc, &state_keys.keys)?)
+            }
+        })
     }
 }
 

@@ -1,15 +1,16 @@
 //! The keys of a state.
 
-ghost use Rattle.std.specs.Prelude.{Some};
+ghost use Rattle.std.specs.Prelude.{◌≡◌, Some, IfOk, map};
 ghost use Rattle.std.specs.Fmt.{WritesOnOk, comma_space};
 ghost use Rattle.std.specs.List.{join_by};
+ghost use Rattle.std.specs.String.{string_bytes};
 ghost use Rattle.shared_core_wire.specs.Value.{Bytes as Content, nil, cons};
 ghost use Rattle.shared_core_record.specs.Table as tables;
 ghost use Rattle.shared_core_record.specs.FieldParts.{elements_part};
 ghost use Rattle.shared_core_record.specs.EqualityRules.{equality_rules};
-ghost use Rattle.shared_core_parts.specs.Texts.{state_key_text, state_keys_text};
+ghost use Rattle.shared_core_parts.specs.Texts.{lossy_text, state_key_text, state_keys_text};
 
-use bstr::BStr;
+use bstr::{BStr, ByteSlice};
 use bytes::Bytes;
 use shared_core_record::occurrence::Occurrence;
 use shared_core_record::record::WireRecord;
@@ -54,6 +55,23 @@ impl WireRecord for StateKeys {
     }
 
     ghost equality = { Prim.search equality_rules };
+}
+
+/// The texts of state keys, in order, with U+FFFD for each piece of a key that is not UTF-8.
+pub(crate) fn texts_of_keys(alloc: Global, keys: &[Bytes]) -> Result<Vec<String>, AllocError>
+    ensures { IfOk result (λ texts. map string_bytes texts.items ≡ map lossy_text keys.now) }
+{
+    let mut texts = Vec::with_capacity(alloc, keys.len())?;
+    for key in keys {
+        texts.push(text_of_key(alloc, key)?)?;
+    }
+    Ok(texts)
+}
+
+fn text_of_key(alloc: Global, key: &[u8]) -> Result<String, AllocError>
+    ensures { IfOk result (λ text. string_bytes text ≡ lossy_text key.now) }
+{
+    key.to_str_lossy(alloc)?.into_owned(alloc)
 }
 
 /// Prints state keys, as `['a', 'b']`, with U+FFFD for each piece of a key that is not UTF-8.

@@ -1,6 +1,6 @@
 //! A value of the service.
 
-ghost use Rattle.std.specs.Prelude.{Some};
+ghost use Rattle.std.specs.Prelude.{◌≡◌, Some};
 ghost use Rattle.shared_core_wire.specs.Value.{Bytes as Content, nil, cons};
 ghost use Rattle.shared_core_record.specs.Table as tables;
 ghost use Rattle.shared_core_record.specs.EqualityRules.{equality_rules};
@@ -52,6 +52,15 @@ impl WireRecord for Value {
     }
 
     ghost equality = { Prim.search equality_rules };
+}
+
+/// The value with these bytes.
+impl From<Bytes> for Value {
+    ghost from_gives = { λ bytes value. value ≡ record { content = bytes } };
+
+    fn from(bytes: Bytes) -> Value {
+        Value { content: bytes }
+    }
 }
 
 /// Prints `'text'` where the content is UTF-8, else `b".."` with escapes.
