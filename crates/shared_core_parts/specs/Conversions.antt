@@ -56,12 +56,12 @@ OwnsTexts root = IsOwnedStr root.key × IsOwnedStr root.value
 
 -- The value is that of a result: the same variant with the same contents, a failure as a terminal one, and each key of a state as text.
 abbrev pub IsValueOf : Result → Value → Type 0
-IsValueOf (result.Void void) value = value ≡ value.Void
-IsValueOf (result.Value bytes) value = value ≡ value.Success bytes.content
+IsValueOf (result.Void void) found = found ≡ value.Void
+IsValueOf (result.Value bytes) found = found ≡ value.Success bytes.content
 IsValueOf (result.Failure failure) (value.Failure terminal) = terminal_contents terminal ≡ terminal_contents_of failure
-IsValueOf (result.InvocationId id) value = value ≡ value.InvocationId id
+IsValueOf (result.InvocationId id) found = found ≡ value.InvocationId id
 IsValueOf (result.StateKeys keys) (value.StateKeys texts) = map string_bytes texts.items ≡ map lossy_text keys.keys.items
-IsValueOf other value = ⊥
+IsValueOf other found = ⊥
 
 -- The result is one whose value takes no memory: nothing, a value or the id of an invocation.
 abbrev pub TakesNoMemory : Result → Type 0

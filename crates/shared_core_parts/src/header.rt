@@ -34,8 +34,8 @@ impl Header {
     /// The header with the key and the value of one of the layer above. A text that is owned is moved; one that is borrowed is copied, and
     /// memory is asked for that alone.
     pub fn from_root(alloc: Global, root: values::Header) -> Result<Header, OutOfMemory>
-        ensures ok { IfOk result (IsHeaderOf root.entry) }
-        ensures succeeds { OwnsTexts root.entry → IsOk result }
+        ensures ok { IfOk result (IsHeaderOf root) }
+        ensures succeeds { OwnsTexts root → IsOk result }
     {
         Ok(Header {
             key: owned_text(alloc, root.key)?,

@@ -1,0 +1,8 @@
+use Rattle.std.proofs.Common.{◌≡◌, map, take}
+use Rattle.std.specs.String.{string_bytes}
+use Rattle.shared_core_parts.specs.Texts.{lossy_text}
+use Rattle.shared_core_parts.proofs.state_keys.texts_of_keys.Given as goal
+
+-- the keys so far stand as texts
+abbrev pub invariant-loop-key : goal.invariant-loop-key
+invariant-loop-key l = map string_bytes l.texts.items ≡ map lossy_text (take l.key-index l.keys)
