@@ -2,13 +2,14 @@
 use Rattle.std.proofs.Common.{◌≡◌, ℕ, ◌+◌, ◌<◌, ◌≤◌, List, [], ◌∷◌, ◌++◌, length, map, take, set, Option, Some, None, Ok, Err, refl, ap, sym, ◌∙◌, arith, length-append}
 use Rattle.std.proofs.lemmas.List.{take_more_set}
 use Rattle.shared_core_base.specs.declared.version.Version.{Version}
+use Rattle.shared_core_base.specs.declared.header.MessageType.{MessageType}
 use Rattle.shared_core.specs.declared.encoding.Item.{Item}
 use Rattle.shared_core.specs.declared.encoding.Item.TheVariants.{Message, Unknown}
 use Rattle.shared_core.specs.Items.{TakesItem, IsItemsThen}
 use Rattle.shared_core.proofs.Items.{then_takes}
 use Rattle.journal_calls.specs.declared.answer.Refusal.{Refusal}
 use Rattle.journal_calls.specs.declared.answer.Refusal.TheVariants.{Malformed, OutOfMemory, NoRoom, TooLong, Unknown as NoNumber}
-use Rattle.journal_calls.specs.Streams.{item_word, count_named, named_count, Decodes, AllDecode, DecodesItem, DecodesAll}
+use Rattle.journal_calls.specs.Streams.{item_word, count_with, one_with, Decodes, AllDecode, DecodesItem, DecodesAll}
 use Rattle.shared_core_parts.specs.Messages.{message_schema}
 
 map_more : {A B : Type 0} (f : A → B) (xs : List A) (x : A) → map f (xs ++ x ∷ []) ≡ map f xs ++ f x ∷ []
@@ -22,24 +23,27 @@ pub word_written : (words : List ℕ) (count : ℕ) (items : List Item) (item : 
     → take (count + 1) (set words count (item_word item)) ≡ map item_word (items ++ item ∷ [])
 word_written words count items item fits before = take_more_set words count (item_word item) fits ∙ ap (λ l. l ++ item_word item ∷ []) before ∙ sym (map_more item_word items item)
 
-pub all_decode_more : (items : List Item) (item : Item) → AllDecode items → Decodes item → AllDecode (items ++ item ∷ [])
-all_decode_more [] item all one = (one, tt)
-all_decode_more (first ∷ items) item all one = (all.0, all_decode_more items item all.1 one)
+pub all_decode_more : (schema_of : MessageType → Option ℕ) (items : List Item) (item : Item) → AllDecode schema_of items → Decodes schema_of item
+    → AllDecode schema_of (items ++ item ∷ [])
+all_decode_more schema_of [] item all one = (one, tt)
+all_decode_more schema_of (first ∷ items) item all one = (all.0, all_decode_more schema_of items item all.1 one)
 
-none_named : count_named [] ≡ 0
-none_named = refl
+none_counted : (schema_of : MessageType → Option ℕ) → count_with schema_of [] ≡ 0
+none_counted schema_of = refl
 
-pub count_more : (items : List Item) (item : Item) → count_named (items ++ item ∷ []) ≡ count_named items + count_named (item ∷ [])
-count_more [] item = omega (arith, none_named)
-count_more (Message message ∷ items) item = omega (arith, count_more items item)
-count_more (Unknown code ∷ items) item = count_more items item
+pub count_more : (schema_of : MessageType → Option ℕ) (items : List Item) (item : Item)
+    → count_with schema_of (items ++ item ∷ []) ≡ count_with schema_of items + count_with schema_of (item ∷ [])
+count_more schema_of [] item = omega (arith, none_counted schema_of)
+count_more schema_of (Message message ∷ items) item = omega (arith, count_more schema_of items item)
+count_more schema_of (Unknown code ∷ items) item = count_more schema_of items item
 
 -- what a decoded item says of the items behind which it stands
-pub item_decoded : (item : Item) (count : ℕ) → DecodesItem item (Ok count) → Decodes item × (count ≡ count_named (item ∷ []))
-item_decoded (Message message) count (accepted, is) = (accepted, omega (arith, is, none_named))
+pub item_decoded : (item : Item) (count : ℕ) → DecodesItem item (Ok count)
+    → Decodes message_schema item × (count ≡ count_with message_schema (item ∷ []))
+item_decoded (Message message) count (accepted, is) = (accepted, omega (arith, is, none_counted message_schema))
 item_decoded (Unknown code) count is = (tt, is)
 
-one_at_most : (schema : Option ℕ) → named_count schema ≤ 1
+one_at_most : (schema : Option ℕ) → one_with schema ≤ 1
 one_at_most (Some schema) = omega arith
 one_at_most None = omega arith
 
@@ -47,7 +51,7 @@ pub item_counts : (item : Item) (count : ℕ) → DecodesItem item (Ok count) �
 item_counts (Message message) count (accepted, is) = omega (arith, is, one_at_most (message_schema message.header.ty))
 item_counts (Unknown code) count is = omega (arith, is)
 
-does_not_decode : (item : Item) → DecodesItem item (Err Malformed) → ¬ (Decodes item)
+does_not_decode : (item : Item) → DecodesItem item (Err Malformed) → ¬ (Decodes message_schema item)
 does_not_decode (Message message) refused = refused
 does_not_decode (Unknown code) refused = absurd refused
 

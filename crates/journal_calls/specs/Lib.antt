@@ -3,3 +3,4 @@ pub mod Pieces
 pub mod Rounds
 pub mod Streams
 pub mod Payloads
+pub mod Comparisons

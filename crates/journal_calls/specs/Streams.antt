@@ -1,6 +1,7 @@
 -- What the calls on streams answer.
 use Rattle.std.specs.Prelude.{◌≡◌, ℕ, ◌+◌, ◌*◌, ◌^◌, ◌<◌, List, [], ◌∷◌, ◌++◌, take, map, length, Option, Some, None, Result, Ok, Err}
 use Rattle.shared_core_base.specs.declared.version.Version.{Version}
+use Rattle.shared_core_base.specs.declared.header.MessageType.{MessageType}
 use Rattle.shared_core_base.specs.MessageHeader.{word_of}
 use Rattle.shared_core_record.specs.Payloads.{IsAccepted}
 use Rattle.shared_core.specs.declared.encoding.Item.{Item}
@@ -25,16 +26,16 @@ WritesWords version stream words (Err NoRoom) =
     (items : List Item) × (rest : List ℕ) × IsItemsThen version stream items rest × (length words < length items)
 WritesWords version stream words (Err refusal) = ⊥
 
--- How many of some messages a message adds: one where its type has a name.
-abbrev pub named_count : Option ℕ → ℕ
-named_count (Some schema) = 1
-named_count None = 0
+-- How many of some messages a message adds: one where its type has a schema.
+abbrev pub one_with : Option ℕ → ℕ
+one_with (Some schema) = 1
+one_with None = 0
 
--- How many of the items are messages of a named type.
-abbrev pub count_named : List Item → ℕ
-count_named [] = 0
-count_named (Message message ∷ items) = named_count (message_schema message.header.ty) + count_named items
-count_named (Unknown code ∷ items) = count_named items
+-- How many of the items are messages of a type that has a schema.
+abbrev pub count_with : (MessageType → Option ℕ) → List Item → ℕ
+count_with schema_of [] = 0
+count_with schema_of (Message message ∷ items) = one_with (schema_of message.header.ty) + count_with schema_of items
+count_with schema_of (Unknown code ∷ items) = count_with schema_of items
 
 -- The payload is well-formed for the schema, if there is one.
 abbrev pub IsAcceptedFor : Option ℕ → List ℕ → Type 0
@@ -43,7 +44,7 @@ IsAcceptedFor None payload = Unit {0}
 
 -- A payload is decoded to a record of its schema, which counts as one; without a schema none is made. Malformed where it is not well-formed.
 abbrev pub DecodesPayload : Option ℕ → List ℕ → Result ℕ Refusal → Type 0
-DecodesPayload schema payload (Ok count) = IsAcceptedFor schema payload × (count ≡ named_count schema)
+DecodesPayload schema payload (Ok count) = IsAcceptedFor schema payload × (count ≡ one_with schema)
 DecodesPayload schema payload (Err Malformed) = ¬ (IsAcceptedFor schema payload)
 DecodesPayload schema payload (Err OutOfMemory) = Unit {0}
 DecodesPayload schema payload (Err refusal) = ⊥
@@ -54,22 +55,26 @@ DecodesItem (Message message) answer = DecodesPayload (message_schema message.he
 DecodesItem (Unknown code) (Ok count) = count ≡ 0
 DecodesItem (Unknown code) (Err refusal) = ⊥
 
--- An item of which a record is made, if its type has a name: its payload is well-formed for its type.
-abbrev pub Decodes : Item → Type 0
-Decodes (Message message) = IsAcceptedFor (message_schema message.header.ty) message.payload
-Decodes (Unknown code) = Unit {0}
+-- An item of which a record is made, if its type has a schema: its payload is well-formed for it.
+abbrev pub Decodes : (MessageType → Option ℕ) → Item → Type 0
+Decodes schema_of (Message message) = IsAcceptedFor (schema_of message.header.ty) message.payload
+Decodes schema_of (Unknown code) = Unit {0}
 
 -- Each of the items decodes.
-abbrev pub AllDecode : List Item → Type 0
-AllDecode [] = Unit {0}
-AllDecode (item ∷ items) = Decodes item × AllDecode items
+abbrev pub AllDecode : (MessageType → Option ℕ) → List Item → Type 0
+AllDecode schema_of [] = Unit {0}
+AllDecode schema_of (item ∷ items) = Decodes schema_of item × AllDecode schema_of items
+
+-- One of the first items of the stream does not decode.
+abbrev pub HasMalformed : (MessageType → Option ℕ) → Version → List ℕ → Type 0
+HasMalformed schema_of version stream =
+    (items : List Item) × (item : Item) × (rest : List ℕ) × IsItemsThen version stream (items ++ item ∷ []) rest × ¬ (Decodes schema_of item)
 
 -- Each item of the stream decodes, and the count is that of its messages of a named type; or one of its items does not decode.
 abbrev pub DecodesAll : Version → List ℕ → Result ℕ Refusal → Type 0
 DecodesAll version stream (Ok count) =
-    (items : List Item) × (rest : List ℕ) × SplitsInto version stream items rest × (count ≡ count_named items) × AllDecode items
-DecodesAll version stream (Err Malformed) =
-    (items : List Item) × (item : Item) × (rest : List ℕ) × IsItemsThen version stream (items ++ item ∷ []) rest × ¬ (Decodes item)
+    (items : List Item) × (rest : List ℕ) × SplitsInto version stream items rest × (count ≡ count_with message_schema items) × AllDecode message_schema items
+DecodesAll version stream (Err Malformed) = HasMalformed message_schema version stream
 DecodesAll version stream (Err OutOfMemory) = Unit {0}
 DecodesAll version stream (Err refusal) = ⊥
 

@@ -3,6 +3,7 @@
 
 pub mod answer;
 pub mod canonical;
+pub mod commands;
 pub mod frames;
 mod messages;
 mod pieced_stream;

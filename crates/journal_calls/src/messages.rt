@@ -2,6 +2,7 @@
 
 ghost use Rattle.std.specs.Prelude.{◌≡◌, Some};
 ghost use Rattle.shared_core_parts.specs.Messages.{message_schema};
+ghost use Rattle.journal_calls.specs.Comparisons.{MeansRecord};
 ghost use Rattle.journal_calls.specs.Streams.{DecodesPayload};
 
 use crate::answer::Refusal;
@@ -124,13 +125,22 @@ pub fn decode(alloc: Global, message: &RawMessage) -> Result<usize, Refusal>
     }
 }
 
-/// Decodes a message to the record of its type.
+/// Decodes a message to the record of its type, which counts as one.
 fn decode_as<M: RestateMessage>(alloc: Global, message: &RawMessage) -> Result<usize, Refusal>
     requires { message.now.header.ty ≡ M.message_type }
     ensures { DecodesPayload (Some M.schema) message.now.payload result }
 {
-    match message.decode_to::<M>(alloc, 0) {
-        Ok(_record) => Ok(1),
+    let _record = decoded::<M>(alloc, message)?;
+    Ok(1)
+}
+
+/// A message as the record of its type.
+pub fn decoded<M: RestateMessage>(alloc: Global, message: &RawMessage) -> Result<M, Refusal>
+    requires { message.now.header.ty ≡ M.message_type }
+    ensures { MeansRecord M.schema M.parts message.now.payload result }
+{
+    match message.decode_to(alloc, 0) {
+        Ok(record) => Ok(record),
         Err(DecodingError::DecodeMessage(_, _)) => Err(Refusal::Malformed),
         Err(DecodingError::OutOfMemory) => Err(Refusal::OutOfMemory),
         // its type is the record's, and its header is known

@@ -4,6 +4,7 @@
 #![tactic(auto)]
 
 ghost use Rattle.journal_calls.specs.Answers.{Answers};
+ghost use Rattle.journal_calls.specs.Comparisons.{AnswersComparisons};
 ghost use Rattle.journal_calls.specs.Streams.{AnswersItems, AnswersMessages};
 ghost use Rattle.journal_calls.specs.Payloads.{AnswersCanonical, AnswersFrame};
 ghost use Rattle.std.specs.Prelude.{[], ◌∷◌};
@@ -12,7 +13,7 @@ ghost use Rattle.std.specs.Prelude.{[], ◌∷◌};
 mod tests;
 
 use journal_calls::answer::answer_of;
-use journal_calls::{canonical, frames, streams};
+use journal_calls::{canonical, commands, frames, streams};
 use std::alloc::Global;
 
 /// Reads a stream of a version from 5 to 8, which comes in pieces of so many bytes (0: in one piece), and writes a word for each item: the
@@ -47,6 +48,28 @@ pub extern "C" fn journal_messages(
     ensures { Answers result (AnswersMessages version stream.now) }
 {
     answer_of(streams::messages(alloc, version, stream, piece, rounds))
+}
+
+/// Decodes each command of a stream of a version from 5 to 8 twice, and compares the two `rounds` times (0: not at all), which asks for no
+/// memory. Payloads are compared, unless `ignore_payloads` is another number than 0. The count is that of the comparisons that hold: all of them.
+/// `Malformed` where the payload of a command is not well-formed for its type; what is no command is passed over.
+#[unsafe(no_mangle)]
+pub extern "C" fn journal_compare(
+    alloc: Global,
+    version: u32,
+    stream: &[u8],
+    ignore_payloads: u32,
+    rounds: usize,
+) -> i64
+    ensures { Answers result (AnswersComparisons version stream.now rounds) }
+{
+    answer_of(commands::compare(
+        alloc,
+        version,
+        stream,
+        ignore_payloads != 0,
+        rounds,
+    ))
 }
 
 /// Decodes a payload for a schema, by its place in the table, and writes the canonical payload of what it means. The count is that of

@@ -1,7 +1,10 @@
-//! The five calls: each on worked examples of the protocol's description and with each refusal, and each schema and each named type through
+//! The six calls: each on worked examples of the protocol's description and with each refusal, and each schema and each named type through
 //! them, since a body that gives up for want of memory would be proved.
 
-use crate::{journal_canonical, journal_frame, journal_items, journal_merge, journal_messages};
+use crate::{
+    journal_canonical, journal_compare, journal_frame, journal_items, journal_merge,
+    journal_messages,
+};
 
 /// The code of each named type.
 const CODES: [u16; 41] = [
@@ -138,6 +141,42 @@ fn messages_of_named_types(rt: HostRuntime) {
                 "{stream:?} at {version}, pieces of {piece}, {rounds} rounds"
             );
         }
+    }
+}
+
+#[test]
+fn commands_compared(rt: HostRuntime) {
+    // A command, an unknown code and an End, a payload of a command and of another message that is no record list, and a
+    // version that is not spoken.
+    for (version, stream, rounds, answer) in [
+        (8, &INPUT[..], 0, 0),
+        (8, &INPUT[..], 7, 7),
+        (8, &UNKNOWN_THEN_END[..], 7, 0),
+        (8, &[0x04, 0x03, 0, 0, 0, 0, 0, 0x01, 0xFF][..], 7, -1),
+        (8, &[0x00, 0x03, 0, 0, 0, 0, 0, 0x01, 0xFF][..], 7, 0),
+        (9, &INPUT[..], 7, -5),
+    ] {
+        for ignore_payloads in [0, 1] {
+            assert_eq!(rt;
+                journal_compare(rt.alloc(), version, stream, ignore_payloads, rounds),
+                answer,
+                "{stream:?} at {version}, {rounds} rounds, {ignore_payloads}"
+            );
+        }
+    }
+}
+
+#[test]
+fn each_command_compared(rt: HostRuntime) {
+    for code in CODES {
+        let [high, low] = code.to_be_bytes();
+        let stream = [high, low, 0, 0, 0, 0, 0, 0];
+        let expected = if high == 0x04 { 3 } else { 0 };
+        assert_eq!(rt;
+            journal_compare(rt.alloc(), 8, &stream, 0, 3),
+            expected,
+            "code {code}"
+        );
     }
 }
 

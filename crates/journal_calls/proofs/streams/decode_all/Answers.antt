@@ -1,6 +1,7 @@
 use Rattle.std.proofs.Common.{◌∙◌, ◌++◌, ◌∷◌, [], arith}
 use Rattle.std.proofs.lemmas.Result.{err_from_is_err_and}
 use Rattle.shared_core.proofs.Items.{item_is_long, then_takes}
+use Rattle.shared_core_parts.specs.Messages.{message_schema}
 use Rattle.journal_calls.proofs.Counting.{all_decode_more, count_more, item_counts, item_decoded, item_refused}
 use Rattle.journal_calls.proofs.Pieces.{none_of_all, one_taken, same_version, taken_of_all}
 use Rattle.journal_calls.specs.Pieces.{untaken}
@@ -25,8 +26,8 @@ loop-stream-preserved c =
       omega (arith, room, item_is_long c.args.version _ _ item taken, item_counts item c.in_ok-count.field-0 c.in_ok-count.ensures),
       items ++ item ∷ [],
       then_takes c.args.version _ _ _ items item front taken,
-      omega (arith, counted, count, count_more items item),
-      all_decode_more items item all decodes,
+      omega (arith, counted, count, count_more message_schema items item),
+      all_decode_more message_schema items item all decodes,
     )
 
 pub loop-stream-smaller : goal.loop-stream-smaller
