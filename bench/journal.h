@@ -43,6 +43,12 @@ int64_t journal_items(uint32_t version, const uint8_t *stream, size_t stream_len
 int64_t journal_messages(uint32_t version, const uint8_t *stream, size_t stream_length, size_t piece, size_t rounds);
 
 /*
+ * Decodes each command of a stream of a version from 5 to 8 twice, and compares the two `rounds` times (0: not at all), with their payloads
+ * where `ignore_payloads` is 0. Answers the number of comparisons that hold, which are all: `rounds` for each command.
+ */
+int64_t journal_compare(uint32_t version, const uint8_t *stream, size_t stream_length, uint32_t ignore_payloads, size_t rounds);
+
+/*
  * Decodes a payload for a schema and writes the canonical payload of what it means. Answers its length in bytes.
  */
 int64_t journal_canonical(uint32_t schema, const uint8_t *payload, size_t payload_length, uint8_t *out, size_t out_length);

@@ -1,5 +1,5 @@
 #!/bin/sh
-# Measures the library and the peer: speed.sh [--only WORKLOAD] [--side ours|peer] [--what items|messages|encode] [--rounds N]
+# Measures the library and the peer: speed.sh [--only WORKLOAD] [--side ours|peer] [--what items|messages|encode|payloads|headers] [--rounds N]
 set -u
 cd "$(dirname "$0")" || exit 1
 

@@ -58,6 +58,13 @@ mod c {
             piece: usize,
             rounds: usize,
         ) -> i64;
+        pub fn journal_compare(
+            version: u32,
+            stream: *const u8,
+            stream_length: usize,
+            ignore_payloads: u32,
+            rounds: usize,
+        ) -> i64;
         pub fn journal_canonical(
             schema: u32,
             payload: *const u8,
@@ -145,6 +152,25 @@ pub fn messages(
 ) -> Result<usize, Refusal> {
     // SAFETY: the length is that of the slice, which is only read
     count(unsafe { c::journal_messages(version, stream.as_ptr(), stream.len(), piece, rounds) })
+}
+
+/// How many comparisons of each command of a stream with its second decoding hold.
+pub fn compare(
+    version: u32,
+    stream: &[u8],
+    ignore_payloads: bool,
+    rounds: usize,
+) -> Result<usize, Refusal> {
+    // SAFETY: the length is that of the slice, which is only read
+    count(unsafe {
+        c::journal_compare(
+            version,
+            stream.as_ptr(),
+            stream.len(),
+            u32::from(ignore_payloads),
+            rounds,
+        )
+    })
 }
 
 /// The canonical payload of what a payload means.

@@ -251,6 +251,51 @@ fn decode(code: u16, payload: Bytes) -> Result<bool, DecodeError> {
     )
 }
 
+/// Decodes each command of a stream twice, compares the two so many times by their derived `==`, and says how many comparisons hold.
+pub fn compare(stream: &[u8], rounds: usize) -> Result<usize, Refusal> {
+    let stream = Bytes::copy_from_slice(stream);
+    let mut count = 0;
+    for item in Items::new(stream, 0) {
+        if let Item::Message(header, payload) = item {
+            if is_command(header.code) {
+                count += compare_command(header.code, payload, rounds)?;
+            }
+        }
+    }
+    Ok(count)
+}
+
+/// Whether a code is that of a command of a named type.
+pub fn is_command(code: u16) -> bool {
+    code >> 8 == 0x04 && is_named(code)
+}
+
+fn compare_command(code: u16, payload: Bytes, rounds: usize) -> Result<usize, DecodeError> {
+    with_message!(
+        code,
+        Record => {
+            let first = Record::decode(payload.clone())?;
+            let second = Record::decode(payload)?;
+            Ok(count_same(&first, &second, rounds))
+        },
+        _ => Ok(0),
+    )
+}
+
+/// How many of so many comparisons of two records hold.
+fn count_same<R: PartialEq>(first: &R, second: &R, rounds: usize) -> usize {
+    // they take turns, so that no round can be left out for being the one before it
+    let (mut asked, mut other) = (first, second);
+    let mut count = 0;
+    for _ in 0..rounds {
+        if asked == other {
+            count += 1;
+        }
+        (asked, other) = (other, asked);
+    }
+    count
+}
+
 /// The canonical payload of what a payload means.
 pub fn canonical(schema: usize, payload: &[u8]) -> Result<Vec<u8>, Refusal> {
     let payload = Bytes::copy_from_slice(payload);

@@ -83,6 +83,13 @@ pub fn replay(random: &mut Random) -> Vec<Frame> {
     frames
 }
 
+/// The commands of a replayed journal.
+pub fn commands(random: &mut Random) -> Vec<Frame> {
+    let mut frames = replay(random);
+    frames.retain(|frame| crate::peer::is_command(frame.code));
+    frames
+}
+
 /// Messages of all types in turn, with random values.
 pub fn mixed(random: &mut Random) -> Vec<Frame> {
     let mut frames = Vec::new();

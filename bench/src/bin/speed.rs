@@ -1,5 +1,5 @@
 //! Measures the library and the peer side by side, and prints a table in Markdown:
-//! speed [--check] [--only WORKLOAD] [--side ours|peer] [--what items|messages|encode] [--piece N] [--rounds N]
+//! speed [--check] [--only WORKLOAD] [--side ours|peer] [--what items|messages|encode|payloads|headers] [--piece N] [--rounds N]
 //!
 //! With --side nothing is compared or printed: that side alone goes over the workload so many times, for a profiler. Before a table is printed,
 //! and by `speed --check` alone, the requests for memory show that the rounds are made and the pieces used that are asked for.
@@ -28,6 +28,9 @@ const LENGTH: Duration = Duration::from_millis(40);
 /// Times, at least, that a frame is encoded for each time that its message is decoded.
 const ENCODINGS: usize = 64;
 
+/// Times, at least, that two commands are compared for each time that they are decoded.
+const COMPARISONS: usize = 4096;
+
 extern "C" {
     fn requests_for_memory() -> u64;
 }
@@ -38,16 +41,40 @@ enum What {
     Items,
     Messages,
     Encode,
+    /// Commands are compared, with their payloads.
+    Payloads,
+    /// Commands are compared, but for their payloads. The peer's derived `==` knows no such thing, and compares all.
+    Headers,
 }
 
 impl What {
-    const ALL: [What; 3] = [What::Items, What::Messages, What::Encode];
+    /// What is done to a stream of messages.
+    const STREAM: [What; 3] = [What::Items, What::Messages, What::Encode];
+
+    /// What is done to commands.
+    const COMMANDS: [What; 2] = [What::Payloads, What::Headers];
+
+    /// Whether it takes the stream in pieces.
+    fn takes_pieces(self) -> bool {
+        matches!(self, What::Items | What::Messages)
+    }
+
+    /// How many rounds a measurement has at least.
+    fn least_rounds(self) -> usize {
+        match self {
+            What::Items | What::Messages => 1,
+            What::Encode => ENCODINGS,
+            What::Payloads | What::Headers => COMPARISONS,
+        }
+    }
 
     fn name(self) -> &'static str {
         match self {
             What::Items => "items",
             What::Messages => "messages",
             What::Encode => "encode",
+            What::Payloads => "payloads",
+            What::Headers => "headers",
         }
     }
 }
@@ -63,15 +90,17 @@ struct Workload {
     name: &'static str,
     frames: Vec<Frame>,
     stream: Vec<u8>,
+    whats: &'static [What],
 }
 
 impl Workload {
-    fn new(name: &'static str, frames: Vec<Frame>) -> Workload {
+    fn new(name: &'static str, frames: Vec<Frame>, whats: &'static [What]) -> Workload {
         let stream = streams::stream(&frames);
         Workload {
             name,
             frames,
             stream,
+            whats,
         }
     }
 
@@ -87,12 +116,18 @@ impl Workload {
         count
     }
 
-    fn all() -> [Workload; 3] {
+    fn all() -> [Workload; 4] {
         let mut random = Random::new(1, 0);
         [
-            Workload::new("replay", streams::replay(&mut random)),
-            Workload::new("mixed", streams::mixed(&mut random)),
-            Workload::new("large", streams::large(&mut random)),
+            Workload::new("replay", streams::replay(&mut random), &What::STREAM),
+            Workload::new("mixed", streams::mixed(&mut random), &What::STREAM),
+            Workload::new("large", streams::large(&mut random), &What::STREAM),
+            // the commands of the first
+            Workload::new(
+                "compare",
+                streams::commands(&mut Random::new(1, 0)),
+                &What::COMMANDS,
+            ),
         ]
     }
 }
@@ -154,11 +189,24 @@ impl<'a> Bench<'a> {
             (What::Messages, Side::Ours) => ours::messages(VERSION, stream, self.piece, rounds)?,
             (What::Messages, Side::Peer) => peer::messages(stream, self.piece, rounds)?,
             (What::Encode, side) => self.encode(side, rounds)?,
+            (What::Payloads, Side::Ours) => ours::compare(VERSION, stream, false, rounds)?,
+            (What::Headers, Side::Ours) => ours::compare(VERSION, stream, true, rounds)?,
+            (What::Payloads | What::Headers, Side::Peer) => peer::compare(stream, rounds)?,
         };
-        if black_box(count) != self.workload.frames.len() {
-            return Err(Failed(format!("{count} of the stream's items were seen")));
+        if black_box(count) != self.expected(rounds) {
+            return Err(Failed(format!("{count} is not what was to be counted")));
         }
         Ok(())
+    }
+
+    /// What so many rounds count: the items that are seen, or the comparisons that hold.
+    fn expected(&self, rounds: usize) -> usize {
+        let frames = self.workload.frames.len();
+        if What::COMMANDS.contains(&self.what) {
+            frames * rounds
+        } else {
+            frames
+        }
     }
 
     /// Encodes each frame so many times.
@@ -185,11 +233,7 @@ impl<'a> Bench<'a> {
 
     /// How many rounds make a measurement: twice as many, until it is long enough for what is done once only to count little.
     fn rounds(&mut self) -> Result<usize, Failed> {
-        let mut rounds = if self.what == What::Encode {
-            ENCODINGS
-        } else {
-            1
-        };
+        let mut rounds = self.what.least_rounds();
         while self.time(Side::Peer, rounds)? < LENGTH {
             rounds *= 2;
         }
@@ -245,9 +289,30 @@ impl<'a> Bench<'a> {
     }
 }
 
+/// What is to be checked of a side.
+fn check(workload: &Workload, what: What, side: Side) -> Result<(), Failed> {
+    if What::COMMANDS.contains(&what) {
+        check_comparisons(workload, what, side)
+    } else {
+        check_rounds(workload, what, side)
+    }
+}
+
+/// That comparisons ask for no memory. That they are made is seen by how many hold.
+fn check_comparisons(workload: &Workload, what: What, side: Side) -> Result<(), Failed> {
+    match Bench::new(workload, what, 0).of_a_round(side)? {
+        0 => Ok(()),
+        requests => Err(Failed(format!(
+            "{} {}, {side:?}: {requests} requests for memory in a round",
+            workload.name,
+            what.name()
+        ))),
+    }
+}
+
 /// That a side makes the rounds that it is asked for, each with the same requests for memory, and that it takes the stream in the pieces that it
 /// is asked for: each payload that lies across pieces has to be joined.
-fn check(workload: &Workload, what: What, side: Side) -> Result<(), Failed> {
+fn check_rounds(workload: &Workload, what: What, side: Side) -> Result<(), Failed> {
     let failed = |why| {
         Failed(format!(
             "{} {}, {side:?}: {why}",
@@ -255,7 +320,7 @@ fn check(workload: &Workload, what: What, side: Side) -> Result<(), Failed> {
             what.name()
         ))
     };
-    let piece = if what == What::Encode { 0 } else { PIECE };
+    let piece = if what.takes_pieces() { PIECE } else { 0 };
     let mut bench = Bench::new(workload, what, piece);
     let of_a_round = bench.of_a_round(side)?;
     let twice = bench.counted(side, 2)?;
@@ -265,7 +330,7 @@ fn check(workload: &Workload, what: What, side: Side) -> Result<(), Failed> {
             "{of_a_round} requests for memory in a round, {twice} in two and {more} in five"
         )));
     }
-    if what == What::Encode {
+    if !what.takes_pieces() {
         return Ok(());
     }
     let whole = Bench::new(workload, what, 0).of_a_round(side)?;
@@ -279,10 +344,10 @@ fn check(workload: &Workload, what: What, side: Side) -> Result<(), Failed> {
 }
 
 fn pieces(what: What, piece: usize) -> String {
-    match (what, piece) {
-        (What::Encode, _) => "-".into(),
-        (_, 0) => "whole".into(),
-        _ => piece.to_string(),
+    match (what.takes_pieces(), piece) {
+        (false, _) => "-".into(),
+        (true, 0) => "whole".into(),
+        (true, _) => piece.to_string(),
     }
 }
 
@@ -330,13 +395,15 @@ impl Options {
 
     /// What is to be measured of a workload.
     fn benches<'a>(&self, workload: &'a Workload) -> Vec<Bench<'a>> {
-        let pieces = |what| match (self.piece, what) {
-            (Some(piece), _) => vec![piece],
-            (None, What::Encode) => vec![0],
-            (None, _) => vec![PIECE, 0],
+        let pieces = |what: What| match self.piece {
+            Some(piece) => vec![piece],
+            None if what.takes_pieces() => vec![PIECE, 0],
+            None => vec![0],
         };
-        What::ALL
-            .into_iter()
+        workload
+            .whats
+            .iter()
+            .copied()
             .filter(|what| self.what.unwrap_or(*what) == *what)
             .flat_map(|what| pieces(what).into_iter().map(move |piece| (what, piece)))
             .map(|(what, piece)| Bench::new(workload, what, piece))
@@ -353,7 +420,10 @@ fn side(word: &str) -> Option<Side> {
 }
 
 fn what(word: &str) -> Option<What> {
-    What::ALL.into_iter().find(|what| what.name() == word)
+    What::STREAM
+        .into_iter()
+        .chain(What::COMMANDS)
+        .find(|what| what.name() == word)
 }
 
 fn measure(options: &Options) -> Result<(), Failed> {
@@ -378,7 +448,7 @@ fn measure(options: &Options) -> Result<(), Failed> {
         return benches().try_for_each(|mut bench| bench.go(side, options.rounds.unwrap_or(1)));
     }
     for workload in &workloads {
-        for what in What::ALL {
+        for &what in workload.whats {
             check(workload, what, Side::Ours)?;
             check(workload, what, Side::Peer)?;
         }
@@ -404,7 +474,7 @@ fn measure(options: &Options) -> Result<(), Failed> {
 fn main() -> ExitCode {
     let Some(options) = Options::read(env::args().skip(1)) else {
         eprintln!(
-            "usage: speed [--check] [--only WORKLOAD] [--side ours|peer] [--what items|messages|encode] [--piece N] [--rounds N]"
+            "usage: speed [--check] [--only WORKLOAD] [--side ours|peer] [--what items|messages|encode|payloads|headers] [--piece N] [--rounds N]"
         );
         return ExitCode::from(2);
     };
