@@ -28,16 +28,27 @@ pub fn write_to_room(
     (result, f.into_inner())
 }
 
-// A room that is smaller than the difference takes its beginning, and one of its size all of it.
+/// Whether room of this size takes the beginning of the difference and fails, unless it takes all of it.
+fn takes_beginning(
+    alloc: Global,
+    size: usize,
+    full: &CallCommandMessage,
+    empty: &CallCommandMessage,
+) -> Result<bool, Fail> {
+    let (result, room) = write_to_room(Room::new(alloc, size)?, full, empty);
+    Ok(
+        result.is_ok() == (size == DIFFERENCE.len())
+            && Some(room.written()) == DIFFERENCE.as_bytes().get(..size),
+    )
+}
+
 #[test]
 fn a_writer_fails_after_each_count_of_bytes(rt: HostRuntime) -> Result<(), Fail> {
     let full: CallCommandMessage = read(rt.alloc(), FULL_CALL)?;
     let empty: CallCommandMessage = read(rt.alloc(), b"")?;
     for size in 0..DIFFERENCE.len() + 1 {
-        let (result, room) = write_to_room(Room::new(rt.alloc(), size)?, &full, &empty);
-        assert!(rt; result.is_ok() == (size == DIFFERENCE.len()), "at {size}");
         assert!(rt;
-            Some(room.written()) == DIFFERENCE.as_bytes().get(..size),
+            takes_beginning(rt.alloc(), size, &full, &empty)?,
             "at {size}"
         );
     }
