@@ -3,7 +3,7 @@
 use crate::failing_writer::{DIFFERENCE, FULL_CALL, write_to_room};
 use crate::held_memory::HeldMemory;
 use crate::room::Room;
-use crate::steps::read;
+use crate::steps::{expect, read};
 use shared_core::OutOfMemory;
 use shared_core::messages::{CallCommandMessage, CommandMessageHeaderEq, NamedCommandMessage};
 use std::alloc::{AllocError, Global};
@@ -49,8 +49,13 @@ fn a_name_needs_memory_and_a_comparison_none(rt: HostRuntime) -> Result<(), Fail
         println!(rt; "not run: this allocator never refuses memory")?;
         return Ok(());
     };
-    assert!(rt; answers.name == Err(OutOfMemory));
-    assert!(rt; answers.same_as_itself && !answers.same_as_other);
-    assert!(rt; answers.difference.written() == DIFFERENCE.as_bytes());
-    Ok(())
+    expect(answers.name == Err(OutOfMemory), "a name")?;
+    expect(
+        answers.same_as_itself && !answers.same_as_other,
+        "a wrong comparison",
+    )?;
+    expect(
+        answers.difference.written() == DIFFERENCE.as_bytes(),
+        "a part of the difference",
+    )
 }
