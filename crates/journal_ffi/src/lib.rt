@@ -63,13 +63,7 @@ pub extern "C" fn journal_compare(
 ) -> i64
     ensures { Answers result (AnswersComparisons version stream.now rounds) }
 {
-    answer_of(commands::compare(
-        alloc,
-        version,
-        stream,
-        ignore_payloads != 0,
-        rounds,
-    ))
+    answer_of(commands::compare(alloc, version, stream, ignore_payloads != 0, rounds))
 }
 
 /// Decodes a payload for a schema, by its place in the table, and writes the canonical payload of what it means. The count is that of
