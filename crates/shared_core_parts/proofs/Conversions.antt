@@ -1,5 +1,5 @@
 -- Entries of metadata and pairs of texts.
-use Rattle.std.proofs.Common.{◌≡◌, List, [], ◌∷◌, refl, ap, sym, ◌∙◌, map}
+use Rattle.std.proofs.Common.{◌≡◌, List, [], ◌∷◌, refl, ap, ◌∙◌, map}
 use Rattle.std.specs.Prelude.{String}
 use Rattle.std.specs.declared.alloc.Global.{Global}
 use Rattle.shared_core_parts.specs.declared.failure_metadata.FailureMetadata.{FailureMetadata}

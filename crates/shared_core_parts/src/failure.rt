@@ -32,8 +32,8 @@ pub struct Failure {
 }
 
 impl Failure {
-    /// The failure with the code, the message and the metadata of a terminal failure. Texts are moved; memory is asked for the list of the
-    /// metadata alone.
+    /// The failure with the code, the message and the metadata of a terminal one. Texts are moved. `OutOfMemory` where there is none for the
+    /// list of the metadata.
     pub fn from_terminal(alloc: Global, terminal: TerminalFailure) -> Result<Failure, OutOfMemory>
         ensures { IfOk result (λ failure. failure_contents failure ≡ terminal_contents terminal) }
     {
@@ -49,8 +49,8 @@ impl Failure {
         })
     }
 
-    /// The terminal failure with the message, the metadata and the low 16 bits of the code. Texts are moved; memory is asked for the list of
-    /// the metadata alone.
+    /// The terminal failure with the low 16 bits of the code, the message and the metadata. Texts are moved. `OutOfMemory` where there is none
+    /// for the list of the metadata.
     pub fn into_terminal(self, alloc: Global) -> Result<TerminalFailure, OutOfMemory>
         ensures { IfOk result (λ terminal. terminal_contents terminal ≡ terminal_contents_of self) }
     {

@@ -31,8 +31,8 @@ pub struct Header {
 }
 
 impl Header {
-    /// The header with the key and the value of one of the layer above. A text that is owned is moved; one that is borrowed is copied, and
-    /// memory is asked for that alone.
+    /// The header with the key and the value of one of the layer above. A text that is owned is moved, and one that is borrowed is copied.
+    /// `OutOfMemory` where there is none for a copy.
     pub fn from_root(alloc: Global, root: values::Header) -> Result<Header, OutOfMemory>
         ensures ok { IfOk result (IsHeaderOf root) }
         ensures succeeds { OwnsTexts root → IsOk result }

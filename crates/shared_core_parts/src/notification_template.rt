@@ -160,8 +160,8 @@ impl Result {
     ghost use Rattle.std.specs.Prelude.{IfOk, IsOk};
     ghost use Rattle.shared_core_parts.specs.Conversions.{IsValueOf, TakesNoMemory};
 
-    /// The value that it brings: keys of a state as text, with U+FFFD for each piece that is not UTF-8, a failure as `Failure::into_terminal`
-    /// makes it terminal, and all else as it is. Nothing, a value and the id of an invocation take no memory.
+    /// The value that it brings: a failure as `Failure::into_terminal` has it, the keys of a state as text, with U+FFFD for each piece that is
+    /// not UTF-8, and all else as it is. `OutOfMemory` comes of failures and of keys alone.
     pub fn into_value(self, alloc: Global) -> result::Result<values::Value, OutOfMemory>
         ensures ok { IfOk result (IsValueOf self) }
         ensures succeeds { TakesNoMemory self → IsOk result }
