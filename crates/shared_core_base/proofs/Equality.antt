@@ -37,15 +37,12 @@ use Rattle.shared_core_base.specs.Error.{command_parts, notification_parts, erro
 -- a test of two optional values decides as the test of two values does
 options_decide : {X Y : Type 0} {test : X → X → Bool} {part : X → Y} → ((a b : X) → Decides (test a b) (part a ≡ part b)) → (a b : Option X) → Decides (option_eq test a b) (option_map part a ≡ option_map part b)
 options_decide decides None None = (λ is. refl, λ same. refl)
-options_decide decides None (Some y) = (λ is. cc, λ same. cc)
-options_decide decides (Some x) None = (λ is. cc, λ same. cc)
 options_decide decides (Some x) (Some y) = (λ is. ap Some ((decides x y).0 is), λ same. (decides x y).1 (cc))
+options_decide decides a b = (λ is. cc, λ same. cc)
 
 -- a test of two lists decides as the test of two elements does
 lists_decide : {X Y : Type 0} {test : X → X → Bool} {part : X → Y} → ((a b : X) → Decides (test a b) (part a ≡ part b)) → (xs ys : List X) → Decides (pointwise test xs ys) (map part xs ≡ map part ys)
 lists_decide decides [] [] = (λ is. refl, λ same. refl)
-lists_decide decides [] (y ∷ ys) = (λ is. cc, λ same. cc)
-lists_decide decides (x ∷ xs) [] = (λ is. cc, λ same. cc)
 lists_decide {test = test} decides (x ∷ xs) (y ∷ ys) = (
   λ is.
       let both = and_parts (test x y) (pointwise test xs ys) is in
@@ -54,6 +51,7 @@ lists_decide {test = test} decides (x ∷ xs) (y ∷ ys) = (
       cc,
   λ same. and_from _ _ ((decides x y).1 (cc)) ((lists_decide decides xs ys).1 (cc)),
 )
+lists_decide decides xs ys = (λ is. cc, λ same. cc)
 
 -- texts
 texts_decide : (a b : String Global) → Decides (string_eq a b) (string_bytes a ≡ string_bytes b)
@@ -81,14 +79,9 @@ commands_decide a b = (
 -- notifications' metadata
 pub notifications_decide : (a b : NotificationMetadata) → Decides (notifications.eq-value.it a b) (notification_parts a ≡ notification_parts b)
 notifications_decide (RelatedToCommand x) (RelatedToCommand y) = (λ is. ap OfCommand ((commands_decide x y).0 is), λ same. (commands_decide x y).1 (cc))
-notifications_decide (RelatedToCommand x) (Awakeable y) = (λ is. cc, λ same. cc)
-notifications_decide (RelatedToCommand x) Cancellation = (λ is. cc, λ same. cc)
-notifications_decide (Awakeable x) (RelatedToCommand y) = (λ is. cc, λ same. cc)
 notifications_decide (Awakeable x) (Awakeable y) = (λ is. ap OfAwakeable ((texts_decide x y).0 is), λ same. (texts_decide x y).1 (cc))
-notifications_decide (Awakeable x) Cancellation = (λ is. cc, λ same. cc)
-notifications_decide Cancellation (RelatedToCommand y) = (λ is. cc, λ same. cc)
-notifications_decide Cancellation (Awakeable y) = (λ is. cc, λ same. cc)
 notifications_decide Cancellation Cancellation = (λ is. refl, λ same. refl)
+notifications_decide a b = (λ is. cc, λ same. cc)
 
 -- delays
 delays_decide : (a b : Duration) → Decides (eqb a.secs b.secs && eqb a.nanos b.nanos) (a ≡ b)
@@ -107,16 +100,14 @@ delays_decide a b = (
 -- behaviors
 behaviors_decide : (a b : ErrorBehavior) → Decides (behaviors.eq-value.it a b) (a ≡ b)
 behaviors_decide Retry Retry = (λ is. refl, λ same. refl)
-behaviors_decide Retry Pause = (λ is. cc, λ same. cc)
-behaviors_decide Pause Retry = (λ is. cc, λ same. cc)
 behaviors_decide Pause Pause = (λ is. refl, λ same. refl)
+behaviors_decide a b = (λ is. cc, λ same. cc)
 
 -- optional delays
 optional_delays_decide : (a b : Option Duration) → Decides (option_eq (λ x y. eqb x.secs y.secs && eqb x.nanos y.nanos) a b) (a ≡ b)
 optional_delays_decide None None = (λ is. refl, λ same. refl)
-optional_delays_decide None (Some y) = (λ is. cc, λ same. cc)
-optional_delays_decide (Some x) None = (λ is. cc, λ same. cc)
 optional_delays_decide (Some x) (Some y) = (λ is. ap Some ((delays_decide x y).0 is), λ same. (delays_decide x y).1 (cc))
+optional_delays_decide a b = (λ is. cc, λ same. cc)
 
 -- errors
 pub errors_decide : (a b : Error) → Decides (errors.eq-value.it a b) (error_parts a ≡ error_parts b)
@@ -181,26 +172,7 @@ values_decide (value.StateKeys x) (value.StateKeys y) = (
   λ same. (lists_decide texts_decide x.items y.items).1 (cc),
 )
 values_decide (value.InvocationId x) (value.InvocationId y) = (λ is. ap InvocationId ((texts_decide x y).0 is), λ same. (texts_decide x y).1 (cc))
-values_decide value.Void (value.Success y) = (λ is. cc, λ same. cc)
-values_decide value.Void (value.Failure y) = (λ is. cc, λ same. cc)
-values_decide value.Void (value.StateKeys y) = (λ is. cc, λ same. cc)
-values_decide value.Void (value.InvocationId y) = (λ is. cc, λ same. cc)
-values_decide (value.Success x) value.Void = (λ is. cc, λ same. cc)
-values_decide (value.Success x) (value.Failure y) = (λ is. cc, λ same. cc)
-values_decide (value.Success x) (value.StateKeys y) = (λ is. cc, λ same. cc)
-values_decide (value.Success x) (value.InvocationId y) = (λ is. cc, λ same. cc)
-values_decide (value.Failure x) value.Void = (λ is. cc, λ same. cc)
-values_decide (value.Failure x) (value.Success y) = (λ is. cc, λ same. cc)
-values_decide (value.Failure x) (value.StateKeys y) = (λ is. cc, λ same. cc)
-values_decide (value.Failure x) (value.InvocationId y) = (λ is. cc, λ same. cc)
-values_decide (value.StateKeys x) value.Void = (λ is. cc, λ same. cc)
-values_decide (value.StateKeys x) (value.Success y) = (λ is. cc, λ same. cc)
-values_decide (value.StateKeys x) (value.Failure y) = (λ is. cc, λ same. cc)
-values_decide (value.StateKeys x) (value.InvocationId y) = (λ is. cc, λ same. cc)
-values_decide (value.InvocationId x) value.Void = (λ is. cc, λ same. cc)
-values_decide (value.InvocationId x) (value.Success y) = (λ is. cc, λ same. cc)
-values_decide (value.InvocationId x) (value.Failure y) = (λ is. cc, λ same. cc)
-values_decide (value.InvocationId x) (value.StateKeys y) = (λ is. cc, λ same. cc)
+values_decide a b = (λ is. cc, λ same. cc)
 
 -- command types
 command_types_decide : (a b : CommandType) → Decides (command_types.eq-value.it a b) (a ≡ b)
@@ -209,9 +181,6 @@ command_types_decide a b = search rules
 -- commands that an error is about
 pub relationships_decide : (a b : CommandRelationship) → Decides (relationships.eq-value.it a b) (relationship_parts a ≡ relationship_parts b)
 relationships_decide relationship.Last relationship.Last = (λ is. refl, λ same. refl)
-relationships_decide relationship.Last (relationship.Next ty name) = (λ is. cc, λ same. cc)
-relationships_decide relationship.Last (relationship.Specific index ty name) = (λ is. cc, λ same. cc)
-relationships_decide (relationship.Next ty name) relationship.Last = (λ is. cc, λ same. cc)
 relationships_decide (relationship.Next ty name) (relationship.Next ty' name') = (
   λ is.
       let both = and_parts (command_types.eq-value.it ty ty') _ is in
@@ -220,9 +189,6 @@ relationships_decide (relationship.Next ty name) (relationship.Next ty' name') =
       cc,
   λ same. and_from _ _ ((command_types_decide ty ty').1 (cc)) ((names_decide name name').1 (cc)),
 )
-relationships_decide (relationship.Next ty name) (relationship.Specific index ty' name') = (λ is. cc, λ same. cc)
-relationships_decide (relationship.Specific index ty name) relationship.Last = (λ is. cc, λ same. cc)
-relationships_decide (relationship.Specific index ty name) (relationship.Next ty' name') = (λ is. cc, λ same. cc)
 relationships_decide (relationship.Specific index ty name) (relationship.Specific index' ty' name') = (
   λ is.
       let with_index = and_parts (eqb index index') _ is in
@@ -233,3 +199,4 @@ relationships_decide (relationship.Specific index ty name) (relationship.Specifi
       cc,
   λ same. and_from _ _ (eq-eqb index index' (cc)) (and_from _ _ ((command_types_decide ty ty').1 (cc)) ((names_decide name name').1 (cc))),
 )
+relationships_decide a b = (λ is. cc, λ same. cc)

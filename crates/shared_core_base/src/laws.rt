@@ -141,6 +141,7 @@ pub fn equal_behaviors(a: ErrorBehavior, b: ErrorBehavior) -> bool
 }
 
 /// `==` of commands' metadata compares all three parts.
+#[tactic(auto, using(crate::proofs::Equality::commands_decide))]
 pub fn equal_command_metadata(a: &CommandMetadata, b: &CommandMetadata) -> bool
     ensures { IsTrue result ↔ (command_parts a.now ≡ command_parts b.now) }
 {
@@ -148,6 +149,7 @@ pub fn equal_command_metadata(a: &CommandMetadata, b: &CommandMetadata) -> bool
 }
 
 /// `==` of notifications' metadata compares the variants and all that is in them.
+#[tactic(auto, using(crate::proofs::Equality::notifications_decide))]
 pub fn equal_notification_metadata(a: &NotificationMetadata, b: &NotificationMetadata) -> bool
     ensures { IsTrue result ↔ (notification_parts a.now ≡ notification_parts b.now) }
 {
@@ -155,6 +157,7 @@ pub fn equal_notification_metadata(a: &NotificationMetadata, b: &NotificationMet
 }
 
 /// `==` of errors compares all five parts.
+#[tactic(auto, using(crate::proofs::Equality::errors_decide))]
 pub fn equal_errors(a: &Error, b: &Error) -> bool
     ensures { IsTrue result ↔ (error_parts a.now ≡ error_parts b.now) }
 {
@@ -162,6 +165,7 @@ pub fn equal_errors(a: &Error, b: &Error) -> bool
 }
 
 /// `==` of values compares the variants and all that is in them.
+#[tactic(auto, using(crate::proofs::Equality::values_decide))]
 pub fn equal_values(a: &Value, b: &Value) -> bool
     ensures { IsTrue result ↔ (value_parts a.now ≡ value_parts b.now) }
 {
@@ -169,6 +173,7 @@ pub fn equal_values(a: &Value, b: &Value) -> bool
 }
 
 /// `==` of terminal failures compares all three parts.
+#[tactic(auto, using(crate::proofs::Equality::failures_decide))]
 pub fn equal_failures(a: &TerminalFailure, b: &TerminalFailure) -> bool
     ensures { IsTrue result ↔ (failure_parts a.now ≡ failure_parts b.now) }
 {
@@ -183,6 +188,7 @@ pub fn equal_request_headers(a: &Header, b: &Header) -> bool
 }
 
 /// `==` of commands that an error is about compares the variants and all that is in them.
+#[tactic(auto, using(crate::proofs::Equality::relationships_decide))]
 pub fn equal_relationships(a: &CommandRelationship, b: &CommandRelationship) -> bool
     ensures { IsTrue result ↔ (relationship_parts a.now ≡ relationship_parts b.now) }
 {

@@ -78,6 +78,7 @@ impl Version {
 }
 
 /// Why a text that names no version is refused.
+#[tactic(auto, using(std::proofs::lemmas::Str::Pattern::starts_text))]
 fn refusal(alloc: Global, text: &str) -> ContentTypeError
     ensures { RefusesContentType text.now result }
 {

@@ -1,8 +1,0 @@
-use Rattle.std.proofs.Common.{sym, ◌∙◌}
-use Rattle.shared_core_base.proofs.Equality.{failures_decide}
-use Rattle.shared_core_base.proofs.laws.equal_failures.Goals as goal
-
-pub returns : goal.returns
-returns c =
-    let decides = failures_decide c.args.a.now c.args.b.now in
-    (λ is. decides.0 (sym c.eq.ensures ∙ is), λ same. c.eq.ensures ∙ decides.1 same)
