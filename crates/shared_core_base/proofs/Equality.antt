@@ -13,7 +13,7 @@ use Rattle.shared_core_base.proofs.Types.{types_equal, types_same}
 use Rattle.shared_core_base.specs.contracts.header.MessageTypePartialEq.TheImpl as types
 use Rattle.shared_core_base.specs.declared.error.CommandMetadata.{CommandMetadata}
 use Rattle.shared_core_base.specs.declared.error.NotificationMetadata.{NotificationMetadata}
-use Rattle.shared_core_base.specs.declared.error.NotificationMetadata.TheVariants.{RelatedToCommand, Awakeable, Cancellation}
+use Rattle.shared_core_base.specs.declared.error.NotificationMetadata.TheVariants as notification
 use Rattle.shared_core_base.specs.declared.error.Error.{Error}
 use Rattle.shared_core_base.specs.contracts.error.CommandMetadataPartialEq.TheImpl as commands
 use Rattle.shared_core_base.specs.contracts.error.NotificationMetadataPartialEq.TheImpl as notifications
@@ -32,7 +32,7 @@ use Rattle.shared_core_base.specs.declared.values.Value.TheVariants as value
 use Rattle.shared_core_base.specs.declared.values.CommandRelationship.{CommandRelationship}
 use Rattle.shared_core_base.specs.declared.values.CommandRelationship.TheVariants as relationship
 use Rattle.shared_core_base.specs.Values.{failure_parts, value_parts, relationship_parts, Success, Failure, StateKeys, InvocationId}
-use Rattle.shared_core_base.specs.Error.{command_parts, notification_parts, error_parts, OfCommand, OfAwakeable}
+use Rattle.shared_core_base.specs.Error.{command_parts, notification_parts, error_parts, RelatedToCommand, Awakeable}
 
 -- a test of two optional values decides as the test of two values does
 options_decide : {X Y : Type 0} {test : X → X → Bool} {part : X → Y} → ((a b : X) → Decides (test a b) (part a ≡ part b)) → (a b : Option X) → Decides (option_eq test a b) (option_map part a ≡ option_map part b)
@@ -78,9 +78,9 @@ commands_decide a b = (
 
 -- notifications' metadata
 pub notifications_decide : (a b : NotificationMetadata) → Decides (notifications.eq-value.it a b) (notification_parts a ≡ notification_parts b)
-notifications_decide (RelatedToCommand x) (RelatedToCommand y) = (λ is. ap OfCommand ((commands_decide x y).0 is), λ same. (commands_decide x y).1 (cc))
-notifications_decide (Awakeable x) (Awakeable y) = (λ is. ap OfAwakeable ((texts_decide x y).0 is), λ same. (texts_decide x y).1 (cc))
-notifications_decide Cancellation Cancellation = (λ is. refl, λ same. refl)
+notifications_decide (notification.RelatedToCommand x) (notification.RelatedToCommand y) = (λ is. ap RelatedToCommand ((commands_decide x y).0 is), λ same. (commands_decide x y).1 (cc))
+notifications_decide (notification.Awakeable x) (notification.Awakeable y) = (λ is. ap Awakeable ((texts_decide x y).0 is), λ same. (texts_decide x y).1 (cc))
+notifications_decide notification.Cancellation notification.Cancellation = (λ is. refl, λ same. refl)
 notifications_decide a b = (λ is. cc, λ same. cc)
 
 -- delays

@@ -8,7 +8,7 @@ use Rattle.shared_core_base.specs.CommandType.{message_type_text}
 use Rattle.shared_core_base.specs.declared.header.MessageType.{MessageType}
 use Rattle.shared_core_base.specs.declared.error.CommandMetadata.{CommandMetadata}
 use Rattle.shared_core_base.specs.declared.error.NotificationMetadata.{NotificationMetadata}
-use Rattle.shared_core_base.specs.declared.error.NotificationMetadata.TheVariants.{RelatedToCommand, Awakeable, Cancellation}
+use Rattle.shared_core_base.specs.declared.error.NotificationMetadata.TheVariants as notification
 use Rattle.shared_core_base.specs.declared.error.Error.{Error}
 use Rattle.shared_core_base.specs.declared.error.ErrorBehavior.{ErrorBehavior}
 use Rattle.shared_core_base.specs.declared.error.ErrorBehavior.TheVariants.{Retry, Pause}
@@ -31,9 +31,9 @@ command_metadata_text command = elim command.name [
 
 -- The text of a notification's metadata.
 abbrev pub notification_metadata_text : NotificationMetadata → List ℕ
-notification_metadata_text (RelatedToCommand command) = command_metadata_text command
-notification_metadata_text (Awakeable id) = codes "Awakeable " ++ string_bytes id
-notification_metadata_text Cancellation = codes "Cancellation"
+notification_metadata_text (notification.RelatedToCommand command) = command_metadata_text command
+notification_metadata_text (notification.Awakeable id) = codes "Awakeable " ++ string_bytes id
+notification_metadata_text notification.Cancellation = codes "Cancellation"
 
 -- The line of the command that an error names, if it names one.
 abbrev pub related_command_text : Option CommandMetadata → List ℕ
@@ -56,15 +56,15 @@ command_parts command = record { index = command.index; ty = command.ty; name = 
 
 -- What there is to a notification's metadata, wherever its texts lie in memory.
 pub data NotificationParts : Type 0 where
-  OfCommand : CommandParts → NotificationParts
-  OfAwakeable : List ℕ → NotificationParts
-  OfCancellation : NotificationParts
+  RelatedToCommand : CommandParts → NotificationParts
+  Awakeable : List ℕ → NotificationParts
+  Cancellation : NotificationParts
 
 -- The parts of a notification's metadata.
 abbrev pub notification_parts : NotificationMetadata → NotificationParts
-notification_parts (RelatedToCommand command) = OfCommand (command_parts command)
-notification_parts (Awakeable id) = OfAwakeable (string_bytes id)
-notification_parts Cancellation = OfCancellation
+notification_parts (notification.RelatedToCommand command) = RelatedToCommand (command_parts command)
+notification_parts (notification.Awakeable id) = Awakeable (string_bytes id)
+notification_parts notification.Cancellation = Cancellation
 
 -- What there is to an error, wherever its texts lie in memory.
 pub record ErrorParts : Type 0 where

@@ -232,7 +232,13 @@ pub struct Error {
 impl Error {
     /// An error of this code and this message, which is retried. It says no delay, and no command.
     pub fn new(code: u16, message: CowStr<'static>) -> Error
-        ensures { result ≡ record { code = code; message = message.entry; related_command = None; next_retry_delay = None; behavior = ErrorBehavior.Retry } }
+        ensures { result ≡ record {
+          code = code;
+          message = message.entry;
+          related_command = None;
+          next_retry_delay = None;
+          behavior = ErrorBehavior.Retry;
+        } }
     {
         Error {
             code,
@@ -245,7 +251,13 @@ impl Error {
 
     /// An error of the code `INTERNAL`, else as `new` makes it.
     pub fn internal(message: CowStr<'static>) -> Error
-        ensures { result ≡ record { code = 500; message = message.entry; related_command = None; next_retry_delay = None; behavior = ErrorBehavior.Retry } }
+        ensures { result ≡ record {
+          code = 500;
+          message = message.entry;
+          related_command = None;
+          next_retry_delay = None;
+          behavior = ErrorBehavior.Retry;
+        } }
     {
         Error::new(codes::INTERNAL.code(), message)
     }

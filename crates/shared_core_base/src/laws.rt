@@ -16,7 +16,7 @@ use crate::error::codes::{
     PROTOCOL_VIOLATION, SUSPENDED, UNSUPPORTED_FEATURE, UNSUPPORTED_MEDIA_TYPE,
 };
 use crate::error::{
-    CommandMetadata, Error, ErrorBehavior, InvocationErrorCode, NotificationMetadata, codes,
+    CommandMetadata, Error, ErrorBehavior, InvocationErrorCode, NotificationMetadata,
 };
 use crate::header::{MessageHeader, MessageType};
 use crate::values::{CommandRelationship, Header, PayloadOptions, TerminalFailure, Value};
