@@ -1,23 +1,12 @@
--- The texts of errors.
+-- The texts and the codes of errors.
 use Rattle.std.specs.Prelude.{ℕ, ℤ, ◌++◌, List, codes}
 use Rattle.std.specs.Fmt.{signed_decimal}
 use Rattle.shared_core_base.specs.declared.header.MessageType.{MessageType}
 use Rattle.shared_core_base.specs.CommandType.{message_type_text}
 use Rattle.shared_core_base.specs.MessageType.{debug_name_of, unknown_type_text}
+use Rattle.shared_core_errors.specs.Mismatch.{mismatch_head, command_type_mismatch_text}
 use Rattle.shared_core.specs.declared.encoding.DecodingError.{DecodingError}
 use Rattle.shared_core.specs.declared.encoding.DecodingError.TheVariants.{DecodeMessage, UnexpectedMessageType, MissingField, UnknownMessageType, OutOfMemory}
-
--- How each text on a mismatch begins.
-abbrev pub mismatch_head : List ℕ
-mismatch_head = codes "Found a mismatch between the code paths taken during the previous execution and the paths taken during this execution.\nThis typically happens when some parts of the code are non-deterministic.\n"
-
--- The text of a mismatch of types at a command index.
-abbrev pub command_type_mismatch_text : ℤ → MessageType → MessageType → List ℕ
-command_type_mismatch_text index actual expected =
-    mismatch_head
-    ++ (codes " - The previous execution ran and recorded the following: '" ++ (message_type_text actual
-    ++ (codes "' (index '" ++ (signed_decimal index
-    ++ (codes "')\n - The current execution attempts to perform the following: '" ++ (message_type_text expected ++ codes "'"))))))
 
 -- The text of a mismatch of two commands of a type at a command index, with their difference.
 abbrev pub command_mismatch_text : MessageType → ℤ → List ℕ → List ℕ
@@ -36,3 +25,11 @@ decoding_error_text (MissingField expected field) =
     codes "expected message type " ++ (debug_name_of expected ++ (codes " to have field " ++ field.now))
 decoding_error_text (UnknownMessageType unknown) = unknown_type_text unknown.0
 decoding_error_text OutOfMemory = codes "out of memory"
+
+-- The code of a refusal to decode: a message of another type is a mismatch of the journal, every other refusal an internal error.
+abbrev pub decoding_error_code : DecodingError → ℕ
+decoding_error_code (DecodeMessage ty error) = 500
+decoding_error_code (UnexpectedMessageType mismatch) = 570
+decoding_error_code (MissingField expected field) = 500
+decoding_error_code (UnknownMessageType unknown) = 500
+decoding_error_code OutOfMemory = 500

@@ -7,7 +7,7 @@ use Rattle.shared_core_wire.specs.Canonical.{canonical_payload}
 use Rattle.shared_core_wire.specs.Laws.{IsWritable}
 use Rattle.shared_core_record.specs.Table.{table}
 use Rattle.shared_core_record.specs.Payloads.{IsAccepted, payload_meaning}
-use Rattle.shared_core.specs.declared.errors.CommandTypeMismatchError.{CommandTypeMismatchError}
+use Rattle.shared_core_errors.specs.declared.command_type_mismatch.CommandTypeMismatchError.{CommandTypeMismatchError}
 use Rattle.shared_core.specs.declared.encoding.RawMessage.{RawMessage}
 use Rattle.shared_core.specs.declared.encoding.DecodingError.{DecodingError}
 use Rattle.shared_core.specs.declared.encoding.DecodingError.TheVariants.{DecodeMessage, UnexpectedMessageType, OutOfMemory}

@@ -8,11 +8,12 @@ mod typed;
 
 pub use crate::encoding::encoder::Encoder;
 pub use crate::encoding::pieces::decode_pieces;
-use crate::errors::CommandTypeMismatchError;
 use crate::pending_bytes::PendingBytes;
 use bytes::Bytes;
+use shared_core_base::error::{Error, InvocationErrorCode, OutOfMemory, codes, error_of};
 use shared_core_base::header::{MessageHeader, MessageType, UnknownMessageType};
 use shared_core_base::version::Version;
+use shared_core_errors::command_type_mismatch::CommandTypeMismatchError;
 use shared_core_wire::error::WireError;
 use std::alloc::{AllocError, Global};
 use std::fmt;
@@ -75,6 +76,29 @@ pub enum DecodingError {
     UnknownMessageType(UnknownMessageType),
     /// A request for memory was refused. Nothing is taken.
     OutOfMemory,
+}
+
+impl DecodingError {
+    ghost use Rattle.std.specs.Prelude.{◌≡◌, IfOk, Some};
+    ghost use Rattle.shared_core_base.specs.Error.{IsErrorOf};
+    ghost use Rattle.shared_core.specs.Errors.{decoding_error_code, decoding_error_text};
+
+    /// The code: `JOURNAL_MISMATCH` where the message is of another type, else `INTERNAL`.
+    pub fn code(&self) -> InvocationErrorCode
+        ensures { result.0 ≡ decoding_error_code self.now }
+    {
+        match self {
+            DecodingError::UnexpectedMessageType(mismatch) => mismatch.code(),
+            _ => codes::INTERNAL,
+        }
+    }
+
+    /// The error with this code and this text.
+    pub fn to_error(&self, alloc: Global) -> Result<Error, OutOfMemory>
+        ensures { IfOk result (IsErrorOf (decoding_error_code self.now) (Some (decoding_error_text self.now))) }
+    {
+        error_of(alloc, self.code(), self)
+    }
 }
 
 impl From<UnknownMessageType> for DecodingError {

@@ -1,54 +1,30 @@
 //! Errors that say what went wrong, for people.
-ghost use Rattle.std.specs.Prelude.{◌≡◌};
+ghost use Rattle.std.specs.Prelude.{◌≡◌, IfOk, Some, codes as text_codes};
+ghost use Rattle.shared_core_base.specs.Error.{IsErrorOf};
+ghost use Rattle.shared_core_compare.specs.Differences.{difference};
+ghost use Rattle.shared_core.specs.Errors.{command_mismatch_text};
 
+use shared_core_base::error::{Error, InvocationErrorCode, OutOfMemory, codes, error_of};
 use shared_core_base::fmt::DiffFormatter;
-use shared_core_base::header::MessageType;
 use shared_core_compare::difference::CommandMessageHeaderDiff;
+pub use shared_core_errors::closed::ClosedError;
+pub use shared_core_errors::command_type_mismatch::CommandTypeMismatchError;
+pub use shared_core_errors::constants::{
+    empty_get_eager_state, empty_get_eager_state_keys, empty_get_state_ephemeral_notification,
+    empty_idempotency_key, empty_limit_key, empty_scope, ephemeral_command_during_replay,
+    input_closed_while_waiting_entries, input_closed_while_waiting_ephemeral_notifications,
+    known_entries_is_zero, missing_content_type, suspended, unexpected_entry_message,
+    unexpected_input_message,
+};
+pub use shared_core_errors::typed::{
+    BadEagerStateKeyError, BadProposeRunCompletionAck, EphemeralStateGetWithClosedInput,
+    OutOfBoundsDuration, UnavailableEntryError, UnexpectedStateError,
+    UnsupportedFeatureForNegotiatedVersion,
+};
+pub use shared_core_errors::uncompleted::UncompletedDoProgressDuringReplay;
 use shared_core_parts::restate_message::RestateMessage;
+use std::alloc::Global;
 use std::fmt;
-
-/// A command is not of the type that the code expects at its place in the journal. A contract sees it as the record of its
-/// index and its two types.
-#[derive(Debug, Drop)]
-pub struct CommandTypeMismatchError {
-    command_index: i64,
-    actual: MessageType,
-    expected: MessageType,
-}
-
-impl CommandTypeMismatchError {
-    /// The mismatch at a command index: what was recorded, and what the code attempts now.
-    pub fn new(
-        command_index: i64,
-        actual: MessageType,
-        expected: MessageType,
-    ) -> CommandTypeMismatchError
-        ensures { result ≡ record { command_index = command_index; actual = actual; expected = expected } }
-    {
-        CommandTypeMismatchError {
-            command_index,
-            actual,
-            expected,
-        }
-    }
-}
-
-impl fmt::Display for CommandTypeMismatchError {
-    ghost use Rattle.std.specs.Prelude.{Some};
-    ghost use Rattle.shared_core.specs.Errors.{command_type_mismatch_text};
-
-    ghost output = { λ error. Some (command_type_mismatch_text error.command_index error.actual error.expected) };
-
-    fn fmt<W: fmt::Write>(&self, f: &mut fmt::Formatter<W>) -> fmt::Result {
-        let index = self.command_index;
-        let actual = self.actual;
-        let expected = self.expected;
-        write!(
-            f,
-            "Found a mismatch between the code paths taken during the previous execution and the paths taken during this execution.\nThis typically happens when some parts of the code are non-deterministic.\n - The previous execution ran and recorded the following: '{actual}' (index '{index}')\n - The current execution attempts to perform the following: '{expected}'"
-        )
-    }
-}
 
 /// A command is of the type that the code expects at its place in the journal, and yet another one. A contract sees it as the record of its
 /// index and the two commands.
@@ -69,6 +45,23 @@ impl<M: Drop> CommandMismatchError<M> {
             actual,
             expected,
         }
+    }
+}
+
+impl<M: RestateMessage + CommandMessageHeaderDiff> CommandMismatchError<M> {
+    /// The code, `JOURNAL_MISMATCH`.
+    pub fn code(&self) -> InvocationErrorCode
+        ensures { result.0 ≡ 570 }
+    {
+        codes::JOURNAL_MISMATCH
+    }
+
+    /// The error with this code and this text.
+    pub fn to_error(&self, alloc: Global) -> Result<Error, OutOfMemory>
+        ensures { IfOk result (IsErrorOf 570 (Some (command_mismatch_text M.message_type self.now.command_index
+            (difference M.schema (text_codes "   ") (M.parts self.now.actual) (M.parts self.now.expected))))) }
+    {
+        error_of(alloc, self.code(), self)
     }
 }
 

@@ -1,0 +1,4 @@
+pub mod Mismatch
+pub mod Closed
+pub mod Awaited
+pub mod Uncompleted

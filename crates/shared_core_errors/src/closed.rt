@@ -1,0 +1,82 @@
+//! A call of a state machine that is closed, and how it is reported.
+ghost use Rattle.std.specs.Prelude.{◌≡◌, ℕ, List, IfOk, Some, refl};
+ghost use Rattle.std.specs.String.{string_bytes};
+ghost use Rattle.shared_core_base.specs.Error.{IsErrorOf};
+ghost use Rattle.shared_core_errors.specs.Closed.{closed_text, WritesSome};
+
+use shared_core_base::error::{Error, InvocationErrorCode, OutOfMemory, codes, error_of};
+use std::alloc::Global;
+use std::fmt;
+use std::fmt::Formatter;
+
+/// Writes errors in a form of its own.
+pub trait ErrorFormatter: fmt::Debug {
+    /// The texts that it may write of an event. Each formatter's are the default text and, where it has a method of its own, what that writes.
+    ghost closed_gives: { Self → List ℕ → List ℕ → Type 0 } = { λ _ event text. text ≡ closed_text event };
+
+    /// Writes that the state machine was closed when `event` was invoked. It fails where the writer fails.
+    fn display_closed_error<W: fmt::Write>(&self, f: &mut Formatter<W>, event: &str) -> fmt::Result
+        ensures { WritesSome W.write_str_gives f.old result (closed_gives self.now event.now) f.new }
+    {
+        write!(f, "State machine was closed when invoking '{event}'")
+    }
+
+    ghost default_may_stand: { (formatter : Self) (event : List ℕ) → closed_gives formatter event (closed_text event) };
+}
+
+/// Writes errors as they print.
+#[derive(Debug, Drop)]
+pub struct DefaultErrorFormatter;
+
+impl ErrorFormatter for DefaultErrorFormatter {
+    ghost default_may_stand = { λ formatter event. refl };
+}
+
+/// The state machine was closed when something was invoked.
+#[derive(Debug, Drop)]
+pub struct ClosedError {
+    event: String,
+}
+
+impl ClosedError {
+    /// What was invoked.
+    pub fn new(event: String) -> ClosedError
+        ensures { result ≡ record { event = event } }
+    {
+        ClosedError { event }
+    }
+
+    /// Writes the error in a formatter's form. It fails where the writer fails.
+    pub fn print_with<F: ErrorFormatter, W: fmt::Write>(
+        &self,
+        formatter: &F,
+        f: &mut Formatter<W>,
+    ) -> fmt::Result
+        ensures { WritesSome W.write_str_gives f.old result (F.closed_gives formatter.now (string_bytes self.now.event)) f.new }
+    {
+        formatter.display_closed_error(f, self.event.as_str())
+    }
+
+    /// The code, `CLOSED`.
+    pub fn code(&self) -> InvocationErrorCode
+        ensures { result.0 ≡ 598 }
+    {
+        codes::CLOSED
+    }
+
+    /// The error with this code and this text.
+    pub fn to_error(&self, alloc: Global) -> Result<Error, OutOfMemory>
+        ensures { IfOk result (IsErrorOf 598 (Some (closed_text (string_bytes self.now.event)))) }
+    {
+        error_of(alloc, self.code(), self)
+    }
+}
+
+/// Prints as the default formatter writes it.
+impl fmt::Display for ClosedError {
+    ghost output = { λ error. Some (closed_text (string_bytes error.event)) };
+
+    fn fmt<W: fmt::Write>(&self, f: &mut Formatter<W>) -> fmt::Result {
+        self.print_with(&DefaultErrorFormatter, f)
+    }
+}
