@@ -1,5 +1,5 @@
 -- The text of an await that the journal cannot replay.
-use Rattle.std.specs.Prelude.{ℕ, List, ◌++◌, Option, Some, None, codes, map}
+use Rattle.std.specs.Prelude.{ℕ, List, ◌++◌, Option, Some, None, codes}
 use Rattle.std.specs.Fmt.{decimal}
 use Rattle.std.specs.List.{flat_map}
 use Rattle.std.specs.String.{string_bytes}
@@ -7,7 +7,6 @@ use Rattle.shared_core_base.specs.Error.{notification_metadata_text}
 use Rattle.shared_core_base.specs.declared.error.NotificationMetadata.{NotificationMetadata}
 use Rattle.shared_core_parts.specs.declared.notification_template.Id.{Id}
 use Rattle.shared_core_parts.specs.declared.notification_template.Id.TheVariants.{CompletionId, SignalId, SignalName}
-use Rattle.shared_core_errors.specs.declared.uncompleted.UncompletedDoProgressDuringReplay.{UncompletedDoProgressDuringReplay}
 
 -- The text of an awaited id.
 abbrev pub id_text : Id → List ℕ
@@ -20,11 +19,14 @@ abbrev pub line_text : Id → Option NotificationMetadata → List ℕ
 line_text id (Some known) = codes "\n - " ++ notification_metadata_text known
 line_text id None = codes "\n - " ++ id_text id
 
+-- The lines of awaited ids, by what is known of each.
+abbrev pub lines_text : (Id → Option NotificationMetadata) → List Id → List ℕ
+lines_text known = flat_map (λ id. line_text id (known id))
+
+-- How the text of an await begins.
+abbrev pub uncompleted_head : List ℕ
+uncompleted_head = codes "Found a mismatch between the code paths taken during the previous execution and the paths taken during this execution.\n'await' could not be replayed. This usually means the code was mutated adding an 'await' without registering a new service revision.\nNotifications awaited on this await point:"
+
 -- The text of an await, with a line for each awaited id in turn.
 abbrev pub uncompleted_text : (Id → Option NotificationMetadata) → List Id → List ℕ
-uncompleted_text known ids = codes "Found a mismatch between the code paths taken during the previous execution and the paths taken during this execution.\n'await' could not be replayed. This usually means the code was mutated adding an 'await' without registering a new service revision.\nNotifications awaited on this await point:"
-    ++ flat_map (λ id. line_text id (known id)) ids
-
--- The awaited ids of an error, in the order in which they print.
-abbrev pub awaited_ids : UncompletedDoProgressDuringReplay → List Id
-awaited_ids error = map (λ awaited. awaited.0) error.notification_ids.items
+uncompleted_text known ids = uncompleted_head ++ lines_text known ids
