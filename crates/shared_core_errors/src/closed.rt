@@ -1,36 +1,34 @@
 //! A call of a state machine that is closed, and how it is reported.
-ghost use Rattle.std.specs.Prelude.{◌≡◌, ℕ, List, IfOk, Some, refl};
+ghost use Rattle.std.specs.Prelude.{◌≡◌, IfOk, Some};
 ghost use Rattle.std.specs.String.{string_bytes};
 ghost use Rattle.shared_core_base.specs.Error.{IsErrorOf};
-ghost use Rattle.shared_core_errors.specs.Closed.{closed_text, WritesSome};
+ghost use Rattle.shared_core_errors.specs.Closed.{closed_text, IsClosedText, WritesSome};
 
 use shared_core_base::error::{Error, InvocationErrorCode, OutOfMemory, codes, error_of};
 use std::alloc::Global;
 use std::fmt;
 use std::fmt::Formatter;
 
-/// Writes errors in a form of its own.
+/// Writes errors in a form of its own, or as they print.
 pub trait ErrorFormatter: fmt::Debug {
-    /// The texts that it may write of an event. Each formatter's are the default text and, where it has a method of its own, what that writes.
-    ghost closed_gives: { Self → List ℕ → List ℕ → Type 0 } = { λ _ event text. text ≡ closed_text event };
+    ghost use Rattle.std.specs.Prelude.{List, ℕ};
+
+    /// The texts of its own that it may write of an event. Where an impl names none, it writes the default text.
+    ghost closed_texts: { Self → List ℕ → List ℕ → Type 0 } = { λ _ _ _. ⊥ };
 
     /// Writes that the state machine was closed when `event` was invoked. It fails where the writer fails.
     fn display_closed_error<W: fmt::Write>(&self, f: &mut Formatter<W>, event: &str) -> fmt::Result
-        ensures { WritesSome W.write_str_gives f.old result (closed_gives self.now event.now) f.new }
+        ensures { WritesSome W.write_str_gives f.old result (IsClosedText (closed_texts self.now) event.now) f.new }
     {
         write!(f, "State machine was closed when invoking '{event}'")
     }
-
-    ghost default_may_stand: { (formatter : Self) (event : List ℕ) → closed_gives formatter event (closed_text event) };
 }
 
 /// Writes errors as they print.
 #[derive(Debug, Drop)]
 pub struct DefaultErrorFormatter;
 
-impl ErrorFormatter for DefaultErrorFormatter {
-    ghost default_may_stand = { λ formatter event. refl };
-}
+impl ErrorFormatter for DefaultErrorFormatter {}
 
 /// The state machine was closed when something was invoked.
 #[derive(Debug, Drop)]
@@ -52,7 +50,8 @@ impl ClosedError {
         formatter: &F,
         f: &mut Formatter<W>,
     ) -> fmt::Result
-        ensures { WritesSome W.write_str_gives f.old result (F.closed_gives formatter.now (string_bytes self.now.event)) f.new }
+        ensures { WritesSome W.write_str_gives f.old result
+            (IsClosedText (F.closed_texts formatter.now) (string_bytes self.now.event)) f.new }
     {
         formatter.display_closed_error(f, self.event.as_str())
     }
