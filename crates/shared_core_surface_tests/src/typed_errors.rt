@@ -1,5 +1,5 @@
 //! Errors that hold what went wrong: their texts, their codes, and the errors that they become.
-ghost use Rattle.std.specs.Prelude.{⊤, tt};
+ghost use Rattle.std.specs.Prelude.{◌≡◌};
 
 use crate::steps::{becomes, expect, prints, read};
 use bytes::Bytes;
@@ -253,7 +253,7 @@ fn refusals_of_content_types(rt: HostRuntime) -> Result<(), Fail> {
 struct EventAlone;
 
 impl ErrorFormatter for EventAlone {
-    ghost closed_gives = { λ _ _ _. ⊤ };
+    ghost closed_texts = { λ _ event text. text ≡ event };
 
     fn display_closed_error<W: fmt::Write>(
         &self,
@@ -262,8 +262,6 @@ impl ErrorFormatter for EventAlone {
     ) -> fmt::Result {
         f.write_str(event)
     }
-
-    ghost default_may_stand = { λ formatter event. tt };
 }
 
 /// Prints an error as a formatter writes it.

@@ -107,11 +107,14 @@ fn headers_by_their_names(rt: HostRuntime) -> Result<(), Fail> {
 
 /// The result of a notification's payload.
 fn result_of(alloc: Global, payload: &'static [u8]) -> Result<NotificationResult, Fail> {
-    let template: NotificationTemplate = read(alloc, payload)?;
-    match template.result {
-        Some(found) => Ok(found),
-        None => Err(Fail::new("no result")),
-    }
+    let NotificationTemplate {
+        id: _id,
+        result: found,
+    } = read(alloc, payload)?;
+    let Some(found) = found else {
+        return Err(Fail::new("no result"));
+    };
+    Ok(found)
 }
 
 /// The name of the variant, for as long as the program runs.
