@@ -1,5 +1,5 @@
 //! Errors that say what went wrong, for people.
-ghost use Rattle.std.specs.Prelude.{◌≡◌, IfOk, Some, codes as text_codes};
+ghost use Rattle.std.specs.Prelude.{◌≡◌, IfOk, Some, codes};
 ghost use Rattle.shared_core_base.specs.Error.{IsErrorOf};
 ghost use Rattle.shared_core_compare.specs.Differences.{difference};
 ghost use Rattle.shared_core.specs.Errors.{command_mismatch_text};
@@ -9,13 +9,6 @@ use shared_core_base::fmt::DiffFormatter;
 use shared_core_compare::difference::CommandMessageHeaderDiff;
 pub use shared_core_errors::closed::ClosedError;
 pub use shared_core_errors::command_type_mismatch::CommandTypeMismatchError;
-pub use shared_core_errors::constants::{
-    empty_get_eager_state, empty_get_eager_state_keys, empty_get_state_ephemeral_notification,
-    empty_idempotency_key, empty_limit_key, empty_scope, ephemeral_command_during_replay,
-    input_closed_while_waiting_entries, input_closed_while_waiting_ephemeral_notifications,
-    known_entries_is_zero, missing_content_type, suspended, unexpected_entry_message,
-    unexpected_input_message,
-};
 pub use shared_core_errors::typed::{
     BadEagerStateKeyError, BadProposeRunCompletionAck, EphemeralStateGetWithClosedInput,
     OutOfBoundsDuration, UnavailableEntryError, UnexpectedStateError,
@@ -25,6 +18,15 @@ pub use shared_core_errors::uncompleted::UncompletedDoProgressDuringReplay;
 use shared_core_parts::restate_message::RestateMessage;
 use std::alloc::Global;
 use std::fmt;
+
+// The errors that are always the same.
+pub use shared_core_errors::constants::{
+    empty_get_eager_state, empty_get_eager_state_keys, empty_get_state_ephemeral_notification,
+    empty_idempotency_key, empty_limit_key, empty_scope, ephemeral_command_during_replay,
+    input_closed_while_waiting_entries, input_closed_while_waiting_ephemeral_notifications,
+    known_entries_is_zero, missing_content_type, suspended, unexpected_entry_message,
+    unexpected_input_message,
+};
 
 /// A command is of the type that the code expects at its place in the journal, and yet another one. A contract sees it as the record of its
 /// index and the two commands.
@@ -59,7 +61,7 @@ impl<M: RestateMessage + CommandMessageHeaderDiff> CommandMismatchError<M> {
     /// The error with this code and this text.
     pub fn to_error(&self, alloc: Global) -> Result<Error, OutOfMemory>
         ensures { IfOk result (IsErrorOf 570 (Some (command_mismatch_text M.message_type self.now.command_index
-            (difference M.schema (text_codes "   ") (M.parts self.now.actual) (M.parts self.now.expected))))) }
+            (difference M.schema (codes "   ") (M.parts self.now.actual) (M.parts self.now.expected))))) }
     {
         error_of(alloc, self.code(), self)
     }
@@ -73,9 +75,6 @@ struct Difference<'a, M> {
 }
 
 impl<'a, M: CommandMessageHeaderDiff> fmt::Display for Difference<'a, M> {
-    ghost use Rattle.std.specs.Prelude.{Some, codes};
-    ghost use Rattle.shared_core_compare.specs.Differences.{difference};
-
     ghost output = { λ commands. Some (difference M.schema (codes "   ") (M.parts commands.actual.now) (M.parts commands.expected.now)) };
 
     fn fmt<W: fmt::Write>(&self, f: &mut fmt::Formatter<W>) -> fmt::Result {
@@ -86,10 +85,6 @@ impl<'a, M: CommandMessageHeaderDiff> fmt::Display for Difference<'a, M> {
 
 /// Says at which command it is, and how the two differ: a line a field, behind three spaces.
 impl<M: RestateMessage + CommandMessageHeaderDiff> fmt::Display for CommandMismatchError<M> {
-    ghost use Rattle.std.specs.Prelude.{Some, codes};
-    ghost use Rattle.shared_core.specs.Errors.{command_mismatch_text};
-    ghost use Rattle.shared_core_compare.specs.Differences.{difference};
-
     ghost output = { λ error. Some (command_mismatch_text M.message_type error.command_index
         (difference M.schema (codes "   ") (M.parts error.actual) (M.parts error.expected))) };
 

@@ -76,8 +76,10 @@ impl UnexpectedStateError {
 pub struct BadEagerStateKeyError;
 
 impl BadEagerStateKeyError {
-    /// Holds nothing.
-    pub fn new() -> BadEagerStateKeyError {
+    /// There is one such error: it does not hold the key.
+    pub fn new() -> BadEagerStateKeyError
+        ensures { result ≡ record {} }
+    {
         BadEagerStateKeyError
     }
 

@@ -17,8 +17,10 @@ use std::cmp::Ordering;
 use std::collections::{HashMap, HashSet};
 use std::fmt;
 
-/// The code awaits notifications where the journal records no await. Its text names each of them, in an order that is the set's own:
-/// completions by their ids, then named signals by the bytes of their names, then signals by their ids, the one that cancels last.
+/// The code awaits notifications where the journal records no await. They print in this order: completions by their ids, then named
+/// signals by the bytes of their names, then signals by their ids, the one that cancels last.
+///
+/// A contract sees it as the record of the ids in that order and of what is known of some of them.
 #[derive(Debug, Drop)]
 pub struct UncompletedDoProgressDuringReplay {
     notification_ids: Vec<NotificationId>,
@@ -26,7 +28,7 @@ pub struct UncompletedDoProgressDuringReplay {
 }
 
 impl UncompletedDoProgressDuringReplay {
-    /// The awaited ids, and what is known of some of them.
+    /// The awaited ids, and what is known of some of them. `OutOfMemory` where there is no memory to put them in order.
     pub fn new(
         alloc: Global,
         notification_ids: HashSet<NotificationId>,
