@@ -6,6 +6,12 @@
 set -u
 cd "$(dirname "$0")/../crates/journal_list" || exit 1
 
+# what the program says on standard error
+usage='usage: journal_list [1..65536]'
+input_failed='journal_list: input failed'
+output_failed='journal_list: output failed'
+out_of_memory='journal_list: out of memory'
+
 passed=0
 failed=0
 work=$(mktemp -d) || exit 1
@@ -34,12 +40,36 @@ outcome() {
   fi
 }
 
-# ended NAME STATUS FILE [LINE]: the run ended with this status, wrote what the file holds, and said this line or nothing
+# said STATUS [LINE]: the run ended with this status, and said this line or nothing
+said() {
+  : > "$work/line"
+  [ $# -eq 1 ] || printf '%s\n' "$2" > "$work/line"
+  [ "$status" -eq "$1" ] && cmp -s "$err" "$work/line"
+}
+
+# ended NAME STATUS FILE [LINE]: the same, and it wrote what the file holds
 ended() {
-  [ $# -lt 4 ] || printf '%s\n' "$4" > "$work/line"
-  [ $# -eq 4 ] || : > "$work/line"
-  [ "$status" -eq "$2" ] && cmp -s "$out" "$3" && cmp -s "$err" "$work/line"
-  outcome "$1" $?
+  name=$1
+  listing=$3
+  said "$2" ${4:+"$4"} && cmp -s "$out" "$listing"
+  outcome "$name" $?
+}
+
+# stands LISTING: how much of it stands in the output: nothing, all, or a beginning, of whole lines or not; or other bytes
+stands() {
+  size=$(($(wc -c < "$out")))
+  head -c "$size" "$1" > "$work/beginning"
+  if ! cmp -s "$out" "$work/beginning"; then
+    echo other
+  elif [ "$size" -eq 0 ]; then
+    echo nothing
+  elif [ "$size" -eq "$(wc -c < "$1")" ]; then
+    echo all
+  elif [ "$(tail -c 1 "$out" | wc -l)" -eq 1 ]; then
+    echo lines
+  else
+    echo part
+  fi
 }
 
 # refused WORD..: words that are not the program's
@@ -53,7 +83,7 @@ refused() {
     # what rt try says of the run stands behind the program's own lines
     sed '/^checked: /,$d' "$work/tried" > "$err"
   fi
-  ended "refused: journal_list $*" 2 "$work/nothing" 'usage: journal_list [1..65536]'
+  ended "refused: journal_list $*" 2 "$work/nothing" "$usage"
 }
 
 refused 0
@@ -87,29 +117,95 @@ done
 
 stream=../../examples/replay
 
-# A word that cannot be fetched, and inputs that fail
-"$program" "$(printf '\377')" < "$stream" > "$out" 2> "$err"
+# Words that cannot be fetched, and inputs that fail
+no_text=$(printf '\377')
+"$program" "$no_text" < "$stream" > "$out" 2> "$err"
 status=$?
-ended 'a word that is no text' 1 "$work/nothing" 'journal_list: input failed'
+ended 'a word that is no text' 1 "$work/nothing" "$input_failed"
+"$program" 3 "$no_text" < "$stream" > "$out" 2> "$err"
+status=$?
+ended 'a second word that is no text' 1 "$work/nothing" "$input_failed"
 "$program" < . > "$out" 2> "$err"
 status=$?
-ended 'a folder as input' 1 "$work/nothing" 'journal_list: input failed'
+ended 'a folder as input' 1 "$work/nothing" "$input_failed"
 "$program" <&- > "$out" 2> "$err"
 status=$?
-ended 'a closed input' 1 "$work/nothing" 'journal_list: input failed'
+ended 'a closed input' 1 "$work/nothing" "$input_failed"
 
-# Outputs that fail: nothing of the listing stands anywhere
-: > "$out"
-"$program" < "$stream" 2> "$err" >&-
+# Where the standard error fails as well, the status stays.
+: > "$err"
+"$program" < . > "$out" 2>&-
 status=$?
-ended 'a closed output' 1 "$work/nothing" 'journal_list: output failed'
-if [ -c /dev/full ]; then
-  "$program" < "$stream" > /dev/full 2> "$err"
+ended 'a folder as input, and a closed standard error' 1 "$work/nothing"
+"$program" 0 < /dev/null > "$out" 2>&-
+status=$?
+ended 'a word that is refused, and a closed standard error' 2 "$work/nothing"
+
+# The same stream 16,384 times, and its listing
+cp "$stream" "$work/long"
+sed '$d' "$stream.stdout" > "$work/long.lines"
+for file in long long.lines; do
+  for _ in 1 2 3 4 5 6 7 8 9 10 11 12 13 14; do
+    cat "$work/$file" "$work/$file" > "$work/twice"
+    mv "$work/twice" "$work/$file"
+  done
+done
+{ cat "$work/long.lines"; echo 'rest 0'; } > "$work/long.stdout"
+"$program" < "$work/long" > "$out" 2> "$err"
+status=$?
+ended 'a long stream' 0 "$work/long.stdout"
+
+# Outputs that fail at once: nothing of the listing stands anywhere.
+: > "$out"
+for listed in "$stream" "$work/long"; do
+  "$program" < "$listed" 2> "$err" >&-
   status=$?
-  ended 'a full output' 1 "$work/nothing" 'journal_list: output failed'
+  ended "a closed output, ${listed##*/}" 1 "$work/nothing" "$output_failed"
+  if [ -c /dev/full ]; then
+    "$program" < "$listed" > /dev/full 2> "$err"
+    status=$?
+    ended "a full output, ${listed##*/}" 1 "$work/nothing" "$output_failed"
+  else
+    echo 'check_program.sh: a full output: not run, since there is no /dev/full'
+  fi
+done
+
+# An output that is full in the middle: a file that may not grow past 200 blocks
+if (trap '' XFSZ && ulimit -f 200) 2> "$work/ulimit"; then
+  (
+    trap '' XFSZ
+    ulimit -f 200
+    "$program" < "$work/long" > "$out" 2> "$err"
+  )
+  status=$?
+  said 1 "$output_failed" && [ "$(stands "$work/long.stdout")" = part ]
+  outcome 'an output that is full in the middle' $?
 else
-  echo 'check_program.sh: a full output: not run, since there is no /dev/full'
+  echo 'check_program.sh: an output that is full in the middle: not run, since files cannot be bounded here'
 fi
+
+# An output whose reader goes away after three lines: where the signal SIGPIPE is ignored, it is an output that fails; else the
+# signal ends the program, as it ends others.
+{
+  (
+    trap '' PIPE
+    "$program" < "$work/long" 2> "$err"
+    echo $? > "$work/status"
+  )
+} | head -n 3 > "$out"
+status=$(cat "$work/status")
+said 1 "$output_failed" && [ "$(stands "$work/long.stdout")" = lines ]
+outcome 'a reader that goes away, without its signal' $?
+{
+  (
+    "$program" < "$work/long" 2> "$err"
+    echo $? > "$work/status"
+  )
+} | head -n 3 > "$out"
+status=$(cat "$work/status")
+# who started this script may have the signal ignored
+{ [ "$status" -gt 128 ] && said "$status" || said 1 "$output_failed"; } && [ "$(stands "$work/long.stdout")" = lines ]
+outcome 'a reader that goes away' $?
 
 # With a closed output the program stops at the first line, which the first message of 27 bytes makes: the pieces that it has
 # read by then show their size by what is left for the next command.
@@ -132,8 +228,8 @@ dd if=/dev/zero of="$work/starts" bs=1000 count=70 2> "$work/dd"
 left '' 65904 "$work/starts"
 left 65536 4464 "$work/starts"
 
-# No memory: a message of 4 GiB begins, and 128 MiB of address space do not hold the 192 MiB of it that come.
 if (ulimit -v 131072) 2> "$work/ulimit"; then
+  # A message of 4 GiB begins, and 128 MiB of address space do not hold the 192 MiB of it that come.
   status=$(
     {
       printf '\004\000\000\000\377\377\377\377'
@@ -144,7 +240,45 @@ if (ulimit -v 131072) 2> "$work/ulimit"; then
       echo $?
     )
   )
-  ended 'no memory' 1 "$work/nothing" 'journal_list: out of memory'
+  ended 'no memory' 1 "$work/nothing" "$out_of_memory"
+
+  # Three messages, an InputCommand of a mebibyte, and messages Start without a payload: from a bound under which the program cannot
+  # start to one under which it succeeds, it writes the whole listing, or says its line and leaves whole lines.
+  {
+    cat "$stream"
+    printf '\004\000\000\000\000\020\000\000'
+    dd if=/dev/zero bs=65536 count=16 2> "$work/dd"
+    cat "$work/starts"
+  } > "$work/large"
+  {
+    sed '$d' "$stream.stdout"
+    echo 'InputCommand 1048576'
+    awk 'BEGIN { while (lines++ < 8750) print "Start 0"; print "rest 0" }'
+  } > "$work/large.stdout"
+  refused=0
+  listed=0
+  bound=512
+  while [ "$bound" -le 8192 ]; do
+    (
+      ulimit -v "$bound"
+      "$program" < "$work/large" > "$out" 2> "$err"
+    ) 2> "$work/shell"
+    status=$?
+    found=$(stands "$work/large.stdout")
+    if said 0 && [ "$found" = all ]; then
+      listed=$((listed + 1))
+      outcome "$bound KiB of address space" 0
+    elif said 1 "$out_of_memory" && { [ "$found" = nothing ] || [ "$found" = lines ]; }; then
+      refused=$((refused + 1))
+      outcome "$bound KiB of address space" 0
+    elif [ "$refused" -gt 0 ] || [ "$listed" -gt 0 ] || [ "$found" != nothing ] || [ "$status" -le 125 ]; then
+      # only where it has not run at less it may be that it cannot start: then the shell or the loader ends it
+      outcome "$bound KiB of address space" 1
+    fi
+    bound=$((bound + 256))
+  done
+  [ "$refused" -gt 0 ] && [ "$listed" -gt 0 ]
+  outcome "bounds of address space: $refused too low to list, $listed enough" $?
 else
   echo 'check_program.sh: no memory: not run, since memory cannot be bounded here'
 fi

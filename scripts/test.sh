@@ -1,6 +1,6 @@
 #!/bin/sh
 # All tests: the gate (every proof from nothing, the edits that must fail, each test and the stored runs of the programs), then
-# that the table of fields is one everywhere and written files are up to date, the program on the examples and where it fails, the library on all
+# that the table of fields is one everywhere and written files are up to date, the program on the examples, where it fails and on hostile streams, the library on all
 # conformance lines, and prost on the same lines and on random ones. The last line is 'N passed, M failed', of all.
 set -u
 cd "$(dirname "$0")/.." || exit 1
@@ -29,6 +29,7 @@ stage rt ci
 stage sh scripts/check_table.sh
 stage sh scripts/check_records.sh
 stage sh scripts/check_program.sh
+stage sh scripts/check_streams.sh
 # these take the proved programs that rt ci has built
 stage sh scripts/conformance.sh
 # 50,000 random cases beside prost, where cargo and its packages are there

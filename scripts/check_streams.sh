@@ -1,0 +1,126 @@
+#!/bin/sh
+# Runs the proved journal_list, which rt ci or scripts/run.sh --proved leaves in out/, on streams that nobody means well with: some MiB of any
+# bytes, unknown headers alone, a header that promises 4 GiB, and frames of all types with any payload. It reads each in pieces of several sizes, under
+# a bound of address space. The listing has to be that of scripts/list_stream.awk, which knows the rule of items and nothing of the library.
+# The streams are the same in each run. The last line is 'N passed, M failed'; it is '0 passed, 0 failed' where nothing can be run.
+set -u
+cd "$(dirname "$0")/.." || exit 1
+# a byte is a character
+LC_ALL=C
+export LC_ALL
+
+# not_run WHY: says so and ends
+not_run() {
+  echo "check_streams.sh: not run, since $1"
+  echo '0 passed, 0 failed'
+  exit 0
+}
+
+program=crates/journal_list/out/journal_list
+[ -x "$program" ] || not_run "there is no $program; sh scripts/run.sh --proved builds it"
+[ -z "$(find crates/*/src -name '*.rt' -newer "$program")" ] || not_run "$program is older than a source; sh scripts/run.sh --proved builds it"
+# 2147466840 is what the generator's greatest number is followed by
+fit='\000\310\n2147466840'
+[ "$(awk 'BEGIN { printf "%c%c%c%.0f", 0, 200, 10, 2147483646 * 16807 % 2147483647 }' | od -An -v -t u1)" = "$(printf "$fit" | od -An -v -t u1)" ] ||
+  not_run 'awk here does not write bytes, or does not count exactly'
+
+work=$(mktemp -d) || exit 1
+trap 'rm -rf "$work"' EXIT
+passed=0
+failed=0
+
+# list: the listing of standard input
+list() {
+  od -An -v -t u1 | awk -f scripts/list_stream.awk scripts/types.txt -
+}
+
+# same NAME STATUS: the run ended with status 0, said nothing, and what it wrote is what the lister wrote
+same() {
+  if [ "$2" -eq 0 ] && [ ! -s "$work/err" ] && cmp -s "$work/out" "$work/listing"; then
+    passed=$((passed + 1))
+  else
+    failed=$((failed + 1))
+    echo "failed: $1: status $2"
+    head -n 3 "$work/err"
+    diff "$work/listing" "$work/out" | head -n 6
+  fi
+}
+
+# The lister itself, on the streams of examples/
+for stream in examples/*; do
+  case $stream in
+    *.stdout | *.args) continue ;;
+  esac
+  cp "$stream.stdout" "$work/listing"
+  list < "$stream" > "$work/out" 2> "$work/err"
+  same "the lister on $stream" $?
+done
+
+# listed WORD BOUND: lists the stream of the work folder in pieces of this size, with so many KiB of address space
+if (ulimit -v 131072) 2> "$work/err"; then
+  listed() {
+    (ulimit -v "$2" && "$program" "$1") < "$work/stream" > "$work/out" 2> "$work/err"
+  }
+else
+  listed() {
+    "$program" "$1" < "$work/stream" > "$work/out" 2> "$work/err"
+  }
+  echo 'check_streams.sh: the bounds of memory: not run, since memory cannot be bounded here'
+fi
+
+# What the program needs where nothing comes
+: > "$work/stream"
+need=512
+until listed 65536 "$need" 2> "$work/shell" || [ "$need" -ge 65536 ]; do
+  need=$((need + 64))
+done
+
+# in_pieces NAME HELD TIMES WORD..: the stream, in pieces of these sizes. Beyond what the program needs for nothing it has a mebibyte, 160 bytes for
+# each piece of the most bytes that it has to hold, and so many times these bytes: twice where they are joined.
+in_pieces() {
+  name=$1
+  held=$2
+  times=$3
+  shift 3
+  for word in "$@"; do
+    bound=$((need + 1024 + (held * times + (held / word + 1) * 160) / 1024))
+    listed "$word" "$bound"
+    same "$name in pieces of $word, with $bound KiB" $?
+  done
+}
+
+# stream KIND SIZE SEED: writes a stream and its listing
+stream() {
+  awk -v kind="$1" -v size="$2" -v seed="$3" -f scripts/write_stream.awk scripts/types.txt > "$work/stream"
+  list < "$work/stream" > "$work/listing"
+}
+
+# No item of it is more than a header.
+stream unknown 2097152 1
+in_pieces 'unknown headers' 8 1 1 7 4096 65536
+
+# These two come to a header that promises more than there is, and no message of them is ever joined. The seed of the first is one with two
+# unknown headers in front.
+for size in 131072 2097152; do
+  sizes='7 4096 65536'
+  [ "$size" -gt 131072 ] || sizes="1 $sizes"
+  stream random "$size" 17552
+  in_pieces "$size random bytes" "$size" 1 $sizes
+  stream promise "$size" 1
+  in_pieces "$size bytes behind a promise of 4 GiB" "$size" 1 $sizes
+done
+
+# The longest message is joined. Each type has to stand in the listing, and each kind of line.
+stream mixed 2097152 1
+longest=$(awk '$1 != "unknown" && $2 > longest { longest = $2 } END { print longest }' "$work/listing")
+in_pieces 'mixed frames' "$longest" 2 1 7 4096 65536
+{
+  awk '$1 != "#" { print $2 }' scripts/types.txt
+  printf '%s\n' CustomEntry ack rest unknown
+} | sort > "$work/listing"
+awk '{ sub(/\(.*/, "", $1); print $1 } $3 != "" { print $3 }' "$work/out" | sort -u > "$work/kinds"
+mv "$work/kinds" "$work/out"
+same 'the types in mixed frames' 0
+
+echo "$passed passed, $failed failed"
+[ "$failed" -eq 0 ]
