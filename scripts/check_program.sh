@@ -184,27 +184,13 @@ else
   echo 'check_program.sh: an output that is full in the middle: not run, since files cannot be bounded here'
 fi
 
-# An output whose reader goes away after three lines: where the signal SIGPIPE is ignored, it is an output that fails; else the
-# signal ends the program, as it ends others.
+# An output whose reader goes away after three lines is one that fails: the program has the signal SIGPIPE ignored.
 {
-  (
-    trap '' PIPE
-    "$program" < "$work/long" 2> "$err"
-    echo $? > "$work/status"
-  )
+  "$program" < "$work/long" 2> "$err"
+  echo $? > "$work/status"
 } | head -n 3 > "$out"
 status=$(cat "$work/status")
 said 1 "$output_failed" && [ "$(stands "$work/long.stdout")" = lines ]
-outcome 'a reader that goes away, without its signal' $?
-{
-  (
-    "$program" < "$work/long" 2> "$err"
-    echo $? > "$work/status"
-  )
-} | head -n 3 > "$out"
-status=$(cat "$work/status")
-# who started this script may have the signal ignored
-{ [ "$status" -gt 128 ] && said "$status" || said 1 "$output_failed"; } && [ "$(stands "$work/long.stdout")" = lines ]
 outcome 'a reader that goes away' $?
 
 # With a closed output the program stops at the first line, which the first message of 27 bytes makes: the pieces that it has
