@@ -1,8 +1,8 @@
 #!/bin/sh
 # Shows that proto/journal.proto, the schemas that contracts cite and the code of the records say the same of every field: message,
-# name, number, kind, presence and oneof; and that conformance/ has lines of every message, message type and command. It reads the code as
-# it stands: whether the files that programs write are up to date is for check_records.sh. The last line is 'N passed, M failed'; what
-# differs is shown above it.
+# name, number, kind, presence and oneof; and that conformance/ has lines of every message, message type and command, among them each message
+# with every field present, with each member of its oneofs, and its frames. It reads the code as it stands: whether the files that programs
+# write are up to date is for check_records.sh. The last line is 'N passed, M failed'; what differs is shown above it.
 set -u
 cd "$(dirname "$0")/.." || exit 1
 
@@ -175,6 +175,50 @@ for kind in record payload; do
 done
 awk '$1 == "frame" { print $2 }' conformance/*.txt | sort -u > "$work/lines"
 same "proto/journal.proto and the frame lines of conformance" "$work/types" "$work/lines"
+
+# Each message stands in records.txt with every field present, as often as a oneof of it has members, each time with the next of each, and once
+# with none: a line each, the message and the numbers of the fields that are present.
+sort -k1,1 -k2,2n "$work/proto" | awk '
+  { fields[$1] += 0; members[$1] += 0 }
+  NF > 1 { at = ++fields[$1]; number[$1, at] = $2; oneof[$1, at] = $5 }
+  $4 == "member" { place[$1, at] = size[$1, $5]++; if (size[$1, $5] > members[$1]) members[$1] = size[$1, $5] }
+  END {
+    for (message in fields) {
+      values = members[message] > 0 ? members[message] : 1
+      for (value = 0; value < values; value++) {
+        line = message
+        for (at = 1; at <= fields[message]; at++) {
+          if (oneof[message, at] == "-" || value % size[message, oneof[message, at]] == place[message, at]) line = line " " number[message, at]
+        }
+        print line
+      }
+      if (fields[message] > 0) print message
+    }
+  }
+' | sort > "$work/values"
+awk '
+  function byte() { at++; return 16 * index(digits, substr($3, 2 * at - 1, 1)) + index(digits, substr($3, 2 * at, 1)) - 17 }
+  function varint(  read, sum, scale) {
+    for (scale = 1; (read = byte()) >= 128; scale *= 128) sum += scale * (read - 128)
+    return sum + scale * read
+  }
+  BEGIN { digits = "0123456789abcdef" }
+  $1 == "record" {
+    line = $2; last = 0; at = $3 == "-" ? 1 : 0
+    while (2 * at < length($3)) {
+      key = varint(); content = varint()
+      if (key % 8 == 2) at += content
+      if (int(key / 8) != last) { last = int(key / 8); line = line " " last }
+    }
+    print line
+  }
+' conformance/records.txt | sort > "$work/lines"
+same "proto/journal.proto and the values of conformance/records.txt" "$work/values" "$work/lines"
+
+# Each of them that is the message of a type has a frame.
+awk '$1 == "record" && $2 ~ /Message$/ && $3 != "-" { print substr($2, 1, length($2) - 7), $3 }' conformance/records.txt | sort > "$work/values"
+awk '$1 == "frame" && $4 != "-" { print $2, $4 }' conformance/records.txt | sort -u > "$work/lines"
+same "the records and the frames of conformance/records.txt" "$work/values" "$work/lines"
 
 # Each command has comparisons: a type whose code, with which its frames begin, is from 0400 to below 8000.
 awk '$1 == "frame" && $NF ~ /^(0[4-9a-f]|[1-7])/ { print $2 }' conformance/*.txt | sort -u > "$work/commands"

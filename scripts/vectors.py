@@ -3,12 +3,14 @@
 For each message there is a value with every row present and each field a value of its own; of a oneof it has one member, and there is a value
 for each. Then comes the value of which nothing is present. A line names a message, the bytes that protoc (Debian's protobuf-compiler) makes out
 of proto/journal.proto and a text that names the fields, and the value as Rust's derived Debug prints it, made of the same names and values.
-Nothing of this project's own code takes part.
+Behind these lines stand the frames of the same values, where the message is that of a type: at version 8, and where an earlier version writes it
+otherwise at each; a type's code is read from conformance/frames.txt. Nothing of this project's own code takes part.
 
 With --check nothing is written; the last line is 'N passed, M failed', and the status 1 where the file is not what would be written. It says
 'not run' where there is no protoc.
 """
 import pathlib
+import re
 import shutil
 import subprocess
 import sys
@@ -16,12 +18,18 @@ import sys
 from journal import PROTO, OneOf, camel, messages
 
 PACKAGE = "pendratsoa.journal"
-FILE = pathlib.Path(__file__).resolve().parent.parent / "conformance" / "records.txt"
+FOLDER = pathlib.Path(__file__).resolve().parent.parent / "conformance"
+FILE = FOLDER / "records.txt"
 
 HEAD = """\
 # The names of fields: for each message a value with every field present and each another, with each member of its oneofs in turn, and the
-# value of which nothing is present. Written by scripts/vectors.py; the payloads are those of protoc.
+# value of which nothing is present; and the frames of the first, where the message is that of a type. Written by scripts/vectors.py; the
+# payloads are those of protoc.
 """
+
+# The versions at which the frames of a message stand: the last, and all where an earlier one writes it otherwise.
+VERSIONS = {"ProposeRunCompletionMessage": (5, 6, 7, 8), "SuspensionMessage": (5, 6, 7, 8)}
+LAST_VERSION = 8
 
 
 class Values:
@@ -108,22 +116,59 @@ def encoded(name, text):
 
 
 def values(message, table):
-    """The values of a message, each as the text that protoc reads and as it is printed."""
+    """The values of a message in which every row is present, each as the text that protoc reads and as it is printed."""
     members = max([len(row.members) for row in message.rows if isinstance(row, OneOf)], default=1)
-    for member in range(members):
-        yield Values(table).message(message, member, 1)
-    if message.rows:
-        yield "", struct(message.name, [f"{row.name}: {absent(row)}" for row in message.rows])
+    return [Values(table).message(message, member, 1) for member in range(members)]
+
+
+def codes():
+    """The code of each type, in four digits, from the frames of the messages in which nothing is present."""
+    lines = (FOLDER / "frames.txt").read_text(encoding="utf-8").splitlines()
+    found = [re.match(r"frame (\w+) 5 - = ([0-9a-f]{4})0{12}$", line) for line in lines]
+    return {match[1]: match[2] for match in found if match}
+
+
+def frame(name, code, version, text):
+    """The frame, at a version, of the message that a text says."""
+    payload = encoded(name, text)
+    flag = 0
+    if name == "ProposeRunCompletionMessage" and version >= 7:
+        flag = 0x80
+    if name == "SuspensionMessage" and version < 7:
+        # what is awaited stands in the text in the order of the three lists: that of a future before that of the futures in it
+        payload = encoded("SuspensionMessageV6", " ".join(re.findall(r"\bwaiting_\w+: \S+", text)))
+    return bytes.fromhex(code) + bytes([flag, 0]) + len(payload).to_bytes(4, "big") + payload
+
+
+def hexadecimal(content):
+    """Bytes as a line spells them."""
+    return content.hex() or "-"
+
+
+def lines(message, table, types):
+    """The lines of a message."""
+    name = message.name
+    whole = values(message, table)
+    nothing = [("", struct(name, [f"{row.name}: {absent(row)}" for row in message.rows]))] if message.rows else []
+    for text, printed in whole + nothing:
+        yield f"record {name} {hexadecimal(encoded(name, text))} = {printed}\n"
+    ty = name.removesuffix("Message")
+    if ty == name or ty not in types:
+        return
+    for text, _ in whole:
+        payload = hexadecimal(encoded(name, text))
+        for version in VERSIONS.get(name, (LAST_VERSION,)):
+            yield f"frame {ty} {version} {payload} = {hexadecimal(frame(name, types[ty], version, text))}\n"
 
 
 def records():
     """The text of the file."""
     table = {message.name: message for message in messages()}
+    types = codes()
     parts = [HEAD]
     for message in table.values():
         parts.append(f"\n# {message.comment}\n")
-        for text, printed in values(message, table):
-            parts.append(f"record {message.name} {encoded(message.name, text).hex() or '-'} = {printed}\n")
+        parts.extend(lines(message, table, types))
     return "".join(parts)
 
 

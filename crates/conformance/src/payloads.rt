@@ -137,7 +137,8 @@ pub fn check_printed<M: WireRecord + Debug>(
     check_cuts(&record, payload.as_slice(), verdict)
 }
 
-/// Checks that a canonical payload is well-formed in two parts exactly where it is cut between top records, and is then the same record.
+/// Checks that the front of a canonical payload is well-formed exactly where it is cut between top records, and that in two parts it is then
+/// the same record.
 fn check_cuts<M: WireRecord>(
     record: &M,
     payload: &[u8],
@@ -146,13 +147,14 @@ fn check_cuts<M: WireRecord>(
     let ends = ends_of_records(verdict.alloc, payload)?;
     for cut in 0..payload.len() + 1 {
         let front = copied(verdict.alloc, &payload[..cut])?;
+        let well_formed = decoded::<M>(verdict.alloc, &front)?.is_some();
         if cut == 0 || ends.contains(&cut) {
+            verdict.require_at(well_formed, "it is malformed where it is cut at", cut)?;
             let back = copied(verdict.alloc, &payload[cut..])?;
             let same = means_in_parts(verdict.alloc, &front, &[back], Some(record))?;
             verdict.require_at(same, "it is another record where it is cut at", cut)?;
         } else {
-            let malformed = decoded::<M>(verdict.alloc, &front)?.is_none();
-            verdict.require_at(malformed, "it is well-formed where it is cut at", cut)?;
+            verdict.require_at(!well_formed, "it is well-formed where it is cut at", cut)?;
         }
     }
     Ok(())
