@@ -119,6 +119,15 @@ def groups_below_futures():
         yield payload("EndMessage", groups(99, bytes.fromhex(record)), b"")
 
 
+def far_below_the_last_level():
+    yield "# Far below the last level: ten thousand groups that are begun, a thousand that are closed too, and a thousand futures."
+    yield payload("EndMessage", groups(10_000)[:10_000], MALFORMED)
+    yield payload("EndMessage", groups(1_000), MALFORMED)
+    yield payload("SuspensionMessage", suspension(chain(99, groups(1_000))), MALFORMED)
+    yield payload("SuspensionMessage", suspension(chain(1_000)), MALFORMED)
+    yield payload("SuspensionMessage", suspension(chain(1_000, b"\xff")), MALFORMED)
+
+
 def merged_chains():
     yield "# Merging does not add levels: each payload counts its own."
     whole = suspension(chain(100))
@@ -207,6 +216,7 @@ def files():
             chains_of_futures,
             groups_of_an_unknown_field,
             groups_below_futures,
+            far_below_the_last_level,
             merged_chains,
             frames_of_chains,
         ),

@@ -8,8 +8,8 @@ use shared_core::header::MessageType;
 use shared_core::messages::{
     EncodingError, GetEagerStateKeysCommandMessage, GetLazyStateCommandMessage,
     GetLazyStateCompletionNotificationMessage, InputCommandMessage, OutputCommandMessage,
-    RestateEncodableMessage, RestateMessage, StartMessage, StateKeys, Value, Void,
-    get_lazy_state_completion_notification_message,
+    RestateEncodableMessage, RestateMessage, StartMessage, StateKeys, SuspensionMessage, Value,
+    Void, get_lazy_state_completion_notification_message,
 };
 use shared_core::wire::{WireError, WireRecord};
 use std::alloc::Global;
@@ -174,6 +174,53 @@ fn a_malformed_payload_is_no_want_of_memory(rt: HostRuntime) -> Result<(), Fail>
             Err(DecodingError::DecodeMessage(MessageType::InputCommand, WireError::Malformed))
         )
     );
+    Ok(())
+}
+
+/// The payload of a suspension that awaits the first of a chain of futures, each nested in the one before, of which the innermost holds groups
+/// of an unknown number in one another; without a future these are the suspension's own. Lengths are spelled in two bytes.
+fn nested(alloc: Global, futures: u32, groups: usize) -> Result<Vec<u8>, Fail> {
+    let mut payload = Vec::from_elem(alloc, 0x4Bu8, groups)?;
+    payload.extend_from_slice(&Vec::from_elem(alloc, 0x4Cu8, groups)?)?;
+    for _ in 0..futures {
+        let len = payload.len();
+        let mut outer =
+            vec![in alloc; 0x22, 128 + (len % 128) as u8, (len / 128 % 128) as u8]?;
+        outer.extend_from_slice(&payload)?;
+        payload = outer;
+    }
+    Ok(payload)
+}
+
+/// Whether the frame of a suspension of this payload is decoded; if not, its payload is said to be malformed.
+fn suspends(alloc: Global, payload: &[u8]) -> Result<bool, Fail> {
+    let mut frame = (0x0001_0000_0000_0000u64 | payload.len() as u64).to_be_bytes().to_vec(alloc)?;
+    frame.extend_from_slice(payload)?;
+    match message_of(alloc, &frame)?.decode_to::<SuspensionMessage>(alloc, 0) {
+        Ok(_) => Ok(true),
+        Err(DecodingError::DecodeMessage(MessageType::Suspension, WireError::Malformed)) => {
+            Ok(false)
+        }
+        Err(_) => Err(Fail::new("another refusal")),
+    }
+}
+
+#[test]
+fn a_typed_message_has_one_hundred_levels(rt: HostRuntime) -> Result<(), Fail> {
+    for (futures, groups, decoded) in [
+        (100u32, 0usize, true),
+        (101, 0, false),
+        (99, 1, true),
+        (99, 2, false),
+        (0, 100, true),
+        (0, 101, false),
+    ] {
+        let payload = nested(rt.alloc(), futures, groups)?;
+        assert!(rt;
+            suspends(rt.alloc(), &payload)? == decoded,
+            "{futures} futures, {groups} groups"
+        );
+    }
     Ok(())
 }
 

@@ -7,7 +7,7 @@ use shared_core::messages::{
     CANCEL_SIGNAL_ID, GetLazyStateCompletionNotificationMessage, Notification, NotificationId,
     NotificationResult, Void, get_lazy_state_completion_notification_message,
 };
-use shared_core::wire::WireRecord;
+use shared_core::wire::{WireError, WireRecord};
 use std::alloc::Global;
 use std::hash::{DefaultHasher, Hash, Hasher};
 use std::test::Fail;
@@ -177,6 +177,30 @@ fn a_view_misses_the_id_before_the_result(rt: HostRuntime) -> Result<(), Fail> {
             &message_with(rt.alloc(), 0x8002, payload)?,
             text,
         )?;
+    }
+    Ok(())
+}
+
+/// Whether there is a view of an id and a result with groups of an unknown number behind them, in one another; if not, the payload is said
+/// to be malformed.
+fn views_groups(alloc: Global, code: u16, groups: usize) -> Result<bool, Fail> {
+    let mut payload = [0x08, 0x01, 0x22, 0x00].to_vec(alloc)?;
+    payload.extend_from_slice(&Vec::from_elem(alloc, 0x4Bu8, groups)?)?;
+    payload.extend_from_slice(&Vec::from_elem(alloc, 0x4Cu8, groups)?)?;
+    match view(alloc, &message_with(alloc, code, &payload)?)? {
+        Ok(view) => shows(alloc, &view, "CompletionId(1)", "Void(Void)"),
+        Err(DecodingError::DecodeMessage(_, WireError::Malformed)) => Ok(false),
+        Err(_) => Err(Fail::new("another refusal")),
+    }
+}
+
+#[test]
+fn a_view_has_one_hundred_levels(rt: HostRuntime) -> Result<(), Fail> {
+    // a custom notification, the state's and a signal's
+    for code in [0x8001u16, 0x8002, 0xFBFF] {
+        for (groups, viewed) in [(1usize, true), (100, true), (101, false)] {
+            assert!(rt; views_groups(rt.alloc(), code, groups)? == viewed, "{code}: {groups}");
+        }
     }
     Ok(())
 }
