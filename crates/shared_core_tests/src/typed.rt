@@ -184,8 +184,7 @@ fn nested(alloc: Global, futures: u32, groups: usize) -> Result<Vec<u8>, Fail> {
     payload.extend_from_slice(&Vec::from_elem(alloc, 0x4Cu8, groups)?)?;
     for _ in 0..futures {
         let len = payload.len();
-        let mut outer =
-            vec![in alloc; 0x22, 128 + (len % 128) as u8, (len / 128 % 128) as u8]?;
+        let mut outer = vec![in alloc; 0x22, 128 + (len % 128) as u8, (len / 128 % 128) as u8]?;
         outer.extend_from_slice(&payload)?;
         payload = outer;
     }
@@ -194,7 +193,9 @@ fn nested(alloc: Global, futures: u32, groups: usize) -> Result<Vec<u8>, Fail> {
 
 /// Whether the frame of a suspension of this payload is decoded; if not, its payload is said to be malformed.
 fn suspends(alloc: Global, payload: &[u8]) -> Result<bool, Fail> {
-    let mut frame = (0x0001_0000_0000_0000u64 | payload.len() as u64).to_be_bytes().to_vec(alloc)?;
+    let mut frame = (0x0001_0000_0000_0000u64 | payload.len() as u64)
+        .to_be_bytes()
+        .to_vec(alloc)?;
     frame.extend_from_slice(payload)?;
     match message_of(alloc, &frame)?.decode_to::<SuspensionMessage>(alloc, 0) {
         Ok(_) => Ok(true),

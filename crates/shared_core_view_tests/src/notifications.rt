@@ -199,7 +199,10 @@ fn a_view_has_one_hundred_levels(rt: HostRuntime) -> Result<(), Fail> {
     // a custom notification, the state's and a signal's
     for code in [0x8001u16, 0x8002, 0xFBFF] {
         for (groups, viewed) in [(1usize, true), (100, true), (101, false)] {
-            assert!(rt; views_groups(rt.alloc(), code, groups)? == viewed, "{code}: {groups}");
+            assert!(rt;
+                views_groups(rt.alloc(), code, groups)? == viewed,
+                "{code}: {groups}"
+            );
         }
     }
     Ok(())
