@@ -8,7 +8,7 @@ use Rattle.shared_core.specs.declared.encoding.DecodingError.{DecodingError}
 use Rattle.shared_core.specs.declared.encoding.DecodingError.TheVariants.{OutOfMemory}
 use Rattle.shared_core.specs.declared.encoding.RawMessage.{RawMessage}
 use Rattle.shared_core.specs.declared.encoding.Item.{Item}
-use Rattle.shared_core.specs.declared.encoding.Item.TheVariants.{Message, Unknown}
+use Rattle.shared_core.specs.declared.encoding.Item.TheVariants.{Message}
 use Rattle.shared_core.specs.Items.{IsItem}
 use Rattle.shared_core.specs.Typed.{IsWritten, MeansParts}
 use Rattle.shared_core.specs.Written.{item_written}
@@ -17,12 +17,12 @@ use Rattle.shared_core.specs.Written.{item_written}
 abbrev pub DecodesTo : MessageType → ℕ → Parts → Item → Type 0
 DecodesTo ty schema v (Message message) =
     (message.header.ty ≡ ty) × IsWritten schema v message.payload × MeansParts schema message.payload v
-DecodesTo ty schema v (Unknown code) = ⊥
+DecodesTo ty schema v other = ⊥
 
 -- The flag that is read from an item's header, where its type has one.
 abbrev pub requested_ack_of : Item → Option Bool
 requested_ack_of (Message message) = message.header.requested_ack
-requested_ack_of (Unknown code) = None
+requested_ack_of other = None
 
 -- The frame of a wire form is the spelling of the item that was written, and that item has this property.
 abbrev pub FrameSpells : Version → MessageType → WireForm → (Item → Type 0) → Type 0

@@ -1,12 +1,12 @@
 -- The texts and the codes of errors.
-use Rattle.std.specs.Prelude.{ℕ, ℤ, ◌++◌, List, codes}
-use Rattle.std.specs.Fmt.{signed_decimal}
+use Rattle.std.specs.Prelude.{ℕ, ℤ, ◌++◌, List, codes, length, decimal, false}
+use Rattle.std.specs.Fmt.{digits, signed_decimal}
 use Rattle.shared_core_base.specs.declared.header.MessageType.{MessageType}
 use Rattle.shared_core_base.specs.CommandType.{message_type_text}
 use Rattle.shared_core_base.specs.MessageType.{debug_name_of, unknown_type_text}
 use Rattle.shared_core_errors.specs.Mismatch.{mismatch_head, command_type_mismatch_text}
 use Rattle.shared_core.specs.declared.encoding.DecodingError.{DecodingError}
-use Rattle.shared_core.specs.declared.encoding.DecodingError.TheVariants.{DecodeMessage, UnexpectedMessageType, MissingField, UnknownMessageType, OutOfMemory}
+use Rattle.shared_core.specs.declared.encoding.DecodingError.TheVariants.{DecodeMessage, UnexpectedMessageType, MissingField, UnknownMessageType, SkippedMessage, OutOfMemory}
 
 -- The text of a mismatch of two commands of a type at a command index, with their difference.
 abbrev pub command_mismatch_text : MessageType → ℤ → List ℕ → List ℕ
@@ -24,6 +24,9 @@ decoding_error_text (UnexpectedMessageType mismatch) =
 decoding_error_text (MissingField expected field) =
     codes "expected message type " ++ (debug_name_of expected ++ (codes " to have field " ++ field.now))
 decoding_error_text (UnknownMessageType unknown) = unknown_type_text unknown.0
+decoding_error_text (SkippedMessage code payload) =
+    codes "skipped protocol.message code 0x"
+    ++ (digits 16 false code ++ (codes " with " ++ (decimal (length payload) ++ codes " payload bytes")))
 decoding_error_text OutOfMemory = codes "out of memory"
 
 -- The code of a refusal to decode: a message of another type is a mismatch of the journal, every other refusal an internal error.
@@ -32,4 +35,5 @@ decoding_error_code (DecodeMessage ty error) = 500
 decoding_error_code (UnexpectedMessageType mismatch) = 570
 decoding_error_code (MissingField expected field) = 500
 decoding_error_code (UnknownMessageType unknown) = 500
+decoding_error_code (SkippedMessage code payload) = 500
 decoding_error_code OutOfMemory = 500

@@ -1,16 +1,18 @@
 -- The items of a stream: which bytes spell an item, and how a stream splits into items and a rest.
 --
--- A version decides how a header is read, so each of these relations takes it. Versions 5 to 8 read headers alike.
-use Rattle.std.specs.Prelude.{◌≡◌, ℕ, ◌+◌, ◌^◌, ◌≤◌, List, [], ◌∷◌, ◌++◌, length, take, drop, Option, Some, None, Result, Ok, Err}
+-- A version decides how many bytes belong to a header, so each of these relations takes it: `body_length` and `item_of` ask it whether it
+-- skips unknown messages, and nothing else does. Versions 5 to 8 read headers alike.
+use Rattle.std.specs.Prelude.{◌≡◌, ℕ, ◌+◌, ◌^◌, ◌≤◌, Bool, if◌then◌else◌, nat_le, List, [], ◌∷◌, ◌++◌, length, take, drop, Option, Some, None, Result, Ok, Err}
 use Rattle.std.specs.Option.{option_map_or}
 use Rattle.std.specs.Int.{w64, from_be_bytes}
 use Rattle.shared_core_base.specs.declared.version.Version.{Version}
-use Rattle.shared_core_base.specs.MessageHeader.{header_of, word_code}
+use Rattle.shared_core_base.specs.MessageHeader.{header_of, word_code, word_length}
+use Rattle.shared_core_base.specs.Version.{version_number}
 use Rattle.shared_core.specs.declared.encoding.Item.{Item}
-use Rattle.shared_core.specs.declared.encoding.Item.TheVariants.{Message, Unknown}
+use Rattle.shared_core.specs.declared.encoding.Item.TheVariants.{Message, Unknown, Skipped}
 use Rattle.shared_core.specs.declared.encoding.RawMessage.{RawMessage}
 use Rattle.shared_core.specs.declared.encoding.DecodingError.{DecodingError}
-use Rattle.shared_core.specs.declared.encoding.DecodingError.TheVariants.{UnknownMessageType, OutOfMemory}
+use Rattle.shared_core.specs.declared.encoding.DecodingError.TheVariants.{UnknownMessageType, SkippedMessage, OutOfMemory}
 use Rattle.shared_core.specs.declared.encoding.PushError.{PushError}
 use Rattle.shared_core.specs.declared.encoding.PushError.TheVariants.{OutOfMemory as NoMemory, TooLong}
 
@@ -18,14 +20,22 @@ use Rattle.shared_core.specs.declared.encoding.PushError.TheVariants.{OutOfMemor
 unfoldable pub front_word : List ℕ → ℕ
 front_word bytes = from_be_bytes w64 (take 8 bytes)
 
--- How many bytes belong to an item behind its first eight: the length that its header says, and none where there is no header.
-unfoldable pub body_length : Version → ℕ → ℕ
-body_length version word = option_map_or (λ header. header.length) (header_of word) 0
+-- Whether a version skips a message of an unknown type with its payload: from V9 on.
+abbrev pub skips_unknown : Version → Bool
+skips_unknown version = nat_le 9 (version_number version)
 
--- The item that a word and the bytes behind it are: a message with its payload, or an unknown code.
+-- How many bytes belong to an item behind its first eight: the length that its header says; where its code stands for no type, the
+-- length in its word if the version skips such a message, and else none.
+unfoldable pub body_length : Version → ℕ → ℕ
+body_length version word =
+    option_map_or (λ header. header.length) (header_of word) (if skips_unknown version then word_length word else 0)
+
+-- The item that a word and the bytes behind it are: a message with its payload; or a code that stands for no type, with its payload
+-- if the version skips such a message, and else alone.
 unfoldable pub item_of : Version → ℕ → List ℕ → Item
 item_of version word body =
-    option_map_or (λ header. Message (record { header = header; payload = body })) (header_of word) (Unknown (word_code word))
+    option_map_or (λ header. Message (record { header = header; payload = body })) (header_of word)
+    (if skips_unknown version then Skipped (word_code word) body else Unknown (word_code word))
 
 -- The bytes spell the item: eight whose word says what it is, and as many behind them as that word says.
 pub record IsItem (version : Version) (bytes : List ℕ) (item : Item) : Type 0 where
@@ -62,21 +72,28 @@ abbrev pub BeginsWithWritten : Version → List ℕ → List Item → Type 0
 BeginsWithWritten version stream items =
     (written : List Item) (rest : List ℕ) → IsItemsThen version stream written rest → (others : List Item) × (items ≡ written ++ others)
 
+-- The item has a payload, of however many bytes.
+abbrev pub HasPayload : Item → Type 0
+HasPayload (Unknown code) = ⊥
+HasPayload item = Unit {0}
+
 -- What an answer says of the bytes before the call, and what it leaves of them: the next message, taken; no item, where none is
--- whole; an unknown code, whose eight bytes are taken; or want of memory where a whole message is next, and all bytes are left.
+-- whole; an unknown code, whose eight bytes are taken; a skipped message, taken; or want of memory where a whole message or a skipped
+-- one is next, and all bytes are left.
 abbrev pub AnswersNext : Version → List ℕ → Result (Option RawMessage) DecodingError → List ℕ → Type 0
 AnswersNext version old (Ok (Some message)) new = TakesItem version old (Message message) new
 AnswersNext version old (Ok None) new = NoItemBegins version old × (new ≡ old)
 AnswersNext version old (Err (UnknownMessageType unknown)) new = TakesItem version old (Unknown unknown.0) new
+AnswersNext version old (Err (SkippedMessage code payload)) new = TakesItem version old (Skipped code payload) new
 AnswersNext version old (Err OutOfMemory) new =
-    (new ≡ old) × (message : RawMessage) × (rest : List ℕ) × TakesItem version old (Message message) rest
+    (new ≡ old) × (item : Item) × (rest : List ℕ) × TakesItem version old item rest × HasPayload item
 AnswersNext version old (Err other) new = ⊥
 
--- A message and an unknown code leave at least eight bytes fewer.
+-- Every answer but that no item is whole and that memory is wanting leaves at least eight bytes fewer.
 abbrev pub TakesEight : List ℕ → Result (Option RawMessage) DecodingError → List ℕ → Type 0
-TakesEight old (Ok (Some message)) new = length new + 8 ≤ length old
-TakesEight old (Err (UnknownMessageType unknown)) new = length new + 8 ≤ length old
-TakesEight old answer new = Unit {0}
+TakesEight old (Ok None) new = Unit {0}
+TakesEight old (Err OutOfMemory) new = Unit {0}
+TakesEight old answer new = length new + 8 ≤ length old
 
 -- A refused piece comes back as it was, and is too long only where the bytes would be 2 ^ 64 or more.
 abbrev pub RefusesPiece : List ℕ → List ℕ → PushError → Type 0

@@ -1,5 +1,6 @@
 //! The stream of frames: a decoder that takes it in pieces, and its items.
-ghost use Rattle.std.specs.Prelude.{◌≡◌, ◌+◌, ◌<◌, ◌++◌, length, IfSome, IfNone, Some, None};
+ghost use Rattle.std.specs.Prelude.{◌≡◌, ◌+◌, ◌<◌, ◌≤◌, ◌++◌, length, drop, take, IfOk, IfSome, IfNone, OnErr, MatchOption, Some, None};
+ghost use Rattle.shared_core.specs.Items.{skips_unknown};
 ghost use Rattle.shared_core.specs.Unread.{held_bytes, held_length};
 
 mod encoder;
@@ -49,13 +50,15 @@ impl RawMessage {
     }
 }
 
-/// What a stream is made of: messages, and eight bytes at a time whose code stands for no type.
+/// What a stream is made of: messages, and what stands there under a code that stands for no type.
 #[derive(Debug, PartialEq, Drop)]
 pub enum Item {
     /// A header and its payload.
     Message(RawMessage),
-    /// The code of a header that stands for no type. No payload belongs to it.
+    /// The code of a header that stands for no type, before V9. No payload belongs to it.
     Unknown(u16),
+    /// The code of a header that stands for no type, from V9 on, and the payload behind it.
+    Skipped(u16, Bytes),
 }
 
 /// Why no message was answered.
@@ -72,8 +75,11 @@ pub enum DecodingError {
         /// `id` or `result`.
         field: &'static str,
     },
-    /// The next header's code stands for no type. Its eight bytes are taken.
+    /// The next header's code stands for no type, before V9. Its eight bytes are taken.
     UnknownMessageType(UnknownMessageType),
+    /// The next message's code stands for no type, from V9 on. Its header and its payload are taken: this is the code, and
+    /// the payload.
+    SkippedMessage(u16, Bytes),
     /// A request for memory was refused. Nothing is taken.
     OutOfMemory,
 }
@@ -134,6 +140,14 @@ impl fmt::Display for DecodingError {
                 write!(f, "expected message type {name} to have field {field}")
             }
             DecodingError::UnknownMessageType(unknown) => write!(f, "{unknown}"),
+            DecodingError::SkippedMessage(code, payload) => {
+                let code = *code;
+                let count = payload.len();
+                write!(
+                    f,
+                    "skipped protocol.message code 0x{code:x} with {count} payload bytes"
+                )
+            }
             DecodingError::OutOfMemory => f.write_str("out of memory"),
         }
     }
@@ -190,6 +204,33 @@ fn hold_head(head: &mut Option<[u8; 8]>, pending: &mut PendingBytes) -> Option<[
     Some(bytes)
 }
 
+/// Whether a message of an unknown type is skipped with its payload. Before, only its header is.
+fn skips_unknown(version: Version) -> bool
+    ensures { result ≡ skips_unknown version }
+{
+    version >= Version::V9
+}
+
+/// Takes the held header and as many bytes behind it, if they have come. An `Err` takes nothing.
+fn take_payload(
+    head: &mut Option<[u8; 8]>,
+    pending: &mut PendingBytes,
+    length: usize,
+) -> Result<Option<Bytes>, AllocError>
+    ensures taken { IfOk result (λ found. MatchOption found
+        ((length pending.old < length) × (head.new ≡ head.old) × (pending.new ≡ pending.old))
+        (λ payload. (length ≤ length pending.old) × (payload ≡ take length pending.old)
+        × (head.new ≡ None) × (pending.new ≡ drop length pending.old))) }
+    ensures refused { OnErr result ((length ≤ length pending.old) × (head.new ≡ head.old) × (pending.new ≡ pending.old)) }
+{
+    if pending.len() < length {
+        return Ok(None);
+    }
+    let payload = pending.split_to(length)?;
+    *head = None;
+    Ok(Some(payload))
+}
+
 impl Decoder {
     ghost use Rattle.std.specs.Prelude.{◌≡◌, ◌+◌, ◌≤◌, ◌++◌, [], length, OnOk, OnErr, IfOk, IfErr, IsOk, MatchOption, None, Ok};
     ghost use Rattle.shared_core_base.specs.Version.{version_number};
@@ -240,9 +281,11 @@ impl Decoder {
     /// The next message, or `None` exactly where the bytes that came hold no further whole item; then at most
     /// 4,294,967,302 bytes are pending, a header and all but one byte of its payload.
     ///
-    /// A payload that lies in one piece is cut from it; one that straddles pieces is joined, once. `UnknownMessageType`
-    /// takes exactly the eight bytes of the header, and reading goes on behind them. `OutOfMemory` comes only where a
-    /// whole message is next, and takes nothing: a later call answers as if this one had not been made.
+    /// A payload that lies in one piece is cut from it; one that straddles pieces is joined, once. Where the next header's
+    /// code stands for no type, the answer goes by the version: before V9 it is `UnknownMessageType`, which takes exactly
+    /// the eight bytes of the header, and reading goes on behind them; from V9 on it is `SkippedMessage`, which takes the
+    /// header and its payload, once that has come. `OutOfMemory` comes only where a whole payload is to be taken, and takes
+    /// nothing: a later call answers as if this one had not been made.
     pub fn consume_next(&mut self) -> Result<Option<RawMessage>, DecodingError>
         ensures next { AnswersNext self.old.version self.old.bytes result self.new.bytes }
         ensures version { self.new.version ≡ self.old.version }
@@ -253,26 +296,37 @@ impl Decoder {
         let Some(head) = hold_head(&mut self.head, &mut self.pending) else {
             return Ok(None);
         };
-        let header = match MessageHeader::try_from(u64::from_be_bytes(head)) {
+        let word = u64::from_be_bytes(head);
+        let header = match MessageHeader::try_from(word) {
             Ok(header) => header,
             Err(unknown) => {
-                self.head = None;
-                return Err(DecodingError::UnknownMessageType(unknown));
+                if !skips_unknown(self.version) {
+                    self.head = None;
+                    return Err(DecodingError::UnknownMessageType(unknown));
+                }
+                let code = unknown.code();
+                let length = (word & 0xFFFF_FFFF) as usize;
+                let Ok(skipped) = take_payload(&mut self.head, &mut self.pending, length) else {
+                    return Err(DecodingError::OutOfMemory);
+                };
+                let Some(payload) = skipped else {
+                    return Ok(None);
+                };
+                return Err(DecodingError::SkippedMessage(code, payload));
             }
         };
         let length = header.message_length() as usize;
-        if self.pending.len() < length {
-            return Ok(None);
-        }
-        let Ok(payload) = self.pending.split_to(length) else {
+        let Ok(taken) = take_payload(&mut self.head, &mut self.pending, length) else {
             return Err(DecodingError::OutOfMemory);
         };
-        self.head = None;
+        let Some(payload) = taken else {
+            return Ok(None);
+        };
         Ok(Some(RawMessage { header, payload }))
     }
 
-    /// The next item, of either kind, or `None` exactly where no whole one remains: what `consume_next` answers, for a
-    /// caller to whom an unknown header is an item like any other. Want of memory takes nothing.
+    /// The next item, of any kind, or `None` exactly where no whole one remains: what `consume_next` answers, for a caller
+    /// to whom an unknown header or a skipped message is an item like any other. Want of memory takes nothing.
     pub fn next_item(&mut self) -> Result<Option<Item>, AllocError>
         ensures taken { IfOk result (λ found. MatchOption found
             (NoItemBegins self.old.version self.old.bytes × (self.new.bytes ≡ self.old.bytes)
@@ -287,6 +341,9 @@ impl Decoder {
             Ok(Some(message)) => Ok(Some(Item::Message(message))),
             Err(DecodingError::UnknownMessageType(unknown)) => {
                 Ok(Some(Item::Unknown(unknown.code())))
+            }
+            Err(DecodingError::SkippedMessage(code, payload)) => {
+                Ok(Some(Item::Skipped(code, payload)))
             }
             Err(DecodingError::OutOfMemory) => Err(AllocError),
             // The other refusals are those of a message's payload.

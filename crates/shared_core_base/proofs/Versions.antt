@@ -3,7 +3,7 @@ use Rattle.std.proofs.Common.{◌≡◌, ℕ, ◌++◌, codes, drop, length, ◌
 use Rattle.std.proofs.lemmas.Fmt.{decimal_injective}
 use Rattle.std.specs.Fmt.{decimal}
 use Rattle.shared_core_base.specs.declared.version.Version.{Version}
-use Rattle.shared_core_base.specs.declared.version.Version.TheVariants.{V1, V2, V3, V4, V5, V6, V7, V8}
+use Rattle.shared_core_base.specs.declared.version.Version.TheVariants.{V1, V2, V3, V4, V5, V6, V7, V8, V9}
 use Rattle.shared_core_base.specs.Version.{version_number, restate_content_types, content_type_of}
 
 -- the version of a number
@@ -11,7 +11,7 @@ version_of_number : ℕ → Version
 version_of_number number =
     if number == 1
     then V1
-    else (if number == 2 then V2 else (if number == 3 then V3 else (if number == 4 then V4 else (if number == 5 then V5 else (if number == 6 then V6 else (if number == 7 then V7 else V8))))))
+    else (if number == 2 then V2 else (if number == 3 then V3 else (if number == 4 then V4 else (if number == 5 then V5 else (if number == 6 then V6 else (if number == 7 then V7 else (if number == 8 then V8 else V9)))))))
 
 numbers_convert_back : (version : Version) → version_of_number (version_number version) ≡ version
 unfolding version_of_number

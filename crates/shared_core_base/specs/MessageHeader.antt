@@ -10,6 +10,10 @@ use Rattle.shared_core_base.specs.MessageType.{code_of, type_of, allows_ack}
 abbrev pub word_code : ℕ → ℕ
 word_code word = word / 2 ^ 48
 
+-- The length in a header word: bits 32 to 47 are no part of it.
+abbrev pub word_length : ℕ → ℕ
+word_length word = word % 2 ^ 32
+
 -- The header that a word stands for, if its code stands for a type. Only a type that allows it has a flag; bits 32 to 46
 -- say nothing, nor does bit 47 where the type has no flag.
 unfoldable pub header_of : ℕ → Option MessageHeader
@@ -17,7 +21,7 @@ header_of word =
     option_map
     (λ ty. record {
       ty = ty;
-      length = word % 2 ^ 32;
+      length = word_length word;
       requested_ack = if allows_ack ty then Some (word / 2 ^ 47 % 2 == 1) else None;
     })
     (type_of (word_code word))

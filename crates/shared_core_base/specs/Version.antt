@@ -3,7 +3,7 @@ use Rattle.std.specs.Prelude.{◌≡◌, ◌≢◌, ⊤, ℕ, List, ◌++◌, co
 use Rattle.std.specs.List.{starts_with}
 use Rattle.std.specs.String.{string_bytes}
 use Rattle.shared_core_base.specs.declared.version.Version.{Version}
-use Rattle.shared_core_base.specs.declared.version.Version.TheVariants.{V1, V2, V3, V4, V5, V6, V7, V8}
+use Rattle.shared_core_base.specs.declared.version.Version.TheVariants.{V1, V2, V3, V4, V5, V6, V7, V8, V9}
 use Rattle.shared_core_base.specs.declared.version.ContentTypeError.{ContentTypeError}
 use Rattle.shared_core_base.specs.declared.version.ContentTypeError.TheVariants.{RestateContentType, OtherContentType, OutOfMemory}
 
@@ -17,6 +17,7 @@ version_number V5 = 5
 version_number V6 = 6
 version_number V7 = 7
 version_number V8 = 8
+version_number V9 = 9
 
 -- What the content types of the protocol begin with.
 abbrev pub restate_content_types : List ℕ

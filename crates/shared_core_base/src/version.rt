@@ -19,6 +19,7 @@ pub enum Version {
     V6,
     V7,
     V8,
+    V9,
 }
 
 const RESTATE_CONTENT_TYPES: &str = "application/vnd.restate.invocation.";
@@ -38,6 +39,7 @@ impl Version {
             Version::V6 => "application/vnd.restate.invocation.v6",
             Version::V7 => "application/vnd.restate.invocation.v7",
             Version::V8 => "application/vnd.restate.invocation.v8",
+            Version::V9 => "application/vnd.restate.invocation.v9",
         }
     }
 
@@ -50,9 +52,9 @@ impl Version {
 
     /// The last version.
     pub fn maximum_supported_version() -> Version
-        ensures { result ≡ Version.V8 }
+        ensures { result ≡ Version.V9 }
     {
-        Version::V8
+        Version::V9
     }
 
     /// Reads the content type of a version.
@@ -72,6 +74,7 @@ impl Version {
             "application/vnd.restate.invocation.v6" => Ok(Version::V6),
             "application/vnd.restate.invocation.v7" => Ok(Version::V7),
             "application/vnd.restate.invocation.v8" => Ok(Version::V8),
+            "application/vnd.restate.invocation.v9" => Ok(Version::V9),
             _ => Err(refusal(alloc, text)),
         }
     }
