@@ -17,9 +17,9 @@ use Rattle.shared_core_runtime.specs.Flattening.{flattened}
 use Rattle.shared_core_runtime.specs.Versions.{is_before_v7, proposal_form, suspension_form}
 use Rattle.shared_core_runtime.proofs.FlattenedFits.{flattened_fits, flattened_levels}
 use Rattle.shared_core.specs.declared.encoding.DecodingError.{DecodingError}
-use Rattle.shared_core.specs.declared.encoding.DecodingError.TheVariants.{DecodeMessage, UnexpectedMessageType, MissingField, UnknownMessageType, OutOfMemory}
+use Rattle.shared_core.specs.declared.encoding.DecodingError.TheVariants.{UnknownMessageType, SkippedMessage, OutOfMemory}
 use Rattle.shared_core.specs.declared.encoding.Item.{Item}
-use Rattle.shared_core.specs.declared.encoding.Item.TheVariants.{Message, Unknown}
+use Rattle.shared_core.specs.declared.encoding.Item.TheVariants.{Message, Unknown, Skipped}
 use Rattle.shared_core.specs.declared.encoding.RawMessage.{RawMessage}
 use Rattle.shared_core.specs.Decoded.{AnswersWritten, DecodesTo, FrameSpells, requested_ack_of}
 use Rattle.shared_core.specs.Items.{AnswersNext, IsItem, TakesItem}
@@ -55,13 +55,15 @@ frame_comes_out version ty form bytes named fits small is low rest new answer = 
         (subst (DecodesTo ty form.schema form.parts) same.1 written.1, sym same.2)
 
     by_answer : (answer : Result (Option RawMessage) DecodingError) → AnswersNext version (bytes ++ rest) answer new → AnswersWritten ty form (bytes ++ rest) answer rest new
-    by_answer (Ok (Some message)) taken = comes (Message message) taken
-    by_answer (Ok None) answers = answers.0 (item_written ty form) rest (bytes, written.0, refl)
-    by_answer (Err (UnknownMessageType unknown)) taken = absurd (comes (Unknown unknown.0) taken).0
-    by_answer (Err OutOfMemory) answers = (refl, answers.0)
-    by_answer (Err (DecodeMessage found error)) answers = absurd answers
-    by_answer (Err (UnexpectedMessageType mismatch)) answers = absurd answers
-    by_answer (Err (MissingField expected field)) answers = absurd answers
+    by_answer (Ok (Some message)) = comes (Message message)
+    by_answer (Ok None) = λ answers. answers.0 (item_written ty form) rest (bytes, written.0, refl)
+    by_answer (Err refusal) =
+        elim refusal as (λ refusal. AnswersNext version (bytes ++ rest) (Err refusal) new → AnswersWritten ty form (bytes ++ rest) (Err refusal) rest new) [
+          | UnknownMessageType unknown ↦ λ taken. absurd (comes (Unknown unknown.0) taken).0
+          | SkippedMessage code payload ↦ λ taken. absurd (comes (Skipped code payload) taken).0
+          | OutOfMemory ↦ λ answers. (refl, answers.0)
+          | _ ↦ λ answers. absurd answers
+        ]
 
 -- a suspension before V7 comes out as its three lists
 pub suspension_decodes : (version : Version) (suspension : Parts) → is_before_v7 version ≡ true → Fits table suspension (table tables.suspension) → wire_size (suspension_form suspension version) < 2 ^ 32

@@ -1,5 +1,5 @@
 -- A frame spells one item.
-use Rattle.std.proofs.Common.{◌≡◌, ℕ, ◌+◌, ◌*◌, ◌/◌, ◌%◌, ◌^◌, ◌<◌, List, [], ◌∷◌, ◌++◌, length, Option, Some, None, Bool, true, false, cond, eqb, ltb, refl, ap, ◌∙◌, arith, length-append}
+use Rattle.std.proofs.Common.{◌≡◌, ℕ, ◌+◌, ◌*◌, ◌/◌, ◌%◌, ◌^◌, ◌<◌, List, [], ◌∷◌, ◌++◌, length, Option, Some, None, Bool, true, false, cond, eqb, ltb, refl, sym, ap, ◌∙◌, arith, length-append}
 use Rattle.std.specs.Int.{w64, to_be_bytes}
 use Rattle.std.specs.Option.{option_map}
 use Rattle.std.proofs.lemmas.Nat.{from_be_bytes-to_be_bytes_8}
@@ -12,9 +12,9 @@ use Rattle.shared_core_base.specs.MessageType.{code_of, type_of, allows_ack, IsN
 use Rattle.shared_core_base.specs.MessageHeader.{header_of, word_of, ack_bit}
 use Rattle.shared_core_base.proofs.Types.{type_of_code}
 use Rattle.shared_core_parts.specs.Frames.{WireForm, wire_payload, wire_frame, header_of_payload}
-use Rattle.shared_core.specs.Items.{IsItem, AreItems, IsItemsThen, front_word, body_length, item_of}
+use Rattle.shared_core.specs.Items.{IsItem, AreItems, IsItemsThen, front_word, item_of}
 use Rattle.shared_core.specs.Written.{header_read, item_written, joined_frames, items_written, AreFrames}
-use Rattle.shared_core.proofs.Items.{front_word_head, drop_exact}
+use Rattle.shared_core.proofs.Items.{announces_message, front_word_head, drop_exact}
 
 -- a word by its three numbers
 word_parts : (code ack size : ℕ) → ack < 2 → size < 2 ^ 32 → ((code * 2 ^ 48 + ack * 2 ^ 47 + size) / 2 ^ 48 ≡ code) × ((code * 2 ^ 48 + ack * 2 ^ 47 + size) / 2 ^ 47 % 2 ≡ ack) × ((code * 2 ^ 48 + ack * 2 ^ 47 + size) % 2 ^ 32 ≡ size)
@@ -57,7 +57,6 @@ read_again ty flag size named fits =
 
 -- a frame is the spelling of one item, with its type and its payload
 pub frame_is_item : (version : Version) (ty : MessageType) (form : WireForm) (bytes : List ℕ) → IsNamed ty → length (wire_payload form) < 2 ^ 32 → bytes ≡ wire_frame ty form → IsItem version bytes (item_written ty form)
-unfolding body_length item_of
 frame_is_item version ty form bytes named fits is =
     let payload = wire_payload form in
     let word = word_of (header_of_payload ty form.requested_ack payload) in
@@ -66,9 +65,10 @@ frame_is_item version ty form bytes named fits is =
     let again = read_again ty form.requested_ack (length payload) named fits in
     let reads : front_word (head ++ payload) ≡ word = front_word_head head payload eight ∙ from_be_bytes-to_be_bytes_8 word again.1 in
     let typed : header_of (front_word (head ++ payload)) ≡ Some (header_read ty form) = ap header_of reads ∙ again.0 in
+    let announced = announces_message version (front_word (head ++ payload)) (header_read ty form) (length payload) typed refl in
     rw is (record {
-      whole = length-append head payload ∙ ap (λ n. n + length payload) eight ∙ rw typed refl;
-      means = rw (typed, drop_exact 8 head payload eight) refl;
+      whole = length-append head payload ∙ ap (λ n. n + length payload) eight ∙ ap (λ n. 8 + n) announced.length_is;
+      means = announced.item_is payload ∙ ap (item_of version (front_word (head ++ payload))) (sym (drop_exact 8 head payload eight));
     })
 
 -- frames one behind the other are items one behind the other

@@ -1,5 +1,5 @@
 -- Which item stands at the front of a stream, and how streams split.
-use Rattle.std.proofs.Common.{◌≡◌, ℕ, ◌+◌, ◌<◌, ◌≤◌, List, [], ◌∷◌, ◌++◌, length, take, drop, Option, Some, None, Result, Ok, Err, refl, sym, ap, ◌∙◌, arith, subst, append_assoc, append-nil, length-append, zero, suc, inl, inr, true, false, leb}
+use Rattle.std.proofs.Common.{◌≡◌, ℕ, ◌+◌, ◌<◌, ◌≤◌, List, [], ◌∷◌, ◌++◌, length, take, drop, Option, Some, None, Result, Ok, Err, refl, sym, ap, ◌∙◌, arith, subst, append_assoc, append-nil, length-append, zero, suc, inl, inr, Bool, true, false, leb}
 use Rattle.std.specs.Prelude.{◌⊎◌}
 use Rattle.std.proofs.lemmas.Bool.{leb-true, leb-false}
 use Rattle.std.specs.Int.{w64, from_be_bytes}
@@ -7,13 +7,13 @@ use Rattle.std.proofs.lemmas.List.{take-append-le, take-append-drop, length-take
 use Rattle.std.proofs.Math.Seq.{take-append_seam, drop-append_seam}
 use Rattle.shared_core_base.specs.declared.header.MessageHeader.{MessageHeader}
 use Rattle.shared_core_base.specs.declared.version.Version.{Version}
-use Rattle.shared_core_base.specs.MessageHeader.{header_of, word_code}
+use Rattle.shared_core_base.specs.MessageHeader.{header_of, word_code, word_length}
 use Rattle.shared_core.specs.declared.encoding.DecodingError.{DecodingError}
-use Rattle.shared_core.specs.declared.encoding.DecodingError.TheVariants.{DecodeMessage, UnexpectedMessageType, MissingField, UnknownMessageType, OutOfMemory}
+use Rattle.shared_core.specs.declared.encoding.DecodingError.TheVariants.{UnknownMessageType, SkippedMessage, OutOfMemory}
 use Rattle.shared_core.specs.declared.encoding.RawMessage.{RawMessage}
 use Rattle.shared_core.specs.declared.encoding.Item.{Item}
-use Rattle.shared_core.specs.declared.encoding.Item.TheVariants.{Message, Unknown}
-use Rattle.shared_core.specs.Items.{front_word, body_length, item_of, IsItem, AnswersNext, AreItems, TakesEight, TakesItem, NoItemBegins, IsItemsThen, SplitsInto, BeginsWithWritten}
+use Rattle.shared_core.specs.declared.encoding.Item.TheVariants.{Message, Unknown, Skipped}
+use Rattle.shared_core.specs.Items.{front_word, skips_unknown, body_length, item_of, IsItem, AnswersNext, AreItems, TakesEight, TakesItem, NoItemBegins, IsItemsThen, SplitsInto, BeginsWithWritten}
 
 take_exact : (n : ℕ) (front rest : List ℕ) → length front ≡ n → take n (front ++ rest) ≡ front
 take_exact n front rest e = subst (λ k. take k (front ++ rest) ≡ front) e (take-append_seam front rest)
@@ -53,25 +53,59 @@ module _ (version : Version) where
       let long : length first ≤ length bytes = omega (arith, ap length splits, length-append first others) in
       omega (arith, is.whole, ap (body_length version) same)
 
-  -- the three answers to bytes whose first eight are `head`
+  -- What a word says of the item that it begins: how many bytes belong to it behind the eight, and what it is with them. Only what follows
+  -- right here looks into how the version decides that.
+  pub record Announces (word size : ℕ) (item : List ℕ → Item) : Type 0 where
+    pub length_is : size ≡ body_length version word
+    pub item_is : (body : List ℕ) → item body ≡ item_of version word body
+
+  pub announces_message : (word : ℕ) (header : MessageHeader) (size : ℕ) → header_of word ≡ Some header → size ≡ header.length → Announces word size (λ payload. Message (record { header = header; payload = payload }))
+  unfolding body_length item_of
+  announces_message word header size typed sized = record { length_is = rw typed sized; item_is = λ body. rw typed refl }
+
+  pub announces_unknown : (word code : ℕ) → header_of word ≡ None → code ≡ word_code word → skips_unknown version ≡ false → Announces word 0 (λ _. Unknown code)
+  unfolding body_length item_of
+  announces_unknown word code untyped is_code alone = record { length_is = rw (untyped, alone) refl; item_is = λ body. rw (untyped, alone, is_code) refl }
+
+  pub announces_skipped : (word code size : ℕ) → header_of word ≡ None → code ≡ word_code word → skips_unknown version ≡ true → size ≡ word_length word → Announces word size (Skipped code)
+  unfolding body_length item_of
+  announces_skipped word code size untyped is_code skips sized = record { length_is = rw (untyped, skips) sized; item_is = λ body. rw (untyped, skips, is_code) refl }
+
+  -- the version of an item of an untyped code
+  pub unknown_item_version : (bytes : List ℕ) (code : ℕ) → IsItem version bytes (Unknown code) → skips_unknown version ≡ false
+  unfolding item_of
+  unknown_item_version bytes code is = by_header (header_of (front_word bytes)) refl
+    where
+      by_header : (found : Option MessageHeader) → header_of (front_word bytes) ≡ found → skips_unknown version ≡ false
+      by_header (Some header) typed = let means = rw typed at is.means in cc
+      by_header None untyped = by_version (skips_unknown version) refl
+        where
+          by_version : (skips : Bool) → skips_unknown version ≡ skips → skips ≡ false
+          by_version true skips = let means = rw (untyped, skips) at is.means in cc
+          by_version false skips = refl
+
+  pub skipped_item_version : (bytes payload : List ℕ) (code : ℕ) → IsItem version bytes (Skipped code payload) → skips_unknown version ≡ true
+  unfolding item_of
+  skipped_item_version bytes payload code is = by_header (header_of (front_word bytes)) refl
+    where
+      by_header : (found : Option MessageHeader) → header_of (front_word bytes) ≡ found → skips_unknown version ≡ true
+      by_header (Some header) typed = let means = rw typed at is.means in cc
+      by_header None untyped = by_version (skips_unknown version) refl
+        where
+          by_version : (skips : Bool) → skips_unknown version ≡ skips → skips ≡ true
+          by_version true skips = refl
+          by_version false skips = let means = rw (untyped, skips) at is.means in cc
+
+  -- the two answers to bytes whose first eight are `head`
   module _ (bytes head rest : List ℕ) (word : ℕ) (eight : length head ≡ 8) (whole : bytes ≡ head ++ rest) (reads : word ≡ from_be_bytes w64 head) where
-    pub takes_message : (header : MessageHeader) (size : ℕ) (payload behind : List ℕ) → header_of word ≡ Some header → size ≡ header.length → size ≤ length rest → payload ≡ take size rest → behind ≡ drop size rest → TakesItem version bytes (Message (record { header = header; payload = payload })) behind
-    unfolding body_length item_of
-    takes_message header size payload behind typed sized fits is_payload is_behind =
-        let found = takes_front head rest word size eight reads (rw typed sized) fits in
-        rw (whole, is_payload, is_behind) (rw typed at found)
+    pub takes_announced : (size : ℕ) (item : List ℕ → Item) (body behind : List ℕ) → Announces word size item → size ≤ length rest → body ≡ take size rest → behind ≡ drop size rest → TakesItem version bytes (item body) behind
+    takes_announced size item body behind announced fits is_body is_behind =
+        let found = takes_front head rest word size eight reads announced.length_is fits in
+        rw (whole, announced.item_is body, is_body, is_behind) found
 
-    pub takes_unknown : (code : ℕ) → header_of word ≡ None → code ≡ word_code word → TakesItem version bytes (Unknown code) rest
-    unfolding body_length item_of
-    takes_unknown code untyped is_code =
-        let found = takes_front head rest word 0 eight reads (rw untyped) (omega arith) in
-        rw (whole, is_code) (rw untyped at found)
-
-    pub none_partial : (header : MessageHeader) (size : ℕ) → header_of word ≡ Some header → size ≡ header.length → length rest < size → NoItemBegins version bytes
-    unfolding body_length
-    none_partial header size typed sized short =
-        let announced : body_length version word ≡ size = rw typed (sym sized) in
-        none_short bytes (omega (arith, ap length whole, length-append head rest, ap (body_length version) (ap front_word whole ∙ front_word_head head rest eight ∙ sym reads), announced))
+    pub none_partial : (size : ℕ) (item : List ℕ → Item) → Announces word size item → length rest < size → NoItemBegins version bytes
+    none_partial size item announced short =
+        none_short bytes (omega (arith, ap length whole, length-append head rest, ap (body_length version) (ap front_word whole ∙ front_word_head head rest eight ∙ sym reads), announced.length_is))
 
   -- an item takes eight bytes at least
   pub item_is_long : (old new : List ℕ) (item : Item) → TakesItem version old item new → length new + 8 ≤ length old
@@ -79,13 +113,15 @@ module _ (version : Version) where
 
   -- what an answer takes is eight bytes at least
   pub answer_is_long : (old new : List ℕ) (answer : Result (Option RawMessage) DecodingError) → AnswersNext version old answer new → TakesEight old answer new
-  answer_is_long old new (Ok (Some message)) taken = item_is_long old new (Message message) taken
-  answer_is_long old new (Ok None) answers = tt
-  answer_is_long old new (Err (UnknownMessageType unknown)) taken = item_is_long old new (Unknown unknown.0) taken
-  answer_is_long old new (Err (DecodeMessage found error)) answers = tt
-  answer_is_long old new (Err (UnexpectedMessageType mismatch)) answers = tt
-  answer_is_long old new (Err (MissingField expected field)) answers = tt
-  answer_is_long old new (Err OutOfMemory) answers = tt
+  answer_is_long old new (Ok (Some message)) = item_is_long old new (Message message)
+  answer_is_long old new (Ok None) = λ answers. tt
+  answer_is_long old new (Err refusal) =
+      elim refusal as (λ refusal. AnswersNext version old (Err refusal) new → TakesEight old (Err refusal) new) [
+        | UnknownMessageType unknown ↦ item_is_long old new (Unknown unknown.0)
+        | SkippedMessage code payload ↦ item_is_long old new (Skipped code payload)
+        | OutOfMemory ↦ λ answers. tt
+        | _ ↦ λ answers. absurd answers
+      ]
 
   -- no item's bytes begin another's
   pub one_item : (a b x y : List ℕ) (i j : Item) → IsItem version a i → IsItem version b j → a ++ x ≡ b ++ y → (a ≡ b) × (i ≡ j) × (x ≡ y)

@@ -7,7 +7,7 @@ use Rattle.shared_core_record.specs.Payloads.{IsAccepted, payload_meaning}
 use Rattle.shared_core_record.proofs.PayloadLaws.{canonical_is_read_back}
 use Rattle.shared_core.specs.declared.encoding.RawMessage.{RawMessage}
 use Rattle.shared_core.specs.declared.encoding.DecodingError.{DecodingError}
-use Rattle.shared_core.specs.declared.encoding.DecodingError.TheVariants.{DecodeMessage, UnexpectedMessageType, MissingField, UnknownMessageType, OutOfMemory}
+use Rattle.shared_core.specs.declared.encoding.DecodingError.TheVariants.{DecodeMessage, OutOfMemory}
 use Rattle.shared_core.specs.Typed.{IsWritten, RefusesPayload, RefusesTyped}
 
 pub written_means : (schema : ℕ) (v : Parts) (payload : List ℕ) → IsWritten schema v payload → IsAccepted schema payload × (payload_meaning schema payload ≡ v)
@@ -20,11 +20,12 @@ if_ok (Ok x) P holds = holds
 if_ok (Err e) P holds = tt
 
 refuses : (ty : MessageType) (schema : ℕ) (message : RawMessage) (index : ℤ) (e : DecodingError) → message.header.ty ≡ ty → RefusesPayload schema message e → RefusesTyped ty schema message index e
-refuses ty schema message index (DecodeMessage found error) same refused = (same, refused)
-refuses ty schema message index (UnexpectedMessageType mismatch) same refused = absurd refused
-refuses ty schema message index (MissingField expected field) same refused = absurd refused
-refuses ty schema message index (UnknownMessageType unknown) same refused = absurd refused
-refuses ty schema message index OutOfMemory same refused = (same, refused)
+refuses ty schema message index e =
+    elim e as (λ e. message.header.ty ≡ ty → RefusesPayload schema message e → RefusesTyped ty schema message index e) [
+      | DecodeMessage found error ↦ λ same refused. (same, refused)
+      | OutOfMemory ↦ λ same refused. (same, refused)
+      | _ ↦ λ same refused. absurd refused
+    ]
 
 pub if_err : {T : Type 0} (ty : MessageType) (schema : ℕ) (message : RawMessage) (index : ℤ) (r : Result T DecodingError) → message.header.ty ≡ ty → IfErr r (RefusesPayload schema message) → IfErr r (RefusesTyped ty schema message index)
 if_err ty schema message index (Ok x) same refused = tt

@@ -21,7 +21,7 @@ use Rattle.shared_core_parts.specs.Messages.{message_schema}
 use Rattle.shared_core_parts.specs.declared.notification.Notification.{Notification}
 use Rattle.shared_core.specs.declared.encoding.RawMessage.{RawMessage}
 use Rattle.shared_core.specs.declared.encoding.DecodingError.{DecodingError}
-use Rattle.shared_core.specs.declared.encoding.DecodingError.TheVariants.{DecodeMessage, MissingField, OutOfMemory, UnexpectedMessageType, UnknownMessageType}
+use Rattle.shared_core.specs.declared.encoding.DecodingError.TheVariants.{DecodeMessage, OutOfMemory}
 use Rattle.shared_core.specs.Typed.{MeansParts, RefusesPayload}
 use Rattle.shared_core.specs.View.{IsOfNotification, AgreesWithType, AnswersLacking, IsMissing, has_record, id_numbers, lacking_field, result_numbers}
 
@@ -130,9 +130,13 @@ lacks_nothing message id result found means there here =
 -- a refused payload that is well-formed is one that memory was refused for
 pub refused_for_memory : (message : RawMessage) (refusal : DecodingError) (lacking : Option (List ℕ)) → RefusesPayload notification_template message refusal → IsAccepted notification_template message.payload
     → AnswersLacking message lacking (Err refusal)
-refused_for_memory message (DecodeMessage found error) lacking refused accepted = absurd (refused.2 accepted)
-refused_for_memory message OutOfMemory None refused accepted = refl
-refused_for_memory message OutOfMemory (Some field) refused accepted = inr refl
-refused_for_memory message (UnexpectedMessageType mismatch) lacking refused accepted = absurd refused
-refused_for_memory message (MissingField expected field) lacking refused accepted = absurd refused
-refused_for_memory message (UnknownMessageType unknown) lacking refused accepted = absurd refused
+refused_for_memory message refusal lacking refused accepted =
+    elim refusal as (λ refusal. RefusesPayload notification_template message refusal → AnswersLacking message lacking (Err refusal)) [
+      | DecodeMessage found error ↦ λ refused. absurd (refused.2 accepted)
+      | OutOfMemory ↦ λ _. memory_lacks lacking
+      | _ ↦ λ refused. absurd refused
+    ] refused
+  where
+    memory_lacks : (lacking : Option (List ℕ)) → AnswersLacking message lacking (Err OutOfMemory)
+    memory_lacks None = refl
+    memory_lacks (Some field) = inr refl

@@ -211,22 +211,22 @@ fn skips_unknown(version: Version) -> bool
     version >= Version::V9
 }
 
-/// Takes the held header and as many bytes behind it, if they have come. An `Err` takes nothing.
+/// Takes the held header and `count` bytes behind it, if as many have come. An `Err` takes nothing.
 fn take_payload(
     head: &mut Option<[u8; 8]>,
     pending: &mut PendingBytes,
-    length: usize,
+    count: usize,
 ) -> Result<Option<Bytes>, AllocError>
     ensures taken { IfOk result (λ found. MatchOption found
-        ((length pending.old < length) × (head.new ≡ head.old) × (pending.new ≡ pending.old))
-        (λ payload. (length ≤ length pending.old) × (payload ≡ take length pending.old)
-        × (head.new ≡ None) × (pending.new ≡ drop length pending.old))) }
-    ensures refused { OnErr result ((length ≤ length pending.old) × (head.new ≡ head.old) × (pending.new ≡ pending.old)) }
+        ((length pending.old < count) × (head.new ≡ head.old) × (pending.new ≡ pending.old))
+        (λ payload. (count ≤ length pending.old) × (payload ≡ take count pending.old)
+        × (head.new ≡ None) × (pending.new ≡ drop count pending.old))) }
+    ensures refused { OnErr result ((count ≤ length pending.old) × (head.new ≡ head.old) × (pending.new ≡ pending.old)) }
 {
-    if pending.len() < length {
+    if pending.len() < count {
         return Ok(None);
     }
-    let payload = pending.split_to(length)?;
+    let payload = pending.split_to(count)?;
     *head = None;
     Ok(Some(payload))
 }

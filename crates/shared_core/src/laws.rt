@@ -1,8 +1,8 @@
 //! What holds of every stream, whatever decodes it, and of equality. A law is the contract of a function that does nothing,
 //! or nothing but compare.
-ghost use Rattle.std.specs.Prelude.{◌≡◌, ◌≢◌, ◌≤◌, ◌<◌, ◌^◌, ◌↔◌, ℕ, ◌++◌, IsTrue, List, None, Some, not, true};
+ghost use Rattle.std.specs.Prelude.{◌≡◌, ◌≢◌, ◌≤◌, ◌<◌, ◌^◌, ◌↔◌, ℕ, ◌++◌, IsTrue, List, None, Some, false, not, true};
 ghost use Rattle.shared_core_base.specs.declared.version.Version.{Version};
-ghost use Rattle.shared_core.specs.Items.{IsItem, IsItemsThen, TakesItem, NoItemBegins, SplitsInto};
+ghost use Rattle.shared_core.specs.Items.{IsItem, IsItemsThen, TakesItem, NoItemBegins, SplitsInto, skips_unknown};
 ghost use Rattle.shared_core.specs.Written.{AreFrames, items_written, joined_frames};
 ghost use Rattle.shared_core.specs.Decoded.{DecodesTo, FrameSpells, requested_ack_of};
 ghost use Rattle.shared_core_base.specs.declared.header.MessageType.{MessageType as AnyType};
@@ -19,6 +19,7 @@ ghost use Rattle.shared_core_parts.specs.Frames.{WireForm, wire_size};
 ghost use Rattle.shared_core_runtime.specs.Flattening.{flattened};
 ghost use Rattle.shared_core_runtime.specs.Versions.{is_before_v7, proposal_form, suspension_form};
 ghost use Rattle.shared_core.specs.declared.encoding.Item.{Item as AnyItem};
+ghost use Rattle.shared_core.specs.declared.encoding.Item.TheVariants.{Skipped, Unknown};
 
 use crate::encoding::{Item, RawMessage};
 
@@ -38,6 +39,15 @@ pub fn one_split()
 pub fn every_stream_splits()
     ensures { (version : Version) (stream : List ℕ)
         → (items : List AnyItem) × (rest : List ℕ) × SplitsInto version stream items rest }
+{}
+
+/// The version decides what a code that stands for no type is: an unknown header, at a version that does not skip such messages, and
+/// else a skipped message. No stream has both.
+pub fn untyped_items_go_by_the_version()
+    ensures unknown { (version : Version) (bytes : List ℕ) (code : ℕ)
+        → IsItem version bytes (Unknown code) → skips_unknown version ≡ false }
+    ensures skipped { (version : Version) (bytes payload : List ℕ) (code : ℕ)
+        → IsItem version bytes (Skipped code payload) → skips_unknown version ≡ true }
 {}
 
 /// The next item stays the next whatever comes behind it, and what it leaves is what it left with these bytes behind.
@@ -89,6 +99,7 @@ pub fn acknowledgements_come_out_as_asked()
 {}
 
 /// `==` of messages compares the whole header and the whole payload.
+#[tactic(auto, using(crate::proofs::Equality::messages_decide))]
 pub fn equal_messages(a: &RawMessage, b: &RawMessage) -> bool
     ensures { IsTrue result ↔ (a.now ≡ b.now) }
 {
@@ -96,6 +107,7 @@ pub fn equal_messages(a: &RawMessage, b: &RawMessage) -> bool
 }
 
 /// `==` of items compares all of them.
+#[tactic(auto, using(crate::proofs::Equality::items_decide))]
 pub fn equal_items(a: &Item, b: &Item) -> bool
     ensures { IsTrue result ↔ (a.now ≡ b.now) }
 {

@@ -1,31 +1,65 @@
-use Rattle.std.proofs.Common.{◌++◌, refl, sym, ◌∙◌, ap, arith}
-use Rattle.shared_core.specs.Unread.{held_bytes}
-use Rattle.shared_core.proofs.Items.{takes_message, takes_unknown, none_partial}
+use Rattle.std.proofs.Common.{◌≡◌, refl, sym, ◌∙◌, ap, arith, rules, true, false}
+use Rattle.std.proofs.lemmas.Nat.{and_mask}
+use Rattle.shared_core.specs.Items.{skips_unknown}
+use Rattle.shared_core.specs.Unread.{Unread}
+use Rattle.shared_core.proofs.Items.{announces_message, announces_skipped, announces_unknown, none_partial, takes_announced}
 use Rattle.shared_core.proofs.encoding.Decoder.consume_next.Goals as goal
+
+pub returns-then-not-skips_unknown-clause-next : goal.returns-then-not-skips_unknown-clause-next
+returns-then-not-skips_unknown-clause-next c =
+    let skips : skips_unknown c.args.self.now.version ≡ false = ap (λ (u : Unread). skips_unknown u.version) (sym c.self.view_is) ∙ sym c.skips_unknown.ensures ∙ search rules in
+    takes_announced _ _ _ _ _ c.in-Some.ensures.held.1 (sym (ap (λ u. u.bytes) c.self.view_is) ∙ c.in-Some.ensures.held.2) c.from_be_bytes-word.ensures
+    _ _ _ _ (announces_unknown _ _ _ c.in-Err.ensures.0 c.in-Err.ensures.1 skips) (omega arith) refl refl
+
+pub returns-in_default-take_payload-clause-next : goal.returns-in_default-take_payload-clause-next
+returns-in_default-take_payload-clause-next c =
+    let skips : skips_unknown c.args.self.now.version ≡ true = ap (λ (u : Unread). skips_unknown u.version) (sym c.self.view_is) ∙ sym c.skips_unknown.ensures ∙ c.if-not-skips_unknown.false in
+    let refused = c.in_default-take_payload.ensures.refused in (
+      rw (refused.1, refused.2) (c.hold_head.ensures.same ∙ ap (λ u. u.bytes) c.self.view_is),
+      _,
+      _,
+      takes_announced _ _ _ _ _ c.in-Some.ensures.held.1 (sym (ap (λ u. u.bytes) c.self.view_is) ∙ c.in-Some.ensures.held.2) c.from_be_bytes-word.ensures
+          _ _ _ _ (announces_skipped _ _ _ _ c.in-Err.ensures.0 c.in-Err.ensures.1 skips (and_mask c.from_be_bytes-word.result 32)) refused.0 refl refl,
+      tt,
+    )
+
+pub returns-in_default-skipped-clause-next : goal.returns-in_default-skipped-clause-next
+returns-in_default-skipped-clause-next c =
+    let skips : skips_unknown c.args.self.now.version ≡ true = ap (λ (u : Unread). skips_unknown u.version) (sym c.self.view_is) ∙ sym c.skips_unknown.ensures ∙ c.if-not-skips_unknown.false in
+    let none = rw c.in_default-skipped.is at c.in-Ok-take_payload.ensures.taken in (
+      none_partial _ _ _ _ _ c.in-Some.ensures.held.1 (sym (ap (λ u. u.bytes) c.self.view_is) ∙ c.in-Some.ensures.held.2) c.from_be_bytes-word.ensures
+          _ _ (announces_skipped _ _ _ _ c.in-Err.ensures.0 c.in-Err.ensures.1 skips (and_mask c.from_be_bytes-word.result 32)) none.0,
+      rw (none.1, none.2) (c.hold_head.ensures.same ∙ ap (λ u. u.bytes) c.self.view_is),
+    )
 
 pub returns-in-Err-clause-next : goal.returns-in-Err-clause-next
 returns-in-Err-clause-next c =
-    takes_unknown _ _ _ _ _ c.in-Some.ensures.held.1 (sym (ap (λ u. u.bytes) c.self.view_is) ∙ c.in-Some.ensures.held.2) c.from_be_bytes.ensures
-    _ c.in-Err.ensures.0 c.in-Err.ensures.1
+    let skips : skips_unknown c.args.self.now.version ≡ true = ap (λ (u : Unread). skips_unknown u.version) (sym c.self.view_is) ∙ sym c.skips_unknown.ensures ∙ c.if-not-skips_unknown.false in
+    let taken = rw c.in-Some-skipped.is at c.in-Ok-take_payload.ensures.taken in
+    rw taken.2 (takes_announced _ _ _ _ _ c.in-Some.ensures.held.1 (sym (ap (λ u. u.bytes) c.self.view_is) ∙ c.in-Some.ensures.held.2) c.from_be_bytes-word.ensures
+    _ _ _ _ (announces_skipped _ _ _ _ c.in-Err.ensures.0 (c.code-code.ensures ∙ c.in-Err.ensures.1) skips (and_mask c.from_be_bytes-word.result 32)) taken.0 taken.1 taken.3)
 
-pub returns-then-len-length-clause-next : goal.returns-then-len-length-clause-next
-returns-then-len-length-clause-next c = (
-  none_partial _ _ _ _ _ c.in-Some.ensures.held.1 (sym (ap (λ u. u.bytes) c.self.view_is) ∙ c.in-Some.ensures.held.2) c.from_be_bytes.ensures
-      _ _ c.in-Ok.ensures c.message_length-length.ensures (omega arith),
-  c.hold_head.ensures.same ∙ ap (λ u. u.bytes) c.self.view_is,
-)
+pub returns-in_default-take_payload-2-clause-next : goal.returns-in_default-take_payload-2-clause-next
+returns-in_default-take_payload-2-clause-next c =
+    let refused = c.in_default-take_payload-2.ensures.refused in (
+      rw (refused.1, refused.2) (c.hold_head.ensures.same ∙ ap (λ u. u.bytes) c.self.view_is),
+      _,
+      _,
+      takes_announced _ _ _ _ _ c.in-Some.ensures.held.1 (sym (ap (λ u. u.bytes) c.self.view_is) ∙ c.in-Some.ensures.held.2) c.from_be_bytes-word.ensures
+          _ _ _ _ (announces_message _ _ _ _ c.in-Ok.ensures c.message_length-length.ensures) refused.0 refl refl,
+      tt,
+    )
 
-pub returns-in_default-split_to-clause-next : goal.returns-in_default-split_to-clause-next
-returns-in_default-split_to-clause-next c = (
-  ap (λ p. held_bytes c.hold_head.new.head ++ p) c.in_default-split_to.ensures.err ∙ c.hold_head.ensures.same ∙ ap (λ u. u.bytes) c.self.view_is,
-  _,
-  _,
-  takes_message _ _ _ _ _ c.in-Some.ensures.held.1 (sym (ap (λ u. u.bytes) c.self.view_is) ∙ c.in-Some.ensures.held.2) c.from_be_bytes.ensures
-      _ _ _ _ c.in-Ok.ensures c.message_length-length.ensures (omega arith) refl refl,
-)
+pub returns-in_default-taken-clause-next : goal.returns-in_default-taken-clause-next
+returns-in_default-taken-clause-next c =
+    let none = rw c.in_default-taken.is at c.in-Ok-take_payload-2.ensures.taken in (
+      none_partial _ _ _ _ _ c.in-Some.ensures.held.1 (sym (ap (λ u. u.bytes) c.self.view_is) ∙ c.in-Some.ensures.held.2) c.from_be_bytes-word.ensures
+          _ _ (announces_message _ _ _ _ c.in-Ok.ensures c.message_length-length.ensures) none.0,
+      rw (none.1, none.2) (c.hold_head.ensures.same ∙ ap (λ u. u.bytes) c.self.view_is),
+    )
 
 pub returns-clause-next : goal.returns-clause-next
 returns-clause-next c =
-    takes_message _ _ _ _ _ c.in-Some.ensures.held.1 (sym (ap (λ u. u.bytes) c.self.view_is) ∙ c.in-Some.ensures.held.2) c.from_be_bytes.ensures
-    _ _ _ _ c.in-Ok.ensures c.message_length-length.ensures (omega arith)
-    c.in-Ok-split_to.ensures.front c.in-Ok-split_to.ensures.rest
+    let taken = rw c.in-Some-taken.is at c.in-Ok-take_payload-2.ensures.taken in
+    rw taken.2 (takes_announced _ _ _ _ _ c.in-Some.ensures.held.1 (sym (ap (λ u. u.bytes) c.self.view_is) ∙ c.in-Some.ensures.held.2) c.from_be_bytes-word.ensures
+    _ _ _ _ (announces_message _ _ _ _ c.in-Ok.ensures c.message_length-length.ensures) taken.0 taken.1 taken.3)
