@@ -212,6 +212,7 @@ fn skips_unknown(version: Version) -> bool
 }
 
 /// Takes the held header and `count` bytes behind it, if as many have come. An `Err` takes nothing.
+#[inline(always)]
 fn take_payload(
     head: &mut Option<[u8; 8]>,
     pending: &mut PendingBytes,

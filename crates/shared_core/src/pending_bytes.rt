@@ -96,6 +96,7 @@ impl PendingBytes {
 
     /// Takes the first `count` bytes: cut from the front segment where it has them all, else joined in one copy. An `Err`
     /// takes nothing.
+    #[inline(always)]
     pub fn split_to(&mut self, count: usize) -> Result<Bytes, AllocError>
         requires { count ≤ length self.old }
         ensures front { IfOk result (λ bytes. bytes ≡ take count self.old) }
