@@ -1,5 +1,5 @@
 -- Which item stands at the front of a stream, and how streams split.
-use Rattle.std.proofs.Common.{◌≡◌, ℕ, ◌+◌, ◌<◌, ◌≤◌, List, [], ◌∷◌, ◌++◌, length, take, drop, Option, Some, None, Result, Ok, Err, refl, sym, ap, ◌∙◌, arith, subst, append_assoc, append-nil, length-append, zero, suc, inl, inr, Bool, true, false, leb}
+use Rattle.std.proofs.Common.{◌≡◌, ℕ, ◌+◌, ◌<◌, ◌≤◌, List, [], ◌∷◌, ◌++◌, length, take, drop, Option, Some, None, refl, sym, ap, ◌∙◌, arith, subst, append_assoc, append-nil, length-append, zero, suc, inl, inr, Bool, true, false, leb}
 use Rattle.std.specs.Prelude.{◌⊎◌}
 use Rattle.std.proofs.lemmas.Bool.{leb-true, leb-false}
 use Rattle.std.specs.Int.{w64, from_be_bytes}
@@ -8,12 +8,9 @@ use Rattle.std.proofs.Math.Seq.{take-append_seam, drop-append_seam}
 use Rattle.shared_core_base.specs.declared.header.MessageHeader.{MessageHeader}
 use Rattle.shared_core_base.specs.declared.version.Version.{Version}
 use Rattle.shared_core_base.specs.MessageHeader.{header_of, word_code, word_length}
-use Rattle.shared_core.specs.declared.encoding.DecodingError.{DecodingError}
-use Rattle.shared_core.specs.declared.encoding.DecodingError.TheVariants.{UnknownMessageType, SkippedMessage, OutOfMemory}
-use Rattle.shared_core.specs.declared.encoding.RawMessage.{RawMessage}
 use Rattle.shared_core.specs.declared.encoding.Item.{Item}
 use Rattle.shared_core.specs.declared.encoding.Item.TheVariants.{Message, Unknown, Skipped}
-use Rattle.shared_core.specs.Items.{front_word, skips_unknown, body_length, item_of, IsItem, AnswersNext, AreItems, TakesEight, TakesItem, NoItemBegins, IsItemsThen, SplitsInto, BeginsWithWritten}
+use Rattle.shared_core.specs.Items.{front_word, skips_unknown, body_length, item_of, IsItem, AreItems, TakesItem, NoItemBegins, IsItemsThen, SplitsInto, BeginsWithWritten}
 
 take_exact : (n : ℕ) (front rest : List ℕ) → length front ≡ n → take n (front ++ rest) ≡ front
 take_exact n front rest e = subst (λ k. take k (front ++ rest) ≡ front) e (take-append_seam front rest)
@@ -110,18 +107,6 @@ module _ (version : Version) where
   -- an item takes eight bytes at least
   pub item_is_long : (old new : List ℕ) (item : Item) → TakesItem version old item new → length new + 8 ≤ length old
   item_is_long old new item (first, is, splits) = omega (arith, is.whole, ap length splits, length-append first new)
-
-  -- what an answer takes is eight bytes at least
-  pub answer_is_long : (old new : List ℕ) (answer : Result (Option RawMessage) DecodingError) → AnswersNext version old answer new → TakesEight old answer new
-  answer_is_long old new (Ok (Some message)) = item_is_long old new (Message message)
-  answer_is_long old new (Ok None) = λ answers. tt
-  answer_is_long old new (Err refusal) =
-      elim refusal as (λ refusal. AnswersNext version old (Err refusal) new → TakesEight old (Err refusal) new) [
-        | UnknownMessageType unknown ↦ item_is_long old new (Unknown unknown.0)
-        | SkippedMessage code payload ↦ item_is_long old new (Skipped code payload)
-        | OutOfMemory ↦ λ answers. tt
-        | _ ↦ λ answers. absurd answers
-      ]
 
   -- no item's bytes begin another's
   pub one_item : (a b x y : List ℕ) (i j : Item) → IsItem version a i → IsItem version b j → a ++ x ≡ b ++ y → (a ≡ b) × (i ≡ j) × (x ≡ y)
