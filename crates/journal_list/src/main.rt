@@ -15,6 +15,7 @@ mod test_words;
 
 use crate::list::ListError;
 use crate::run::{Outcome, exit_code, message, run};
+use std::io::ErrorKind;
 use std::process::ExitCode;
 use std::{env, io};
 
@@ -35,6 +36,9 @@ fn main(rt: HostRuntime) -> ExitCode {
             &mut rt.stdin(),
             &mut rt.stdout(),
         ),
+        Err(error) if error.kind() == ErrorKind::OutOfMemory => {
+            Outcome::Listed(Err(ListError::OutOfMemory))
+        }
         // words that cannot be fetched are input too
         Err(_) => Outcome::Listed(Err(ListError::Input)),
     };
