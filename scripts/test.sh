@@ -1,7 +1,7 @@
 #!/bin/sh
 # All tests: the gate (every proof from nothing, the edits that must fail, each test and the stored runs of the programs), then
 # that the table of fields is one everywhere and written files are up to date, the program on the examples, where it fails and on hostile streams, the library on all
-# conformance lines, and prost on the same lines and on random ones. The last line is 'N passed, M failed', of all.
+# conformance lines and with each request for memory refused in turn, and prost on the same lines and on random ones. The last line is 'N passed, M failed', of all.
 set -u
 cd "$(dirname "$0")/.." || exit 1
 
@@ -32,6 +32,7 @@ stage sh scripts/check_program.sh
 stage sh scripts/check_streams.sh
 # these take the proved programs that rt ci has built
 stage sh scripts/conformance.sh
+stage sh scripts/refusals.sh
 # 50,000 random cases beside prost, where cargo and its packages are there
 stage sh bench/vectors.sh --no-install 1 50000
 

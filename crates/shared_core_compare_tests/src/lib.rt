@@ -5,8 +5,6 @@
 #[cfg(test)]
 mod failing_writer;
 #[cfg(test)]
-mod held_memory;
-#[cfg(test)]
 mod memory;
 #[cfg(test)]
 mod room;

@@ -1,9 +1,9 @@
 //! What commands answer while all memory is held.
 
 use crate::failing_writer::{DIFFERENCE, FULL_CALL, write_to_room};
-use crate::held_memory::HeldMemory;
 use crate::room::Room;
 use crate::steps::{expect, read};
+use held_memory::without_memory;
 use shared_core::OutOfMemory;
 use shared_core::messages::{CallCommandMessage, CommandMessageHeaderEq, NamedCommandMessage};
 use std::alloc::{AllocError, Global};
@@ -25,20 +25,15 @@ fn answer_without_memory(
     other: &CallCommandMessage,
 ) -> Result<Option<Answers>, AllocError> {
     let room = Room::new(alloc, DIFFERENCE.len())?;
-    let held = HeldMemory::take(alloc)?;
-    let more: Result<Vec<u8>, AllocError> = Vec::with_capacity(alloc, 1);
-    let (_, difference) = write_to_room(room, call, other);
-    let answers = Answers {
-        name: call.name(alloc),
-        same_as_itself: call.header_eq(call, false),
-        same_as_other: call.header_eq(other, true),
-        difference,
-    };
-    drop(held);
-    if more.is_ok() {
-        return Ok(None);
-    }
-    Ok(Some(answers))
+    without_memory(alloc, || {
+        let (_, difference) = write_to_room(room, call, other);
+        Answers {
+            name: call.name(alloc),
+            same_as_itself: call.header_eq(call, false),
+            same_as_other: call.header_eq(other, true),
+            difference,
+        }
+    })
 }
 
 #[test]

@@ -5,8 +5,6 @@
 #[cfg(test)]
 mod by_fields;
 #[cfg(test)]
-mod held_memory;
-#[cfg(test)]
 mod levels;
 #[cfg(test)]
 mod limits;

@@ -1,11 +1,10 @@
 //! That reading asks for no memory but for what the message holds.
 
-use crate::held_memory::HeldMemory;
 use bytes::Bytes;
+use held_memory::without_memory;
 use shared_core_record::record::WireRecord;
 use shared_core_runtime::ProposeRunCompletionAckMessage;
-use shared_core_wire::error::WireError;
-use std::alloc::{AllocError, Global};
+use std::alloc::Global;
 use std::test::Fail;
 
 /// The id 1, a thousand times, and then 2.
@@ -18,24 +17,14 @@ fn records(alloc: Global) -> Result<Bytes, Fail> {
     Ok(Bytes::from_vec(records)?)
 }
 
-/// What the payload decodes to while all memory is held, or None where one more request for memory is granted nevertheless.
-fn decode_without_memory(
-    alloc: Global,
-    payload: Bytes,
-) -> Result<Option<Result<ProposeRunCompletionAckMessage, WireError>>, AllocError> {
-    let held = HeldMemory::take(alloc)?;
-    let more: Result<Vec<u8>, AllocError> = Vec::with_capacity(alloc, 1);
-    let decoded = ProposeRunCompletionAckMessage::decode(alloc, payload);
-    drop(held);
-    if more.is_ok() {
-        return Ok(None);
-    }
-    Ok(Some(decoded))
-}
-
 #[test]
 fn no_list_of_records_is_kept(rt: HostRuntime) -> Result<(), Fail> {
-    let Some(decoded) = decode_without_memory(rt.alloc(), records(rt.alloc())?)? else {
+    let alloc = rt.alloc();
+    let payload = records(alloc)?;
+    let decoded = without_memory(alloc, || {
+        ProposeRunCompletionAckMessage::decode(alloc, payload)
+    })?;
+    let Some(decoded) = decoded else {
         println!(rt; "not run: this allocator never refuses memory")?;
         return Ok(());
     };

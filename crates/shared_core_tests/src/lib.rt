@@ -5,6 +5,8 @@
 mod frames;
 #[cfg(test)]
 mod loops;
+#[cfg(test)]
+mod memory;
 pub mod round_trip;
 #[cfg(test)]
 mod steps;

@@ -1,5 +1,5 @@
-//! All memory that the process can have, held so that a request for more is refused. A build that checks each access (`rt try`) has an
-//! allocator with memory of its own, and refuses nothing here.
+//! What tests ask while all memory that the process can have is held, so that a request for more is refused.
+#![tactic(auto)]
 
 use std::alloc::{AllocError, Global};
 
@@ -8,13 +8,13 @@ const BLOCKS: usize = 1 << 17;
 
 /// Blocks that hold all memory there is. Nothing is written to them.
 #[derive(Drop)]
-pub struct HeldMemory {
+struct HeldMemory {
     blocks: Vec<Vec<u8>>,
 }
 
 impl HeldMemory {
     /// Takes all memory that is left.
-    pub fn take(alloc: Global) -> Result<HeldMemory, AllocError> {
+    fn take(alloc: Global) -> Result<HeldMemory, AllocError> {
         let mut held = HeldMemory {
             blocks: Vec::with_capacity(alloc, BLOCKS)?,
         };
@@ -40,4 +40,22 @@ impl HeldMemory {
             };
         }
     }
+}
+
+/// What is answered while all memory is held, or `None` where one more request for memory is granted nevertheless: a build that checks each
+/// access (`rt try`) has an allocator with memory of its own. `AllocError` where there is no memory to list what is held.
+pub fn without_memory<T: Drop, F: FnOnce() -> T>(
+    alloc: Global,
+    ask: F,
+) -> Result<Option<T>, AllocError>
+    requires { F.IsAlwaysCallable ask }
+{
+    let held = HeldMemory::take(alloc)?;
+    let more: Result<Vec<u8>, AllocError> = Vec::with_capacity(alloc, 1);
+    let answer = ask();
+    drop(held);
+    if more.is_ok() {
+        return Ok(None);
+    }
+    Ok(Some(answer))
 }

@@ -1,0 +1,124 @@
+#!/bin/sh
+# Each request for memory refused in turn. Each test of crates/shared_core_refusal_tests, and the program journal_list, run once for each request
+# for memory that they make, with that one refused, and at last with none refused. A test has to pass. journal_list has to write its listing, or
+# whole lines at the beginning of it and that memory was refused, for which there is no excuse where none is.
+#
+# It takes the tests and the program that rt ci has proved and built, and scripts/refuse.c, which counts their requests and refuses one. Two runs go
+# at a time. The last line is 'N passed, M failed', where each refused request counts as one.
+set -u
+cd "$(dirname "$0")/.." || exit 1
+
+tests=crates/shared_core_refusal_tests/out/shared_core_refusal_tests_tests
+journal_list=crates/journal_list/out/journal_list
+
+passed=0
+failed=0
+
+# finish: the last line, and the status
+finish() {
+  echo "$passed passed, $failed failed"
+  [ "$failed" -eq 0 ]
+  exit
+}
+
+if ! command -v cc > /dev/null; then
+  echo 'refusals.sh: not run, since there is no cc'
+  finish
+fi
+work=$(mktemp -d) || exit 1
+trap 'rm -rf "$work"' EXIT
+if ! cc -O2 -shared -fPIC -o "$work/refuse.so" scripts/refuse.c -ldl; then
+  echo 'failed: cc scripts/refuse.c'
+  failed=1
+  finish
+fi
+
+# Whether a run was right, of which $status, $room/out and $room/err are what came of it, and $refused says whether a request was refused.
+
+is_right_test() {
+  [ "$status" -eq 0 ]
+}
+
+is_right_listing() {
+  complaint=''
+  read -r complaint < "$room/err"
+  case $status:$complaint in
+    0:) cmp -s "$room/out" "$stream.stdout" ;;
+    '1:journal_list: out of memory')
+      [ "$refused" = yes ] && head -n "$(wc -l < "$room/out")" "$stream.stdout" | cmp -s - "$room/out"
+      ;;
+    *) false ;;
+  esac
+}
+
+# sweep FIRST IS_RIGHT INPUT COMMAND..: runs the command with each second request refused, from the first one on, until none is
+sweep() {
+  request=$1
+  room=$work/$1
+  is_right=$2
+  input=$3
+  shift 3
+  mkdir -p "$room"
+  right=0
+  wrong=0
+  refused=yes
+  while [ "$refused" = yes ] && [ "$wrong" -lt 5 ]; do
+    REFUSE=$request LD_PRELOAD=$work/refuse.so "$@" < "$input" > "$room/out" 2> "$room/err" 3> "$room/requests"
+    status=$?
+    requests=0
+    read -r requests < "$room/requests"
+    [ "$requests" -ge "$request" ] || refused=no
+    if ! "$is_right"; then
+      wrong=$((wrong + 1))
+      [ "$refused" = yes ] && what="request $request refused" || what='no request refused'
+      echo "failed: $name: $what: status $status, standard output and standard error:"
+      cat "$room/out" "$room/err"
+    elif [ "$refused" = yes ]; then
+      right=$((right + 1))
+    fi
+    request=$((request + 2))
+  done
+  echo "$right $wrong $requests" > "$room/counts"
+}
+
+# refuse_each NAME IS_RIGHT INPUT COMMAND..: runs the command with each request refused, half of them at a time, and counts
+refuse_each() {
+  name=$1
+  shift
+  sweep 1 "$@" > "$work/1.log" &
+  sweep 2 "$@" > "$work/2.log" &
+  wait
+  cat "$work/1.log" "$work/2.log"
+  refusals=0
+  for half in 1 2; do
+    read -r right wrong requests < "$work/$half/counts"
+    refusals=$((refusals + right))
+    failed=$((failed + wrong))
+  done
+  passed=$((passed + refusals))
+  echo "$name: $refusals of $requests requests refused in turn"
+  if [ "$requests" -eq 0 ]; then
+    echo "failed: $name: no request for memory is seen"
+    failed=$((failed + 1))
+  fi
+}
+
+if [ -x "$tests" ]; then
+  "$tests" --list > "$work/list"
+  for test in $(sed -n 's/: test$//p' "$work/list"); do
+    refuse_each "$test" is_right_test /dev/null "$tests" "$test"
+  done
+else
+  echo "refusals.sh: the tests: not run, since there is no $tests"
+fi
+
+if [ -x "$journal_list" ]; then
+  for stream in examples/replay examples/unknown_type examples/cut_short; do
+    for size in 3 4096; do
+      refuse_each "journal_list $size < $stream" is_right_listing "$stream" "$journal_list" "$size"
+    done
+  done
+else
+  echo "refusals.sh: journal_list: not run, since there is no $journal_list"
+fi
+finish

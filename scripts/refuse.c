@@ -1,0 +1,82 @@
+/* Loaded into a program by LD_PRELOAD, refuses one of its requests for memory: the one whose number, from 1, is in REFUSE (0: none). When the
+   program ends, the number of requests that it made goes to file descriptor 3. */
+#define _GNU_SOURCE
+#include <dlfcn.h>
+#include <errno.h>
+#include <stddef.h>
+#include <stdio.h>
+#include <stdlib.h>
+#include <unistd.h>
+
+static long requests;
+
+/* Whether this request is the refused one. */
+static int is_refused(void)
+{
+    static long refused = -1;
+    if (refused < 0) {
+        const char *number = getenv("REFUSE");
+        refused = number ? atol(number) : 0;
+    }
+    if (++requests != refused)
+        return 0;
+    errno = ENOMEM;
+    return 1;
+}
+
+/* The function of this name that stands behind ours. */
+static void *behind(const char *name)
+{
+    void *function = dlsym(RTLD_NEXT, name);
+    if (!function)
+        _exit(127);
+    return function;
+}
+
+void *malloc(size_t size)
+{
+    static void *(*granted)(size_t);
+    if (!granted)
+        *(void **)&granted = behind("malloc");
+    return is_refused() ? NULL : granted(size);
+}
+
+void *calloc(size_t count, size_t size)
+{
+    static void *(*granted)(size_t, size_t);
+    if (!granted)
+        *(void **)&granted = behind("calloc");
+    return is_refused() ? NULL : granted(count, size);
+}
+
+void *realloc(void *block, size_t size)
+{
+    static void *(*granted)(void *, size_t);
+    if (!granted)
+        *(void **)&granted = behind("realloc");
+    return is_refused() ? NULL : granted(block, size);
+}
+
+void *aligned_alloc(size_t alignment, size_t size)
+{
+    static void *(*granted)(size_t, size_t);
+    if (!granted)
+        *(void **)&granted = behind("aligned_alloc");
+    return is_refused() ? NULL : granted(alignment, size);
+}
+
+int posix_memalign(void **block, size_t alignment, size_t size)
+{
+    static int (*granted)(void **, size_t, size_t);
+    if (!granted)
+        *(void **)&granted = behind("posix_memalign");
+    return is_refused() ? ENOMEM : granted(block, alignment, size);
+}
+
+__attribute__((destructor)) static void say_requests(void)
+{
+    char text[32];
+    int length = snprintf(text, sizeof text, "%ld\n", requests);
+    if (length > 0 && write(3, text, (size_t)length) < 0)
+        _exit(127);
+}
