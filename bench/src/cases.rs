@@ -60,9 +60,9 @@ pub fn any_piece(random: &mut Random, length: usize) -> usize {
     }
 }
 
-/// A version from 5 to 8.
+/// A version from 5 to 9.
 pub fn any_version(random: &mut Random) -> u32 {
-    5 + random.below(4) as u32
+    5 + random.below(5) as u32
 }
 
 /// A case of any kind and size.
@@ -335,7 +335,7 @@ fn frames() -> Result<File, Failed> {
         file.section(message_type.name);
         let changes = matches!(message_type.name, "Suspension" | "ProposeRunCompletion");
         let count = if changes { 4 * OF_A_TYPE } else { OF_A_TYPE };
-        for version in 5..=8 {
+        for version in 5..=9 {
             for _ in 0..count {
                 number += 1;
                 let random = &mut Random::new(SEED, number);

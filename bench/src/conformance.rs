@@ -87,7 +87,7 @@ impl Case {
                 version,
                 payload,
             } => answer(peer::frame(*version, message_type.code, payload, 1)),
-            Case::Stream { pieces, .. } => list_by_peer(pieces),
+            Case::Stream { version, pieces } => list_by_peer(*version, pieces),
             Case::Record { schema, payload } => match peer::canonical(*schema, payload) {
                 Ok(canonical) if canonical == *payload => record_by_peer(*schema, payload),
                 Ok(_) => NOT_CANONICAL.into(),
@@ -117,8 +117,8 @@ impl Case {
                 Meaning::of(message_type.schema, [payload.as_slice()]),
                 |meaning| meaning.frame(message_type, *version),
             ),
-            Case::Stream { pieces, .. } => ByRules {
-                answer: list_by_rules(&pieces.concat()),
+            Case::Stream { version, pieces } => ByRules {
+                answer: list_by_rules(*version, &pieces.concat()),
                 departs: false,
             },
         }
@@ -278,7 +278,7 @@ fn several_bytes<'a>(words: &mut impl Iterator<Item = &'a str>) -> Option<Vec<Ve
 }
 
 fn version(word: &str) -> Option<u32> {
-    matches!(word, "5" | "6" | "7" | "8")
+    matches!(word, "5" | "6" | "7" | "8" | "9")
         .then(|| word.parse().ok())
         .flatten()
 }
@@ -342,14 +342,18 @@ impl Listing {
         let _ = write!(self.0, "unknown 0x{code:x}, ");
     }
 
+    pub fn skipped(&mut self, code: u16, length: usize) {
+        let _ = write!(self.0, "skipped 0x{code:x} {length}, ");
+    }
+
     pub fn rest(mut self, rest: usize) -> String {
         let _ = write!(self.0, "rest {rest}");
         self.0
     }
 }
 
-fn list_by_peer(pieces: &[Vec<u8>]) -> String {
-    let mut decoder = Decoder::default();
+fn list_by_peer(version: u32, pieces: &[Vec<u8>]) -> String {
+    let mut decoder = Decoder::new(version);
     let mut listing = Listing::default();
     for piece in pieces {
         decoder.push(piece.clone().into());
@@ -359,14 +363,15 @@ fn list_by_peer(pieces: &[Vec<u8>]) -> String {
                     listing.message(header.code, header.acknowledge, payload.len());
                 }
                 peer::Item::Unknown(code) => listing.unknown(code),
+                peer::Item::Skipped(code, payload) => listing.skipped(code, payload.len()),
             }
         }
     }
     listing.rest(decoder.pending())
 }
 
-fn list_by_rules(stream: &[u8]) -> String {
-    let (items, rest) = rules::items(stream);
+fn list_by_rules(version: u32, stream: &[u8]) -> String {
+    let (items, rest) = rules::items(version, stream);
     let mut listing = Listing::default();
     for item in items {
         match item {
@@ -376,6 +381,7 @@ fn list_by_rules(stream: &[u8]) -> String {
                 payload,
             } => listing.message(code, acknowledge, payload.len()),
             rules::Item::Unknown(code) => listing.unknown(code),
+            rules::Item::Skipped { code, payload } => listing.skipped(code, payload.len()),
         }
     }
     listing.rest(rest)

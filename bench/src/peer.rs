@@ -19,6 +19,12 @@ const PROPOSE_RUN_COMPLETION: u16 = 0x0005;
 /// The version from which on futures are sent as trees, and the proposal of a run's result asks for an acknowledgement.
 const FUTURES: u32 = 7;
 
+/// The version from which on a message of an unknown type is skipped with its payload.
+const SKIPS: u32 = 9;
+
+/// The version of the streams that are measured.
+const MEASURED: u32 = 8;
+
 /// Why a call gives no answer.
 #[derive(Debug)]
 pub enum Refusal {
@@ -41,19 +47,6 @@ pub struct Header {
 }
 
 impl Header {
-    /// Reads a header, or hands back a code that stands for no type.
-    fn read(word: u64) -> Result<Header, u16> {
-        let code = (word >> 48) as u16;
-        if !is_custom(code) && !is_named(code) {
-            return Err(code);
-        }
-        Ok(Header {
-            code,
-            acknowledge: code == PROPOSE_RUN_COMPLETION && word & ACKNOWLEDGE != 0,
-            length: word as u32,
-        })
-    }
-
     pub fn word(self) -> u64 {
         let acknowledge = if self.acknowledge { ACKNOWLEDGE } else { 0 };
         u64::from(self.code) << 48 | acknowledge | u64::from(self.length)
@@ -69,35 +62,81 @@ fn is_custom(code: u16) -> bool {
     code & 0xFC00 != 0
 }
 
+/// Eight bytes of a stream.
+#[derive(Clone, Copy, Debug)]
+enum Head {
+    Message(Header),
+    /// The code stands for no type.
+    Unknown {
+        code: u16,
+        length: u32,
+    },
+}
+
+impl Head {
+    fn read(word: u64) -> Head {
+        let code = (word >> 48) as u16;
+        let length = word as u32;
+        if !is_custom(code) && !is_named(code) {
+            return Head::Unknown { code, length };
+        }
+        Head::Message(Header {
+            code,
+            acknowledge: code == PROPOSE_RUN_COMPLETION && word & ACKNOWLEDGE != 0,
+            length,
+        })
+    }
+
+    fn length(self) -> usize {
+        match self {
+            Head::Message(Header { length, .. }) | Head::Unknown { length, .. } => length as usize,
+        }
+    }
+}
+
 /// What a stream is made of.
 #[derive(Clone, Debug, PartialEq, Eq)]
 pub enum Item {
     Message(Header, Bytes),
     /// A header whose code stands for no type.
     Unknown(u16),
+    /// The same with its payload.
+    Skipped(u16, Bytes),
 }
 
 impl Item {
-    /// The header's word, or the unknown code at its place in one.
+    /// The header's word, or what stands at the places of the code and the length in one.
     pub fn word(&self) -> u64 {
         match self {
             Item::Message(header, _) => header.word(),
             Item::Unknown(code) => u64::from(*code) << 48,
+            Item::Skipped(code, payload) => u64::from(*code) << 48 | payload.len() as u64,
         }
     }
 }
 
 /// Reads a stream that comes in pieces.
-#[derive(Debug, Default)]
+#[derive(Debug)]
 pub struct Decoder {
     /// What came and was not taken; none of the pieces is empty.
     pieces: VecDeque<Bytes>,
     pending: usize,
-    /// The header whose payload has not come yet.
-    header: Option<Header>,
+    /// The eight bytes behind which the payload has not come yet.
+    head: Option<Head>,
+    /// Whether a message of an unknown type is skipped with its payload.
+    skips: bool,
 }
 
 impl Decoder {
+    pub fn new(version: u32) -> Decoder {
+        Decoder {
+            pieces: VecDeque::new(),
+            pending: 0,
+            head: None,
+            skips: version >= SKIPS,
+        }
+    }
+
     pub fn push(&mut self, piece: Bytes) {
         if !piece.is_empty() {
             self.pending += piece.len();
@@ -107,22 +146,25 @@ impl Decoder {
 
     /// How many bytes came that no item has taken.
     pub fn pending(&self) -> usize {
-        self.pending + self.header.map_or(0, |_| HEADER)
+        self.pending + self.head.map_or(0, |_| HEADER)
     }
 
     /// The next item, where all of it has come.
     pub fn next_item(&mut self) -> Option<Item> {
-        let header = match self.header.take() {
-            Some(header) => header,
-            None => match Header::read(self.take_word()?) {
-                Ok(header) => header,
-                Err(code) => return Some(Item::Unknown(code)),
-            },
+        let head = match self.head.take() {
+            Some(head) => head,
+            None => Head::read(self.take_word()?),
         };
-        match self.take(header.length as usize) {
-            Some(payload) => Some(Item::Message(header, payload)),
+        if let (Head::Unknown { code, .. }, false) = (head, self.skips) {
+            return Some(Item::Unknown(code));
+        }
+        match self.take(head.length()) {
+            Some(payload) => Some(match head {
+                Head::Message(header) => Item::Message(header, payload),
+                Head::Unknown { code, .. } => Item::Skipped(code, payload),
+            }),
             None => {
-                self.header = Some(header);
+                self.head = Some(head);
                 None
             }
         }
@@ -188,9 +230,9 @@ pub struct Items {
 }
 
 impl Items {
-    pub fn new(stream: Bytes, piece: usize) -> Items {
+    pub fn new(version: u32, stream: Bytes, piece: usize) -> Items {
         Items {
-            decoder: Decoder::default(),
+            decoder: Decoder::new(version),
             piece: if piece == 0 { stream.len() } else { piece },
             rest: stream,
         }
@@ -219,17 +261,27 @@ pub fn items(stream: &[u8], piece: usize, rounds: usize, words: &mut Vec<u64>) {
     let stream = Bytes::copy_from_slice(stream);
     for _ in 0..rounds.max(1) {
         words.clear();
-        words.extend(Items::new(stream.clone(), piece).map(|item| item.word()));
+        words.extend(Items::new(MEASURED, stream.clone(), piece).map(|item| item.word()));
     }
 }
 
 /// Decodes each message of a named type of a stream, and says how many there are.
 pub fn messages(stream: &[u8], piece: usize, rounds: usize) -> Result<usize, Refusal> {
+    messages_at(MEASURED, stream, piece, rounds)
+}
+
+/// The same of a stream of any version.
+pub fn messages_at(
+    version: u32,
+    stream: &[u8],
+    piece: usize,
+    rounds: usize,
+) -> Result<usize, Refusal> {
     let stream = Bytes::copy_from_slice(stream);
     let mut count = 0;
     for _ in 0..rounds.max(1) {
         count = 0;
-        for item in Items::new(stream.clone(), piece) {
+        for item in Items::new(version, stream.clone(), piece) {
             if let Item::Message(header, payload) = item {
                 count += usize::from(decode(header.code, payload)?);
             }
@@ -255,7 +307,7 @@ fn decode(code: u16, payload: Bytes) -> Result<bool, DecodeError> {
 pub fn compare(stream: &[u8], rounds: usize) -> Result<usize, Refusal> {
     let stream = Bytes::copy_from_slice(stream);
     let mut count = 0;
-    for item in Items::new(stream, 0) {
+    for item in Items::new(MEASURED, stream, 0) {
         if let Item::Message(header, payload) = item {
             if is_command(header.code) {
                 count += compare_command(header.code, payload, rounds)?;

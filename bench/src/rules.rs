@@ -17,6 +17,9 @@ const LAST_LEVEL: u32 = 100;
 /// The version from which on a suspension is sent as a tree, and the proposal of a run's result asks for an acknowledgement.
 const TREES: u32 = 7;
 
+/// The version from which on a message whose code stands for no type is skipped with its payload.
+const SKIPS: u32 = 9;
+
 const HEADER: usize = 8;
 const ACKNOWLEDGE: u64 = 1 << 47;
 
@@ -340,7 +343,8 @@ fn merge_scalar(
     Some(())
 }
 
-/// An item of a stream: the code of its header, whether it asks for an acknowledgement, and the payload; or a code that stands for no type.
+/// An item of a stream: the code of its header, whether it asks for an acknowledgement, and the payload; or a code that stands for no type,
+/// alone or with its payload.
 #[derive(Clone, Debug, PartialEq, Eq)]
 pub enum Item {
     Message {
@@ -349,13 +353,17 @@ pub enum Item {
         payload: Vec<u8>,
     },
     Unknown(u16),
+    Skipped {
+        code: u16,
+        payload: Vec<u8>,
+    },
 }
 
-/// The items of a stream, and how many bytes are in none.
-pub fn items(stream: &[u8]) -> (Vec<Item>, usize) {
+/// The items of a stream of a version, and how many bytes are in none.
+pub fn items(version: u32, stream: &[u8]) -> (Vec<Item>, usize) {
     let mut items = Vec::new();
     let mut rest = stream;
-    while let Some((item, behind)) = next_item(rest) {
+    while let Some((item, behind)) = next_item(version, rest) {
         items.push(item);
         rest = behind;
     }
@@ -363,20 +371,26 @@ pub fn items(stream: &[u8]) -> (Vec<Item>, usize) {
 }
 
 /// The item at the front of a stream, and what stands behind it.
-fn next_item(stream: &[u8]) -> Option<(Item, &[u8])> {
+fn next_item(version: u32, stream: &[u8]) -> Option<(Item, &[u8])> {
     let header = stream.get(..HEADER)?;
     let word = u64::from_be_bytes(header.try_into().ok()?);
     let code = (word >> 48) as u16;
     let named = type_of_code(code);
     // any other code is that of a custom entry where one of its upper six bits is set
-    if named.is_none() && code >> 10 == 0 {
+    let is_unknown = named.is_none() && code >> 10 == 0;
+    if is_unknown && version < SKIPS {
         return Some((Item::Unknown(code), &stream[HEADER..]));
     }
     let end = HEADER + word as u32 as usize;
-    let item = Item::Message {
-        code,
-        acknowledge: named == type_of("ProposeRunCompletion") && word & ACKNOWLEDGE != 0,
-        payload: stream.get(HEADER..end)?.to_vec(),
+    let payload = stream.get(HEADER..end)?.to_vec();
+    let item = if is_unknown {
+        Item::Skipped { code, payload }
+    } else {
+        Item::Message {
+            code,
+            acknowledge: named == type_of("ProposeRunCompletion") && word & ACKNOWLEDGE != 0,
+            payload,
+        }
     };
     Some((item, &stream[end..]))
 }

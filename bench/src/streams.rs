@@ -48,7 +48,12 @@ pub fn any(random: &mut Random, damaged: bool) -> Vec<u8> {
                 let length = random.below(40);
                 put_frame(code << 48 | ignored, &random.bytes(length), &mut out);
             }
-            1 => out.extend(((0x0008 + random.below(8) as u64) << 48 | ignored).to_be_bytes()),
+            1 => {
+                // a code that stands for no type, half of the time with a payload
+                let code = 0x0008 + random.below(8) as u64;
+                let length = random.below(2) * random.below(24);
+                put_frame(code << 48 | ignored, &random.bytes(length), &mut out);
+            }
             _ => {
                 let message_type = random.pick(&TYPES);
                 let style = if damaged && random.one_in(8) {

@@ -1,5 +1,8 @@
 //! Cases as lines: words with one space between them, ` = `, and the answer.
 
+ghost use Rattle.std.specs.Prelude.{◌≤◌};
+ghost use Rattle.shared_core_base.specs.Version.{version_number};
+
 use bytes::Bytes;
 use shared_core::version::Version;
 use std::alloc::{AllocError, Global};
@@ -11,6 +14,22 @@ pub enum SpokenVersion {
     V6,
     V7,
     V8,
+    V9,
+}
+
+impl SpokenVersion {
+    /// The version, as the library has it.
+    pub fn version(self) -> Version
+        ensures { 5 ≤ version_number result }
+    {
+        match self {
+            SpokenVersion::V5 => Version::V5,
+            SpokenVersion::V6 => Version::V6,
+            SpokenVersion::V7 => Version::V7,
+            SpokenVersion::V8 => Version::V8,
+            SpokenVersion::V9 => Version::V9,
+        }
+    }
 }
 
 /// What a case asks of its bytes. A schema or a type is named by its word.
@@ -81,6 +100,7 @@ fn read_version(word: &str) -> Option<SpokenVersion> {
         "6" => Some(SpokenVersion::V6),
         "7" => Some(SpokenVersion::V7),
         "8" => Some(SpokenVersion::V8),
+        "9" => Some(SpokenVersion::V9),
         _ => None,
     }
 }

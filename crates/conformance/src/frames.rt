@@ -6,7 +6,6 @@ use crate::verdict::{Failed, Verdict, copied};
 use bytes::Bytes;
 use shared_core::encoding::{Decoder, DecodingError, Encoder, RawMessage};
 use shared_core::messages::{RestateEncodableMessage, RestateMessage};
-use shared_core::version::Version;
 use std::alloc::Global;
 
 /// Checks the frame, at a version, of the message that a payload means, and that it comes out again as a message that is decoded to `D`.
@@ -19,7 +18,7 @@ pub fn check_frame_of<M: RestateEncodableMessage, D: RestateMessage>(
     let Some(message) = decoded::<M>(alloc, payload)? else {
         return verdict.answer("malformed");
     };
-    let frame = encoder(version).encode(alloc, &message)?;
+    let frame = Encoder::new(version.version()).encode(alloc, &message)?;
     verdict.answer_bytes(frame.as_slice())?;
     let Some(message) = only_message(alloc, version, frame.as_slice())? else {
         return verdict.refuse("no single message comes out of the frame");
@@ -55,7 +54,7 @@ fn only_message(
     version: SpokenVersion,
     frame: &[u8],
 ) -> Result<Option<RawMessage>, Failed> {
-    let mut decoder = decoder(alloc, version);
+    let mut decoder = Decoder::new(alloc, version.version());
     let Some((last, front)) = frame.split_last() else {
         return Ok(None);
     };
@@ -71,7 +70,7 @@ fn only_message(
     Ok(message)
 }
 
-/// Pushes a byte, and answers the next message. An unknown header is none.
+/// Pushes a byte, and answers the next message. What is of no type is none.
 fn push_byte(decoder: &mut Decoder, alloc: Global, byte: u8) -> Result<Option<RawMessage>, Failed> {
     if decoder.push(copied(alloc, &[byte])?).is_err() {
         return Err(Failed::OutOfMemory);
@@ -80,25 +79,5 @@ fn push_byte(decoder: &mut Decoder, alloc: Global, byte: u8) -> Result<Option<Ra
         Ok(message) => Ok(message),
         Err(DecodingError::OutOfMemory) => Err(Failed::OutOfMemory),
         Err(_) => Ok(None),
-    }
-}
-
-/// An encoder of a version.
-fn encoder(version: SpokenVersion) -> Encoder {
-    match version {
-        SpokenVersion::V5 => Encoder::new(Version::V5),
-        SpokenVersion::V6 => Encoder::new(Version::V6),
-        SpokenVersion::V7 => Encoder::new(Version::V7),
-        SpokenVersion::V8 => Encoder::new(Version::V8),
-    }
-}
-
-/// A decoder of a version.
-fn decoder(alloc: Global, version: SpokenVersion) -> Decoder {
-    match version {
-        SpokenVersion::V5 => Decoder::new(alloc, Version::V5),
-        SpokenVersion::V6 => Decoder::new(alloc, Version::V6),
-        SpokenVersion::V7 => Decoder::new(alloc, Version::V7),
-        SpokenVersion::V8 => Decoder::new(alloc, Version::V8),
     }
 }

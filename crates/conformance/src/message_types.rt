@@ -156,7 +156,7 @@ fn check_suspension(
         SpokenVersion::V5 | SpokenVersion::V6 => {
             check_frame_of::<SuspensionMessage, SuspensionMessageV6>(version, payload, verdict)
         }
-        SpokenVersion::V7 | SpokenVersion::V8 => {
+        SpokenVersion::V7 | SpokenVersion::V8 | SpokenVersion::V9 => {
             check_as::<SuspensionMessage>(version, payload, verdict)
         }
     }

@@ -5,8 +5,7 @@ ghost use Rattle.std.specs.Prelude.{◌≤◌};
 use crate::cases::SpokenVersion;
 use crate::verdict::{Failed, Verdict, copied};
 use bytes::Bytes;
-use shared_core::encoding::{Decoder, Item, PiecesError, RawMessage, decode_pieces};
-use shared_core::version::Version;
+use shared_core::encoding::{Item, RawMessage, decode_pieces};
 use std::alloc::{AllocError, Global};
 
 /// Up to how many bytes a stream is cut in every way that is tried.
@@ -76,7 +75,7 @@ fn check_cuts(
 
 /// The items of a stream that comes in pieces, each with a comma behind it, and the count of the bytes that are in none.
 fn listing(alloc: Global, version: SpokenVersion, pieces: &[Bytes]) -> Result<String, Failed> {
-    let (items, decoder) = items(alloc, version, pieces)?;
+    let (items, decoder) = decode_pieces(alloc, version.version(), pieces)?;
     let mut text = String::new(alloc);
     for item in items.as_slice() {
         append_item(&mut text, item)?;
@@ -91,6 +90,11 @@ fn append_item(text: &mut String, item: &Item) -> Result<(), AllocError> {
     match item {
         Item::Message(message) => append_message(text, message),
         Item::Unknown(code) => write!(text, "unknown 0x{code:x}, "),
+        Item::Skipped(code, payload) => {
+            let code = *code;
+            let length = payload.len();
+            write!(text, "skipped 0x{code:x} {length}, ")
+        }
     }
 }
 
@@ -103,18 +107,4 @@ fn append_message(text: &mut String, message: &RawMessage) -> Result<(), AllocEr
         _ => "",
     };
     write!(text, "{name} {length}{mark}, ")
-}
-
-/// The items of a stream that comes in pieces, and the decoder that holds the rest.
-fn items(
-    alloc: Global,
-    version: SpokenVersion,
-    pieces: &[Bytes],
-) -> Result<(Vec<Item>, Decoder), PiecesError> {
-    match version {
-        SpokenVersion::V5 => decode_pieces(alloc, Version::V5, pieces),
-        SpokenVersion::V6 => decode_pieces(alloc, Version::V6, pieces),
-        SpokenVersion::V7 => decode_pieces(alloc, Version::V7, pieces),
-        SpokenVersion::V8 => decode_pieces(alloc, Version::V8, pieces),
-    }
 }

@@ -10,6 +10,9 @@ use pendratsoa_bench::schema::type_of_code;
 use pendratsoa_bench::table::SCHEMAS;
 use pendratsoa_bench::tally::Tally;
 
+/// The version from which on an unknown code is skipped with its payload.
+const SKIPS: u32 = 9;
+
 /// Compares random cases by the words SEED, COUNT and FIRST, where these are no others. Answers whether all agree.
 pub fn compare(words: &[String]) -> Option<bool> {
     let [seed, count, first] = options(words)?;
@@ -110,10 +113,12 @@ fn list(version: u32, stream: &[u8], piece: usize, rounds: usize) -> String {
         let code = (word >> 48) as u16;
         let length = *word as u32 as usize;
         rest = rest.saturating_sub(8 + length);
-        if type_of_code(code).is_none() && code >> 10 == 0 {
+        if type_of_code(code).is_some() || code >> 10 != 0 {
+            listing.message(code, word & 1 << 47 != 0, length);
+        } else if version < SKIPS {
             listing.unknown(code);
         } else {
-            listing.message(code, word & 1 << 47 != 0, length);
+            listing.skipped(code, length);
         }
     }
     listing.rest(rest)
@@ -133,8 +138,8 @@ fn compare_messages(
         Ok(count) => count.to_string(),
         Err(refusal) => refusal.to_string(),
     };
-    let (expected, departs) = messages_by_rules(stream);
-    let peer = peer::messages(stream, piece, rounds).ok();
+    let (expected, departs) = messages_by_rules(version, stream);
+    let peer = peer::messages_at(version, stream, piece, rounds).ok();
     if peer != expected && !departs {
         let answers = format!("  prost:     {peer:?}\n  the rules: {expected:?}");
         return tally.fails(KIND, case, answers);
@@ -144,8 +149,8 @@ fn compare_messages(
 }
 
 /// How many messages of named types there are, and whether prost departs from the rules at one of them.
-fn messages_by_rules(stream: &[u8]) -> (Option<usize>, bool) {
-    let (items, _) = rules::items(stream);
+fn messages_by_rules(version: u32, stream: &[u8]) -> (Option<usize>, bool) {
+    let (items, _) = rules::items(version, stream);
     let mut count = Some(0);
     let mut departs = false;
     for item in items {
@@ -191,11 +196,11 @@ fn compare_refusals(tally: &mut Tally) {
     let mut out = [0; 8];
     let answers = [
         (ours::items(4, &STREAM, 0, 1, &mut words), Err(Unknown)),
-        (ours::items(9, &STREAM, 0, 1, &mut words), Err(Unknown)),
+        (ours::items(10, &STREAM, 0, 1, &mut words), Err(Unknown)),
         (ours::items(5, &STREAM, 0, 1, &mut words[..1]), Err(NoRoom)),
         (ours::items(5, &STREAM, 0, 1, &mut words), Ok(2)),
         (ours::messages(4, &STREAM, 0, 1), Err(Unknown)),
-        (ours::messages(9, &STREAM, 0, 1), Err(Unknown)),
+        (ours::messages(10, &STREAM, 0, 1), Err(Unknown)),
         (ours::messages(8, &STREAM, 0, 1), Ok(1)),
         (
             ours::canonical(SCHEMAS.len(), &[]).map(|payload| payload.len()),
@@ -206,7 +211,7 @@ fn compare_refusals(tally: &mut Tally) {
             Err(Unknown),
         ),
         (ours::frame_to(4, END, &[], 1, &mut out), Err(Unknown)),
-        (ours::frame_to(9, END, &[], 1, &mut out), Err(Unknown)),
+        (ours::frame_to(10, END, &[], 1, &mut out), Err(Unknown)),
         (ours::frame_to(8, CUSTOM, &[], 1, &mut out), Err(Unknown)),
         (ours::frame_to(8, END, &[], 1, &mut out[..7]), Err(NoRoom)),
         (ours::frame_to(8, END, &[], 1, &mut out), Ok(8)),
