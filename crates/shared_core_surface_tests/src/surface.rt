@@ -619,7 +619,11 @@ fn raw_messages<M: RestateMessage>(
     let _: &Bytes = RawMessage::payload(message);
     let _: Result<M, DecodingError> = RawMessage::decode_to::<M>(message, alloc, command_index);
     let _: Result<Notification, DecodingError> = RawMessage::decode_as_notification(message, alloc);
-    let _: [Item; 2] = [Item::Message(raw), Item::Unknown(code)];
+    let _: [Item; 3] = [
+        Item::Message(raw),
+        Item::Unknown(code),
+        Item::Skipped(code, piece),
+    ];
     let _: [PushError; 2] = [PushError::OutOfMemory(piece), PushError::TooLong(piece)];
     let _: [PiecesError; 2] = [PiecesError::TooLong, PiecesError::OutOfMemory];
     compared::<RawMessage>();
@@ -635,10 +639,12 @@ fn decoding_errors(
     mismatch: CommandTypeMismatchError,
     field: &'static str,
     unknown: UnknownMessageType,
+    code: u16,
+    payload: Bytes,
     decoding: &DecodingError,
 ) {
     return;
-    let _: [DecodingError; 5] = [
+    let _: [DecodingError; 6] = [
         DecodingError::DecodeMessage(ty, error),
         DecodingError::UnexpectedMessageType(mismatch),
         DecodingError::MissingField {
@@ -646,6 +652,7 @@ fn decoding_errors(
             field,
         },
         DecodingError::UnknownMessageType(unknown),
+        DecodingError::SkippedMessage(code, payload),
         DecodingError::OutOfMemory,
     ];
     let _: DecodingError = DecodingError::from(unknown);
@@ -659,7 +666,7 @@ fn decoding_errors(
 
 fn versions(alloc: Global, text: &str, kept: String, version: &Version, error: &ContentTypeError) {
     return;
-    let _: [Version; 8] = [
+    let _: [Version; 9] = [
         Version::V1,
         Version::V2,
         Version::V3,
@@ -668,6 +675,7 @@ fn versions(alloc: Global, text: &str, kept: String, version: &Version, error: &
         Version::V6,
         Version::V7,
         Version::V8,
+        Version::V9,
     ];
     let _: version::Version = Version::V1;
     let _: &'static str = Version::content_type(version);

@@ -89,6 +89,12 @@ fn refusals_to_decode(rt: HostRuntime) -> Result<(), Fail> {
         500,
         "unknown protocol.message code 0x8",
     )?;
+    is_refusal(
+        alloc,
+        DecodingError::SkippedMessage(8, Bytes::from_static(b"\x00\x03")),
+        500,
+        "skipped protocol.message code 0x8 with 2 payload bytes",
+    )?;
     is_refusal(alloc, DecodingError::OutOfMemory, 500, "out of memory")
 }
 
@@ -234,10 +240,10 @@ fn refusals_of_content_types(rt: HostRuntime) -> Result<(), Fail> {
         alloc,
         ContentTypeError::RestateContentType(String::from_str(
             alloc,
-            "application/vnd.restate.invocation.v9",
+            "application/vnd.restate.invocation.v10",
         )?),
         415,
-        "unsupported protocol version 'application/vnd.restate.invocation.v9'",
+        "unsupported protocol version 'application/vnd.restate.invocation.v10'",
     )?;
     is_content_type_refusal(
         alloc,

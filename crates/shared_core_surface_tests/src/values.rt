@@ -22,13 +22,17 @@ fn versions_and_their_content_types(rt: HostRuntime) -> Result<(), Fail> {
         (Version::V6, "application/vnd.restate.invocation.v6"),
         (Version::V7, "application/vnd.restate.invocation.v7"),
         (Version::V8, "application/vnd.restate.invocation.v8"),
+        (Version::V9, "application/vnd.restate.invocation.v9"),
     ] {
         let content_type: &'static str = version.content_type();
         expect(content_type == text, text)?;
         prints(&version, text)?;
         expect(Version::from_str(rt.alloc(), text)? == version, text)?;
     }
-    Ok(())
+    expect(
+        Version::maximum_supported_version() == Version::V9,
+        "the last version",
+    )
 }
 
 /// What a text is refused as.
@@ -55,9 +59,9 @@ fn is_refused(alloc: Global, text: &str, refused: Refused) -> Result<(), Fail> {
 #[test]
 fn content_types_of_no_version(rt: HostRuntime) -> Result<(), Fail> {
     for (text, refused) in [
-        ("application/vnd.restate.invocation.v9", Refused::Restate),
-        ("application/vnd.restate.invocation.v0", Refused::Restate),
         ("application/vnd.restate.invocation.v10", Refused::Restate),
+        ("application/vnd.restate.invocation.v0", Refused::Restate),
+        ("application/vnd.restate.invocation.v90", Refused::Restate),
         ("application/vnd.restate.invocation.v05", Refused::Restate),
         ("application/vnd.restate.invocation.V5", Refused::Restate),
         ("application/vnd.restate.invocation.v5 ", Refused::Restate),

@@ -98,6 +98,30 @@ fn reading_goes_on_behind_an_unknown_header(rt: HostRuntime) -> Result<(), Fail>
     Ok(())
 }
 
+/// That at V9 an unknown message of code 8, which comes in these two pieces, is skipped with its payload once that is whole.
+fn is_skipped(alloc: Global, front: &[u8], back: &[u8]) -> Result<(), Fail> {
+    let mut decoder = Decoder::new(alloc, Version::V9);
+    push_copy(alloc, &mut decoder, front)?;
+    expect(is_dry(&mut decoder)?, "an answer before the payload")?;
+    push_copy(alloc, &mut decoder, back)?;
+    let Err(DecodingError::SkippedMessage(code, payload)) = decoder.consume_next() else {
+        return Err(Fail::new("the code 8 is not skipped"));
+    };
+    expect(
+        code == 8 && payload.as_slice() == &UNKNOWN_THEN_END[8..] && decoder.pending() == 0,
+        "another code or payload",
+    )
+}
+
+#[test]
+fn an_unknown_message_is_skipped_with_its_payload(rt: HostRuntime) -> Result<(), Fail> {
+    for place in 0..UNKNOWN_THEN_END.len() {
+        let (front, back) = UNKNOWN_THEN_END.split_at(place);
+        is_skipped(rt.alloc(), front, back)?;
+    }
+    Ok(())
+}
+
 /// The items of the three frames in pieces of this size.
 fn items_of(alloc: Global, size: usize) -> Result<Vec<Item>, Fail> {
     let pieces = cut(alloc, &THREE_FRAMES, size)?;

@@ -116,7 +116,13 @@ fn three_frames(alloc: Global, encoder: &Encoder) -> Result<Vec<u8>, Fail> {
 
 #[test]
 fn frames_are_the_literal_bytes(rt: HostRuntime) -> Result<(), Fail> {
-    for version in [Version::V5, Version::V6, Version::V7, Version::V8] {
+    for version in [
+        Version::V5,
+        Version::V6,
+        Version::V7,
+        Version::V8,
+        Version::V9,
+    ] {
         let frames = three_frames(rt.alloc(), &Encoder::new(version))?;
         assert!(rt; frames.as_slice() == THREE_FRAMES.as_slice(), "{version:?}");
     }
@@ -240,7 +246,13 @@ fn state_keys(alloc: Global, count: u32) -> Result<GetEagerStateKeysCommandMessa
 #[test]
 fn a_payload_of_four_gibibytes_is_too_long(rt: HostRuntime) -> Result<(), Fail> {
     let keys = state_keys(rt.alloc(), 4096)?;
-    for version in [Version::V5, Version::V6, Version::V7, Version::V8] {
+    for version in [
+        Version::V5,
+        Version::V6,
+        Version::V7,
+        Version::V8,
+        Version::V9,
+    ] {
         let refused = Encoder::new(version).encode(rt.alloc(), &keys);
         assert!(rt;
             matches!(refused, Err(EncodingError::PayloadTooLong)),

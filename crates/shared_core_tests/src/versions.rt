@@ -99,7 +99,7 @@ fn a_suspension_comes_out_in_any_cut(rt: HostRuntime) -> Result<(), Fail> {
     for version in [Version::V5, Version::V6] {
         comes_out(rt.alloc(), version, &suspension, &lists, None)?;
     }
-    for version in [Version::V7, Version::V8] {
+    for version in [Version::V7, Version::V8, Version::V9] {
         comes_out(rt.alloc(), version, &suspension, &suspension, None)?;
     }
     Ok(())
@@ -109,7 +109,13 @@ fn a_suspension_comes_out_in_any_cut(rt: HostRuntime) -> Result<(), Fail> {
 fn nothing_awaited_comes_out_as_nothing(rt: HostRuntime) -> Result<(), Fail> {
     let suspension = SuspensionMessage { awaiting_on: None };
     let lists = SuspensionMessageV6::empty(rt.alloc());
-    for version in [Version::V5, Version::V6, Version::V7, Version::V8] {
+    for version in [
+        Version::V5,
+        Version::V6,
+        Version::V7,
+        Version::V8,
+        Version::V9,
+    ] {
         comes_out(rt.alloc(), version, &suspension, &suspension, None)?;
         comes_out(rt.alloc(), version, &suspension, &lists, None)?;
     }
@@ -151,7 +157,7 @@ fn is_malformed(alloc: Global, message: &RawMessage) -> bool {
 #[test]
 fn a_chain_of_101_futures_is_refused_from_v7_on(rt: HostRuntime) -> Result<(), Fail> {
     let suspension = chain(rt.alloc())?;
-    for version in [Version::V7, Version::V8] {
+    for version in [Version::V7, Version::V8, Version::V9] {
         is_refused(rt.alloc(), version, &suspension)?;
     }
     Ok(())
@@ -168,6 +174,7 @@ fn a_proposal_asks_for_an_acknowledgement_from_v7_on(rt: HostRuntime) -> Result<
         (Version::V6, false),
         (Version::V7, true),
         (Version::V8, true),
+        (Version::V9, true),
     ] {
         comes_out(rt.alloc(), version, &proposal, &proposal, Some(asks))?;
     }
