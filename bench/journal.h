@@ -22,16 +22,17 @@
 #define JOURNAL_NO_ROOM (-3)
 /* The payload would have more than 4,294,967,295 bytes. */
 #define JOURNAL_TOO_LONG (-4)
-/* The number stands for no version from 5 to 8, for no schema, or for no named message type. */
+/* The number stands for no version from 5 to 9, for no schema, or for no named message type. */
 #define JOURNAL_UNKNOWN (-5)
 
 /* How many schemas there are: a schema's number is its place, from 0, in the table of crates/shared_core_record/specs/Table.antt. */
 #define JOURNAL_SCHEMAS 53
 
 /*
- * Reads a stream of a version from 5 to 8, which comes in pieces of so many bytes (0: in one piece), and writes a word for each item: the
- * word of the message's header, or the unknown code in bits 48 to 63. Answers the number of items. The stream is copied once, and then read
- * `rounds` times over by a new decoder each (0 counts as 1); the words are those of the last.
+ * Reads a stream of a version from 5 to 9, which comes in pieces of so many bytes (0: in one piece), and writes a word for each item: the
+ * word of the message's header, or the unknown code in bits 48 to 63. At version 9 a message of an unknown type is skipped with its payload, and
+ * its word has the payload's length in bits 0 to 31. Answers the number of items. The stream is copied once, and then read `rounds` times over
+ * by a new decoder each (0 counts as 1); the words are those of the last.
  */
 int64_t journal_items(uint32_t version, const uint8_t *stream, size_t stream_length, size_t piece, size_t rounds,
                       uint64_t *words, size_t words_length);
@@ -43,7 +44,7 @@ int64_t journal_items(uint32_t version, const uint8_t *stream, size_t stream_len
 int64_t journal_messages(uint32_t version, const uint8_t *stream, size_t stream_length, size_t piece, size_t rounds);
 
 /*
- * Decodes each command of a stream of a version from 5 to 8 twice, and compares the two `rounds` times (0: not at all), with their payloads
+ * Decodes each command of a stream of a version from 5 to 9 twice, and compares the two `rounds` times (0: not at all), with their payloads
  * where `ignore_payloads` is 0. Answers the number of comparisons that hold, which are all: `rounds` for each command.
  */
 int64_t journal_compare(uint32_t version, const uint8_t *stream, size_t stream_length, uint32_t ignore_payloads, size_t rounds);
@@ -61,7 +62,7 @@ int64_t journal_merge(uint32_t schema, const uint8_t *first, size_t first_length
                       uint8_t *out, size_t out_length);
 
 /*
- * Decodes a payload for the named message type that has the code, and writes the frame of that message at a version from 5 to 8. Answers the
+ * Decodes a payload for the named message type that has the code, and writes the frame of that message at a version from 5 to 9. Answers the
  * frame's length in bytes. The payload is decoded once and the message encoded `rounds` times (0 counts as 1).
  */
 int64_t journal_frame(uint32_t version, uint16_t code, const uint8_t *payload, size_t payload_length, size_t rounds,

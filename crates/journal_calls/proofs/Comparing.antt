@@ -3,7 +3,7 @@ use Rattle.std.proofs.Common.{◌≡◌, ℕ, ◌+◌, ◌*◌, List, [], ◌∷
 use Rattle.std.proofs.Math.Nat.{add-zero, mul-add, mul-zero}
 use Rattle.shared_core_base.specs.declared.version.Version.{Version}
 use Rattle.shared_core.specs.declared.encoding.Item.{Item}
-use Rattle.shared_core.specs.declared.encoding.Item.TheVariants.{Message, Unknown}
+use Rattle.shared_core.specs.declared.encoding.Item.TheVariants.{Message, Unknown, Skipped}
 use Rattle.shared_core.specs.Items.{TakesItem, IsItemsThen}
 use Rattle.shared_core.proofs.Items.{then_takes}
 use Rattle.journal_calls.specs.declared.answer.Refusal.{Refusal}
@@ -17,6 +17,7 @@ pub item_compared : (rounds : ℕ) (item : Item) (held : ℕ) → ComparesItem r
     → Decodes command_schema item × (held ≡ rounds * count_with command_schema (item ∷ []))
 item_compared rounds (Message message) held (accepted, is) = (accepted, is ∙ ap (λ n. rounds * n) (sym (add-zero _)))
 item_compared rounds (Unknown code) held is = (tt, is ∙ sym (mul-zero rounds))
+item_compared rounds (Skipped code payload) held is = (tt, is ∙ sym (mul-zero rounds))
 
 -- the comparisons that hold among some items and one more
 pub comparisons_more : (rounds : ℕ) (items : List Item) (item : Item) (count held : ℕ)
@@ -30,6 +31,7 @@ comparisons_more rounds items item count held before one =
 does_not_decode : (rounds : ℕ) (item : Item) → ComparesItem rounds item (Err Malformed) → ¬ (Decodes command_schema item)
 does_not_decode rounds (Message message) refused = refused
 does_not_decode rounds (Unknown code) refused = absurd refused
+does_not_decode rounds (Skipped code payload) refused = absurd refused
 
 pub item_refused : (rounds : ℕ) (version : Version) (stream old new : List ℕ) (items : List Item) (item : Item) (refusal : Refusal)
     → IsItemsThen version stream items old → TakesItem version old item new → ComparesItem rounds item (Err refusal)
@@ -38,7 +40,10 @@ item_refused rounds version stream old new items item Malformed before taken ref
 item_refused rounds version stream old new items item OutOfMemory before taken refused = tt
 item_refused rounds version stream old new items (Message message) NoRoom before taken refused = absurd refused
 item_refused rounds version stream old new items (Unknown code) NoRoom before taken refused = absurd refused
+item_refused rounds version stream old new items (Skipped code payload) NoRoom before taken refused = absurd refused
 item_refused rounds version stream old new items (Message message) TooLong before taken refused = absurd refused
 item_refused rounds version stream old new items (Unknown code) TooLong before taken refused = absurd refused
+item_refused rounds version stream old new items (Skipped code payload) TooLong before taken refused = absurd refused
 item_refused rounds version stream old new items (Message message) NoNumber before taken refused = absurd refused
 item_refused rounds version stream old new items (Unknown code) NoNumber before taken refused = absurd refused
+item_refused rounds version stream old new items (Skipped code payload) NoNumber before taken refused = absurd refused

@@ -1,20 +1,44 @@
 -- A stream's items, counted and written down one after the other.
-use Rattle.std.proofs.Common.{◌≡◌, ℕ, ◌+◌, ◌<◌, ◌≤◌, List, [], ◌∷◌, ◌++◌, length, map, take, set, Option, Some, None, Ok, Err, refl, ap, sym, ◌∙◌, arith, length-append}
+use Rattle.std.proofs.Common.{◌≡◌, ℕ, ◌+◌, ◌^◌, ◌<◌, ◌≤◌, Bool, true, false, List, [], ◌∷◌, ◌++◌, length, map, take, drop, set, Option, Some, None, Ok, Err, refl, ap, sym, ◌∙◌, arith, length-append, length-drop}
 use Rattle.std.proofs.lemmas.List.{take_more_set}
 use Rattle.shared_core_base.specs.declared.version.Version.{Version}
+use Rattle.shared_core_base.specs.declared.header.MessageHeader.{MessageHeader}
 use Rattle.shared_core_base.specs.declared.header.MessageType.{MessageType}
+use Rattle.shared_core_base.specs.MessageHeader.{header_of}
 use Rattle.shared_core.specs.declared.encoding.Item.{Item}
-use Rattle.shared_core.specs.declared.encoding.Item.TheVariants.{Message, Unknown}
-use Rattle.shared_core.specs.Items.{TakesItem, IsItemsThen}
+use Rattle.shared_core.specs.declared.encoding.Item.TheVariants.{Message, Unknown, Skipped}
+use Rattle.shared_core.specs.Items.{IsItem, TakesItem, IsItemsThen, body_length, front_word, item_of, skips_unknown}
 use Rattle.shared_core.proofs.Items.{then_takes}
 use Rattle.journal_calls.specs.declared.answer.Refusal.{Refusal}
 use Rattle.journal_calls.specs.declared.answer.Refusal.TheVariants.{Malformed, OutOfMemory, NoRoom, TooLong, Unknown as NoNumber}
-use Rattle.journal_calls.specs.Streams.{item_word, count_with, one_with, Decodes, AllDecode, DecodesItem, DecodesAll}
+use Rattle.journal_calls.specs.Streams.{item_word, HasWord, count_with, one_with, Decodes, AllDecode, DecodesItem, DecodesAll}
 use Rattle.shared_core_parts.specs.Messages.{message_schema}
 
 map_more : {A B : Type 0} (f : A → B) (xs : List A) (x : A) → map f (xs ++ x ∷ []) ≡ map f xs ++ f x ∷ []
 map_more f [] x = refl
 map_more f (y ∷ ys) x = ap (λ l. f y ∷ l) (map_more f ys x)
+
+-- a skipped payload is no longer than 32 bits can say
+skipped_length : (version : Version) (bytes payload : List ℕ) (code : ℕ) → IsItem version bytes (Skipped code payload) → length payload < 2 ^ 32
+unfolding body_length item_of
+skipped_length version bytes payload code is = by_header (header_of (front_word bytes)) refl
+  where
+    by_header : (found : Option MessageHeader) → header_of (front_word bytes) ≡ found → length payload < 2 ^ 32
+    by_header (Some header) typed = let means = rw typed at is.means in cc
+    by_header None untyped = by_version (skips_unknown version) refl
+      where
+        by_version : (skips : Bool) → skips_unknown version ≡ skips → length payload < 2 ^ 32
+        by_version true skips =
+            let means = rw (untyped, skips) at is.means in
+            let whole = rw (untyped, skips) at is.whole in
+            let body : payload ≡ drop 8 bytes = cc in
+            omega (arith, whole, ap length body, length-drop 8 bytes)
+        by_version false skips = let means = rw (untyped, skips) at is.means in cc
+
+pub taken_has_word : (version : Version) (old new : List ℕ) (item : Item) → TakesItem version old item new → HasWord item
+taken_has_word version old new (Message message) taken = tt
+taken_has_word version old new (Unknown code) taken = tt
+taken_has_word version old new (Skipped code payload) (bytes, is, splits) = skipped_length version bytes payload code is
 
 pub length_more : {A : Type 0} (xs : List A) (x : A) → length (xs ++ x ∷ []) ≡ length xs + 1
 length_more xs x = length-append xs (x ∷ [])
@@ -36,12 +60,14 @@ pub count_more : (schema_of : MessageType → Option ℕ) (items : List Item) (i
 count_more schema_of [] item = omega (arith, none_counted schema_of)
 count_more schema_of (Message message ∷ items) item = omega (arith, count_more schema_of items item)
 count_more schema_of (Unknown code ∷ items) item = count_more schema_of items item
+count_more schema_of (Skipped code payload ∷ items) item = count_more schema_of items item
 
 -- what a decoded item says of the items behind which it stands
 pub item_decoded : (item : Item) (count : ℕ) → DecodesItem item (Ok count)
     → Decodes message_schema item × (count ≡ count_with message_schema (item ∷ []))
 item_decoded (Message message) count (accepted, is) = (accepted, omega (arith, is, none_counted message_schema))
 item_decoded (Unknown code) count is = (tt, is)
+item_decoded (Skipped code payload) count is = (tt, is)
 
 one_at_most : (schema : Option ℕ) → one_with schema ≤ 1
 one_at_most (Some schema) = omega arith
@@ -50,10 +76,12 @@ one_at_most None = omega arith
 pub item_counts : (item : Item) (count : ℕ) → DecodesItem item (Ok count) → count ≤ 1
 item_counts (Message message) count (accepted, is) = omega (arith, is, one_at_most (message_schema message.header.ty))
 item_counts (Unknown code) count is = omega (arith, is)
+item_counts (Skipped code payload) count is = omega (arith, is)
 
 does_not_decode : (item : Item) → DecodesItem item (Err Malformed) → ¬ (Decodes message_schema item)
 does_not_decode (Message message) refused = refused
 does_not_decode (Unknown code) refused = absurd refused
+does_not_decode (Skipped code payload) refused = absurd refused
 
 pub item_refused : (version : Version) (stream old new : List ℕ) (items : List Item) (item : Item) (refusal : Refusal)
     → IsItemsThen version stream items old → TakesItem version old item new → DecodesItem item (Err refusal) → DecodesAll version stream (Err refusal)
@@ -61,7 +89,10 @@ item_refused version stream old new items item Malformed before taken refused = 
 item_refused version stream old new items item OutOfMemory before taken refused = tt
 item_refused version stream old new items (Message message) NoRoom before taken refused = absurd refused
 item_refused version stream old new items (Unknown code) NoRoom before taken refused = absurd refused
+item_refused version stream old new items (Skipped code payload) NoRoom before taken refused = absurd refused
 item_refused version stream old new items (Message message) TooLong before taken refused = absurd refused
 item_refused version stream old new items (Unknown code) TooLong before taken refused = absurd refused
+item_refused version stream old new items (Skipped code payload) TooLong before taken refused = absurd refused
 item_refused version stream old new items (Message message) NoNumber before taken refused = absurd refused
 item_refused version stream old new items (Unknown code) NoNumber before taken refused = absurd refused
+item_refused version stream old new items (Skipped code payload) NoNumber before taken refused = absurd refused

@@ -1,7 +1,7 @@
 -- What the calls answer to C.
 use Rattle.std.specs.Prelude.{◌≡◌, ℕ, ℤ, pos, negsuc, ◌^◌, ◌<◌, nat_lt, List, take, length, Option, Some, None, Result, Ok, Err, ◌==◌, if◌then◌else◌}
 use Rattle.shared_core_base.specs.declared.version.Version.{Version}
-use Rattle.shared_core_base.specs.declared.version.Version.TheVariants.{V5, V6, V7, V8}
+use Rattle.shared_core_base.specs.declared.version.Version.TheVariants.{V5, V6, V7, V8, V9}
 use Rattle.shared_core_record.specs.declared.error.EncodingError.{EncodingError}
 use Rattle.shared_core_record.specs.declared.error.EncodingError.TheVariants.{PayloadTooLong, OutOfMemory}
 use Rattle.journal_calls.specs.declared.answer.Refusal.{Refusal}
@@ -36,7 +36,8 @@ spoken_version number =
     else (if number == 6 then Some V6
     else (if number == 7 then Some V7
     else (if number == 8 then Some V8
-    else None)))
+    else (if number == 9 then Some V9
+    else None))))
 
 -- The answer is the version that the number stands for, and Unknown where it stands for none.
 abbrev pub IsSpoken : ℕ → Result Version Refusal → Type 0

@@ -9,7 +9,7 @@ use Rattle.shared_core_parts.specs.Messages.{message_schema}
 use Rattle.shared_core_compare.specs.Commands.{commands}
 use Rattle.shared_core_compare.specs.Erasure.{erased}
 use Rattle.shared_core.specs.declared.encoding.Item.{Item}
-use Rattle.shared_core.specs.declared.encoding.Item.TheVariants.{Message, Unknown}
+use Rattle.shared_core.specs.declared.encoding.Item.TheVariants.{Message}
 use Rattle.shared_core.specs.Items.{IsItemsThen, SplitsInto}
 use Rattle.shared_core.specs.Typed.{MeansParts}
 use Rattle.journal_calls.specs.declared.answer.Refusal.{Refusal}
@@ -52,8 +52,8 @@ ComparesPayload rounds schema payload (Err refusal) = ⊥
 -- A command is compared with its second decoding, and any other item with nothing.
 abbrev pub ComparesItem : ℕ → Item → Result ℕ Refusal → Type 0
 ComparesItem rounds (Message message) answer = ComparesPayload rounds (command_schema message.header.ty) message.payload answer
-ComparesItem rounds (Unknown code) (Ok count) = count ≡ 0
-ComparesItem rounds (Unknown code) (Err refusal) = ⊥
+ComparesItem rounds other (Ok count) = count ≡ 0
+ComparesItem rounds other (Err refusal) = ⊥
 
 -- Each command of the stream decodes, and for each so many comparisons hold. One of the commands does not decode, or more comparisons hold than a
 -- count says.

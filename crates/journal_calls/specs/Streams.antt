@@ -5,17 +5,24 @@ use Rattle.shared_core_base.specs.declared.header.MessageType.{MessageType}
 use Rattle.shared_core_base.specs.MessageHeader.{word_of}
 use Rattle.shared_core_record.specs.Payloads.{IsAccepted}
 use Rattle.shared_core.specs.declared.encoding.Item.{Item}
-use Rattle.shared_core.specs.declared.encoding.Item.TheVariants.{Message, Unknown}
+use Rattle.shared_core.specs.declared.encoding.Item.TheVariants.{Message, Unknown, Skipped}
 use Rattle.shared_core.specs.Items.{IsItemsThen, SplitsInto}
 use Rattle.journal_calls.specs.declared.answer.Refusal.{Refusal}
 use Rattle.journal_calls.specs.declared.answer.Refusal.TheVariants.{Malformed, OutOfMemory, NoRoom}
 use Rattle.journal_calls.specs.Answers.{AtVersion, spoken_version}
 use Rattle.shared_core_parts.specs.Messages.{message_schema}
 
--- An item's word: that of a message's header, or an unknown code in bits 48 to 63.
+-- An item's word: that of a message's header, or an unknown code in bits 48 to 63, and in bits 0 to 31 the length of the payload that is
+-- skipped with it.
 abbrev pub item_word : Item → ℕ
 item_word (Message message) = word_of message.header
 item_word (Unknown code) = code * 2 ^ 48
+item_word (Skipped code payload) = code * 2 ^ 48 + length payload
+
+-- The length of an item's payload has its place in the item's word.
+abbrev pub HasWord : Item → Type 0
+HasWord (Skipped code payload) = length payload < 2 ^ 32
+HasWord other = Unit {0}
 
 -- The words of the stream's items stand at the front of the slice, or the stream begins with more items than the slice has room for.
 abbrev pub WritesWords : Version → List ℕ → List ℕ → Result ℕ Refusal → Type 0
@@ -35,7 +42,7 @@ one_with None = 0
 abbrev pub count_with : (MessageType → Option ℕ) → List Item → ℕ
 count_with schema_of [] = 0
 count_with schema_of (Message message ∷ items) = one_with (schema_of message.header.ty) + count_with schema_of items
-count_with schema_of (Unknown code ∷ items) = count_with schema_of items
+count_with schema_of (other ∷ items) = count_with schema_of items
 
 -- The payload is well-formed for the schema, if there is one.
 abbrev pub IsAcceptedFor : Option ℕ → List ℕ → Type 0
@@ -49,16 +56,16 @@ DecodesPayload schema payload (Err Malformed) = ¬ (IsAcceptedFor schema payload
 DecodesPayload schema payload (Err OutOfMemory) = Unit {0}
 DecodesPayload schema payload (Err refusal) = ⊥
 
--- A message is decoded to a record of its type, and an unknown code to none.
+-- A message is decoded to a record of its type, and any other item to none.
 abbrev pub DecodesItem : Item → Result ℕ Refusal → Type 0
 DecodesItem (Message message) answer = DecodesPayload (message_schema message.header.ty) message.payload answer
-DecodesItem (Unknown code) (Ok count) = count ≡ 0
-DecodesItem (Unknown code) (Err refusal) = ⊥
+DecodesItem other (Ok count) = count ≡ 0
+DecodesItem other (Err refusal) = ⊥
 
 -- An item of which a record is made, if its type has a schema: its payload is well-formed for it.
 abbrev pub Decodes : (MessageType → Option ℕ) → Item → Type 0
 Decodes schema_of (Message message) = IsAcceptedFor (schema_of message.header.ty) message.payload
-Decodes schema_of (Unknown code) = Unit {0}
+Decodes schema_of other = Unit {0}
 
 -- Each of the items decodes.
 abbrev pub AllDecode : (MessageType → Option ℕ) → List Item → Type 0

@@ -76,6 +76,7 @@ pub fn version_of(number: u32) -> Result<Version, Refusal>
         6 => Ok(Version::V6),
         7 => Ok(Version::V7),
         8 => Ok(Version::V8),
+        9 => Ok(Version::V9),
         _ => Err(Refusal::Unknown),
     }
 }

@@ -71,7 +71,7 @@ fn compare_item(
 {
     match item {
         Item::Message(message) => compare_message(alloc, &message, ignore_payloads, rounds),
-        Item::Unknown(_) => Ok(0),
+        Item::Unknown(_) | Item::Skipped(_, _) => Ok(0),
     }
 }
 

@@ -2,7 +2,7 @@
 
 ghost use Rattle.std.specs.Prelude.{◌≡◌, ◌≤◌};
 ghost use Rattle.shared_core_base.specs.Version.{version_number};
-ghost use Rattle.journal_calls.specs.Streams.{AnswersItems, AnswersMessages, WritesWords, DecodesAll, DecodesItem, item_word};
+ghost use Rattle.journal_calls.specs.Streams.{AnswersItems, AnswersMessages, WritesWords, DecodesAll, DecodesItem, HasWord, item_word};
 
 use crate::answer::{Refusal, version_of};
 use crate::messages::decode;
@@ -73,11 +73,13 @@ fn write_words(
 
 /// The word of an item.
 fn word_of(item: Item) -> u64
+    requires { HasWord item }
     ensures { result ≡ item_word item }
 {
     match item {
         Item::Message(message) => u64::from(message.header()),
         Item::Unknown(code) => u64::from(code) << 48,
+        Item::Skipped(code, payload) => (u64::from(code) << 48) | payload.len() as u64,
     }
 }
 
@@ -105,6 +107,6 @@ fn decode_item(alloc: Global, item: Item) -> Result<usize, Refusal>
 {
     match item {
         Item::Message(message) => decode(alloc, &message),
-        Item::Unknown(_) => Ok(0),
+        Item::Unknown(_) | Item::Skipped(_, _) => Ok(0),
     }
 }

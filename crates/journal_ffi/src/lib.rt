@@ -16,8 +16,9 @@ use journal_calls::answer::answer_of;
 use journal_calls::{canonical, commands, frames, streams};
 use std::alloc::Global;
 
-/// Reads a stream of a version from 5 to 8, which comes in pieces of so many bytes (0: in one piece), and writes a word for each item: the
-/// word of the message's header, or the unknown code in bits 48 to 63. The count is that of the items.
+/// Reads a stream of a version from 5 to 9, which comes in pieces of so many bytes (0: in one piece), and writes a word for each item: the
+/// word of the message's header, or the unknown code in bits 48 to 63 and, at version 9, in bits 0 to 31 the length of the payload that is
+/// skipped with it. The count is that of the items.
 ///
 /// The stream is copied once, and then read `rounds` times over by a new decoder each (0 counts as 1); the words are those of the last.
 /// Refused are a version that is none of these, a stream of more items than there is room for words, and want of memory.
@@ -50,7 +51,7 @@ pub extern "C" fn journal_messages(
     answer_of(streams::messages(alloc, version, stream, piece, rounds))
 }
 
-/// Decodes each command of a stream of a version from 5 to 8 twice, and compares the two `rounds` times (0: not at all), which asks for no
+/// Decodes each command of a stream of a version from 5 to 9 twice, and compares the two `rounds` times (0: not at all), which asks for no
 /// memory. Payloads are compared, unless `ignore_payloads` is another number than 0. The count is that of the comparisons that hold: all of them.
 /// `Malformed` where the payload of a command is not well-formed for its type; what is no command is passed over.
 #[unsafe(no_mangle)]
@@ -95,7 +96,7 @@ pub extern "C" fn journal_merge(
     answer_of(canonical::merged(alloc, schema, first, second, out))
 }
 
-/// Decodes a payload for the named message type that has the code, and writes the frame of that message at a version from 5 to 8. The count
+/// Decodes a payload for the named message type that has the code, and writes the frame of that message at a version from 5 to 9. The count
 /// is that of the frame's bytes. The payload is decoded once, and the message encoded `rounds` times (0 counts as 1).
 #[unsafe(no_mangle)]
 pub extern "C" fn journal_frame(

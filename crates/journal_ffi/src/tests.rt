@@ -14,7 +14,7 @@ const CODES: [u16; 41] = [
     0x800E, 0x8011, 0x8012, 0x8013, 0xFBFF,
 ];
 
-/// An unknown code 8, and an End.
+/// An unknown code 8, whose header announces eight bytes, and an End, which is these eight at version 9.
 const UNKNOWN_THEN_END: [u8; 16] = [
     0x00, 0x08, 0x00, 0x00, 0x00, 0x00, 0x00, 0x08, 0x00, 0x03, 0x00, 0x00, 0x00, 0x00, 0x00, 0x00,
 ];
@@ -61,7 +61,7 @@ fn each_named_type_written(rt: HostRuntime) {
         let [high, low] = code.to_be_bytes();
         // An acknowledgement is asked for with a proposal alone, from V7 on.
         let ack = if code == 0x0005 { 0x80 } else { 0 };
-        for (version, flags) in [(5, 0), (8, ack)] {
+        for (version, flags) in [(5, 0), (8, ack), (9, ack)] {
             let mut out = [0xFF; 8];
             let answer = journal_frame(rt.alloc(), version, code, &[], 1, &mut out);
             assert!(rt;
@@ -89,14 +89,26 @@ fn each_named_type_read(rt: HostRuntime) {
 
 #[test]
 fn items_in_pieces_of_each_size(rt: HostRuntime) {
-    for piece in 0..18 {
-        for rounds in [0, 1, 3] {
-            let mut words = [0; 2];
-            let count = journal_items(rt.alloc(), 8, &UNKNOWN_THEN_END, piece, rounds, &mut words);
-            assert!(rt;
-                count == 2 && words == [0x0008_0000_0000_0000, 0x0003_0000_0000_0000],
-                "pieces of {piece}, {rounds} rounds: {count}, {words:?}"
-            );
+    for (version, expected) in [
+        (8, (2, [0x0008_0000_0000_0000, 0x0003_0000_0000_0000])),
+        (9, (1, [0x0008_0000_0000_0008, 0])),
+    ] {
+        for piece in 0..18 {
+            for rounds in [0, 1, 3] {
+                let mut words = [0; 2];
+                let count = journal_items(
+                    rt.alloc(),
+                    version,
+                    &UNKNOWN_THEN_END,
+                    piece,
+                    rounds,
+                    &mut words,
+                );
+                assert!(rt;
+                    (count, words) == expected,
+                    "at {version}, pieces of {piece}, {rounds} rounds: {count}, {words:?}"
+                );
+            }
         }
     }
 }
@@ -110,8 +122,10 @@ fn items_and_no_items(rt: HostRuntime) {
         (6, &INPUT[..], 1),
         (7, &INPUT[..], 1),
         (8, &INPUT[..], 1),
-        (9, &INPUT[..], -5),
+        (9, &INPUT[..], 1),
+        (10, &INPUT[..], -5),
         (8, &UNKNOWN_THEN_END[..], -3),
+        (9, &UNKNOWN_THEN_END[..15], 0),
         (8, &INPUT[..16], 0),
         (8, &[][..], 0),
     ] {
@@ -126,13 +140,16 @@ fn items_and_no_items(rt: HostRuntime) {
 
 #[test]
 fn messages_of_named_types(rt: HostRuntime) {
-    // A message, one of a custom type, an unknown code before one, a payload that is no record list, and a version that is not spoken.
+    // A message, one of a custom type, an unknown code before one, which is skipped with it at version 9, a payload that is no record list, one
+    // that is skipped, and a version that is not spoken.
     for (version, stream, answer) in [
         (8, &INPUT[..], 1),
         (8, &[0xFC, 0x01, 0, 0, 0, 0, 0, 0][..], 0),
         (8, &UNKNOWN_THEN_END[..], 1),
+        (9, &UNKNOWN_THEN_END[..], 0),
         (8, &[0x04, 0, 0, 0, 0, 0, 0, 0x01, 0xFF][..], -1),
-        (9, &INPUT[..], -5),
+        (9, &[0x00, 0x08, 0, 0, 0, 0, 0, 0x01, 0xFF][..], 0),
+        (10, &INPUT[..], -5),
     ] {
         for (piece, rounds) in [(0, 0), (1, 1), (3, 3)] {
             assert_eq!(rt;
@@ -146,15 +163,17 @@ fn messages_of_named_types(rt: HostRuntime) {
 
 #[test]
 fn commands_compared(rt: HostRuntime) {
-    // A command, an unknown code and an End, a payload of a command and of another message that is no record list, and a
-    // version that is not spoken.
+    // A command, an unknown code and an End, a payload of a command and of another message that is no record list, a command at version 9 and
+    // what is skipped there, and a version that is not spoken.
     for (version, stream, rounds, answer) in [
         (8, &INPUT[..], 0, 0),
         (8, &INPUT[..], 7, 7),
         (8, &UNKNOWN_THEN_END[..], 7, 0),
         (8, &[0x04, 0x03, 0, 0, 0, 0, 0, 0x01, 0xFF][..], 7, -1),
         (8, &[0x00, 0x03, 0, 0, 0, 0, 0, 0x01, 0xFF][..], 7, 0),
-        (9, &INPUT[..], 7, -5),
+        (9, &INPUT[..], 7, 7),
+        (9, &[0x00, 0x08, 0, 0, 0, 0, 0, 0x01, 0xFF][..], 7, 0),
+        (10, &INPUT[..], 7, -5),
     ] {
         for ignore_payloads in [0, 1] {
             assert_eq!(rt;
@@ -280,15 +299,17 @@ fn frames(rt: HostRuntime) {
         (6, 0x0005, &PROPOSAL[..], Ok(&plain[..])),
         (7, 0x0005, &PROPOSAL[..], Ok(&flagged[..])),
         (8, 0x0005, &PROPOSAL[..], Ok(&flagged[..])),
+        (9, 0x0005, &PROPOSAL[..], Ok(&flagged[..])),
         (6, 0x0001, &SUSPENSION[..], Ok(&flat[..])),
         (8, 0x0001, &SUSPENSION[..], Ok(&nested[..])),
+        (9, 0x0001, &SUSPENSION[..], Ok(&nested[..])),
         (8, 0x0005, &[0xFF][..], Err(-1)),
         (8, 0x0002, &long[..], Err(-3)),
         (8, 0x0500, &[][..], Err(-5)),
         (8, 0xFC01, &[][..], Err(-5)),
         (8, 0x0008, &[][..], Err(-5)),
         (4, 0x0005, &PROPOSAL[..], Err(-5)),
-        (9, 0x0005, &PROPOSAL[..], Err(-5)),
+        (10, 0x0005, &PROPOSAL[..], Err(-5)),
     ] {
         for rounds in [0, 1, 5] {
             let mut out = [0; 26];

@@ -1,6 +1,6 @@
 use Rattle.std.proofs.Common.{◌∙◌, ◌++◌, ◌∷◌, [], arith, ◌<◌, length, length-set}
 use Rattle.shared_core.proofs.Items.{then_takes}
-use Rattle.journal_calls.proofs.Counting.{word_written, length_more}
+use Rattle.journal_calls.proofs.Counting.{word_written, length_more, taken_has_word}
 use Rattle.journal_calls.proofs.Pieces.{none_of_all, one_taken, same_version, taken_of_all}
 use Rattle.journal_calls.specs.Pieces.{untaken}
 use Rattle.journal_calls.proofs.streams.write_words.Goals as goal
@@ -11,6 +11,12 @@ returns-then-count-words c =
     let step = rw c.in-Some.is at c.in_ok-item.ensures in
     let taken = taken_of_all c.args.version _ _ c.in-Some.item version step in
     (items ++ c.in-Some.item ∷ [], _, then_takes c.args.version _ _ _ items _ front taken, omega (arith, length_more items c.in-Some.item, counted, c.if-count-words.true))
+
+pub word_of-requires : goal.word_of-requires
+word_of-requires c =
+    let step = rw c.in-Some.is at c.in_ok-item.ensures in
+    let item = c.in-Some.item in
+    taken_has_word c.args.version _ _ item (taken_of_all c.args.version _ _ item c.loop-stream.invariant.0 step)
 
 pub loop-stream-preserved : goal.loop-stream-preserved
 loop-stream-preserved c =
