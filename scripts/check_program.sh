@@ -7,7 +7,7 @@ set -u
 cd "$(dirname "$0")/../crates/journal_list" || exit 1
 
 # what the program says on standard error
-usage='usage: journal_list [1..65536]'
+usage='usage: journal_list [1..65536] [v9]'
 input_failed='journal_list: input failed'
 output_failed='journal_list: output failed'
 out_of_memory='journal_list: out of memory'
@@ -92,6 +92,10 @@ refused 3 3
 refused x
 refused ''
 refused 000003
+refused v9 3
+refused v9 v9
+refused V9
+refused v8
 
 if [ -z "$program" ]; then
   rt try --cases ../../examples > "$out" 2> "$err"
@@ -113,6 +117,17 @@ for stream in ../../examples/*; do
     status=$?
     ended "journal_list $word < ${stream##*/}" 0 "$stream.stdout"
   done
+done
+
+# At v9 an unknown message is skipped with its payload, and the listing of a stream without one is the same.
+printf '%s\n' 'skipped 0x8 8' 'rest 0' > "$work/unknown_type.stdout"
+for word in '' 1 7 65536; do
+  "$program" ${word:+"$word"} v9 < ../../examples/unknown_type > "$out" 2> "$err"
+  status=$?
+  ended "journal_list $word v9 < unknown_type" 0 "$work/unknown_type.stdout"
+  "$program" ${word:+"$word"} v9 < ../../examples/replay > "$out" 2> "$err"
+  status=$?
+  ended "journal_list $word v9 < replay" 0 ../../examples/replay.stdout
 done
 
 stream=../../examples/replay

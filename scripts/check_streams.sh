@@ -1,6 +1,6 @@
 #!/bin/sh
 # Runs the proved journal_list, which rt ci or scripts/run.sh --proved leaves in out/, on streams that nobody means well with: some MiB of any
-# bytes, unknown headers alone, a header that promises 4 GiB, and frames of all types with any payload. It reads each in pieces of several sizes, under
+# bytes, unknown headers alone, a header that promises 4 GiB, and frames of all types with any payload, at v9 unknown ones too. It reads each in pieces of several sizes, under
 # a bound of address space. The listing has to be that of scripts/list_stream.awk, which knows the rule of items and nothing of the library.
 # The streams are the same in each run. The last line is 'N passed, M failed'; it is '0 passed, 0 failed' where nothing can be run.
 set -u
@@ -29,9 +29,12 @@ trap 'rm -rf "$work"' EXIT
 passed=0
 failed=0
 
+# the program's last word: none, or v9
+version=
+
 # list: the listing of standard input
 list() {
-  od -An -v -t u1 | awk -f scripts/list_stream.awk scripts/types.txt -
+  od -An -v -t u1 | awk -v version="${version#v}" -f scripts/list_stream.awk scripts/types.txt -
 }
 
 # same NAME STATUS: the run ended with status 0, said nothing, and what it wrote is what the lister wrote
@@ -59,11 +62,11 @@ done
 # listed WORD BOUND: lists the stream of the work folder in pieces of this size, with so many KiB of address space
 if (ulimit -v 131072) 2> "$work/err"; then
   listed() {
-    (ulimit -v "$2" && "$program" "$1") < "$work/stream" > "$work/out" 2> "$work/err"
+    (ulimit -v "$2" && "$program" "$1" $version) < "$work/stream" > "$work/out" 2> "$work/err"
   }
 else
   listed() {
-    "$program" "$1" < "$work/stream" > "$work/out" 2> "$work/err"
+    "$program" "$1" $version < "$work/stream" > "$work/out" 2> "$work/err"
   }
   echo 'check_streams.sh: the bounds of memory: not run, since memory cannot be bounded here'
 fi
@@ -121,6 +124,16 @@ in_pieces 'mixed frames' "$longest" 2 1 7 4096 65536
 awk '{ sub(/\(.*/, "", $1); print $1 } $3 != "" { print $3 }' "$work/out" | sort -u > "$work/kinds"
 mv "$work/kinds" "$work/out"
 same 'the types in mixed frames' 0
+
+# At v9 unknown messages are skipped with their payloads, and a promise of an unknown one is waited for.
+version=v9
+stream skipped 2097152 2
+longest=$(awk '{ size = $1 == "skipped" ? $3 : $2 } size > longest { longest = size } END { print longest }' "$work/listing")
+in_pieces 'frames and unknown messages' "$longest" 2 1 7 4096 65536
+grep -q '^skipped' "$work/out" && ! grep -q '^unknown' "$work/out"
+same 'skipped messages among them' $?
+stream unknown 131072 1
+in_pieces 'unknown headers at v9' 131072 1 1 7 4096 65536
 
 echo "$passed passed, $failed failed"
 [ "$failed" -eq 0 ]

@@ -1,8 +1,9 @@
 # Lists a stream as journal_list is to list it, by the rule of items and nothing of the library:
-#   od -An -v -t u1 STREAM | awk -f list_stream.awk types.txt -
+#   od -An -v -t u1 STREAM | awk [-v version=9] -f list_stream.awk types.txt -
 #
 # Eight bytes are a header: the code in the first two, bit 7 of the third asks for an acknowledgement, the length in the last four. A
-# code without a name that is below 1024 stands for no type, and its eight bytes are an item. Else the item goes on for its length.
+# code without a name that is below 1024 stands for no type, and its eight bytes are an item, but not at version 9. Else the item goes on for
+# its length.
 function number(text,  i, value) {
   value = 0
   for (i = 1; i <= length(text); i++) value = value * 16 + index("0123456789abcdef", substr(text, i, 1)) - 1
@@ -20,7 +21,8 @@ FILENAME != "-" && FILENAME != "" {
       at++
       if (held < 8) continue
       code = head[1] * 256 + head[2]
-      if (!(code in names) && code < 1024) {
+      unknown = !(code in names) && code < 1024
+      if (unknown && version != 9) {
         printf "unknown 0x%x\n", code
         held = 0
         continue
@@ -33,7 +35,7 @@ FILENAME != "-" && FILENAME != "" {
     left -= step
     at += step
     if (left == 0) {
-      name = code in names ? names[code] : "CustomEntry(" code ")"
+      name = code in names ? names[code] : unknown ? sprintf("skipped 0x%x", code) : "CustomEntry(" code ")"
       # of all types this one alone asks
       mark = code == 5 && head[3] >= 128 ? " ack" : ""
       printf "%s %.0f%s\n", name, size, mark

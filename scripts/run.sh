@@ -1,7 +1,8 @@
 #!/bin/sh
-# Builds the program journal_list and runs it on a stream: scripts/run.sh [--proved] [STREAM [PIECE]]
+# Builds the program journal_list and runs it on a stream: scripts/run.sh [--proved] [STREAM [PIECE] [v9]]
 #
-# STREAM is a file, examples/replay if none is given. PIECE is how many bytes are read at a time, 1 to 65536.
+# STREAM is a file, examples/replay if none is given. PIECE is how many bytes are read at a time, 1 to 65536; v9 is the version, which is
+# else V8.
 # Without --proved nothing is proved, which takes seconds; with it every crate below the program is proved first.
 set -eu
 cd "$(dirname "$0")/.."

@@ -3,7 +3,8 @@
 #
 # random: any bytes. unknown: headers alone whose codes stand for no type. promise: a header that promises 4,294,967,295 bytes, and
 # any bytes behind it. mixed: frames of all types and of custom ones with any payload, unknown headers between them, and at the end a
-# frame of which the last byte is missing. Bits of headers that say nothing are any.
+# frame of which the last byte is missing. skipped: the same with unknown headers that have the payload that they say. Bits of headers that
+# say nothing are any.
 function number(text,  i, value) {
   value = 0
   for (i = 1; i <= length(text); i++) value = value * 16 + index("0123456789abcdef", substr(text, i, 1)) - 1
@@ -48,12 +49,12 @@ END {
   else if (kind == "promise") { header(1024, 4294967295); bytes(size - written) }
   else if (kind == "unknown") {
     while (written < size) { header(unnamed_code(), below(65536) * 65536 + below(65536)) }
-  } else if (kind == "mixed") {
+  } else if (kind == "mixed" || kind == "skipped") {
     while (written < size) {
       pick = below(16)
-      if (pick == 0) header(unnamed_code(), below(65536) * 65536 + below(65536))
+      if (pick == 0 && kind == "mixed") header(unnamed_code(), below(65536) * 65536 + below(65536))
       else {
-        code = pick == 1 ? 1024 + below(64512) : codes[below(count)]
+        code = pick == 0 ? unnamed_code() : pick == 1 ? 1024 + below(64512) : codes[below(count)]
         many = any_length()
         header(code, many)
         bytes(many)

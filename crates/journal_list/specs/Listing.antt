@@ -5,7 +5,7 @@ use Rattle.std.specs.Io.KnownBytes.{Consumes, Keeps, IsAtEnd}
 use Rattle.shared_core_base.specs.declared.version.Version.{Version}
 use Rattle.shared_core_base.specs.MessageType.{debug_name_of}
 use Rattle.shared_core.specs.declared.encoding.Item.{Item}
-use Rattle.shared_core.specs.declared.encoding.Item.TheVariants.{Message, Unknown}
+use Rattle.shared_core.specs.declared.encoding.Item.TheVariants.{Message, Unknown, Skipped}
 use Rattle.shared_core.specs.Items.{SplitsInto}
 use Rattle.journal_list.specs.declared.list.ListError.{ListError}
 use Rattle.journal_list.specs.declared.list.ListError.TheVariants.{Input, Output, OutOfMemory}
@@ -19,11 +19,14 @@ abbrev pub ack_text : Option Bool → List ℕ
 ack_text (Some true) = codes " ack"
 ack_text flag = []
 
--- An item's line: a message's type by its debug name, its payload's length and the mark; or an unknown code in lower hexadecimal.
+-- An item's line: a message's type by its debug name, its payload's length and the mark; or an unknown code in lower hexadecimal,
+-- and behind that of a skipped message its payload's length.
 abbrev pub line_of : Item → List ℕ
 line_of (Message message) =
     debug_name_of message.header.ty ++ (codes " " ++ (decimal (length message.payload) ++ (ack_text message.header.requested_ack ++ codes "\n")))
 line_of (Unknown code) = codes "unknown 0x" ++ (digits 16 false code ++ codes "\n")
+line_of (Skipped code payload) =
+    codes "skipped 0x" ++ (digits 16 false code ++ (codes " " ++ (decimal (length payload) ++ codes "\n")))
 
 -- The last line: how many bytes are in no item.
 abbrev pub rest_line : ℕ → List ℕ

@@ -17,7 +17,7 @@ IfListed (Listed answer) fact = fact answer
 
 -- The line on the standard error: none after a whole listing.
 abbrev pub message_of : Outcome → List ℕ
-message_of Refused = codes "usage: journal_list [1..65536]\n"
+message_of Refused = codes "usage: journal_list [1..65536] [v9]\n"
 message_of (Listed (Ok _)) = []
 message_of (Listed (Err Input)) = codes "journal_list: input failed\n"
 message_of (Listed (Err Output)) = codes "journal_list: output failed\n"

@@ -3,6 +3,7 @@ ghost use Rattle.std.specs.Prelude.{◌≡◌, ◌<◌, ◌≤◌, ◌++◌, ℕ
 ghost use Rattle.std.specs.Io.KnownBytes.{Appends, Consumes};
 ghost use Rattle.std.specs.String.{string_bytes};
 ghost use Rattle.shared_core_base.specs.declared.version.Version.TheVariants.{V8};
+ghost use Rattle.shared_core_base.specs.Version.{version_number};
 ghost use Rattle.shared_core.specs.Items.{SplitsInto};
 ghost use Rattle.shared_core.specs.declared.encoding.Item.{Item as AnyItem};
 ghost use Rattle.journal_list.specs.Listing.{ack_text, line_of, rest_line, lines, most_pending, IsListed, IsRead, IsWritten};
@@ -35,12 +36,7 @@ impl From<AllocError> for ListError {
     }
 }
 
-/// Writes a line for each item of a V8 stream, and at its end the count of the bytes that are in no item.
-///
-/// It reads at most `piece` bytes at a time, from 1 to 65,536, and writes the lines of the items that a piece completes
-/// before it reads the next. `Ok` comes only where the reader has no byte left, and then the whole listing is written.
-/// `Input` leaves the lines of all items of what was read; `Output` a beginning of these lines, or of the listing where
-/// the input had ended; `OutOfMemory` the lines of the first items.
+/// The listing of a V8 stream, as `list_at` writes it.
 pub fn list<R: Read, W: Write>(
     alloc: Global,
     input: &mut R,
@@ -54,7 +50,32 @@ pub fn list<R: Read, W: Write>(
         × Appends (W.contents output.old) (W.contents output.new) written
         × IsListed V8 result read written (R.remaining input.new) }
 {
-    let mut decoder = Decoder::new(alloc, Version::V8);
+    list_at(alloc, Version::V8, input, output, piece)
+}
+
+/// Writes a line for each item of a stream of a version, of at least V5, and at its end the count of the bytes that are in
+/// no item.
+///
+/// It reads at most `piece` bytes at a time, from 1 to 65,536, and writes the lines of the items that a piece completes
+/// before it reads the next. `Ok` comes only where the reader has no byte left, and then the whole listing is written.
+/// `Input` leaves the lines of all items of what was read; `Output` a beginning of these lines, or of the listing where
+/// the input had ended; `OutOfMemory` the lines of the first items.
+pub fn list_at<R: Read, W: Write>(
+    alloc: Global,
+    version: Version,
+    input: &mut R,
+    output: &mut W,
+    piece: usize,
+) -> Result<(), ListError>
+    requires spoken { 5 ≤ version_number version }
+    requires low { 1 ≤ piece }
+    requires high { piece ≤ 65536 }
+    ensures { (read : List ℕ) × (written : List ℕ)
+        × Consumes (R.remaining input.old) (R.remaining input.new) read
+        × Appends (W.contents output.old) (W.contents output.new) written
+        × IsListed version result read written (R.remaining input.new) }
+{
+    let mut decoder = Decoder::new(alloc, version);
     let mut text = String::new(alloc);
     let mut buffer = Vec::from_elem(alloc, 0u8, piece)?;
     let buffer = buffer.as_mut_slice();
@@ -123,6 +144,10 @@ fn print_item(text: &mut String, item: Item) -> Result<(), AllocError>
             writeln!(text, "{name} {length}{mark}")
         }
         Item::Unknown(code) => writeln!(text, "unknown 0x{code:x}"),
+        Item::Skipped(code, payload) => {
+            let length = payload.len();
+            writeln!(text, "skipped 0x{code:x} {length}")
+        }
     }
 }
 

@@ -1,4 +1,4 @@
-//! Lists the frames of a V8 stream that comes on the standard input.
+//! Lists the frames of a stream that comes on the standard input: of a V8 stream, or with the word `v9` of a V9 one.
 #![tactic(auto)]
 
 #[cfg(test)]

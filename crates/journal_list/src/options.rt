@@ -1,5 +1,6 @@
 //! The program's arguments.
-ghost use Rattle.std.specs.Prelude.{◌≡◌, ◌≤◌, ℕ, map, IfSome, IsNone, string_bytes};
+ghost use Rattle.std.specs.Prelude.{◌≡◌, ◌≤◌, ◌↔◌, ℕ, codes, map, IfSome, IsNone, IsTrue, string_bytes};
+ghost use Rattle.shared_core_base.specs.Version.{version_number};
 ghost use Rattle.shared_core_base.specs.declared.version.Version.{Version as AnyVersion};
 ghost use Rattle.journal_list.specs.Options.{IsPiece, AreOptions};
 
@@ -9,19 +10,29 @@ const DEFAULT_PIECE: usize = 4096;
 
 const MAX_PIECE: usize = 65536;
 
-/// The version, and how many bytes are read at a time, from the words behind the program's name: no word, or one of one
-/// to five digits from 1 to 65,536. Other words answer `None`.
+/// The version, and how many bytes are read at a time, from the words behind the program's name: a word of one to five
+/// digits from 1 to 65,536, or none for 4,096; and behind it `v9`, or nothing for V8. Other words answer `None`.
 pub fn options(args: &[String]) -> Option<(Version, usize)>
     ensures some { IfSome result (λ found. AreOptions (map string_bytes args.now) found.0 found.1) }
     ensures none { IsNone result → (version : AnyVersion) → (piece : ℕ) → AreOptions (map string_bytes args.now) version piece → ⊥ }
     ensures low { IfSome result (λ found. 1 ≤ found.1) }
     ensures high { IfSome result (λ found. found.1 ≤ 65536) }
+    ensures spoken { IfSome result (λ found. 5 ≤ version_number found.0) }
 {
     match args {
         [] => Some((Version::V8, DEFAULT_PIECE)),
+        [word] if is_v9(word.as_str()) => Some((Version::V9, DEFAULT_PIECE)),
         [word] => Some((Version::V8, piece_of(word.as_str())?)),
+        [word, last] if is_v9(last.as_str()) => Some((Version::V9, piece_of(word.as_str())?)),
         _ => None,
     }
+}
+
+/// The word that asks for V9.
+fn is_v9(word: &str) -> bool
+    ensures { IsTrue result ↔ word.now ≡ codes "v9" }
+{
+    word == "v9"
 }
 
 /// One to five digits, from 1 to 65,536.
@@ -50,29 +61,41 @@ mod tests {
     use std::test::Fail;
 
     #[test]
-    fn takes_no_word_or_a_small_number(rt: HostRuntime) -> Result<(), Fail> {
-        // 0 stands for words that are refused
-        for (texts, piece) in [
-            (&[][..], 4096),
-            (&["3"][..], 3),
-            (&["00003"][..], 3),
-            (&["65536"][..], 65536),
-            (&["0"][..], 0),
-            (&["65537"][..], 0),
-            (&["000003"][..], 0),
-            (&["x"][..], 0),
-            (&["+3"][..], 0),
-            (&["3", "3"][..], 0),
-            (&["v9"][..], 0),
-            (&[""][..], 0),
+    fn takes_a_small_number_and_v9(rt: HostRuntime) -> Result<(), Fail> {
+        // version 0 stands for words that are refused
+        for (texts, version, piece) in [
+            (&[][..], 8, 4096),
+            (&["3"][..], 8, 3),
+            (&["00003"][..], 8, 3),
+            (&["65536"][..], 8, 65536),
+            (&["v9"][..], 9, 4096),
+            (&["3", "v9"][..], 9, 3),
+            (&["65536", "v9"][..], 9, 65536),
+            (&["0"][..], 0, 0),
+            (&["65537"][..], 0, 0),
+            (&["000003"][..], 0, 0),
+            (&["x"][..], 0, 0),
+            (&["+3"][..], 0, 0),
+            (&["3", "3"][..], 0, 0),
+            (&[""][..], 0, 0),
+            (&["v9", "3"][..], 0, 0),
+            (&["v9", "v9"][..], 0, 0),
+            (&["0", "v9"][..], 0, 0),
+            (&["", "v9"][..], 0, 0),
+            (&["3", "v9", "v9"][..], 0, 0),
+            (&["3", "v8"][..], 0, 0),
+            (&["V9"][..], 0, 0),
+            (&["v8"][..], 0, 0),
+            (&["v9 "][..], 0, 0),
         ] {
             let words = words_of(rt.alloc(), texts)?;
             let found = match options(words.as_slice()) {
-                Some((Version::V8, found)) => found,
-                Some(_) => usize::MAX,
-                None => 0,
+                Some((Version::V8, found)) => (8, found),
+                Some((Version::V9, found)) => (9, found),
+                Some(_) => (1, 0),
+                None => (0, 0),
             };
-            assert_eq!(rt; found, piece, "at {texts:?}");
+            assert!(rt; found == (version, piece), "at {texts:?}");
         }
         Ok(())
     }

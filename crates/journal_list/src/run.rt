@@ -3,12 +3,11 @@ ghost use Rattle.std.specs.Prelude.{◌≡◌, ℕ, List, map, string_bytes};
 ghost use Rattle.std.specs.Io.KnownBytes.{Appends, Consumes};
 ghost use Rattle.std.specs.Process.{exit_status};
 ghost use Rattle.shared_core_base.specs.declared.version.Version.{Version as AnyVersion};
-ghost use Rattle.shared_core_base.specs.declared.version.Version.TheVariants.{V8};
 ghost use Rattle.journal_list.specs.Listing.{IsListed};
 ghost use Rattle.journal_list.specs.Options.{AreOptions};
 ghost use Rattle.journal_list.specs.Run.{message_of, status_of, IsRefused, IfListed};
 
-use crate::list::{ListError, list};
+use crate::list::{ListError, list_at};
 use crate::options::options;
 use std::alloc::Global;
 use std::io::{Read, Write};
@@ -23,7 +22,7 @@ pub enum Outcome {
     Listed(Result<(), ListError>),
 }
 
-/// Lists the input in pieces of the size that the words say. Words that say none leave input and output untouched.
+/// Lists the input at the version, and in pieces of the size, that the words say. Words that say none leave input and output untouched.
 ///
 /// No contract sees how much a read asks for: the tests show that it is the piece of the words.
 pub fn run<R: Read, W: Write>(
@@ -36,16 +35,16 @@ pub fn run<R: Read, W: Write>(
     ensures unread { IsRefused result → input.new ≡ input.old }
     ensures unwritten { IsRefused result → output.new ≡ output.old }
     ensures listed { IfListed result (λ answer.
-        (piece : ℕ) × AreOptions (map string_bytes words.now) V8 piece
+        (version : AnyVersion) × (piece : ℕ) × AreOptions (map string_bytes words.now) version piece
         × (read : List ℕ) × (written : List ℕ)
         × Consumes (R.remaining input.old) (R.remaining input.new) read
         × Appends (W.contents output.old) (W.contents output.new) written
-        × IsListed V8 answer read written (R.remaining input.new)) }
+        × IsListed version answer read written (R.remaining input.new)) }
 {
-    let Some((_version, piece)) = options(words) else {
+    let Some((version, piece)) = options(words) else {
         return Outcome::Refused;
     };
-    Outcome::Listed(list(alloc, input, output, piece))
+    Outcome::Listed(list_at(alloc, version, input, output, piece))
 }
 
 /// The line for the standard error, empty after a whole listing.
@@ -53,7 +52,7 @@ pub fn message(outcome: &Outcome) -> &'static str
     ensures { result.now ≡ message_of outcome.now }
 {
     match outcome {
-        Outcome::Refused => "usage: journal_list [1..65536]\n",
+        Outcome::Refused => "usage: journal_list [1..65536] [v9]\n",
         Outcome::Listed(Ok(())) => "",
         Outcome::Listed(Err(ListError::Input)) => "journal_list: input failed\n",
         Outcome::Listed(Err(ListError::Output)) => "journal_list: output failed\n",
