@@ -28,8 +28,8 @@ HEAD = """\
 """
 
 # The versions at which the frames of a message stand: the last, and all where an earlier one writes it otherwise.
-VERSIONS = {"ProposeRunCompletionMessage": (5, 6, 7, 8), "SuspensionMessage": (5, 6, 7, 8)}
-LAST_VERSION = 8
+VERSIONS = {"ProposeRunCompletionMessage": (5, 6, 7, 8, 9), "SuspensionMessage": (5, 6, 7, 8, 9)}
+LAST_VERSION = 9
 
 
 class Values:
