@@ -55,6 +55,7 @@ fn written_frames(alloc: Global) -> Result<(), Failed> {
         (Version::V6, THREE_LISTS, PROPOSED),
         (Version::V7, FUTURES, PROPOSED_ASKING),
         (Version::V8, FUTURES, PROPOSED_ASKING),
+        (Version::V9, FUTURES, PROPOSED_ASKING),
     ] {
         let encoder = Encoder::new(version);
         is_written::<SuspensionMessage>(alloc, &encoder, SUSPENSION, suspension)?;

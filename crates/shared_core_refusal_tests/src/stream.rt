@@ -10,9 +10,10 @@ use shared_core::header::MessageType;
 use std::alloc::Global;
 use std::test::Fail;
 
-/// A Start, a header of the unknown code 8, an InputCommand, a GetLazyStateCompletionNotification, and three bytes more.
+/// A Start, a header of the unknown code 8, whose length is that of the InputCommand behind it, a GetLazyStateCompletionNotification, and three
+/// bytes more.
 const STREAM: &[u8] =
-    b"\0\0\0\0\0\0\0\x13\x0a\x03key\x12\x03key\x18\x01\x28\x01\x32\x03key\0\x08\0\0\0\0\0\0\x04\0\0\0\0\0\0\x09\x72\x07\x0a\x05input\x80\x02\0\0\0\0\0\x04\x08\x01\x22\0\x04\0\0";
+    b"\0\0\0\0\0\0\0\x13\x0a\x03key\x12\x03key\x18\x01\x28\x01\x32\x03key\0\x08\0\0\0\0\0\x11\x04\0\0\0\0\0\0\x09\x72\x07\x0a\x05input\x80\x02\0\0\0\0\0\x04\x08\x01\x22\0\x04\0\0";
 
 /// How many bytes of it are in no item.
 const REST: u64 = 3;
@@ -22,29 +23,56 @@ const REST: u64 = 3;
 enum Expected {
     Message(MessageType, &'static [u8]),
     Unknown(u16),
+    Skipped(u16, &'static [u8]),
 }
 
-/// The items of the stream, each with the number of bytes to its end.
-const ITEMS: [(usize, Expected); 4] = [
-    (
-        27,
-        Expected::Message(
-            MessageType::Start,
-            b"\x0a\x03key\x12\x03key\x18\x01\x28\x01\x32\x03key",
-        ),
+/// An item that ends so many bytes behind the beginning of the stream.
+type Ending = (usize, Expected);
+
+const START: Ending = (
+    27,
+    Expected::Message(
+        MessageType::Start,
+        b"\x0a\x03key\x12\x03key\x18\x01\x28\x01\x32\x03key",
     ),
+);
+
+const COMPLETION: Ending = (
+    64,
+    Expected::Message(
+        MessageType::GetLazyStateCompletionNotification,
+        b"\x08\x01\x22\0",
+    ),
+);
+
+/// The items of the stream before V9, which reads headers right behind the unknown one.
+const ITEMS: &[Ending] = &[
+    START,
     (35, Expected::Unknown(8)),
     (
         52,
         Expected::Message(MessageType::InputCommand, b"\x72\x07\x0a\x05input"),
     ),
+    COMPLETION,
+];
+
+/// Its items at V9, which skips the payload of an unknown message.
+const ITEMS_WITH_SKIPPED: &[Ending] = &[
+    START,
     (
-        64,
-        Expected::Message(
-            MessageType::GetLazyStateCompletionNotification,
-            b"\x08\x01\x22\0",
-        ),
+        52,
+        Expected::Skipped(8, b"\x04\0\0\0\0\0\0\x09\x72\x07\x0a\x05input"),
     ),
+    COMPLETION,
+];
+
+/// The versions, and the items of the stream at each.
+const VERSIONS: [(Version, &[Ending]); 5] = [
+    (Version::V5, ITEMS),
+    (Version::V6, ITEMS),
+    (Version::V7, ITEMS),
+    (Version::V8, ITEMS),
+    (Version::V9, ITEMS_WITH_SKIPPED),
 ];
 
 /// The sizes of the pieces in which the stream comes: single bytes, cuts in headers and in payloads, and all at once.
@@ -59,6 +87,9 @@ fn is(item: &Item, expected: Expected) -> bool {
                 && message.payload().as_slice() == payload
         }
         (Item::Unknown(code), Expected::Unknown(expected)) => *code == expected,
+        (Item::Skipped(code, skipped), Expected::Skipped(expected, payload)) => {
+            *code == expected && skipped.as_slice() == payload
+        }
         _ => false,
     }
 }
@@ -88,16 +119,19 @@ fn ask(decoder: &mut Decoder, call: Call) -> Result<Option<Item>, Failed> {
         Ok(None) => Ok(None),
         Ok(Some(message)) => Ok(Some(Item::Message(message))),
         Err(DecodingError::UnknownMessageType(unknown)) => Ok(Some(Item::Unknown(unknown.code()))),
+        Err(DecodingError::SkippedMessage(code, payload)) => {
+            Ok(Some(Item::Skipped(code, payload)))
+        }
         Err(error) => Err(Failed::from(error)),
     }
 }
 
-/// What the call answers next, once more where it wants memory: nothing is taken then. It wants none where no message is next.
-fn next(decoder: &mut Decoder, call: Call, is_message: bool) -> Result<Option<Item>, Failed> {
+/// What the call answers next, once more where it wants memory: nothing is taken then. It wants none where no payload is next.
+fn next(decoder: &mut Decoder, call: Call, has_payload: bool) -> Result<Option<Item>, Failed> {
     let pending = decoder.pending();
     match ask(decoder, call) {
         Err(Failed::OutOfMemory) => {
-            expect(is_message, call)?;
+            expect(has_payload, call)?;
             expect(decoder.pending() == pending, call)?;
             ask(decoder, call)
         }
@@ -108,24 +142,31 @@ fn next(decoder: &mut Decoder, call: Call, is_message: bool) -> Result<Option<It
 /// Takes the items of the stream that end behind the first number of bytes and not behind the second, and finds nothing more.
 fn take_items(
     decoder: &mut Decoder,
+    items: &[Ending],
     call: Call,
     before: usize,
     pushed: usize,
 ) -> Result<(), Failed> {
-    for (end, expected) in ITEMS {
-        if before < end && end <= pushed {
-            let is_message = matches!(expected, Expected::Message(_, _));
-            let Some(item) = next(decoder, call, is_message)? else {
+    for (end, expected) in items {
+        if before < *end && *end <= pushed {
+            let has_payload = !matches!(expected, Expected::Unknown(_));
+            let Some(item) = next(decoder, call, has_payload)? else {
                 return Err(Failed::Otherwise(call));
             };
-            expect(is(&item, expected), call)?;
+            expect(is(&item, *expected), call)?;
         }
     }
     expect(next(decoder, call, false)?.is_none(), call)
 }
 
 /// That the items of the stream come out, each with the piece in which it ends.
-fn comes_out(alloc: Global, mut decoder: Decoder, call: Call, size: usize) -> Result<(), Failed> {
+fn comes_out(
+    alloc: Global,
+    mut decoder: Decoder,
+    items: &[Ending],
+    call: Call,
+    size: usize,
+) -> Result<(), Failed> {
     let mut pushed = 0usize;
     for piece in STREAM.chunks(size.max(1)) {
         // an empty piece takes no memory
@@ -133,13 +174,18 @@ fn comes_out(alloc: Global, mut decoder: Decoder, call: Call, size: usize) -> Re
         push(&mut decoder, Bytes::copy_from_slice(alloc, piece)?)?;
         let before = pushed;
         pushed = pushed.saturating_add(piece.len());
-        take_items(&mut decoder, call, before, pushed)?;
+        take_items(&mut decoder, items, call, before, pushed)?;
     }
     expect(decoder.pending() == REST, call)
 }
 
 /// That the items of the stream come out at once, and the rest is left.
-fn is_listed(alloc: Global, version: Version, size: usize) -> Result<(), Failed>
+fn is_listed(
+    alloc: Global,
+    version: Version,
+    expected: &[Ending],
+    size: usize,
+) -> Result<(), Failed>
     requires { 5 ≤ version_number version }
 {
     let mut pieces = Vec::new(alloc);
@@ -148,23 +194,23 @@ fn is_listed(alloc: Global, version: Version, size: usize) -> Result<(), Failed>
     }
     let (items, decoder) = again(|| Ok(decode_pieces(alloc, version, pieces.as_slice())?))?;
     expect(
-        items.len() == ITEMS.len() && decoder.pending() == REST,
+        items.len() == expected.len() && decoder.pending() == REST,
         Call::DecodePieces,
     )?;
-    for (item, (_, expected)) in items.iter().zip(ITEMS) {
-        expect(is(item, expected), Call::DecodePieces)?;
+    for (item, (_, expected)) in items.iter().zip(expected) {
+        expect(is(item, *expected), Call::DecodePieces)?;
     }
     Ok(())
 }
 
 /// That the stream comes out at each version, in each of the cuts.
 fn streams(alloc: Global) -> Result<(), Failed> {
-    for version in [Version::V5, Version::V6, Version::V7, Version::V8] {
+    for (version, items) in VERSIONS {
         for size in SIZES {
             for call in [Call::ConsumeNext, Call::NextItem] {
-                comes_out(alloc, Decoder::new(alloc, version), call, size)?;
+                comes_out(alloc, Decoder::new(alloc, version), items, call, size)?;
             }
-            is_listed(alloc, version, size)?;
+            is_listed(alloc, version, items, size)?;
         }
     }
     Ok(())
