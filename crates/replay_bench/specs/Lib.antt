@@ -1,0 +1,3 @@
+pub mod Journals
+pub mod Taking
+pub mod Verdicts

@@ -1,0 +1,53 @@
+-- Commands taken off the front of a journal whose bytes come in pieces.
+use Rattle.std.specs.Prelude.{◌≡◌, ℕ, ◌+◌, ◌^◌, ◌≤◌, Bool, true, List, [], ◌++◌, length, Option, Some, None, IfSome}
+use Rattle.std.specs.Option.{option_map}
+use Rattle.std.specs.Io.KnownBytes.{Consumes, IsAtEnd}
+use Rattle.shared_core_base.specs.declared.version.Version.{Version}
+use Rattle.shared_core.specs.declared.encoding.RawMessage.{RawMessage}
+use Rattle.replay_bench.specs.declared.verdicts.Side.{Side}
+use Rattle.replay_bench.specs.declared.verdicts.BenchError.{BenchError}
+use Rattle.replay_bench.specs.declared.verdicts.BenchError.TheVariants.{TooLong, OutOfMemory}
+use Rattle.replay_bench.specs.declared.verdicts.ReaderError.{ReaderError}
+use Rattle.replay_bench.specs.declared.verdicts.ReaderError.TheVariants.{Read, Bench}
+use Rattle.replay_bench.specs.Journals.{IsJournal, with_first}
+
+-- What a source gives of the bytes that are still to come, where these are known: a piece off their front, or nothing where none is left.
+abbrev pub GivesPiece : Option (List ℕ) → Option (List ℕ) → Option (List ℕ) → Type 0
+GivesPiece old (Some piece) new = Consumes old new piece
+GivesPiece old None new = IsAtEnd old
+
+-- Whatever follows, a journal of the new bytes is one of the old bytes with this command in front, if there is any.
+pub record LeadsTo (version : Version) (old : List ℕ) (first : Option RawMessage) (new : List ℕ) : Type 0 where
+  pub joins : (more : List ℕ) (commands : List RawMessage)
+      → IsJournal version (new ++ more) commands → IsJournal version (old ++ more) (with_first first commands)
+
+-- A command is taken off a journal, where its bytes are known: what is left are its further commands.
+abbrev pub TakesCommand : Version → Option (List ℕ) → RawMessage → Option (List ℕ) → Type 0
+TakesCommand version None command new = Unit {0}
+TakesCommand version (Some old) command None = ⊥
+TakesCommand version (Some old) command (Some new) = LeadsTo version old (Some command) new
+
+-- A journal, where its bytes are known, has no command.
+abbrev pub HasNoCommand : Version → Option (List ℕ) → Type 0
+HasNoCommand version known = IfSome known (λ bytes. IsJournal version bytes [])
+
+-- How many bytes a journal has, where those that are still to come behind so many are known.
+abbrev pub known_length : ℕ → Option (List ℕ) → Option ℕ
+known_length taken coming = option_map (λ bytes. taken + length bytes) coming
+
+-- A journal of so many bytes, where these are known, has too many.
+abbrev pub IsTooLong : Option ℕ → Type 0
+IsTooLong known = IfSome known (λ count. 2 ^ 64 ≤ count)
+
+-- Why a piece is refused with which so many bytes have come.
+abbrev pub RefusesLength : ℕ → BenchError → Type 0
+RefusesLength count TooLong = 2 ^ 64 ≤ count
+RefusesLength count OutOfMemory = Unit {0}
+RefusesLength count refusal = ⊥
+
+-- Why the next command of a journal is not answered: a read of this side failed, where it may; the journal is too long; or memory was refused.
+abbrev pub MayRefuse : Side → Bool → Option ℕ → ReaderError → Type 0
+MayRefuse side may_fail known (Read failed) = (failed ≡ side) × (may_fail ≡ true)
+MayRefuse side may_fail known (Bench TooLong) = IsTooLong known
+MayRefuse side may_fail known (Bench OutOfMemory) = Unit {0}
+MayRefuse side may_fail known (Bench refusal) = ⊥

@@ -1,0 +1,131 @@
+-- What a comparison of two journals answers.
+use Rattle.std.specs.Prelude.{◌≡◌, ◌≢◌, ◌⊎◌, ℕ, ◌+◌, ◌^◌, ◌≤◌, pos, Bool, true, List, [], ◌∷◌, length, codes, Option, Some, None, Result, Ok, Err}
+use Rattle.std.specs.Option.{IsSomeAnd}
+use Rattle.std.specs.String.{string_bytes}
+use Rattle.shared_core_base.specs.declared.header.MessageType.{MessageType}
+use Rattle.shared_core_base.specs.declared.version.Version.{Version}
+use Rattle.shared_core_wire.specs.Value.{Parts}
+use Rattle.shared_core_record.specs.Payloads.{IsAccepted, payload_meaning}
+use Rattle.shared_core_parts.specs.Messages.{message_schema}
+use Rattle.shared_core_compare.specs.Differences.{difference}
+use Rattle.shared_core_compare.specs.Erasure.{AreSame}
+use Rattle.shared_core_errors.specs.Mismatch.{command_type_mismatch_text}
+use Rattle.shared_core.specs.declared.encoding.RawMessage.{RawMessage}
+use Rattle.shared_core.specs.Errors.{command_mismatch_text}
+use Rattle.shared_core.specs.Typed.{MeansParts}
+use Rattle.replay_bench.specs.declared.verdicts.Side.{Side}
+use Rattle.replay_bench.specs.declared.verdicts.Side.TheVariants.{Recorded, Replayed}
+use Rattle.replay_bench.specs.declared.verdicts.Verdict.{Verdict}
+use Rattle.replay_bench.specs.declared.verdicts.Verdict.TheVariants.{Same, RecordedEnded, ReplayedEnded, TypeMismatch, HeaderMismatch}
+use Rattle.replay_bench.specs.declared.verdicts.BenchError.{BenchError}
+use Rattle.replay_bench.specs.declared.verdicts.BenchError.TheVariants.{Malformed, TooLong, OutOfMemory}
+use Rattle.replay_bench.specs.declared.verdicts.ReaderError.{ReaderError}
+use Rattle.replay_bench.specs.declared.verdicts.ReaderError.TheVariants.{Read, Bench}
+use Rattle.replay_bench.specs.Journals.{IsJournal}
+
+-- ---- what two commands at an index answer
+
+-- Both payloads are well-formed for the schema, and the commands that they mean are the same but for what is not compared.
+abbrev pub MeanTheSame : Bool → List ℕ → List ℕ → ℕ → Type 0
+MeanTheSame ignore actual expected s =
+    IsAccepted s actual × IsAccepted s expected × AreSame s ignore (payload_meaning s actual) (payload_meaning s expected)
+
+-- Both payloads are well-formed for the schema, the commands that they mean are not the same, and the text has their difference.
+abbrev pub MeanOthers : Bool → ℕ → MessageType → List ℕ → List ℕ → List ℕ → ℕ → Type 0
+MeanOthers ignore index ty actual expected text s =
+    IsAccepted s actual × IsAccepted s expected
+    × ¬ (AreSame s ignore (payload_meaning s actual) (payload_meaning s expected))
+    × (text ≡ command_mismatch_text ty (pos index) (difference s (codes "   ") (payload_meaning s actual) (payload_meaning s expected)))
+
+-- The payload of this side is not well-formed for the schema; where it is the replayed one, the recorded one is.
+abbrev pub IsMalformedOn : Side → List ℕ → List ℕ → ℕ → Type 0
+IsMalformedOn Recorded actual expected s = ¬ (IsAccepted s actual)
+IsMalformedOn Replayed actual expected s = IsAccepted s actual × ¬ (IsAccepted s expected)
+
+-- What two payloads of a type with this schema answer at an index: none where they mean the same; memory may be wanting.
+abbrev pub AnswersPayloads : Bool → ℕ → MessageType → Option ℕ → List ℕ → List ℕ → Result (Option Verdict) BenchError → Type 0
+AnswersPayloads ignore index ty schema actual expected (Ok None) = IsSomeAnd schema (MeanTheSame ignore actual expected)
+AnswersPayloads ignore index ty schema actual expected (Ok (Some (HeaderMismatch found text))) =
+    (found ≡ index) × IsSomeAnd schema (MeanOthers ignore index ty actual expected (string_bytes text))
+AnswersPayloads ignore index ty schema actual expected (Ok (Some verdict)) = ⊥
+AnswersPayloads ignore index ty schema actual expected (Err (Malformed side found)) =
+    (found ≡ index) × IsSomeAnd schema (IsMalformedOn side actual expected)
+AnswersPayloads ignore index ty schema actual expected (Err OutOfMemory) = Unit {0}
+AnswersPayloads ignore index ty schema actual expected (Err TooLong) = ⊥
+
+-- Two commands are of one type, and their payloads answer this.
+abbrev pub AnswersTyped : Bool → ℕ → RawMessage → RawMessage → Result (Option Verdict) BenchError → Type 0
+AnswersTyped ignore index actual expected answer =
+    (actual.header.ty ≡ expected.header.ty)
+    × AnswersPayloads ignore index actual.header.ty (message_schema actual.header.ty) actual.payload expected.payload answer
+
+-- What two commands answer at an index, the recorded one as the actual and the replayed one as the expected: first that their types differ, else
+-- what their payloads do, and none where they are alike.
+abbrev pub AnswersPair : Bool → ℕ → RawMessage → RawMessage → Result (Option Verdict) BenchError → Type 0
+AnswersPair ignore index actual expected (Ok (Some (TypeMismatch found text))) =
+    (found ≡ index) × (actual.header.ty ≢ expected.header.ty)
+    × (string_bytes text ≡ command_type_mismatch_text (pos index) actual.header.ty expected.header.ty)
+AnswersPair ignore index actual expected (Err OutOfMemory) = Unit {0}
+AnswersPair ignore index actual expected answer = AnswersTyped ignore index actual expected answer
+
+-- A payload decodes to a record of the schema, or it is not well-formed, which is answered with its place; memory may be wanting.
+abbrev pub AnswersDecoding : {M : Type 0} → ℕ → (M → Parts) → Side → ℕ → List ℕ → Result M BenchError → Type 0
+AnswersDecoding s parts side index payload (Ok record_of) = MeansParts s payload (parts record_of)
+AnswersDecoding s parts side index payload (Err (Malformed on at)) = (on ≡ side) × (at ≡ index) × ¬ (IsAccepted s payload)
+AnswersDecoding s parts side index payload (Err OutOfMemory) = Unit {0}
+AnswersDecoding s parts side index payload (Err TooLong) = ⊥
+
+-- ---- what two journals answer
+
+-- Two commands at the same index are alike: of one type, both well-formed, and the same but for what is not compared.
+abbrev pub AreAlike : Bool → RawMessage → RawMessage → Type 0
+AreAlike ignore actual expected =
+    (actual.header.ty ≡ expected.header.ty) × IsSomeAnd (message_schema actual.header.ty) (MeanTheSame ignore actual.payload expected.payload)
+
+-- Two commands at this index are not alike, and this is the answer. Want of memory is none.
+abbrev pub IsFound : Bool → ℕ → RawMessage → RawMessage → Result Verdict BenchError → Type 0
+IsFound ignore index actual expected (Ok verdict) = AnswersPair ignore index actual expected (Ok (Some verdict))
+IsFound ignore index actual expected (Err OutOfMemory) = ⊥
+IsFound ignore index actual expected (Err refusal) = AnswersPair ignore index actual expected (Err refusal)
+
+-- The verdict on commands from this index on: who has ended, or what the first two answer, or, where they are alike, the verdict on the others.
+abbrev pub IsVerdict : Bool → ℕ → List RawMessage → List RawMessage → Result Verdict BenchError → Type 0
+IsVerdict ignore index [] [] answer = answer ≡ Ok (Same index)
+IsVerdict ignore index [] (expected ∷ replayed) answer = answer ≡ Ok (RecordedEnded index)
+IsVerdict ignore index (actual ∷ recorded) [] answer = answer ≡ Ok (ReplayedEnded index)
+IsVerdict ignore index (actual ∷ recorded) (expected ∷ replayed) answer =
+    (AreAlike ignore actual expected × IsVerdict ignore (index + 1) recorded replayed answer)
+    ⊎ IsFound ignore index actual expected answer
+
+-- The verdict on two journals is that on their commands, from index 0 on.
+pub record HasVerdict (version : Version) (ignore : Bool) (recorded replayed : List ℕ) (answer : Result Verdict BenchError) : Type 0 where
+  pub actual : List RawMessage
+  pub expected : List RawMessage
+  pub is_recorded : IsJournal version recorded actual
+  pub is_replayed : IsJournal version replayed expected
+  pub is_verdict : IsVerdict ignore 0 actual expected answer
+
+-- What a comparison of two journals answers: their verdict; that one of them is too long, where it is; or that memory was refused.
+abbrev pub Compares : Version → Bool → List ℕ → List ℕ → Result Verdict BenchError → Type 0
+Compares version ignore recorded replayed (Err TooLong) = (2 ^ 64 ≤ length recorded) ⊎ (2 ^ 64 ≤ length replayed)
+Compares version ignore recorded replayed (Err OutOfMemory) = Unit {0}
+Compares version ignore recorded replayed answer = HasVerdict version ignore recorded replayed answer
+
+-- ---- what two readers answer
+
+-- What a comparison of two readers' journals answers: the same, or that a read failed.
+abbrev pub ComparesRead : Version → Bool → List ℕ → List ℕ → Result Verdict ReaderError → Type 0
+ComparesRead version ignore recorded replayed (Ok verdict) = Compares version ignore recorded replayed (Ok verdict)
+ComparesRead version ignore recorded replayed (Err (Bench refusal)) = Compares version ignore recorded replayed (Err refusal)
+ComparesRead version ignore recorded replayed (Err (Read side)) = Unit {0}
+
+-- The same of the bytes that two journals will give, where both are known.
+abbrev pub ComparesKnown : Version → Bool → Option (List ℕ) → Option (List ℕ) → Result Verdict ReaderError → Type 0
+ComparesKnown version ignore (Some recorded) (Some replayed) answer = ComparesRead version ignore recorded replayed answer
+ComparesKnown version ignore recorded replayed answer = Unit {0}
+
+-- A read is said to have failed only on a side where it may.
+abbrev pub MayFailOn : Bool → Bool → Result Verdict ReaderError → Type 0
+MayFailOn recorded replayed (Err (Read Recorded)) = recorded ≡ true
+MayFailOn recorded replayed (Err (Read Replayed)) = replayed ≡ true
+MayFailOn recorded replayed answer = Unit {0}

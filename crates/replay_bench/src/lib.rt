@@ -1,0 +1,13 @@
+//! Two journals compared, what was recorded with what is replayed, command by command: a crate above `shared_core`, over its public
+//! calls and their contracts alone.
+#![tactic(auto)]
+
+mod commands;
+mod comparison;
+mod mismatches;
+mod reader_pieces;
+mod sources;
+mod verdicts;
+
+pub use crate::comparison::{compare_journals, compare_readers};
+pub use crate::verdicts::{BenchError, ReaderError, Side, Verdict};

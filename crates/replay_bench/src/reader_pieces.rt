@@ -1,0 +1,58 @@
+//! A journal that a reader gives.
+
+ghost use Rattle.std.specs.Prelude.{◌<◌, vec_len};
+
+use crate::sources::{Source, SourceError};
+use bytes::Bytes;
+use std::alloc::{AllocError, Global};
+use std::io::Read;
+
+/// What a reader gives, each read a piece.
+#[derive(Drop)]
+pub(crate) struct ReaderPieces<R> {
+    alloc: Global,
+    reader: R,
+    buffer: Vec<u8>,
+    /// A reader that never ends is left after 2^64 - 1 reads.
+    reads_left: u64,
+    ghost has_room: { 0 < vec_len buffer },
+}
+
+impl<R: Read + Drop> ReaderPieces<R> {
+    ghost use Rattle.std.specs.Prelude.{◌≡◌, ◌≤◌, IfOk};
+
+    /// The pieces that a reader gives, each of at most so many bytes, which is 1 at least.
+    pub(crate) fn new(alloc: Global, reader: R, piece: usize) -> Result<ReaderPieces<R>, AllocError>
+        requires { 1 ≤ piece }
+        ensures { IfOk result (λ source. source.reader ≡ reader.entry) }
+    {
+        Ok(ReaderPieces {
+            alloc,
+            reader,
+            buffer: Vec::from_elem(alloc, 0, piece)?,
+            reads_left: u64::MAX,
+        })
+    }
+}
+
+impl<R: Read + Drop> Source for ReaderPieces<R> {
+    ghost use Rattle.std.specs.Prelude.{true};
+
+    ghost coming = { λ source. R.remaining source.reader };
+    ghost pieces_left = { λ source. source.reads_left };
+    ghost may_fail = { true };
+
+    fn next_piece(&mut self) -> Result<Option<Bytes>, SourceError> {
+        if self.reads_left == 0 {
+            return Err(SourceError::Failed);
+        }
+        self.reads_left -= 1;
+        let Ok(count) = self.reader.read(&mut self.buffer[..]) else {
+            return Err(SourceError::Failed);
+        };
+        if count == 0 {
+            return Ok(None);
+        }
+        Ok(Some(Bytes::copy_from_slice(self.alloc, &self.buffer[..count])?))
+    }
+}

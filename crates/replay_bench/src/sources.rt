@@ -1,0 +1,67 @@
+//! Where the pieces of a journal come from.
+
+ghost use Rattle.std.specs.Prelude.{◌≡◌, ◌<◌, ℕ, Bool, List, Option, Some, false, length, true, IfOk, IfSome, IsErrOf};
+ghost use Rattle.std.specs.List.{concat};
+ghost use Rattle.replay_bench.specs.Taking.{GivesPiece};
+
+use bytes::Bytes;
+use std::alloc::AllocError;
+
+/// Why a source gave no piece. It is not asked again.
+#[derive(Clone, Copy, Debug, PartialEq, Eq)]
+pub(crate) enum SourceError {
+    /// It could not be read.
+    Failed,
+    /// A request for memory was refused.
+    OutOfMemory,
+}
+
+impl From<AllocError> for SourceError {
+    ghost use Rattle.std.specs.Prelude.{◌≡◌};
+    ghost use Rattle.replay_bench.specs.declared.sources.SourceError.TheVariants.{OutOfMemory};
+
+    ghost from_gives = { λ _ error. error ≡ OutOfMemory };
+
+    fn from(_error: AllocError) -> SourceError {
+        SourceError::OutOfMemory
+    }
+}
+
+/// Gives the bytes of a journal in pieces of any length.
+pub(crate) trait Source: Drop {
+    // the bytes that are still to come, where these are known
+    ghost coming: { Self → Option (List ℕ) };
+    // at most so many pieces are still to come
+    ghost pieces_left: { Self → ℕ };
+    // whether it may fail otherwise than for want of memory
+    ghost may_fail: { Bool };
+
+    /// The next piece, or `None` where there is no further one.
+    fn next_piece(&mut self) -> Result<Option<Bytes>, SourceError>
+        ensures piece { IfOk result (λ found. GivesPiece (coming self.old) found (coming self.new)) }
+        ensures fewer { IfOk result (λ found. IfSome found (λ piece. pieces_left self.new < pieces_left self.old)) }
+        ensures failed { IsErrOf result SourceError.Failed → may_fail ≡ true };
+}
+
+/// The pieces of a slice.
+#[derive(Drop)]
+pub(crate) struct SlicePieces<'a> {
+    pub(crate) pieces: &'a [Bytes],
+}
+
+impl<'a> Source for SlicePieces<'a> {
+    ghost coming = { λ slice. Some (concat slice.pieces.now) };
+
+    ghost pieces_left = { λ slice. length slice.pieces.now };
+
+    ghost may_fail = { false };
+
+    fn next_piece(&mut self) -> Result<Option<Bytes>, SourceError> {
+        let Some((first, rest)) = self.pieces.split_first() else {
+            return Ok(None);
+        };
+        let piece = first.clone()?;
+        self.pieces = rest;
+        Ok(Some(piece))
+    }
+}

@@ -1,0 +1,97 @@
+//! What a comparison of two journals answers.
+
+use std::alloc::AllocError;
+
+/// One of the two journals that are compared.
+#[derive(Clone, Copy, Debug, PartialEq, Eq)]
+pub enum Side {
+    /// The journal that an earlier execution left.
+    Recorded,
+    /// The journal that the execution now makes.
+    Replayed,
+}
+
+/// How two journals compare. An index counts the commands of a journal, from 0.
+#[derive(Debug, PartialEq, Drop)]
+pub enum Verdict {
+    /// Both have so many commands, and each is the same as the other's at its index.
+    Same(u64),
+    /// All commands of the recorded journal are the same, and the replayed one has another at this index.
+    RecordedEnded(u64),
+    /// All commands of the replayed journal are the same, and the recorded one has another at this index.
+    ReplayedEnded(u64),
+    /// The first commands that differ are of two types. The text is that of `CommandTypeMismatchError`.
+    TypeMismatch {
+        /// The index of both.
+        index: u64,
+        /// What was recorded, and what is replayed in its place.
+        text: String,
+    },
+    /// The first commands that differ are of one type. The text is that of `CommandMismatchError`.
+    HeaderMismatch {
+        /// The index of both.
+        index: u64,
+        /// The type, and a line for each printed field in which they differ, the recorded command's first.
+        text: String,
+    },
+}
+
+/// Why two journals have no verdict.
+#[derive(Clone, Copy, Debug, PartialEq, Eq)]
+pub enum BenchError {
+    /// The payload of the command at this index of this journal is not well-formed for the command's type, which both journals have there. All
+    /// commands before are the same.
+    Malformed {
+        /// The journal.
+        side: Side,
+        /// The index of its command.
+        index: u64,
+    },
+    /// A journal has more than 2^64 - 1 bytes.
+    TooLong,
+    /// A request for memory was refused.
+    OutOfMemory,
+}
+
+/// Why two journals that come from readers have no verdict.
+#[derive(Clone, Copy, Debug, PartialEq, Eq)]
+pub enum ReaderError {
+    /// A read of this journal failed, or 2^64 - 1 reads met no end.
+    Read(Side),
+    /// What any journals may be refused for.
+    Bench(BenchError),
+}
+
+impl From<AllocError> for BenchError {
+    ghost use Rattle.std.specs.Prelude.{◌≡◌};
+    ghost use Rattle.replay_bench.specs.declared.verdicts.BenchError.TheVariants.{OutOfMemory};
+
+    ghost from_gives = { λ _ error. error ≡ OutOfMemory };
+
+    fn from(_error: AllocError) -> BenchError {
+        BenchError::OutOfMemory
+    }
+}
+
+impl From<BenchError> for ReaderError {
+    ghost use Rattle.std.specs.Prelude.{◌≡◌};
+    ghost use Rattle.replay_bench.specs.declared.verdicts.ReaderError.TheVariants.{Bench};
+
+    ghost from_gives = { λ refusal error. error ≡ Bench refusal };
+
+    fn from(refusal: BenchError) -> ReaderError {
+        ReaderError::Bench(refusal)
+    }
+}
+
+impl From<AllocError> for ReaderError {
+    ghost use Rattle.std.specs.Prelude.{◌≡◌};
+    ghost use Rattle.replay_bench.specs.declared.verdicts.BenchError.TheVariants.{OutOfMemory};
+    ghost use Rattle.replay_bench.specs.declared.verdicts.ReaderError.TheVariants.{Bench};
+
+    ghost from_gives = { λ _ error. error ≡ Bench OutOfMemory };
+
+    fn from(_error: AllocError) -> ReaderError {
+        ReaderError::Bench(BenchError::OutOfMemory)
+    }
+}
