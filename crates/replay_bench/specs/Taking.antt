@@ -21,11 +21,12 @@ pub record LeadsTo (version : Version) (old : List ℕ) (first : Option RawMessa
   pub joins : (more : List ℕ) (commands : List RawMessage)
       → IsJournal version (new ++ more) commands → IsJournal version (old ++ more) (with_first first commands)
 
--- A command is taken off a journal, where its bytes are known: what is left are its further commands.
-abbrev pub TakesCommand : Version → Option (List ℕ) → RawMessage → Option (List ℕ) → Type 0
-TakesCommand version None command new = Unit {0}
-TakesCommand version (Some old) command None = ⊥
-TakesCommand version (Some old) command (Some new) = LeadsTo version old (Some command) new
+-- A journal whose bytes are known has this command first, if there is any, and then those of the new bytes.
+abbrev pub TakesFirst : Version → Option (List ℕ) → Option RawMessage → Option (List ℕ) → Type 0
+TakesFirst version None first new = Unit {0}
+TakesFirst version (Some old) first None = ⊥
+TakesFirst version (Some old) first (Some new) =
+    (commands : List RawMessage) → IsJournal version new commands → IsJournal version old (with_first first commands)
 
 -- A journal, where its bytes are known, has no command.
 abbrev pub HasNoCommand : Version → Option (List ℕ) → Type 0
@@ -35,11 +36,17 @@ HasNoCommand version known = IfSome known (λ bytes. IsJournal version bytes [])
 abbrev pub known_length : ℕ → Option (List ℕ) → Option ℕ
 known_length taken coming = option_map (λ bytes. taken + length bytes) coming
 
+-- A length that is known stays as it is.
+abbrev pub KeepsLength : Option ℕ → Option ℕ → Type 0
+KeepsLength None new = Unit {0}
+KeepsLength (Some old) None = ⊥
+KeepsLength (Some old) (Some new) = new ≡ old
+
 -- A journal of so many bytes, where these are known, has too many.
 abbrev pub IsTooLong : Option ℕ → Type 0
 IsTooLong known = IfSome known (λ count. 2 ^ 64 ≤ count)
 
--- Why a piece is refused with which so many bytes have come.
+-- Why a piece is refused, with which so many bytes would have come.
 abbrev pub RefusesLength : ℕ → BenchError → Type 0
 RefusesLength count TooLong = 2 ^ 64 ≤ count
 RefusesLength count OutOfMemory = Unit {0}

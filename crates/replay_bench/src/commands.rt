@@ -5,7 +5,7 @@ ghost use Rattle.std.specs.Io.KnownBytes.{prepend_known};
 ghost use Rattle.shared_core_base.specs.Version.{version_number};
 ghost use Rattle.shared_core.specs.Items.{NoItemBegins};
 ghost use Rattle.replay_bench.specs.Journals.{command_of, IsCommand};
-ghost use Rattle.replay_bench.specs.Taking.{known_length, HasNoCommand, LeadsTo, MayRefuse, TakesCommand};
+ghost use Rattle.replay_bench.specs.Taking.{known_length, HasNoCommand, LeadsTo, KeepsLength, MayRefuse, RefusesLength, TakesFirst};
 
 use crate::sources::{Source, SourceError};
 use crate::verdicts::{BenchError, ReaderError, Side};
@@ -44,14 +44,14 @@ impl<S: Source> Commands<S> {
         requires { length self.old.decoder.bytes ≤ self.old.taken }
         ensures taken { IfOk result (λ found. MatchOption found
             (HasNoCommand self.old.decoder.version (prepend_known self.old.decoder.bytes (S.coming self.old.source)))
-            (λ command. TakesCommand self.old.decoder.version (prepend_known self.old.decoder.bytes (S.coming self.old.source)) command
+            (λ command. TakesFirst self.old.decoder.version (prepend_known self.old.decoder.bytes (S.coming self.old.source)) (Some command)
             (prepend_known self.new.decoder.bytes (S.coming self.new.source)))) }
         ensures command { IfOk result (λ found. IfSome found IsCommand) }
         // what is taken is eight bytes at least
         ensures shorter { IfOk result (λ found. IfSome found (λ command.
             8 + length self.new.decoder.bytes + self.old.taken ≤ length self.old.decoder.bytes + self.new.taken)) }
-        ensures counted { OnOk result (known_length self.new.taken (S.coming self.new.source)
-            ≡ known_length self.old.taken (S.coming self.old.source)) }
+        ensures counted { OnOk result (KeepsLength (known_length self.old.taken (S.coming self.old.source))
+            (known_length self.new.taken (S.coming self.new.source))) }
         ensures refused { IfErr result (MayRefuse self.old.side S.may_fail (known_length self.old.taken (S.coming self.old.source))) }
         ensures version { self.new.decoder.version ≡ self.old.decoder.version }
         ensures side { self.new.side ≡ self.old.side }

@@ -5,3 +5,4 @@ pub mod TypedPayloads
 pub mod Frames
 pub mod Views
 pub mod DecodedFrames
+pub mod Splits

@@ -1,6 +1,6 @@
 //! What holds of every stream, whatever decodes it, and of equality. A law is the contract of a function that does nothing,
 //! or nothing but compare.
-ghost use Rattle.std.specs.Prelude.{◌≡◌, ◌≢◌, ◌≤◌, ◌<◌, ◌^◌, ◌↔◌, ℕ, ◌++◌, IsTrue, List, None, Some, false, not, true};
+ghost use Rattle.std.specs.Prelude.{◌≡◌, ◌≢◌, ◌≤◌, ◌<◌, ◌^◌, ◌↔◌, ℕ, [], ◌∷◌, ◌++◌, IsTrue, List, None, Some, false, not, true};
 ghost use Rattle.shared_core_base.specs.declared.version.Version.{Version};
 ghost use Rattle.shared_core.specs.Items.{IsItem, IsItemsThen, TakesItem, NoItemBegins, SplitsInto, skips_unknown};
 ghost use Rattle.shared_core.specs.Written.{AreFrames, items_written, joined_frames};
@@ -55,6 +55,19 @@ pub fn untyped_items_go_by_the_version()
 pub fn next_item_stays()
     ensures { (version : Version) (old new more : List ℕ) (item : AnyItem)
         → TakesItem version old item new → TakesItem version (old ++ more) item (new ++ more) }
+{}
+
+/// The item that is taken off a stream is the first of those that it splits into, and the others are those of what is left.
+#[tactic(auto, using(crate::proofs::Splits::taken_comes_first))]
+pub fn taken_item_comes_first()
+    ensures { (version : Version) (old new rest : List ℕ) (item : AnyItem) (items : List AnyItem)
+        → TakesItem version old item new → SplitsInto version new items rest → SplitsInto version old (item ∷ items) rest }
+{}
+
+/// A stream that no whole item begins is all rest.
+#[tactic(auto, using(crate::proofs::Splits::none_is_all_rest))]
+pub fn stream_without_items_is_rest()
+    ensures { (version : Version) (stream : List ℕ) → NoItemBegins version stream → SplitsInto version stream [] stream }
 {}
 
 /// Frames written one behind the other are, whatever follows them, items in this order, each a message of its type with the

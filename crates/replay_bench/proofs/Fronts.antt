@@ -1,0 +1,80 @@
+-- Commands at the front of a journal.
+use Rattle.std.proofs.Common.{◌≡◌, ℕ, List, [], ◌∷◌, ◌++◌, Option, Some, None, refl, sym, ap, ◌∙◌, subst, append_assoc, append-nil}
+use Rattle.std.specs.Io.KnownBytes.{Consumes, IsAtEnd, prepend_known}
+use Rattle.shared_core_base.specs.declared.version.Version.{Version}
+use Rattle.shared_core.specs.declared.encoding.Item.{Item}
+use Rattle.shared_core.specs.declared.encoding.RawMessage.{RawMessage}
+use Rattle.shared_core.specs.Items.{NoItemBegins, TakesItem}
+use Rattle.shared_core.proofs.Items.{takes_more, split_of}
+use Rattle.shared_core.proofs.Splits.{none_is_all_rest, taken_comes_first}
+use Rattle.replay_bench.specs.Journals.{IsJournal, command_of, commands_among, with_first}
+use Rattle.replay_bench.specs.Taking.{GivesPiece, HasNoCommand, LeadsTo, TakesFirst}
+
+module _ (version : Version) where
+  -- every stream is a journal
+  pub journal_of : (stream : List ℕ) → (commands : List RawMessage) × IsJournal version stream commands
+  journal_of stream =
+      let (items, rest, split) = split_of version stream in
+      (commands_among items, record { items = items; rest = rest; split = split; among = refl })
+
+  -- where no item begins, there is no command
+  pub none_begins : (stream : List ℕ) → NoItemBegins version stream → IsJournal version stream []
+  none_begins stream none = record { items = []; rest = stream; split = none_is_all_rest version stream none; among = refl }
+
+  -- an item in front is a command in front, if it is one
+  item_in_front : (old new : List ℕ) (item : Item) (commands : List RawMessage) → TakesItem version old item new → IsJournal version new commands → IsJournal version old (with_first (command_of item) commands)
+  item_in_front old new item commands taken is = record {
+    items = item ∷ is.items;
+    rest = is.rest;
+    split = taken_comes_first version old new is.rest item is.items taken is.split;
+    among = ap (with_first (command_of item)) is.among;
+  }
+
+  -- ---- what the decoder holds, whatever follows
+
+  pub leads_nowhere : (bytes : List ℕ) → LeadsTo version bytes None bytes
+  leads_nowhere bytes = record { joins = λ more commands is. is }
+
+  -- one item more, behind items that are no commands
+  pub leads_on : (old between new : List ℕ) (item : Item) (first : Option RawMessage) → LeadsTo version old None between → TakesItem version between item new → first ≡ command_of item → LeadsTo version old first new
+  leads_on old between new item first before taken is = record {
+    joins = λ more commands journal.
+        before.joins more (with_first first commands)
+        (subst (λ found. IsJournal version (between ++ more) (with_first found commands)) (sym is)
+        (item_in_front (between ++ more) (new ++ more) item commands (takes_more version between new more item taken) journal));
+  }
+
+  -- ---- what is known of a journal
+
+  pub takes_nothing : (known : Option (List ℕ)) → TakesFirst version known None known
+  takes_nothing None = tt
+  takes_nothing (Some bytes) = λ commands is. is
+
+  pub takes_behind : (old between new : Option (List ℕ)) (first : Option RawMessage) → TakesFirst version old None between → TakesFirst version between first new → TakesFirst version old first new
+  takes_behind None between new first before taken = tt
+  takes_behind (Some old) None new first before taken = absurd before
+  takes_behind (Some old) (Some between) None first before taken = absurd taken
+  takes_behind (Some old) (Some between) (Some new) first before taken = λ commands is. before (with_first first commands) (taken commands is)
+
+  -- what the decoder holds is the front of the journal
+  pub takes_held : (old new : List ℕ) (coming : Option (List ℕ)) (first : Option RawMessage) → LeadsTo version old first new → TakesFirst version (prepend_known old coming) first (prepend_known new coming)
+  takes_held old new None first leads = tt
+  takes_held old new (Some coming) first leads = λ commands is. leads.joins coming commands is
+
+  -- a piece goes from what is to come to what is held
+  pub takes_piece : (held piece : List ℕ) (old new : Option (List ℕ)) → GivesPiece old (Some piece) new → TakesFirst version (prepend_known held old) None (prepend_known (held ++ piece) new)
+  takes_piece held piece None new gives = tt
+  takes_piece held piece (Some old) None gives = absurd gives
+  takes_piece held piece (Some old) (Some new) gives = λ commands is.
+      subst (λ bytes. IsJournal version bytes commands) (append_assoc held piece new ∙ ap (λ l. held ++ l) (sym gives)) is
+
+  -- nothing is to come, and no item is held
+  pub nothing_left : (held : List ℕ) (old : Option (List ℕ)) → IsAtEnd old → NoItemBegins version held → HasNoCommand version (prepend_known held old)
+  nothing_left held None end none = tt
+  nothing_left held (Some old) end none =
+      subst (λ bytes. IsJournal version bytes []) (sym (append-nil held) ∙ ap (λ l. held ++ l) (sym end)) (none_begins held none)
+
+  pub nothing_behind : (old new : Option (List ℕ)) → TakesFirst version old None new → HasNoCommand version new → HasNoCommand version old
+  nothing_behind None new taken none = tt
+  nothing_behind (Some old) None taken none = absurd taken
+  nothing_behind (Some old) (Some new) taken none = taken [] none

@@ -1,0 +1,4 @@
+pub mod Fronts
+pub mod Lengths
+pub mod Pairs
+pub mod Endings
