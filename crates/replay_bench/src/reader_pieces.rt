@@ -39,7 +39,9 @@ impl<R: Read + Drop> Source for ReaderPieces<R> {
     ghost use Rattle.std.specs.Prelude.{true};
 
     ghost coming = { λ source. R.remaining source.reader };
+
     ghost pieces_left = { λ source. source.reads_left };
+
     ghost may_fail = { true };
 
     fn next_piece(&mut self) -> Result<Option<Bytes>, SourceError> {
