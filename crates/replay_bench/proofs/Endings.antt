@@ -159,6 +159,7 @@ module _ (version : Version) (ignore : Bool) where
       → GoesOn recorded replayed index left others
       → TakesFirst version left (Some actual) now → TakesFirst version others (Some expected) then → AnswersPair ignore index actual expected (Err refusal)
       → ComparesKnown version ignore recorded replayed (Err (Bench refusal))
+  unfolding AnswersPair
   answers_refusal index actual expected recorded replayed left others now then OutOfMemory goes one other refused = answers_memory recorded replayed
   answers_refusal index actual expected recorded replayed left others now then TooLong goes one other refused = absurd refused.1
   answers_refusal index actual expected recorded replayed left others now then (Malformed side at) goes one other refused =

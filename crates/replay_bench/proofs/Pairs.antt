@@ -1,20 +1,99 @@
 -- What two commands answer.
-use Rattle.std.proofs.Common.{◌≡◌, ◌≢◌, ℕ, Bool, List, Option, Some, None, Result, Ok, Err, refl, sym, ◌∙◌}
+use Rattle.std.proofs.Common.{◌≡◌, ◌≢◌, ℕ, ℤ, pos, Bool, List, Option, Some, None, Result, Ok, Err, refl, sym, ap, ◌∙◌, subst, ⊎_elim}
+use Rattle.std.specs.Prelude.{codes, IsSome}
+use Rattle.std.specs.Option.{IsSomeAnd}
+use Rattle.std.specs.String.{string_bytes}
+use Rattle.std.specs.declared.string.String.{String}
+use Rattle.shared_core_base.specs.declared.header.MessageType.{MessageType}
+use Rattle.shared_core_base.specs.declared.header.MessageType.TheVariants.{Suspension}
+use Rattle.shared_core_base.specs.CommandType.{command_type_of}
+use Rattle.shared_core_wire.specs.Value.{Parts}
+use Rattle.shared_core_record.specs.Payloads.{IsAccepted, payload_meaning}
+use Rattle.shared_core_parts.specs.Messages.{IsSchemaOf, message_schema}
+use Rattle.shared_core_compare.specs.Differences.{difference}
+use Rattle.shared_core_compare.specs.Erasure.{AreSame, erased}
+use Rattle.shared_core_errors.specs.Mismatch.{command_type_mismatch_text}
 use Rattle.shared_core.specs.declared.encoding.RawMessage.{RawMessage}
+use Rattle.shared_core.specs.Errors.{command_mismatch_text}
+use Rattle.shared_core.specs.Typed.{MeansParts}
+use Rattle.replay_bench.specs.declared.verdicts.Side.TheVariants.{Recorded, Replayed}
 use Rattle.replay_bench.specs.declared.verdicts.Verdict.{Verdict}
-use Rattle.replay_bench.specs.declared.verdicts.Verdict.TheVariants.{Same, RecordedEnded, ReplayedEnded, TypeMismatch, HeaderMismatch}
+use Rattle.replay_bench.specs.declared.verdicts.Verdict.TheVariants.{TypeMismatch, HeaderMismatch}
 use Rattle.replay_bench.specs.declared.verdicts.BenchError.{BenchError}
 use Rattle.replay_bench.specs.declared.verdicts.BenchError.TheVariants.{Malformed, TooLong, OutOfMemory}
-use Rattle.replay_bench.specs.Verdicts.{AnswersPair, AnswersPayloads, AnswersTyped}
+use Rattle.replay_bench.specs.Verdicts.{AnswersDecoding, AnswersPair, IsMalformedOn, MeanOthers, MeanTheSame}
 
--- commands of one type answer what their payloads do
-pub typed_answers : (ignore : Bool) (index : ℕ) (actual expected : RawMessage) (answer : Result (Option Verdict) BenchError) → AnswersTyped ignore index actual expected answer → AnswersPair ignore index actual expected answer
-typed_answers ignore index actual expected (Ok None) typed = typed
-typed_answers ignore index actual expected (Ok (Some (Same count))) typed = typed
-typed_answers ignore index actual expected (Ok (Some (RecordedEnded found))) typed = typed
-typed_answers ignore index actual expected (Ok (Some (ReplayedEnded found))) typed = typed
-typed_answers ignore index actual expected (Ok (Some (TypeMismatch found text))) typed = absurd typed.1
-typed_answers ignore index actual expected (Ok (Some (HeaderMismatch found text))) typed = typed
-typed_answers ignore index actual expected (Err (Malformed side found)) typed = typed
-typed_answers ignore index actual expected (Err TooLong) typed = typed
-typed_answers ignore index actual expected (Err OutOfMemory) typed = tt
+-- a record of a command's type has the type's schema
+schema_of_command : (ty : MessageType) (s : ℕ) → IsSome (command_type_of ty) → IsSchemaOf ty s → message_schema ty ≡ Some s
+schema_of_command ty s command own =
+    ⊎_elim
+    (λ is. is)
+    (λ other. absurd (no_command (subst (λ t. IsSome (command_type_of t)) other.0 command)))
+    own
+  where
+    no_command : IsSome (command_type_of Suspension) → ⊥
+    no_command is = cc
+
+-- Two commands of the type of a record with this schema, at an index.
+pub record AreTyped (actual expected : RawMessage) (s : ℕ) : Type 0 where
+  pub one_type : actual.header.ty ≡ expected.header.ty
+  pub schema : message_schema actual.header.ty ≡ Some s
+
+pub are_typed : (actual expected : RawMessage) (ty : MessageType) (s : ℕ) → IsSome (command_type_of actual.header.ty) → actual.header.ty ≡ expected.header.ty → actual.header.ty ≡ ty → IsSchemaOf ty s → AreTyped actual expected s
+are_typed actual expected ty s command one is own = record {
+  one_type = one;
+  schema = schema_of_command actual.header.ty s command (subst (λ t. IsSchemaOf t s) (sym is) own);
+}
+
+module _ (ignore : Bool) (index : ℕ) (actual expected : RawMessage) where
+  -- memory may be wanting
+  pub pair_memory : AnswersPair ignore index actual expected (Err OutOfMemory)
+  unfolding AnswersPair
+  pair_memory = tt
+
+  -- the types differ
+  pub pair_types : (text : String) → actual.header.ty ≢ expected.header.ty → string_bytes text ≡ command_type_mismatch_text (pos index) actual.header.ty expected.header.ty → AnswersPair ignore index actual expected (Ok (Some (TypeMismatch index text)))
+  unfolding AnswersPair
+  pair_types text differ says = (refl, differ, says)
+
+  module _ (s : ℕ) (typed : AreTyped actual expected s) where
+    of_schema : (holds : ℕ → Type 0) → holds s → IsSomeAnd (message_schema actual.header.ty) holds
+    of_schema holds is = subst (λ schema. IsSomeAnd schema holds) (sym typed.schema) is
+
+    -- the recorded payload is not well-formed
+    pub pair_recorded : {M : Type 0} (parts : M → Parts) (refusal : BenchError) → AnswersDecoding s parts Recorded index actual.payload (Err refusal) → AnswersPair ignore index actual expected (Err refusal)
+    unfolding AnswersPair
+    pair_recorded parts OutOfMemory refused = tt
+    pair_recorded parts TooLong refused = absurd refused
+    pair_recorded parts (Malformed side at) refused =
+        (typed.one_type, refused.1, of_schema (IsMalformedOn side actual.payload expected.payload) (subst (λ on. IsMalformedOn on actual.payload expected.payload s) (sym refused.0) refused.2))
+
+    -- the replayed one is not
+    pub pair_replayed : {M : Type 0} (parts : M → Parts) (one : Parts) (refusal : BenchError) → MeansParts s actual.payload one → AnswersDecoding s parts Replayed index expected.payload (Err refusal) → AnswersPair ignore index actual expected (Err refusal)
+    unfolding AnswersPair
+    pair_replayed parts one OutOfMemory means refused = tt
+    pair_replayed parts one TooLong means refused = absurd refused
+    pair_replayed parts one (Malformed side at) means refused =
+        (typed.one_type, refused.1, of_schema (IsMalformedOn side actual.payload expected.payload) (subst (λ on. IsMalformedOn on actual.payload expected.payload s) (sym refused.0) (means.0, refused.2)))
+
+    module _ (one other : Parts) (means : MeansParts s actual.payload one) (means_other : MeansParts s expected.payload other) where
+      -- both mean the same
+      pub pair_alike : erased s ignore one ≡ erased s ignore other → AnswersPair ignore index actual expected (Ok None)
+      unfolding AnswersPair
+      pair_alike same =
+          (typed.one_type, of_schema (MeanTheSame ignore actual.payload expected.payload) (means.0, means_other.0, ap (erased s ignore) (sym means.1) ∙ same ∙ ap (erased s ignore) means_other.1))
+
+      -- they do not
+      pub pair_differs : (text : String) → ¬ (erased s ignore one ≡ erased s ignore other) → string_bytes text ≡ command_mismatch_text actual.header.ty (pos index) (difference s (codes "   ") one other) → AnswersPair ignore index actual expected (Ok (Some (HeaderMismatch index text)))
+      unfolding AnswersPair
+      pair_differs text differ says = (
+        typed.one_type,
+        refl,
+        of_schema (MeanOthers ignore index actual.header.ty actual.payload expected.payload (string_bytes text)) (
+          means.0,
+          means_other.0,
+          λ same. differ (ap (erased s ignore) means.1 ∙ same ∙ ap (erased s ignore) (sym means_other.1)),
+          says ∙ ap (λ v. command_mismatch_text actual.header.ty (pos index) (difference s (codes "   ") v other)) means.1
+              ∙ ap (λ v. command_mismatch_text actual.header.ty (pos index) (difference s (codes "   ") (payload_meaning s actual.payload) v)) means_other.1,
+        ),
+      )

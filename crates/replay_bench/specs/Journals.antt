@@ -4,7 +4,7 @@ use Rattle.shared_core_base.specs.declared.command_type.CommandType.{CommandType
 use Rattle.shared_core_base.specs.declared.version.Version.{Version}
 use Rattle.shared_core_base.specs.CommandType.{command_type_of}
 use Rattle.shared_core.specs.declared.encoding.Item.{Item}
-use Rattle.shared_core.specs.declared.encoding.Item.TheVariants.{Message, Unknown}
+use Rattle.shared_core.specs.declared.encoding.Item.TheVariants.{Message, Unknown, Skipped}
 use Rattle.shared_core.specs.declared.encoding.RawMessage.{RawMessage}
 use Rattle.shared_core.specs.Items.{SplitsInto}
 
@@ -21,6 +21,7 @@ if_command None message = None
 abbrev pub command_of : Item → Option RawMessage
 command_of (Message message) = if_command (command_type_of message.header.ty) message
 command_of (Unknown code) = None
+command_of (Skipped code payload) = None
 
 -- A list with this in front, if there is any.
 abbrev pub with_first : {A : Type 0} → Option A → List A → List A

@@ -61,7 +61,7 @@ AnswersTyped ignore index actual expected answer =
 
 -- What two commands answer at an index, the recorded one as the actual and the replayed one as the expected: first that their types differ, else
 -- what their payloads do, and none where they are alike.
-abbrev pub AnswersPair : Bool → ℕ → RawMessage → RawMessage → Result (Option Verdict) BenchError → Type 0
+unfoldable pub AnswersPair : Bool → ℕ → RawMessage → RawMessage → Result (Option Verdict) BenchError → Type 0
 AnswersPair ignore index actual expected (Ok (Some (TypeMismatch found text))) =
     (found ≡ index) × (actual.header.ty ≢ expected.header.ty)
     × (string_bytes text ≡ command_type_mismatch_text (pos index) actual.header.ty expected.header.ty)

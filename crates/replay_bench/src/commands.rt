@@ -29,7 +29,7 @@ impl<S: Source> Commands<S> {
     /// The commands of the journal on this side, whose version is at least V5.
     pub(crate) fn new(alloc: Global, version: Version, side: Side, source: S) -> Commands<S>
         requires { 5 ≤ version_number version }
-        ensures { result ≡ record { side = side; decoder = record { version = version; bytes = [] }; source = source.entry; taken = 0 } }
+        ensures { result ≡ record { side = side; decoder = record { version = version; bytes = [] }; source = source; taken = 0 } }
     {
         Commands {
             side,
@@ -50,11 +50,11 @@ impl<S: Source> Commands<S> {
         // what is taken is eight bytes at least
         ensures shorter { IfOk result (λ found. IfSome found (λ command.
             8 + length self.new.decoder.bytes + self.old.taken ≤ length self.old.decoder.bytes + self.new.taken)) }
-        ensures counted { OnOk result (KeepsLength (known_length self.old.taken (S.coming self.old.source))
-            (known_length self.new.taken (S.coming self.new.source))) }
+        ensures counted { IfOk result (λ found. IfSome found (λ command. KeepsLength
+            (known_length self.old.taken (S.coming self.old.source)) (known_length self.new.taken (S.coming self.new.source)))) }
         ensures refused { IfErr result (MayRefuse self.old.side S.may_fail (known_length self.old.taken (S.coming self.old.source))) }
-        ensures version { self.new.decoder.version ≡ self.old.decoder.version }
-        ensures side { self.new.side ≡ self.old.side }
+        ensures version { OnOk result (self.new.decoder.version ≡ self.old.decoder.version) }
+        ensures side { OnOk result (self.new.side ≡ self.old.side) }
     {
         loop {
             if let Some(command) = buffered_command(&mut self.decoder)? {

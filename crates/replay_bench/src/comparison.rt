@@ -58,7 +58,7 @@ pub fn compare_readers<A: Read + Drop, B: Read + Drop>(
     requires version { 5 ≤ version_number version }
     requires piece { 1 ≤ piece }
     // the verdict of all that the readers would give, read or not, where they tell it
-    ensures { ComparesKnown version ignore_payload_equality (A.remaining recorded.entry) (B.remaining replayed.entry) result }
+    ensures { ComparesKnown version ignore_payload_equality (A.remaining recorded) (B.remaining replayed) result }
 {
     let recorded = ReaderPieces::new(alloc, recorded, piece)?;
     let replayed = ReaderPieces::new(alloc, replayed, piece)?;
@@ -74,7 +74,7 @@ fn compare<A: Source, B: Source>(
     ignore_payload_equality: bool,
 ) -> Result<Verdict, ReaderError>
     requires { 5 ≤ version_number version }
-    ensures compared { ComparesKnown version ignore_payload_equality (A.coming recorded.entry) (B.coming replayed.entry) result }
+    ensures compared { ComparesKnown version ignore_payload_equality (A.coming recorded) (B.coming replayed) result }
     ensures failed { MayFailOn A.may_fail B.may_fail result }
 {
     let mut recorded = Commands::new(alloc, version, Side::Recorded, recorded);

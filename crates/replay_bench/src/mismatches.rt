@@ -1,9 +1,8 @@
 //! Two commands compared.
 
-ghost use Rattle.std.specs.Prelude.{◌≡◌, ◌<◌, ◌^◌, Some};
-ghost use Rattle.shared_core_parts.specs.Messages.{message_schema};
+ghost use Rattle.std.specs.Prelude.{◌≡◌, ◌<◌, ◌^◌};
 ghost use Rattle.replay_bench.specs.Journals.{IsCommand};
-ghost use Rattle.replay_bench.specs.Verdicts.{AnswersDecoding, AnswersPair, AnswersPayloads};
+ghost use Rattle.replay_bench.specs.Verdicts.{AnswersDecoding, AnswersPair};
 
 use crate::verdicts::{BenchError, Side, Verdict};
 use shared_core::encoding::{DecodingError, RawMessage};
@@ -29,7 +28,7 @@ pub(crate) fn compare_commands(
     ignore: bool,
 ) -> Result<Option<Verdict>, BenchError>
     requires index { index < 2 ^ 63 }
-    requires recorded { IsCommand recorded.now }
+    requires command { IsCommand recorded.now }
     ensures { AnswersPair ignore index recorded.now replayed.now result }
 {
     if recorded.ty() != replayed.ty() {
@@ -37,6 +36,22 @@ pub(crate) fn compare_commands(
         let text = mismatch.to_string(alloc)?;
         return Ok(Some(Verdict::TypeMismatch { index, text }));
     }
+    compare_typed(alloc, index, recorded, replayed, ignore)
+}
+
+/// The same of two commands of one type.
+fn compare_typed(
+    alloc: Global,
+    index: u64,
+    recorded: &RawMessage,
+    replayed: &RawMessage,
+    ignore: bool,
+) -> Result<Option<Verdict>, BenchError>
+    requires index { index < 2 ^ 63 }
+    requires command { IsCommand recorded.now }
+    requires typed { recorded.now.header.ty ≡ replayed.now.header.ty }
+    ensures { AnswersPair ignore index recorded.now replayed.now result }
+{
     match recorded.ty() {
         MessageType::InputCommand => compare_as::<InputCommandMessage>(
             alloc, index, recorded, replayed, ignore,
@@ -112,9 +127,10 @@ fn compare_as<M: RestateMessage + CommandMessageHeaderEq + CommandMessageHeaderD
     ignore: bool,
 ) -> Result<Option<Verdict>, BenchError>
     requires index { index < 2 ^ 63 }
-    requires recorded { recorded.now.header.ty ≡ M.message_type }
-    requires replayed { replayed.now.header.ty ≡ M.message_type }
-    ensures { AnswersPayloads ignore index M.message_type (Some M.schema) recorded.now.payload replayed.now.payload result }
+    requires command { IsCommand recorded.now }
+    requires typed { recorded.now.header.ty ≡ replayed.now.header.ty }
+    requires is { recorded.now.header.ty ≡ M.message_type }
+    ensures { AnswersPair ignore index recorded.now replayed.now result }
 {
     let actual = decoded::<M>(alloc, Side::Recorded, index, recorded)?;
     let expected = decoded::<M>(alloc, Side::Replayed, index, replayed)?;

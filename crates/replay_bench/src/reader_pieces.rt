@@ -24,7 +24,7 @@ impl<R: Read + Drop> ReaderPieces<R> {
     /// The pieces that a reader gives, each of at most so many bytes, which is 1 at least.
     pub(crate) fn new(alloc: Global, reader: R, piece: usize) -> Result<ReaderPieces<R>, AllocError>
         requires { 1 ≤ piece }
-        ensures { IfOk result (λ source. source.reader ≡ reader.entry) }
+        ensures { IfOk result (λ source. source.reader ≡ reader) }
     {
         Ok(ReaderPieces {
             alloc,
