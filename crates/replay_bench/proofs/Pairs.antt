@@ -1,9 +1,8 @@
 -- What two commands answer.
-use Rattle.std.proofs.Common.{◌≡◌, ◌≢◌, ℕ, ℤ, pos, Bool, List, Option, Some, None, Result, Ok, Err, refl, sym, ap, ◌∙◌, subst, ⊎_elim}
-use Rattle.std.specs.Prelude.{codes, IsSome}
+use Rattle.std.proofs.Common.{Global, ◌≡◌, ◌≢◌, ℕ, ℤ, pos, Bool, List, Option, Some, None, Result, Ok, Err, refl, sym, ap, ◌∙◌, subst, ⊎_elim}
+use Rattle.std.specs.Prelude.{codes, IsSome, String}
 use Rattle.std.specs.Option.{IsSomeAnd}
 use Rattle.std.specs.String.{string_bytes}
-use Rattle.std.specs.declared.string.String.{String}
 use Rattle.shared_core_base.specs.declared.header.MessageType.{MessageType}
 use Rattle.shared_core_base.specs.declared.header.MessageType.TheVariants.{Suspension}
 use Rattle.shared_core_base.specs.CommandType.{command_type_of}
@@ -52,7 +51,7 @@ module _ (ignore : Bool) (index : ℕ) (actual expected : RawMessage) where
   pair_memory = tt
 
   -- the types differ
-  pub pair_types : (text : String) → actual.header.ty ≢ expected.header.ty → string_bytes text ≡ command_type_mismatch_text (pos index) actual.header.ty expected.header.ty → AnswersPair ignore index actual expected (Ok (Some (TypeMismatch index text)))
+  pub pair_types : (text : String Global) → actual.header.ty ≢ expected.header.ty → string_bytes text ≡ command_type_mismatch_text (pos index) actual.header.ty expected.header.ty → AnswersPair ignore index actual expected (Ok (Some (TypeMismatch index text)))
   unfolding AnswersPair
   pair_types text differ says = (refl, differ, says)
 
@@ -66,7 +65,7 @@ module _ (ignore : Bool) (index : ℕ) (actual expected : RawMessage) where
     pair_recorded parts OutOfMemory refused = tt
     pair_recorded parts TooLong refused = absurd refused
     pair_recorded parts (Malformed side at) refused =
-        (typed.one_type, refused.1, of_schema (IsMalformedOn side actual.payload expected.payload) (subst (λ on. IsMalformedOn on actual.payload expected.payload s) (sym refused.0) refused.2))
+        (typed.one_type, (refused.1, of_schema (IsMalformedOn side actual.payload expected.payload) (subst (λ on. IsMalformedOn on actual.payload expected.payload s) (sym refused.0) refused.2)))
 
     -- the replayed one is not
     pub pair_replayed : {M : Type 0} (parts : M → Parts) (one : Parts) (refusal : BenchError) → MeansParts s actual.payload one → AnswersDecoding s parts Replayed index expected.payload (Err refusal) → AnswersPair ignore index actual expected (Err refusal)
@@ -74,7 +73,7 @@ module _ (ignore : Bool) (index : ℕ) (actual expected : RawMessage) where
     pair_replayed parts one OutOfMemory means refused = tt
     pair_replayed parts one TooLong means refused = absurd refused
     pair_replayed parts one (Malformed side at) means refused =
-        (typed.one_type, refused.1, of_schema (IsMalformedOn side actual.payload expected.payload) (subst (λ on. IsMalformedOn on actual.payload expected.payload s) (sym refused.0) (means.0, refused.2)))
+        (typed.one_type, (refused.1, of_schema (IsMalformedOn side actual.payload expected.payload) (subst (λ on. IsMalformedOn on actual.payload expected.payload s) (sym refused.0) (means.0, refused.2))))
 
     module _ (one other : Parts) (means : MeansParts s actual.payload one) (means_other : MeansParts s expected.payload other) where
       -- both mean the same
@@ -84,16 +83,13 @@ module _ (ignore : Bool) (index : ℕ) (actual expected : RawMessage) where
           (typed.one_type, of_schema (MeanTheSame ignore actual.payload expected.payload) (means.0, means_other.0, ap (erased s ignore) (sym means.1) ∙ same ∙ ap (erased s ignore) means_other.1))
 
       -- they do not
-      pub pair_differs : (text : String) → ¬ (erased s ignore one ≡ erased s ignore other) → string_bytes text ≡ command_mismatch_text actual.header.ty (pos index) (difference s (codes "   ") one other) → AnswersPair ignore index actual expected (Ok (Some (HeaderMismatch index text)))
+      pub pair_differs : (text : String Global) → ¬ (erased s ignore one ≡ erased s ignore other) → string_bytes text ≡ command_mismatch_text actual.header.ty (pos index) (difference s (codes "   ") one other) → AnswersPair ignore index actual expected (Ok (Some (HeaderMismatch index text)))
       unfolding AnswersPair
-      pair_differs text differ says = (
-        typed.one_type,
-        refl,
-        of_schema (MeanOthers ignore index actual.header.ty actual.payload expected.payload (string_bytes text)) (
-          means.0,
-          means_other.0,
-          λ same. differ (ap (erased s ignore) means.1 ∙ same ∙ ap (erased s ignore) (sym means_other.1)),
-          says ∙ ap (λ v. command_mismatch_text actual.header.ty (pos index) (difference s (codes "   ") v other)) means.1
-              ∙ ap (λ v. command_mismatch_text actual.header.ty (pos index) (difference s (codes "   ") (payload_meaning s actual.payload) v)) means_other.1,
-        ),
-      )
+      pair_differs text differ says =
+          let as_read : string_bytes text ≡ command_mismatch_text actual.header.ty (pos index) (difference s (codes "   ") (payload_meaning s actual.payload) (payload_meaning s expected.payload)) =
+          says
+          ∙ ap (λ v. command_mismatch_text actual.header.ty (pos index) (difference s (codes "   ") v other)) means.1
+          ∙ ap (λ v. command_mismatch_text actual.header.ty (pos index) (difference s (codes "   ") (payload_meaning s actual.payload) v)) means_other.1 in
+          let not_same : ¬ (AreSame s ignore (payload_meaning s actual.payload) (payload_meaning s expected.payload)) =
+          λ same. differ (ap (erased s ignore) means.1 ∙ same ∙ ap (erased s ignore) (sym means_other.1)) in
+          (typed.one_type, (refl, of_schema (MeanOthers ignore index actual.header.ty actual.payload expected.payload (string_bytes text)) (means.0, means_other.0, not_same, as_read)))

@@ -31,12 +31,14 @@ pub(crate) fn compare_commands(
     requires command { IsCommand recorded.now }
     ensures { AnswersPair ignore index recorded.now replayed.now result }
 {
-    if recorded.ty() != replayed.ty() {
-        let mismatch = CommandTypeMismatchError::new(index as i64, recorded.ty(), replayed.ty());
-        let text = mismatch.to_string(alloc)?;
-        return Ok(Some(Verdict::TypeMismatch { index, text }));
+    let actual = recorded.ty();
+    let expected = replayed.ty();
+    if actual == expected {
+        return compare_typed(alloc, index, recorded, replayed, ignore);
     }
-    compare_typed(alloc, index, recorded, replayed, ignore)
+    let mismatch = CommandTypeMismatchError::new(index as i64, actual, expected);
+    let text = mismatch.to_string(alloc)?;
+    Ok(Some(Verdict::TypeMismatch { index, text }))
 }
 
 /// The same of two commands of one type.
