@@ -1,5 +1,6 @@
 -- How a comparison goes on, and how it ends.
-use Rattle.std.proofs.Common.{◌≡◌, ℕ, ◌+◌, Bool, true, List, [], ◌∷◌, Option, Some, None, Result, Ok, Err, refl, inl, inr, arith}
+use Rattle.std.proofs.Common.{◌≡◌, ℕ, ◌+◌, Bool, true, false, List, [], ◌∷◌, Option, Some, None, Result, Ok, Err, refl, inl, inr, arith}
+use Rattle.std.specs.Prelude.{MatchOption, is_some}
 use Rattle.shared_core_base.specs.declared.version.Version.{Version}
 use Rattle.shared_core.specs.declared.encoding.RawMessage.{RawMessage}
 use Rattle.replay_bench.specs.declared.verdicts.Side.{Side}
@@ -44,6 +45,10 @@ module _ (version : Version) (ignore : Bool) where
   }
 
   -- ---- one command of each is taken
+
+  pub are_alike : (index : ℕ) (actual expected : RawMessage) → AnswersPair ignore index actual expected (Ok None) → AreAlike ignore actual expected
+  unfolding AnswersPair
+  are_alike index actual expected is = is
 
   module _ (index : ℕ) (actual expected : RawMessage) where
     -- they are alike
@@ -108,6 +113,27 @@ module _ (version : Version) (ignore : Bool) where
   ends_replayed index actual (Some recorded) (Some replayed) (Some left) (Some others) (Some now) goes one none =
       let (rest, is) = journal_of version now in
       goes.decides (actual ∷ rest) [] (Ok (ReplayedEnded index)) (one rest is) none refl
+
+  -- What the next command of a journal is, or that there is none.
+  abbrev pub IsNext : Version → Option (List ℕ) → Option RawMessage → Option (List ℕ) → Type 0
+  IsNext v known found new = MatchOption found (HasNoCommand v known) (λ command. TakesFirst v known (Some command) new)
+
+  -- the recorded journal has ended, and the replayed one has not, or has
+  pub ends_first : (index : ℕ) (found : Option RawMessage) (recorded replayed left others then : Option (List ℕ)) → GoesOn recorded replayed index left others
+      → HasNoCommand version left → is_some found ≡ true → IsNext version others found then → IsKnownVerdict recorded replayed (Ok (RecordedEnded index))
+  ends_first index None recorded replayed left others then goes none some next = absurd (not_some some)
+    where
+      not_some : is_some {T = RawMessage} None ≡ true → ⊥
+      not_some is = cc
+  ends_first index (Some expected) recorded replayed left others then goes none some next = ends_recorded index expected recorded replayed left others then goes none next
+
+  pub ends_together : (index : ℕ) (found : Option RawMessage) (recorded replayed left others then : Option (List ℕ)) → GoesOn recorded replayed index left others
+      → HasNoCommand version left → is_some found ≡ false → IsNext version others found then → IsKnownVerdict recorded replayed (Ok (Same index))
+  ends_together index None recorded replayed left others then goes none ended next = ends_both index recorded replayed left others goes none next
+  ends_together index (Some expected) recorded replayed left others then goes none ended next = absurd (some ended)
+    where
+      some : is_some (Some expected) ≡ false → ⊥
+      some is = cc
 
   -- ---- what is answered then
 

@@ -41,7 +41,8 @@ impl<S: Source> Commands<S> {
 
     /// The next command, or `None` where the journal has no further one. A piece is asked for only where no whole item is at hand.
     pub(crate) fn next_command(&mut self) -> Result<Option<RawMessage>, ReaderError>
-        requires { length self.old.decoder.bytes ≤ self.old.taken }
+        requires held { length self.old.decoder.bytes ≤ self.old.taken }
+        requires fits { self.old.taken < 2 ^ 64 }
         ensures taken { IfOk result (λ found. MatchOption found
             (HasNoCommand self.old.decoder.version (prepend_known self.old.decoder.bytes (S.coming self.old.source)))
             (λ command. TakesFirst self.old.decoder.version (prepend_known self.old.decoder.bytes (S.coming self.old.source)) (Some command)
@@ -53,6 +54,7 @@ impl<S: Source> Commands<S> {
         ensures counted { IfOk result (λ found. IfSome found (λ command. KeepsLength
             (known_length self.old.taken (S.coming self.old.source)) (known_length self.new.taken (S.coming self.new.source)))) }
         ensures refused { IfErr result (MayRefuse self.old.side S.may_fail (known_length self.old.taken (S.coming self.old.source))) }
+        ensures fits { OnOk result (self.new.taken < 2 ^ 64) }
         ensures version { OnOk result (self.new.decoder.version ≡ self.old.decoder.version) }
         ensures side { OnOk result (self.new.side ≡ self.old.side) }
     {
@@ -78,6 +80,7 @@ fn push(decoder: &mut Decoder, taken: u64, piece: Bytes) -> Result<u64, BenchErr
     requires { length decoder.old.bytes ≤ taken }
     ensures pushed { OnOk result (decoder.new ≡ record decoder.old { bytes = decoder.old.bytes ++ piece }) }
     ensures counted { IfOk result (λ sum. sum ≡ taken + length piece) }
+    ensures fits { IfOk result (λ sum. sum < 2 ^ 64) }
     ensures refused { IfErr result (λ refusal. RefusesLength (taken + length piece) refusal) }
 {
     let Some(sum) = taken.checked_add(piece.len() as u64) else {

@@ -39,6 +39,7 @@ loop-command-preserved g c =
       version = ap (λ d. d.version) c.in_ok-self.ensures.pushed ∙ c.in_ok-command.ensures.version ∙ inv.version;
       side = inv.side;
       held = omega (arith, inv.held, short, c.in_ok-self.ensures.counted, long);
+      fits = c.in_ok-self.ensures.fits;
       shorter = omega (arith, inv.shorter, short, c.in_ok-self.ensures.counted, long);
       passed = takes_behind version _ _ _ _ (takes_behind version _ _ _ _ inv.passed (takes_held version _ _ old _ leads))
           (subst (λ (held : List ℕ). TakesFirst version (prepend_known before old) None (prepend_known held new)) (sym bytes) (takes_piece version before piece old new gives));

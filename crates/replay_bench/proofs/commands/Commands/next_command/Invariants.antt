@@ -1,4 +1,4 @@
-use Rattle.std.proofs.Common.{◌≡◌, ◌+◌, ◌≤◌, None, length}
+use Rattle.std.proofs.Common.{◌≡◌, ◌+◌, ◌^◌, ◌<◌, ◌≤◌, None, length}
 use Rattle.std.specs.Io.KnownBytes.{prepend_known}
 use Rattle.replay_bench.specs.Taking.{KeepsLength, TakesFirst, known_length}
 use Rattle.replay_bench.proofs.commands.Commands.next_command.Given as goal
@@ -8,6 +8,7 @@ invariant-loop-command g l = record {
   version : l.self.decoder.version ≡ l.fn.self.decoder.version;
   side : l.self.side ≡ l.fn.self.side;
   held : length l.self.decoder.bytes ≤ l.self.taken;
+  fits : l.self.taken < 2 ^ 64;
   shorter : length l.self.decoder.bytes + l.fn.self.taken ≤ length l.fn.self.decoder.bytes + l.self.taken;
   passed : TakesFirst l.fn.self.decoder.version
       (prepend_known l.fn.self.decoder.bytes (g.S.Source.coming l.fn.self.source))
