@@ -1,5 +1,6 @@
 #!/bin/sh
-# Measures the library and the peer: speed.sh [--only WORKLOAD] [--side ours|peer] [--what items|messages|encode|payloads|headers] [--rounds N]
+# Measures the library and the peer: speed.sh [--check] [--only WORKLOAD] [--side ours|peer] [--what items|messages|encode|payloads|headers]
+# [--piece N] [--row NAME] [--size N] [--rounds N]; README.md has the words
 set -u
 cd "$(dirname "$0")" || exit 1
 

@@ -3,6 +3,7 @@
 
 pub mod cases;
 pub mod conformance;
+pub mod hostile;
 #[cfg(feature = "library")]
 pub mod ours;
 pub mod peer;

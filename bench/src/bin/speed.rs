@@ -1,5 +1,6 @@
 //! Measures the library and the peer side by side, and prints a table in Markdown:
-//! speed [--check] [--only WORKLOAD] [--side ours|peer] [--what items|messages|encode|payloads|headers] [--piece N] [--rounds N]
+//! speed [--check] [--only WORKLOAD] [--side ours|peer] [--what items|messages|encode|payloads|headers] [--piece N] [--row NAME] [--size N]
+//! [--rounds N]
 //!
 //! With --side nothing is compared or printed: that side alone goes over the workload so many times, for a profiler. Before a table is printed,
 //! and by `speed --check` alone, the requests for memory show that the rounds are made and the pieces used that are asked for.
@@ -10,7 +11,9 @@ use std::hint::black_box;
 use std::process::ExitCode;
 use std::time::{Duration, Instant};
 
+use pendratsoa_bench::hostile::{self, Hostile};
 use pendratsoa_bench::random::Random;
+use pendratsoa_bench::schema;
 use pendratsoa_bench::streams::{self, Frame};
 use pendratsoa_bench::{ours, peer};
 
@@ -24,6 +27,17 @@ const MEASUREMENTS: usize = 15;
 
 /// How long a measurement takes at least.
 const LENGTH: Duration = Duration::from_millis(40);
+
+/// Of a hostile message there are more and shorter measurements, so that some are undisturbed also where the machine does other work.
+const HOSTILE_MEASUREMENTS: usize = 150;
+const HOSTILE_LENGTH: Duration = Duration::from_millis(1);
+
+/// The elements of a hostile message, at first, and how many times as many it has then.
+const SIZE: usize = 1000;
+const TIMES: [usize; 3] = [1, 4, 16];
+
+/// The name of the workload of hostile messages.
+const HOSTILE: &str = "hostile";
 
 /// Times, at least, that a frame is encoded for each time that its message is decoded.
 const ENCODINGS: usize = 64;
@@ -232,19 +246,23 @@ impl<'a> Bench<'a> {
     }
 
     /// How many rounds make a measurement: twice as many, until it is long enough for what is done once only to count little.
-    fn rounds(&mut self) -> Result<usize, Failed> {
+    fn rounds(&mut self, length: Duration) -> Result<usize, Failed> {
         let mut rounds = self.what.least_rounds();
-        while self.time(Side::Peer, rounds)? < LENGTH {
+        while self.time(Side::Peer, rounds)? < length {
             rounds *= 2;
         }
         Ok(rounds)
     }
 
-    /// The best times of a round, of both sides in turn.
-    fn best(&mut self) -> Result<(Duration, Duration), Failed> {
-        let rounds = self.rounds()?;
+    /// The best times of a round, of both sides in turn, in so many measurements of a length.
+    fn best(
+        &mut self,
+        measurements: usize,
+        length: Duration,
+    ) -> Result<(Duration, Duration), Failed> {
+        let rounds = self.rounds(length)?;
         let (mut ours, mut peer) = (Duration::MAX, Duration::MAX);
-        for _ in 0..MEASUREMENTS {
+        for _ in 0..measurements {
             ours = ours.min(self.time(Side::Ours, rounds)?);
             peer = peer.min(self.time(Side::Peer, rounds)?);
         }
@@ -272,7 +290,7 @@ impl<'a> Bench<'a> {
 
     /// A row of the table.
     fn row(&mut self) -> Result<(), Failed> {
-        let (ours, peer) = self.best()?;
+        let (ours, peer) = self.best(MEASUREMENTS, LENGTH)?;
         let frames = self.workload.frames.len();
         println!(
             "| {} | {} | {} | {} | {} | {:.2} | {:.2} | {:.2} |",
@@ -287,6 +305,106 @@ impl<'a> Bench<'a> {
         );
         Ok(())
     }
+}
+
+/// A hostile message at each of its sizes.
+struct Growing {
+    hostile: &'static Hostile,
+    size: usize,
+    workloads: [Workload; 3],
+}
+
+impl Growing {
+    fn new(hostile: &'static Hostile, size: usize) -> Growing {
+        let sized = |times| {
+            let frame = hostile.frame(times * size);
+            Workload::new(hostile.name, vec![frame], &[What::Messages])
+        };
+        Growing {
+            hostile,
+            size,
+            workloads: TIMES.map(sized),
+        }
+    }
+
+    fn benches(&self) -> impl Iterator<Item = Bench<'_>> {
+        self.workloads
+            .iter()
+            .map(|workload| Bench::new(workload, What::Messages, self.hostile.piece))
+    }
+
+    /// A row of the table.
+    fn row(&self) -> Result<(), Failed> {
+        let mut ours = Vec::new();
+        let mut peer = Vec::new();
+        let mut requests = (0.0, 0.0);
+        for mut bench in self.benches() {
+            let times = bench.best(HOSTILE_MEASUREMENTS, HOSTILE_LENGTH)?;
+            ours.push(times.0.as_secs_f64());
+            peer.push(times.1.as_secs_f64());
+            requests = (bench.requests(Side::Ours)?, bench.requests(Side::Peer)?);
+        }
+        let sizes = TIMES.map(|times| (times * self.size) as f64);
+        let each = |times: &[f64]| -> Vec<f64> {
+            let pairs = times.iter().zip(sizes);
+            pairs.map(|(time, size)| time * 1e9 / size).collect()
+        };
+        let grows = |times: &[f64]| -> Vec<f64> {
+            times.windows(2).map(|pair| pair[1] / pair[0]).collect()
+        };
+        let ratios: Vec<f64> = ours
+            .iter()
+            .zip(&peer)
+            .map(|(ours, peer)| ours / peer)
+            .collect();
+        println!(
+            "| {} | {} | {} | {} | {} | {} | {:.2} | {:.2} |",
+            self.hostile.name,
+            joined(&each(&ours), 1),
+            joined(&each(&peer), 1),
+            joined(&ratios, 2),
+            joined(&grows(&ours), 1),
+            joined(&grows(&peer), 1),
+            requests.0 / sizes[2],
+            requests.1 / sizes[2],
+        );
+        Ok(())
+    }
+
+    /// That both sides read the message as the same, that a further round asks for as much memory as the one before, and that what is asked for
+    /// does not grow faster than the message.
+    fn check(&self) -> Result<(), Failed> {
+        let name = self.hostile.name;
+        let frame = &self.workloads[0].frames[0];
+        let schema = schema::type_of_code(frame.code).map_or(0, |found| found.schema);
+        if ours::canonical(schema, &frame.payload)? != peer::canonical(schema, &frame.payload)? {
+            return Err(Failed(format!(
+                "{name}: it is read as two different messages"
+            )));
+        }
+        for side in [Side::Ours, Side::Peer] {
+            let mut most = f64::MAX;
+            for mut bench in self.benches() {
+                let of_a_round = bench.of_a_round(side)?;
+                let further = bench.counted(side, 5)? - bench.counted(side, 2)?;
+                let length = bench.workload.stream.len() as f64;
+                if further != 3 * of_a_round || of_a_round as f64 > most * length {
+                    return Err(Failed(format!(
+                        "{name}, {side:?}: {of_a_round} requests for memory in a round, {further} in three, at most {most:.3} for a byte"
+                    )));
+                }
+                // a list of elements that is moved to twice the room asks some times more
+                most = (of_a_round + 8) as f64 / length;
+            }
+        }
+        Ok(())
+    }
+}
+
+/// Numbers with so many places, one behind the other.
+fn joined(numbers: &[f64], places: usize) -> String {
+    let words = numbers.iter().map(|number| format!("{number:.places$}"));
+    words.collect::<Vec<_>>().join(", ")
 }
 
 /// What is to be checked of a side.
@@ -368,6 +486,8 @@ struct Options {
     side: Option<Side>,
     what: Option<What>,
     piece: Option<usize>,
+    row: Option<String>,
+    size: Option<usize>,
     rounds: Option<usize>,
     check: bool,
 }
@@ -386,6 +506,8 @@ impl Options {
                 "--side" => options.side = Some(side(&value)?),
                 "--what" => options.what = Some(what(&value)?),
                 "--piece" => options.piece = Some(value.parse().ok()?),
+                "--row" => options.row = Some(value),
+                "--size" => options.size = Some(value.parse().ok()?),
                 "--rounds" => options.rounds = Some(value.parse().ok()?),
                 _ => return None,
             }
@@ -409,6 +531,35 @@ impl Options {
             .map(|(what, piece)| Bench::new(workload, what, piece))
             .collect()
     }
+
+    /// Whether a workload is asked for.
+    fn takes(&self, workload: &str) -> bool {
+        self.only.as_ref().map_or(true, |name| name == workload)
+    }
+
+    /// The other workloads that are asked for. They are made only where one of them is.
+    fn workloads(&self) -> Vec<Workload> {
+        if self.row.is_some() || self.only.as_deref() == Some(HOSTILE) {
+            return Vec::new();
+        }
+        Workload::all()
+            .into_iter()
+            .filter(|workload| self.takes(workload.name))
+            .collect()
+    }
+
+    /// The hostile messages that are asked for.
+    fn hostile(&self) -> Vec<Growing> {
+        let is_measured = self.what.map_or(true, |what| what == What::Messages);
+        if !is_measured || !self.takes(HOSTILE) {
+            return Vec::new();
+        }
+        hostile::ALL
+            .iter()
+            .filter(|hostile| self.row.as_ref().map_or(true, |row| row == hostile.name))
+            .map(|hostile| Growing::new(hostile, self.size.unwrap_or(SIZE)))
+            .collect()
+    }
 }
 
 fn side(word: &str) -> Option<Side> {
@@ -427,25 +578,20 @@ fn what(word: &str) -> Option<What> {
 }
 
 fn measure(options: &Options) -> Result<(), Failed> {
-    let workloads: Vec<Workload> = Workload::all()
-        .into_iter()
-        .filter(|workload| {
-            options
-                .only
-                .as_ref()
-                .map_or(true, |name| name == workload.name)
-        })
-        .collect();
-    if workloads.is_empty() {
-        return Err(Failed("no workload has that name".into()));
+    let workloads = options.workloads();
+    let hostile = options.hostile();
+    if workloads.is_empty() && hostile.is_empty() {
+        return Err(Failed("no workload or row has that name".into()));
     }
-    let benches = || {
-        workloads
+    if let Some(side) = options.side {
+        let rounds = options.rounds.unwrap_or(1);
+        // of a hostile message the first size alone
+        let first = hostile.iter().flat_map(|growing| growing.benches().take(1));
+        return workloads
             .iter()
             .flat_map(|workload| options.benches(workload))
-    };
-    if let Some(side) = options.side {
-        return benches().try_for_each(|mut bench| bench.go(side, options.rounds.unwrap_or(1)));
+            .chain(first)
+            .try_for_each(|mut bench| bench.go(side, rounds));
     }
     for workload in &workloads {
         for &what in workload.whats {
@@ -453,11 +599,20 @@ fn measure(options: &Options) -> Result<(), Failed> {
             check(workload, what, Side::Peer)?;
         }
     }
+    hostile.iter().try_for_each(Growing::check)?;
     if options.check {
         println!("rounds are made and pieces used");
         return Ok(());
     }
-    for workload in &workloads {
+    measure_workloads(options, &workloads)?;
+    measure_hostile(&hostile)
+}
+
+fn measure_workloads(options: &Options, workloads: &[Workload]) -> Result<(), Failed> {
+    if workloads.is_empty() {
+        return Ok(());
+    }
+    for workload in workloads {
         let frames = workload.frames.len();
         let average = workload.stream.len() / frames - 8;
         println!(
@@ -468,13 +623,29 @@ fn measure(options: &Options) -> Result<(), Failed> {
     println!();
     println!("| workload | what | pieces | ours a second | peer a second | ours / peer | requests a frame, ours | peer |");
     println!("|---|---|---|---|---|---|---|---|");
-    benches().try_for_each(|mut bench| bench.row())
+    workloads
+        .iter()
+        .flat_map(|workload| options.benches(workload))
+        .try_for_each(|mut bench| bench.row())
+}
+
+fn measure_hostile(hostile: &[Growing]) -> Result<(), Failed> {
+    let Some(first) = hostile.first() else {
+        return Ok(());
+    };
+    let sizes = TIMES.map(|times| (times * first.size).to_string());
+    println!();
+    println!("hostile: messages of {} elements", sizes.join(", "));
+    println!();
+    println!("| hostile | ns an element, ours | peer | time, ours / peer | ours grows | peer grows | requests an element, ours | peer |");
+    println!("|---|---|---|---|---|---|---|---|");
+    hostile.iter().try_for_each(Growing::row)
 }
 
 fn main() -> ExitCode {
     let Some(options) = Options::read(env::args().skip(1)) else {
         eprintln!(
-            "usage: speed [--check] [--only WORKLOAD] [--side ours|peer] [--what items|messages|encode|payloads|headers] [--piece N] [--rounds N]"
+            "usage: speed [--check] [--only WORKLOAD] [--side ours|peer] [--what items|messages|encode|payloads|headers] [--piece N] [--row NAME] [--size N] [--rounds N]"
         );
         return ExitCode::from(2);
     };
