@@ -123,6 +123,7 @@ done | awk '
     number = numbers + 0
     if (arm ~ /^self\.[a-z_0-9]+ = Some\(field\./) { name = arm; sub(/^self\./, "", name); sub(/ .*/, "", name); method = arm; sub(/.*field\./, "", method); sub(/\(.*/, "", method); found[holder, number] = kinds[method] " optional - " name }
     else if (arm ~ /^self\.[a-z_0-9]+ = field\./) { name = arm; sub(/^self\./, "", name); sub(/ .*/, "", name); method = arm; sub(/.*field\./, "", method); sub(/\(.*/, "", method); found[holder, number] = kinds[method] " plain - " name }
+    else if (arm ~ /^field\.read_(optional_)?text\(/) { name = arm; sub(/.*self\./, "", name); sub(/\).*/, "", name); found[holder, number] = "text " (arm ~ /optional/ ? "optional" : "plain") " - " name }
     else if (arm ~ /^OneOf::merge_member/) { name = arm; sub(/.*self\./, "", name); sub(/,.*/, "", name); gsub(/ /, "", numbers); oneofs[holder, name] = numbers }
     else if (arm ~ /^field\.merge_optional_message/) { name = arm; sub(/.*self\./, "", name); sub(/\).*/, "", name); type = types[holder, name]; sub(/^Option</, "", type); sub(/>$/, "", type); found[holder, number] = type " message - " name }
     else if (arm ~ /^extend_[a-z_]+\(&mut self\./) { name = arm; sub(/.*self\./, "", name); sub(/,.*/, "", name); type = types[holder, name]; sub(/^Vec</, "", type); sub(/>$/, "", type); found[holder, number] = type " repeated - " name }
@@ -138,7 +139,8 @@ done | awk '
   }
   waiting != "" && /Some\([A-Za-z]+::[A-Za-z]+\(/ {
     name = $0; sub(/.*Some\([A-Za-z]+::/, "", name); sub(/\(.*/, "", name)
-    members[file, holder, waiting] = holds[file, holder, name] " " snake(name); waiting = ""
+    type = holds[file, holder, name]; if (type == "String") type = "text"
+    members[file, holder, waiting] = type " " snake(name); waiting = ""
   }
   END {
     for (record in records) if (print_empty[record]) print record

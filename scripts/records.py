@@ -285,7 +285,16 @@ def write_oneof(source, module, name, oneof, about):
             source.kinds.add(KINDS[member.kind])
             kind = KINDS[member.kind]
             held = TYPES[member.kind]
-            merge = f"            {number} => *oneof = Some({name}::{variant}(field.{METHODS[member.kind]}()?)),\n"
+            new = f"*oneof = Some({name}::{variant}(field.{METHODS[member.kind]}()?)),\n"
+            if member.kind == "text":
+                merge = (
+                    f"            {number} => match oneof {{\n"
+                    f"                Some({name}::{variant}({member.name})) => field.read_text({member.name})?,\n"
+                    f"                _ => {new}"
+                    "            },\n"
+                )
+            else:
+                merge = f"            {number} => {new}"
             function = f"{METHODS[member.kind]}_value"
             by = f"*{member.name}" if member.kind == "u32" else member.name
         declared += comment(member.comment, "    ") + f"    {variant}({held}),\n"
@@ -388,6 +397,8 @@ def write_record(source, crate, message, shared):
             empties.append(f"            {row.name}: None,\n")
             if row.kind == "message":
                 merges.append(f"            {number} => field.merge_optional_message(&mut self.{row.name})?,\n")
+            elif row.kind == "text":
+                merges.append(f"            {number} => field.read_optional_text(&mut self.{row.name})?,\n")
             else:
                 merges.append(f"            {number} => self.{row.name} = Some(field.{METHODS[row.kind]}()?),\n")
             method = f"optional_{'message' if row.kind == 'message' else METHODS[row.kind]}"
@@ -398,7 +409,10 @@ def write_record(source, crate, message, shared):
             fields.append(f"    pub {row.name}: {kind},\n")
             parts.append(source.part(row.kind, None, at))
             empties.append(f"            {row.name}: {EMPTY[row.kind]},\n")
-            merges.append(f"            {number} => self.{row.name} = field.{METHODS[row.kind]}()?,\n")
+            if row.kind == "text":
+                merges.append(f"            {number} => field.read_text(&mut self.{row.name})?,\n")
+            else:
+                merges.append(f"            {number} => self.{row.name} = field.{METHODS[row.kind]}()?,\n")
             by = f"&self.{row.name}" if row.kind in ("text", "bytes") else f"self.{row.name}"
             sizes.append(f"        size.{METHODS[row.kind]}({number}, {by});\n")
             writes.append(f"{source.writer(METHODS[row.kind])}(out, {number}, {by})")

@@ -53,7 +53,7 @@ impl WireRecord for AttachInvocationCommandMessage {
         match field.number {
             1 | 3 | 4 => OneOf::merge_member(&mut self.target, field)?,
             11 => self.result_completion_id = field.u32()?,
-            12 => self.name = field.text()?,
+            12 => field.read_text(&mut self.name)?,
             _ => {}
         }
         Ok(())

@@ -84,17 +84,17 @@ impl WireRecord for CallCommandMessage {
 
     fn merge_field(&mut self, field: &Occurrence<'_>) -> Result<(), WireError> {
         match field.number {
-            1 => self.service_name = field.text()?,
-            2 => self.handler_name = field.text()?,
+            1 => field.read_text(&mut self.service_name)?,
+            2 => field.read_text(&mut self.handler_name)?,
             3 => self.parameter = field.bytes()?,
             4 => field.extend_messages(&mut self.headers)?,
-            5 => self.key = field.text()?,
-            6 => self.idempotency_key = Some(field.text()?),
-            7 => self.scope = Some(field.text()?),
-            8 => self.limit_key = Some(field.text()?),
+            5 => field.read_text(&mut self.key)?,
+            6 => field.read_optional_text(&mut self.idempotency_key)?,
+            7 => field.read_optional_text(&mut self.scope)?,
+            8 => field.read_optional_text(&mut self.limit_key)?,
             10 => self.invocation_id_notification_idx = field.u32()?,
             11 => self.result_completion_id = field.u32()?,
-            12 => self.name = field.text()?,
+            12 => field.read_text(&mut self.name)?,
             _ => {}
         }
         Ok(())

@@ -116,9 +116,9 @@ impl WireRecord for CompleteAwakeableCommandMessage {
 
     fn merge_field(&mut self, field: &Occurrence<'_>) -> result::Result<(), WireError> {
         match field.number {
-            1 => self.awakeable_id = field.text()?,
+            1 => field.read_text(&mut self.awakeable_id)?,
             2 | 3 => OneOf::merge_member(&mut self.result, field)?,
-            12 => self.name = field.text()?,
+            12 => field.read_text(&mut self.name)?,
             _ => {}
         }
         Ok(())

@@ -137,10 +137,10 @@ impl WireRecord for CompletePromiseCommandMessage {
 
     fn merge_field(&mut self, field: &Occurrence<'_>) -> Result<(), WireError> {
         match field.number {
-            1 => self.key = field.text()?,
+            1 => field.read_text(&mut self.key)?,
             2 | 3 => OneOf::merge_member(&mut self.completion, field)?,
             11 => self.result_completion_id = field.u32()?,
-            12 => self.name = field.text()?,
+            12 => field.read_text(&mut self.name)?,
             _ => {}
         }
         Ok(())

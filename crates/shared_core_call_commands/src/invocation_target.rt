@@ -44,7 +44,12 @@ impl OneOf for InvocationTarget {
         field: &Occurrence<'_>,
     ) -> Result<(), WireError> {
         match field.number {
-            1 => *oneof = Some(InvocationTarget::InvocationId(field.text()?)),
+            1 => match oneof {
+                Some(InvocationTarget::InvocationId(invocation_id)) => field.read_text(
+                    invocation_id,
+                )?,
+                _ => *oneof = Some(InvocationTarget::InvocationId(field.text()?)),
+            },
             3 => match oneof {
                 Some(InvocationTarget::IdempotentRequestTarget(idempotent_request_target)) =>
                     field.merge_message(idempotent_request_target)?,

@@ -84,17 +84,17 @@ impl WireRecord for OneWayCallCommandMessage {
 
     fn merge_field(&mut self, field: &Occurrence<'_>) -> Result<(), WireError> {
         match field.number {
-            1 => self.service_name = field.text()?,
-            2 => self.handler_name = field.text()?,
+            1 => field.read_text(&mut self.service_name)?,
+            2 => field.read_text(&mut self.handler_name)?,
             3 => self.parameter = field.bytes()?,
             4 => self.invoke_time = field.u64()?,
             5 => field.extend_messages(&mut self.headers)?,
-            6 => self.key = field.text()?,
-            7 => self.idempotency_key = Some(field.text()?),
-            8 => self.scope = Some(field.text()?),
-            9 => self.limit_key = Some(field.text()?),
+            6 => field.read_text(&mut self.key)?,
+            7 => field.read_optional_text(&mut self.idempotency_key)?,
+            8 => field.read_optional_text(&mut self.scope)?,
+            9 => field.read_optional_text(&mut self.limit_key)?,
             10 => self.invocation_id_notification_idx = field.u32()?,
-            12 => self.name = field.text()?,
+            12 => field.read_text(&mut self.name)?,
             _ => {}
         }
         Ok(())

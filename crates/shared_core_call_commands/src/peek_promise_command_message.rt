@@ -49,9 +49,9 @@ impl WireRecord for PeekPromiseCommandMessage {
 
     fn merge_field(&mut self, field: &Occurrence<'_>) -> Result<(), WireError> {
         match field.number {
-            1 => self.key = field.text()?,
+            1 => field.read_text(&mut self.key)?,
             11 => self.result_completion_id = field.u32()?,
-            12 => self.name = field.text()?,
+            12 => field.read_text(&mut self.name)?,
             _ => {}
         }
         Ok(())

@@ -54,7 +54,10 @@ impl OneOf for SignalId {
     ) -> result::Result<(), WireError> {
         match field.number {
             2 => *oneof = Some(SignalId::Idx(field.u32()?)),
-            3 => *oneof = Some(SignalId::Name(field.text()?)),
+            3 => match oneof {
+                Some(SignalId::Name(name)) => field.read_text(name)?,
+                _ => *oneof = Some(SignalId::Name(field.text()?)),
+            },
             _ => unreachable!(),
         }
         Ok(())
@@ -187,10 +190,10 @@ impl WireRecord for SendSignalCommandMessage {
 
     fn merge_field(&mut self, field: &Occurrence<'_>) -> result::Result<(), WireError> {
         match field.number {
-            1 => self.target_invocation_id = field.text()?,
+            1 => field.read_text(&mut self.target_invocation_id)?,
             2 | 3 => OneOf::merge_member(&mut self.signal_id, field)?,
             4 | 5 | 6 => OneOf::merge_member(&mut self.result, field)?,
-            12 => self.entry_name = field.text()?,
+            12 => field.read_text(&mut self.entry_name)?,
             _ => {}
         }
         Ok(())

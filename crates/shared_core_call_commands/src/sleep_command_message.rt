@@ -51,7 +51,7 @@ impl WireRecord for SleepCommandMessage {
         match field.number {
             1 => self.wake_up_time = field.u64()?,
             11 => self.result_completion_id = field.u32()?,
-            12 => self.name = field.text()?,
+            12 => field.read_text(&mut self.name)?,
             _ => {}
         }
         Ok(())

@@ -46,7 +46,7 @@ impl WireRecord for CallInvocationIdCompletionNotificationMessage {
     fn merge_field(&mut self, field: &Occurrence<'_>) -> Result<(), WireError> {
         match field.number {
             1 => self.completion_id = field.u32()?,
-            16 => self.invocation_id = field.text()?,
+            16 => field.read_text(&mut self.invocation_id)?,
             _ => {}
         }
         Ok(())

@@ -50,7 +50,10 @@ impl OneOf for SignalId {
     ) -> result::Result<(), WireError> {
         match field.number {
             2 => *oneof = Some(SignalId::Idx(field.u32()?)),
-            3 => *oneof = Some(SignalId::Name(field.text()?)),
+            3 => match oneof {
+                Some(SignalId::Name(name)) => field.read_text(name)?,
+                _ => *oneof = Some(SignalId::Name(field.text()?)),
+            },
             _ => unreachable!(),
         }
         Ok(())

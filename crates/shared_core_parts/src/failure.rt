@@ -85,7 +85,7 @@ impl WireRecord for Failure {
     fn merge_field(&mut self, field: &Occurrence<'_>) -> Result<(), WireError> {
         match field.number {
             1 => self.code = field.u32()?,
-            2 => self.message = field.text()?,
+            2 => field.read_text(&mut self.message)?,
             3 => field.extend_messages(&mut self.metadata)?,
             _ => {}
         }

@@ -36,8 +36,8 @@ impl WireRecord for FailureMetadata {
 
     fn merge_field(&mut self, field: &Occurrence<'_>) -> Result<(), WireError> {
         match field.number {
-            1 => self.key = field.text()?,
-            2 => self.value = field.text()?,
+            1 => field.read_text(&mut self.key)?,
+            2 => field.read_text(&mut self.value)?,
             _ => {}
         }
         Ok(())

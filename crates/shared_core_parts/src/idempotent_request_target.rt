@@ -48,11 +48,11 @@ impl WireRecord for IdempotentRequestTarget {
 
     fn merge_field(&mut self, field: &Occurrence<'_>) -> Result<(), WireError> {
         match field.number {
-            1 => self.service_name = field.text()?,
-            2 => self.service_key = Some(field.text()?),
-            3 => self.handler_name = field.text()?,
-            4 => self.idempotency_key = field.text()?,
-            5 => self.scope = Some(field.text()?),
+            1 => field.read_text(&mut self.service_name)?,
+            2 => field.read_optional_text(&mut self.service_key)?,
+            3 => field.read_text(&mut self.handler_name)?,
+            4 => field.read_text(&mut self.idempotency_key)?,
+            5 => field.read_optional_text(&mut self.scope)?,
             _ => {}
         }
         Ok(())

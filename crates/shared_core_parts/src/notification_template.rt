@@ -100,7 +100,10 @@ impl OneOf for Id {
         match field.number {
             1 => *oneof = Some(Id::CompletionId(field.u32()?)),
             2 => *oneof = Some(Id::SignalId(field.u32()?)),
-            3 => *oneof = Some(Id::SignalName(field.text()?)),
+            3 => match oneof {
+                Some(Id::SignalName(signal_name)) => field.read_text(signal_name)?,
+                _ => *oneof = Some(Id::SignalName(field.text()?)),
+            },
             _ => unreachable!(),
         }
         Ok(())
@@ -208,7 +211,10 @@ impl OneOf for Result {
                 Some(Result::Failure(failure)) => field.merge_message(failure)?,
                 _ => *oneof = Some(Result::Failure(field.message()?)),
             },
-            16 => *oneof = Some(Result::InvocationId(field.text()?)),
+            16 => match oneof {
+                Some(Result::InvocationId(invocation_id)) => field.read_text(invocation_id)?,
+                _ => *oneof = Some(Result::InvocationId(field.text()?)),
+            },
             17 => match oneof {
                 Some(Result::StateKeys(state_keys)) => field.merge_message(state_keys)?,
                 _ => *oneof = Some(Result::StateKeys(field.message()?)),

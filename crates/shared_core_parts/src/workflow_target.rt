@@ -40,9 +40,9 @@ impl WireRecord for WorkflowTarget {
 
     fn merge_field(&mut self, field: &Occurrence<'_>) -> Result<(), WireError> {
         match field.number {
-            1 => self.workflow_name = field.text()?,
-            2 => self.workflow_key = field.text()?,
-            3 => self.scope = Some(field.text()?),
+            1 => field.read_text(&mut self.workflow_name)?,
+            2 => field.read_text(&mut self.workflow_key)?,
+            3 => field.read_optional_text(&mut self.scope)?,
             _ => {}
         }
         Ok(())

@@ -73,10 +73,10 @@ impl WireRecord for ErrorMessage {
     fn merge_field(&mut self, field: &Occurrence<'_>) -> Result<(), WireError> {
         match field.number {
             1 => self.code = field.u32()?,
-            2 => self.message = field.text()?,
-            3 => self.stacktrace = field.text()?,
+            2 => field.read_text(&mut self.message)?,
+            3 => field.read_text(&mut self.stacktrace)?,
             4 => self.related_command_index = Some(field.u32()?),
-            5 => self.related_command_name = Some(field.text()?),
+            5 => field.read_optional_text(&mut self.related_command_name)?,
             6 => self.related_command_type = Some(field.u32()?),
             8 => self.next_retry_delay = Some(field.u64()?),
             9 => self.behavior = field.enumeration()?,

@@ -90,17 +90,17 @@ impl WireRecord for StartMessage {
     fn merge_field(&mut self, field: &Occurrence<'_>) -> Result<(), WireError> {
         match field.number {
             1 => self.id = field.bytes()?,
-            2 => self.debug_id = field.text()?,
+            2 => field.read_text(&mut self.debug_id)?,
             3 => self.known_entries = field.u32()?,
             4 => field.extend_messages(&mut self.state_map)?,
             5 => self.partial_state = field.boolean()?,
-            6 => self.key = field.text()?,
+            6 => field.read_text(&mut self.key)?,
             7 => self.retry_count_since_last_stored_entry = field.u32()?,
             8 => self.duration_since_last_stored_entry = field.u64()?,
             9 => self.random_seed = field.u64()?,
-            10 => self.scope = Some(field.text()?),
-            11 => self.limit_key = Some(field.text()?),
-            12 => self.idempotency_key = Some(field.text()?),
+            10 => field.read_optional_text(&mut self.scope)?,
+            11 => field.read_optional_text(&mut self.limit_key)?,
+            12 => field.read_optional_text(&mut self.idempotency_key)?,
             _ => {}
         }
         Ok(())

@@ -117,7 +117,7 @@ impl WireRecord for GetEagerStateCommandMessage {
     fn merge_field(&mut self, field: &Occurrence<'_>) -> result::Result<(), WireError> {
         match field.number {
             1 => self.key = field.bytes()?,
-            12 => self.name = field.text()?,
+            12 => field.read_text(&mut self.name)?,
             13 | 14 => OneOf::merge_member(&mut self.result, field)?,
             _ => {}
         }

@@ -46,7 +46,7 @@ impl WireRecord for GetEagerStateKeysCommandMessage {
 
     fn merge_field(&mut self, field: &Occurrence<'_>) -> Result<(), WireError> {
         match field.number {
-            12 => self.name = field.text()?,
+            12 => field.read_text(&mut self.name)?,
             14 => field.merge_optional_message(&mut self.value)?,
             _ => {}
         }

@@ -51,7 +51,7 @@ impl WireRecord for GetLazyStateCommandMessage {
         match field.number {
             1 => self.key = field.bytes()?,
             11 => self.result_completion_id = field.u32()?,
-            12 => self.name = field.text()?,
+            12 => field.read_text(&mut self.name)?,
             _ => {}
         }
         Ok(())

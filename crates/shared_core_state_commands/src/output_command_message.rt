@@ -112,7 +112,7 @@ impl WireRecord for OutputCommandMessage {
 
     fn merge_field(&mut self, field: &Occurrence<'_>) -> result::Result<(), WireError> {
         match field.number {
-            12 => self.name = field.text()?,
+            12 => field.read_text(&mut self.name)?,
             14 | 15 => OneOf::merge_member(&mut self.result, field)?,
             _ => {}
         }

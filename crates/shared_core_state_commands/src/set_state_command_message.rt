@@ -52,7 +52,7 @@ impl WireRecord for SetStateCommandMessage {
         match field.number {
             1 => self.key = field.bytes()?,
             3 => field.merge_optional_message(&mut self.value)?,
-            12 => self.name = field.text()?,
+            12 => field.read_text(&mut self.name)?,
             _ => {}
         }
         Ok(())
