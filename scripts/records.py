@@ -218,8 +218,6 @@ class Source:
             uses.add(f"shared_core_record::write::{{{', '.join(sorted(self.writers))}}}")
         if self.shadowed:
             uses.add("std::result")
-        if "std::alloc::{AllocError, Global}" in uses:
-            uses.discard("std::alloc::AllocError")
         code = "".join(self.body)
         if "Bytes" in code.replace("ByteString", ""):
             uses.add("bytes::Bytes")
@@ -252,7 +250,6 @@ def write_oneof(source, module, name, oneof, about):
         "shared_core_record::oneof::OneOf",
         "shared_core_record::size::Size",
         "shared_core_wire::error::WireError",
-        "std::alloc::AllocError",
     }
     source.values.add("Member")
     source.prelude |= {"[]", "◌∷◌", "refl"}
@@ -302,7 +299,7 @@ def write_oneof(source, module, name, oneof, about):
         parts.append(f"      | {variants}.{variant} x ↦ Member {number} ({source.part(member.kind, member.message, 'x')})\n")
         merges.append(merge)
         sizes.append(f"            {name}::{variant}({member.name}) => size.{function}({number}, {by}),\n")
-        writes.append(f"            {name}::{variant}({member.name}) => {source.writer(function)}(out, {number}, {by}),\n")
+        writes.append(f"            {name}::{variant}({member.name}) => {source.writer(function)}(out, end, {number}, {by}),\n")
         presents.append(f"{variants}.{variant} x ↦ refl")
         search = f"({', '.join(rules)})" if len(rules) > 1 else rules[0]
         equals.append(
@@ -324,7 +321,7 @@ def write_oneof(source, module, name, oneof, about):
         + "    fn measure(&self, size: &mut Size) {\n        match self {\n"
         + "".join(sizes)
         + "        }\n    }\n\n"
-        + f"    fn encode_raw(&self, out: &mut Vec<u8>) -> {result}<(), AllocError> {{\n        match self {{\n"
+        + "    fn encode_back(&self, out: &mut [u8], end: usize) -> usize {\n        match self {\n"
         + "".join(writes)
         + "        }\n    }\n\n"
         + "".join(law_lines)
@@ -345,7 +342,7 @@ def write_record(source, crate, message, shared):
         "shared_core_record::record::WireRecord",
         "shared_core_record::size::Size",
         "shared_core_wire::error::WireError",
-        "std::alloc::{AllocError, Global}",
+        "std::alloc::Global",
     }
     source.values.add("nil")
     fields, parts, empties, merges, sizes, writes = [], [], [], [], [], []
@@ -370,7 +367,7 @@ def write_record(source, crate, message, shared):
             numbers = " | ".join(str(member.number) for member in row.members)
             merges.append(f"            {numbers} => OneOf::merge_member(&mut self.{row.name}, field)?,\n")
             sizes.append(f"        size.oneof(&self.{row.name});\n")
-            writes.append(f"{source.writer('oneof')}(out, &self.{row.name})")
+            writes.append(f"{source.writer('oneof')}(out, end, &self.{row.name})")
             home, enum_name = shared.get(row.name, (module, enum))
             law(*laws(crate, home, enum_name, "OneOf", row.name))
             continue
@@ -387,7 +384,7 @@ def write_record(source, crate, message, shared):
             empties.append(f"            {row.name}: Vec::new(alloc),\n")
             merges.append(f"            {number} => field.extend_{EXTENDS[row.kind]}(&mut self.{row.name})?,\n")
             sizes.append(f"        size.{REPEATED[row.kind]}({number}, &self.{row.name});\n")
-            writes.append(f"{source.writer(REPEATED[row.kind])}(out, {number}, &self.{row.name})")
+            writes.append(f"{source.writer(REPEATED[row.kind])}(out, end, {number}, &self.{row.name})")
         elif row.presence in ("optional", "message"):
             source.views.add("option_part")
             view = source.part(row.kind, row.message, "")
@@ -404,7 +401,7 @@ def write_record(source, crate, message, shared):
             method = f"optional_{'message' if row.kind == 'message' else METHODS[row.kind]}"
             by = f"self.{row.name}" if row.kind in ("u32", "u64") else f"&self.{row.name}"
             sizes.append(f"        size.{method}({number}, {by});\n")
-            writes.append(f"{source.writer(method)}(out, {number}, {by})")
+            writes.append(f"{source.writer(method)}(out, end, {number}, {by})")
         else:
             fields.append(f"    pub {row.name}: {kind},\n")
             parts.append(source.part(row.kind, None, at))
@@ -415,7 +412,7 @@ def write_record(source, crate, message, shared):
                 merges.append(f"            {number} => self.{row.name} = field.{METHODS[row.kind]}()?,\n")
             by = f"&self.{row.name}" if row.kind in ("text", "bytes") else f"self.{row.name}"
             sizes.append(f"        size.{METHODS[row.kind]}({number}, {by});\n")
-            writes.append(f"{source.writer(METHODS[row.kind])}(out, {number}, {by})")
+            writes.append(f"{source.writer(METHODS[row.kind])}(out, end, {number}, {by})")
     value = "nil"
     for part in reversed(parts):
         value = f"cons ({part})\n        ({value})" if value != "nil" else f"cons ({part}) nil"
@@ -425,9 +422,10 @@ def write_record(source, crate, message, shared):
     depth = f" depth {2 * len(message.rows) + 12}" if message.rows else ""
     if message.rows:
         merge = "        match field.number {\n" + "".join(merges) + "            _ => {}\n        }\n        Ok(())\n"
-        write = "".join(f"        {line}?;\n" for line in writes[:-1]) + f"        {writes[-1]}\n"
+        # the last field is written first
+        write = "".join(f"        let end = {line};\n" for line in reversed(writes[1:])) + f"        {writes[0]}\n"
     else:
-        merge, write = "        Ok(())\n", "        Ok(())\n"
+        merge, write = "        Ok(())\n", "        end\n"
     declared = "{\n" + "".join(fields) + "}" if message.rows else "{}"
     built = "{\n" + "".join(empties) + "        }" if message.rows else "{}"
     unused = "" if message.rows else "_"
@@ -441,7 +439,7 @@ def write_record(source, crate, message, shared):
         + f"    fn empty({alloc}: Global) -> {name} {{\n        {name} {built}\n    }}\n\n"
         + f"    fn merge_field(&mut self, {unused}field: &Occurrence<'_>) -> {result}<(), WireError> {{\n{merge}    }}\n\n"
         + f"    fn measure(&self, {unused}size: &mut Size) {{\n{''.join(sizes)}    }}\n\n"
-        + f"    fn encode_raw(&self, {unused}out: &mut Vec<u8>) -> {result}<(), AllocError> {{\n{write}    }}\n\n"
+        + f"    fn encode_back(&self, {unused}out: &mut [u8], end: usize) -> usize {{\n{write}    }}\n\n"
         + "".join(law_lines)
         + ("\n" if law_lines else "")
         + f"    ghost equality = {{ Prim.search {search}{depth} }};\n}}\n"
@@ -470,18 +468,17 @@ def write_message(source, name):
     source.prelude.add("false")
     source.ghosts.add("Rattle.shared_core_parts.specs.Frames.{plain_form}")
     source.uses |= {
-        "shared_core_parts::restate_message::{RestateEncodableMessage, RestateMessage, encode_frame}",
+        "shared_core_parts::restate_message::{RestateEncodableMessage, RestateMessage, encode_frame_into}",
         "shared_core_base::version::Version",
         "shared_core_record::error::EncodingError",
-        "bytes::Bytes",
     }
     source.uses.discard("shared_core_parts::restate_message::RestateMessage")
     source.body.append(
         f"\nimpl RestateEncodableMessage for {name} {{\n"
         f"    ghost wire_form = {{ λ message _. plain_form tables.{schema_name(name)} (⟦<{name} as WireRecord>⟧.parts message) }};\n\n"
         "    ghost is_rewritten = { λ _. false };\n\n"
-        f"    fn encode(&self, alloc: Global, _version: Version) -> {result}<Bytes, EncodingError> {{\n"
-        "        encode_frame(self, alloc, None)\n    }\n}\n"
+        f"    fn encode_into(&self, _version: Version, out: &mut Vec<u8>) -> {result}<(), EncodingError> {{\n"
+        "        encode_frame_into(self, None, out)\n    }\n}\n"
     )
 
 

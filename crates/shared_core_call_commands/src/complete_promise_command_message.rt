@@ -10,11 +10,12 @@ ghost use Rattle.shared_core_record.specs.Table as tables;
 ghost use Rattle.shared_core_record.specs.FieldParts.{message_part, option_part, text_part};
 ghost use Rattle.shared_core_record.specs.EqualityRules.{different_members, equality_rules};
 
-use bytes::Bytes;
 use shared_core_base::header::MessageType;
 use shared_core_base::version::Version;
 use shared_core_parts::failure::Failure;
-use shared_core_parts::restate_message::{RestateEncodableMessage, RestateMessage, encode_frame};
+use shared_core_parts::restate_message::{
+    RestateEncodableMessage, RestateMessage, encode_frame_into,
+};
 use shared_core_parts::value::Value;
 use shared_core_record::error::EncodingError;
 use shared_core_record::occurrence::Occurrence;
@@ -23,7 +24,7 @@ use shared_core_record::record::WireRecord;
 use shared_core_record::size::Size;
 use shared_core_record::write::{write_message_value, write_oneof, write_text, write_u32};
 use shared_core_wire::error::WireError;
-use std::alloc::{AllocError, Global};
+use std::alloc::Global;
 
 /// What it is completed with.
 #[derive(Debug, PartialEq, Drop)]
@@ -79,15 +80,17 @@ impl OneOf for Completion {
         }
     }
 
-    fn encode_raw(&self, out: &mut Vec<u8>) -> Result<(), AllocError> {
+    fn encode_back(&self, out: &mut [u8], end: usize) -> usize {
         match self {
             Completion::CompletionValue(completion_value) => write_message_value(
                 out,
+                end,
                 2,
                 completion_value,
             ),
             Completion::CompletionFailure(completion_failure) => write_message_value(
                 out,
+                end,
                 3,
                 completion_failure,
             ),
@@ -153,11 +156,11 @@ impl WireRecord for CompletePromiseCommandMessage {
         size.text(12, &self.name);
     }
 
-    fn encode_raw(&self, out: &mut Vec<u8>) -> Result<(), AllocError> {
-        write_text(out, 1, &self.key)?;
-        write_oneof(out, &self.completion)?;
-        write_u32(out, 11, self.result_completion_id)?;
-        write_text(out, 12, &self.name)
+    fn encode_back(&self, out: &mut [u8], end: usize) -> usize {
+        let end = write_text(out, end, 12, &self.name);
+        let end = write_u32(out, end, 11, self.result_completion_id);
+        let end = write_oneof(out, end, &self.completion);
+        write_text(out, end, 1, &self.key)
     }
 
     ghost use Rattle.shared_core_call_commands.specs.contracts.complete_promise_command_message.CompletionOneOf.TheImpl.Laws.{equality-law as completion_equality, present-law as completion_present};
@@ -182,7 +185,7 @@ impl RestateEncodableMessage for CompletePromiseCommandMessage {
 
     ghost is_rewritten = { λ _. false };
 
-    fn encode(&self, alloc: Global, _version: Version) -> Result<Bytes, EncodingError> {
-        encode_frame(self, alloc, None)
+    fn encode_into(&self, _version: Version, out: &mut Vec<u8>) -> Result<(), EncodingError> {
+        encode_frame_into(self, None, out)
     }
 }

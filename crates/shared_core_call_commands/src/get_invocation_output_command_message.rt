@@ -10,10 +10,11 @@ ghost use Rattle.shared_core_record.specs.FieldParts.{option_part, text_part};
 ghost use Rattle.shared_core_record.specs.EqualityRules.{equality_rules};
 
 pub use crate::invocation_target::InvocationTarget as Target;
-use bytes::Bytes;
 use shared_core_base::header::MessageType;
 use shared_core_base::version::Version;
-use shared_core_parts::restate_message::{RestateEncodableMessage, RestateMessage, encode_frame};
+use shared_core_parts::restate_message::{
+    RestateEncodableMessage, RestateMessage, encode_frame_into,
+};
 use shared_core_record::error::EncodingError;
 use shared_core_record::occurrence::Occurrence;
 use shared_core_record::oneof::OneOf;
@@ -21,7 +22,7 @@ use shared_core_record::record::WireRecord;
 use shared_core_record::size::Size;
 use shared_core_record::write::{write_oneof, write_text, write_u32};
 use shared_core_wire::error::WireError;
-use std::alloc::{AllocError, Global};
+use std::alloc::Global;
 
 /// Looks at the result of an invocation without awaiting it.
 #[derive(Debug, PartialEq, Drop)]
@@ -65,10 +66,10 @@ impl WireRecord for GetInvocationOutputCommandMessage {
         size.text(12, &self.name);
     }
 
-    fn encode_raw(&self, out: &mut Vec<u8>) -> Result<(), AllocError> {
-        write_oneof(out, &self.target)?;
-        write_u32(out, 11, self.result_completion_id)?;
-        write_text(out, 12, &self.name)
+    fn encode_back(&self, out: &mut [u8], end: usize) -> usize {
+        let end = write_text(out, end, 12, &self.name);
+        let end = write_u32(out, end, 11, self.result_completion_id);
+        write_oneof(out, end, &self.target)
     }
 
     ghost use Rattle.shared_core_call_commands.specs.contracts.invocation_target.InvocationTargetOneOf.TheImpl.Laws.{equality-law as target_equality, present-law as target_present};
@@ -93,7 +94,7 @@ impl RestateEncodableMessage for GetInvocationOutputCommandMessage {
 
     ghost is_rewritten = { λ _. false };
 
-    fn encode(&self, alloc: Global, _version: Version) -> Result<Bytes, EncodingError> {
-        encode_frame(self, alloc, None)
+    fn encode_into(&self, _version: Version, out: &mut Vec<u8>) -> Result<(), EncodingError> {
+        encode_frame_into(self, None, out)
     }
 }

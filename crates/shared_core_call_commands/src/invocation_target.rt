@@ -15,7 +15,6 @@ use shared_core_record::record::WireRecord;
 use shared_core_record::size::Size;
 use shared_core_record::write::{write_message_value, write_text_value};
 use shared_core_wire::error::WireError;
-use std::alloc::AllocError;
 
 /// Which invocation a command is about.
 #[derive(Debug, PartialEq, Drop)]
@@ -78,17 +77,19 @@ impl OneOf for InvocationTarget {
         }
     }
 
-    fn encode_raw(&self, out: &mut Vec<u8>) -> Result<(), AllocError> {
+    fn encode_back(&self, out: &mut [u8], end: usize) -> usize {
         match self {
             InvocationTarget::InvocationId(invocation_id) => write_text_value(
                 out,
+                end,
                 1,
                 invocation_id,
             ),
             InvocationTarget::IdempotentRequestTarget(idempotent_request_target) =>
-                write_message_value(out, 3, idempotent_request_target),
+                write_message_value(out, end, 3, idempotent_request_target),
             InvocationTarget::WorkflowTarget(workflow_target) => write_message_value(
                 out,
+                end,
                 4,
                 workflow_target,
             ),

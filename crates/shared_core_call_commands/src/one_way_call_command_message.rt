@@ -13,7 +13,9 @@ use bytes::Bytes;
 use shared_core_base::header::MessageType;
 use shared_core_base::version::Version;
 use shared_core_parts::header::Header;
-use shared_core_parts::restate_message::{RestateEncodableMessage, RestateMessage, encode_frame};
+use shared_core_parts::restate_message::{
+    RestateEncodableMessage, RestateMessage, encode_frame_into,
+};
 use shared_core_record::error::EncodingError;
 use shared_core_record::occurrence::Occurrence;
 use shared_core_record::record::WireRecord;
@@ -22,7 +24,7 @@ use shared_core_record::write::{
     write_bytes, write_messages, write_optional_text, write_text, write_u32, write_u64,
 };
 use shared_core_wire::error::WireError;
-use std::alloc::{AllocError, Global};
+use std::alloc::Global;
 
 /// Calls a handler without awaiting its result.
 #[derive(Debug, PartialEq, Drop)]
@@ -114,18 +116,18 @@ impl WireRecord for OneWayCallCommandMessage {
         size.text(12, &self.name);
     }
 
-    fn encode_raw(&self, out: &mut Vec<u8>) -> Result<(), AllocError> {
-        write_text(out, 1, &self.service_name)?;
-        write_text(out, 2, &self.handler_name)?;
-        write_bytes(out, 3, &self.parameter)?;
-        write_u64(out, 4, self.invoke_time)?;
-        write_messages(out, 5, &self.headers)?;
-        write_text(out, 6, &self.key)?;
-        write_optional_text(out, 7, &self.idempotency_key)?;
-        write_optional_text(out, 8, &self.scope)?;
-        write_optional_text(out, 9, &self.limit_key)?;
-        write_u32(out, 10, self.invocation_id_notification_idx)?;
-        write_text(out, 12, &self.name)
+    fn encode_back(&self, out: &mut [u8], end: usize) -> usize {
+        let end = write_text(out, end, 12, &self.name);
+        let end = write_u32(out, end, 10, self.invocation_id_notification_idx);
+        let end = write_optional_text(out, end, 9, &self.limit_key);
+        let end = write_optional_text(out, end, 8, &self.scope);
+        let end = write_optional_text(out, end, 7, &self.idempotency_key);
+        let end = write_text(out, end, 6, &self.key);
+        let end = write_messages(out, end, 5, &self.headers);
+        let end = write_u64(out, end, 4, self.invoke_time);
+        let end = write_bytes(out, end, 3, &self.parameter);
+        let end = write_text(out, end, 2, &self.handler_name);
+        write_text(out, end, 1, &self.service_name)
     }
 
     ghost use Rattle.shared_core_parts.specs.contracts.header.HeaderWireRecord.TheImpl.Laws.{equality-law as header_equality};
@@ -150,7 +152,7 @@ impl RestateEncodableMessage for OneWayCallCommandMessage {
 
     ghost is_rewritten = { λ _. false };
 
-    fn encode(&self, alloc: Global, _version: Version) -> Result<Bytes, EncodingError> {
-        encode_frame(self, alloc, None)
+    fn encode_into(&self, _version: Version, out: &mut Vec<u8>) -> Result<(), EncodingError> {
+        encode_frame_into(self, None, out)
     }
 }

@@ -9,17 +9,18 @@ ghost use Rattle.shared_core_record.specs.Table as tables;
 ghost use Rattle.shared_core_record.specs.FieldParts.{text_part};
 ghost use Rattle.shared_core_record.specs.EqualityRules.{equality_rules};
 
-use bytes::Bytes;
 use shared_core_base::header::MessageType;
 use shared_core_base::version::Version;
-use shared_core_parts::restate_message::{RestateEncodableMessage, RestateMessage, encode_frame};
+use shared_core_parts::restate_message::{
+    RestateEncodableMessage, RestateMessage, encode_frame_into,
+};
 use shared_core_record::error::EncodingError;
 use shared_core_record::occurrence::Occurrence;
 use shared_core_record::record::WireRecord;
 use shared_core_record::size::Size;
 use shared_core_record::write::{write_text, write_u32};
 use shared_core_wire::error::WireError;
-use std::alloc::{AllocError, Global};
+use std::alloc::Global;
 
 /// Looks at a promise without awaiting it.
 #[derive(Debug, PartialEq, Drop)]
@@ -63,10 +64,10 @@ impl WireRecord for PeekPromiseCommandMessage {
         size.text(12, &self.name);
     }
 
-    fn encode_raw(&self, out: &mut Vec<u8>) -> Result<(), AllocError> {
-        write_text(out, 1, &self.key)?;
-        write_u32(out, 11, self.result_completion_id)?;
-        write_text(out, 12, &self.name)
+    fn encode_back(&self, out: &mut [u8], end: usize) -> usize {
+        let end = write_text(out, end, 12, &self.name);
+        let end = write_u32(out, end, 11, self.result_completion_id);
+        write_text(out, end, 1, &self.key)
     }
 
     ghost equality = { Prim.search equality_rules depth 18 };
@@ -89,7 +90,7 @@ impl RestateEncodableMessage for PeekPromiseCommandMessage {
 
     ghost is_rewritten = { λ _. false };
 
-    fn encode(&self, alloc: Global, _version: Version) -> Result<Bytes, EncodingError> {
-        encode_frame(self, alloc, None)
+    fn encode_into(&self, _version: Version, out: &mut Vec<u8>) -> Result<(), EncodingError> {
+        encode_frame_into(self, None, out)
     }
 }

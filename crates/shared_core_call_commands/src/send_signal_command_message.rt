@@ -10,11 +10,12 @@ ghost use Rattle.shared_core_record.specs.Table as tables;
 ghost use Rattle.shared_core_record.specs.FieldParts.{message_part, option_part, text_part};
 ghost use Rattle.shared_core_record.specs.EqualityRules.{different_members, equality_rules};
 
-use bytes::Bytes;
 use shared_core_base::header::MessageType;
 use shared_core_base::version::Version;
 use shared_core_parts::failure::Failure;
-use shared_core_parts::restate_message::{RestateEncodableMessage, RestateMessage, encode_frame};
+use shared_core_parts::restate_message::{
+    RestateEncodableMessage, RestateMessage, encode_frame_into,
+};
 use shared_core_parts::value::Value;
 use shared_core_parts::void::Void;
 use shared_core_record::error::EncodingError;
@@ -26,7 +27,7 @@ use shared_core_record::write::{
     write_message_value, write_oneof, write_text, write_text_value, write_u32_value,
 };
 use shared_core_wire::error::WireError;
-use std::alloc::{AllocError, Global};
+use std::alloc::Global;
 use std::result;
 
 /// Which signal it is.
@@ -70,10 +71,10 @@ impl OneOf for SignalId {
         }
     }
 
-    fn encode_raw(&self, out: &mut Vec<u8>) -> result::Result<(), AllocError> {
+    fn encode_back(&self, out: &mut [u8], end: usize) -> usize {
         match self {
-            SignalId::Idx(idx) => write_u32_value(out, 2, *idx),
-            SignalId::Name(name) => write_text_value(out, 3, name),
+            SignalId::Idx(idx) => write_u32_value(out, end, 2, *idx),
+            SignalId::Name(name) => write_text_value(out, end, 3, name),
         }
     }
 
@@ -137,11 +138,11 @@ impl OneOf for Result {
         }
     }
 
-    fn encode_raw(&self, out: &mut Vec<u8>) -> result::Result<(), AllocError> {
+    fn encode_back(&self, out: &mut [u8], end: usize) -> usize {
         match self {
-            Result::Void(void) => write_message_value(out, 4, void),
-            Result::Value(value) => write_message_value(out, 5, value),
-            Result::Failure(failure) => write_message_value(out, 6, failure),
+            Result::Void(void) => write_message_value(out, end, 4, void),
+            Result::Value(value) => write_message_value(out, end, 5, value),
+            Result::Failure(failure) => write_message_value(out, end, 6, failure),
         }
     }
 
@@ -206,11 +207,11 @@ impl WireRecord for SendSignalCommandMessage {
         size.text(12, &self.entry_name);
     }
 
-    fn encode_raw(&self, out: &mut Vec<u8>) -> result::Result<(), AllocError> {
-        write_text(out, 1, &self.target_invocation_id)?;
-        write_oneof(out, &self.signal_id)?;
-        write_oneof(out, &self.result)?;
-        write_text(out, 12, &self.entry_name)
+    fn encode_back(&self, out: &mut [u8], end: usize) -> usize {
+        let end = write_text(out, end, 12, &self.entry_name);
+        let end = write_oneof(out, end, &self.result);
+        let end = write_oneof(out, end, &self.signal_id);
+        write_text(out, end, 1, &self.target_invocation_id)
     }
 
     ghost use Rattle.shared_core_call_commands.specs.contracts.send_signal_command_message.SignalIdOneOf.TheImpl.Laws.{equality-law as signal_id_equality, present-law as signal_id_present};
@@ -236,7 +237,11 @@ impl RestateEncodableMessage for SendSignalCommandMessage {
 
     ghost is_rewritten = { λ _. false };
 
-    fn encode(&self, alloc: Global, _version: Version) -> result::Result<Bytes, EncodingError> {
-        encode_frame(self, alloc, None)
+    fn encode_into(
+        &self,
+        _version: Version,
+        out: &mut Vec<u8>,
+    ) -> result::Result<(), EncodingError> {
+        encode_frame_into(self, None, out)
     }
 }

@@ -16,7 +16,6 @@ use shared_core_record::record::WireRecord;
 use shared_core_record::size::Size;
 use shared_core_record::write::write_message_value;
 use shared_core_wire::error::WireError;
-use std::alloc::AllocError;
 
 /// A result that may be nothing, a value or a failure.
 #[derive(Debug, PartialEq, Drop)]
@@ -70,11 +69,11 @@ impl OneOf for AnyResult {
         }
     }
 
-    fn encode_raw(&self, out: &mut Vec<u8>) -> Result<(), AllocError> {
+    fn encode_back(&self, out: &mut [u8], end: usize) -> usize {
         match self {
-            AnyResult::Void(void) => write_message_value(out, 4, void),
-            AnyResult::Value(value) => write_message_value(out, 5, value),
-            AnyResult::Failure(failure) => write_message_value(out, 6, failure),
+            AnyResult::Void(void) => write_message_value(out, end, 4, void),
+            AnyResult::Value(value) => write_message_value(out, end, 5, value),
+            AnyResult::Failure(failure) => write_message_value(out, end, 6, failure),
         }
     }
 

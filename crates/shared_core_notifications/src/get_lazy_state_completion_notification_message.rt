@@ -10,10 +10,11 @@ ghost use Rattle.shared_core_record.specs.Table as tables;
 ghost use Rattle.shared_core_record.specs.FieldParts.{message_part, option_part};
 ghost use Rattle.shared_core_record.specs.EqualityRules.{different_members, equality_rules};
 
-use bytes::Bytes;
 use shared_core_base::header::MessageType;
 use shared_core_base::version::Version;
-use shared_core_parts::restate_message::{RestateEncodableMessage, RestateMessage, encode_frame};
+use shared_core_parts::restate_message::{
+    RestateEncodableMessage, RestateMessage, encode_frame_into,
+};
 use shared_core_parts::value::Value;
 use shared_core_parts::void::Void;
 use shared_core_record::error::EncodingError;
@@ -23,7 +24,7 @@ use shared_core_record::record::WireRecord;
 use shared_core_record::size::Size;
 use shared_core_record::write::{write_message_value, write_oneof, write_u32};
 use shared_core_wire::error::WireError;
-use std::alloc::{AllocError, Global};
+use std::alloc::Global;
 use std::result;
 
 /// The result.
@@ -70,10 +71,10 @@ impl OneOf for Result {
         }
     }
 
-    fn encode_raw(&self, out: &mut Vec<u8>) -> result::Result<(), AllocError> {
+    fn encode_back(&self, out: &mut [u8], end: usize) -> usize {
         match self {
-            Result::Void(void) => write_message_value(out, 4, void),
-            Result::Value(value) => write_message_value(out, 5, value),
+            Result::Void(void) => write_message_value(out, end, 4, void),
+            Result::Value(value) => write_message_value(out, end, 5, value),
         }
     }
 
@@ -124,9 +125,9 @@ impl WireRecord for GetLazyStateCompletionNotificationMessage {
         size.oneof(&self.result);
     }
 
-    fn encode_raw(&self, out: &mut Vec<u8>) -> result::Result<(), AllocError> {
-        write_u32(out, 1, self.completion_id)?;
-        write_oneof(out, &self.result)
+    fn encode_back(&self, out: &mut [u8], end: usize) -> usize {
+        let end = write_oneof(out, end, &self.result);
+        write_u32(out, end, 1, self.completion_id)
     }
 
     ghost use Rattle.shared_core_notifications.specs.contracts.get_lazy_state_completion_notification_message.ResultOneOf.TheImpl.Laws.{equality-law as result_equality, present-law as result_present};
@@ -151,7 +152,11 @@ impl RestateEncodableMessage for GetLazyStateCompletionNotificationMessage {
 
     ghost is_rewritten = { λ _. false };
 
-    fn encode(&self, alloc: Global, _version: Version) -> result::Result<Bytes, EncodingError> {
-        encode_frame(self, alloc, None)
+    fn encode_into(
+        &self,
+        _version: Version,
+        out: &mut Vec<u8>,
+    ) -> result::Result<(), EncodingError> {
+        encode_frame_into(self, None, out)
     }
 }

@@ -9,10 +9,11 @@ ghost use Rattle.shared_core_record.specs.Table as tables;
 ghost use Rattle.shared_core_record.specs.FieldParts.{message_part, option_part};
 ghost use Rattle.shared_core_record.specs.EqualityRules.{equality_rules};
 
-use bytes::Bytes;
 use shared_core_base::header::MessageType;
 use shared_core_base::version::Version;
-use shared_core_parts::restate_message::{RestateEncodableMessage, RestateMessage, encode_frame};
+use shared_core_parts::restate_message::{
+    RestateEncodableMessage, RestateMessage, encode_frame_into,
+};
 use shared_core_parts::state_keys::StateKeys;
 use shared_core_record::error::EncodingError;
 use shared_core_record::occurrence::Occurrence;
@@ -20,7 +21,7 @@ use shared_core_record::record::WireRecord;
 use shared_core_record::size::Size;
 use shared_core_record::write::{write_optional_message, write_u32};
 use shared_core_wire::error::WireError;
-use std::alloc::{AllocError, Global};
+use std::alloc::Global;
 
 /// The keys that were asked for.
 #[derive(Debug, PartialEq, Drop)]
@@ -58,9 +59,9 @@ impl WireRecord for GetLazyStateKeysCompletionNotificationMessage {
         size.optional_message(17, &self.state_keys);
     }
 
-    fn encode_raw(&self, out: &mut Vec<u8>) -> Result<(), AllocError> {
-        write_u32(out, 1, self.completion_id)?;
-        write_optional_message(out, 17, &self.state_keys)
+    fn encode_back(&self, out: &mut [u8], end: usize) -> usize {
+        let end = write_optional_message(out, end, 17, &self.state_keys);
+        write_u32(out, end, 1, self.completion_id)
     }
 
     ghost use Rattle.shared_core_parts.specs.contracts.state_keys.StateKeysWireRecord.TheImpl.Laws.{equality-law as state_keys_equality};
@@ -85,7 +86,7 @@ impl RestateEncodableMessage for GetLazyStateKeysCompletionNotificationMessage {
 
     ghost is_rewritten = { λ _. false };
 
-    fn encode(&self, alloc: Global, _version: Version) -> Result<Bytes, EncodingError> {
-        encode_frame(self, alloc, None)
+    fn encode_into(&self, _version: Version, out: &mut Vec<u8>) -> Result<(), EncodingError> {
+        encode_frame_into(self, None, out)
     }
 }

@@ -10,10 +10,11 @@ ghost use Rattle.shared_core_record.specs.FieldParts.{option_part};
 ghost use Rattle.shared_core_record.specs.EqualityRules.{equality_rules};
 
 pub use crate::any_result::AnyResult as Result;
-use bytes::Bytes;
 use shared_core_base::header::MessageType;
 use shared_core_base::version::Version;
-use shared_core_parts::restate_message::{RestateEncodableMessage, RestateMessage, encode_frame};
+use shared_core_parts::restate_message::{
+    RestateEncodableMessage, RestateMessage, encode_frame_into,
+};
 use shared_core_record::error::EncodingError;
 use shared_core_record::occurrence::Occurrence;
 use shared_core_record::oneof::OneOf;
@@ -21,7 +22,7 @@ use shared_core_record::record::WireRecord;
 use shared_core_record::size::Size;
 use shared_core_record::write::{write_oneof, write_u32};
 use shared_core_wire::error::WireError;
-use std::alloc::{AllocError, Global};
+use std::alloc::Global;
 use std::result;
 
 /// The result of a promise that was looked at.
@@ -60,9 +61,9 @@ impl WireRecord for PeekPromiseCompletionNotificationMessage {
         size.oneof(&self.result);
     }
 
-    fn encode_raw(&self, out: &mut Vec<u8>) -> result::Result<(), AllocError> {
-        write_u32(out, 1, self.completion_id)?;
-        write_oneof(out, &self.result)
+    fn encode_back(&self, out: &mut [u8], end: usize) -> usize {
+        let end = write_oneof(out, end, &self.result);
+        write_u32(out, end, 1, self.completion_id)
     }
 
     ghost use Rattle.shared_core_notifications.specs.contracts.any_result.AnyResultOneOf.TheImpl.Laws.{equality-law as result_equality, present-law as result_present};
@@ -87,7 +88,11 @@ impl RestateEncodableMessage for PeekPromiseCompletionNotificationMessage {
 
     ghost is_rewritten = { λ _. false };
 
-    fn encode(&self, alloc: Global, _version: Version) -> result::Result<Bytes, EncodingError> {
-        encode_frame(self, alloc, None)
+    fn encode_into(
+        &self,
+        _version: Version,
+        out: &mut Vec<u8>,
+    ) -> result::Result<(), EncodingError> {
+        encode_frame_into(self, None, out)
     }
 }

@@ -11,10 +11,11 @@ ghost use Rattle.shared_core_record.specs.FieldParts.{option_part, text_part};
 ghost use Rattle.shared_core_record.specs.EqualityRules.{different_members, equality_rules};
 
 pub use crate::any_result::AnyResult as Result;
-use bytes::Bytes;
 use shared_core_base::header::MessageType;
 use shared_core_base::version::Version;
-use shared_core_parts::restate_message::{RestateEncodableMessage, RestateMessage, encode_frame};
+use shared_core_parts::restate_message::{
+    RestateEncodableMessage, RestateMessage, encode_frame_into,
+};
 use shared_core_record::error::EncodingError;
 use shared_core_record::occurrence::Occurrence;
 use shared_core_record::oneof::OneOf;
@@ -22,7 +23,7 @@ use shared_core_record::record::WireRecord;
 use shared_core_record::size::Size;
 use shared_core_record::write::{write_oneof, write_text_value, write_u32_value};
 use shared_core_wire::error::WireError;
-use std::alloc::{AllocError, Global};
+use std::alloc::Global;
 use std::result;
 
 /// Which signal it is.
@@ -66,10 +67,10 @@ impl OneOf for SignalId {
         }
     }
 
-    fn encode_raw(&self, out: &mut Vec<u8>) -> result::Result<(), AllocError> {
+    fn encode_back(&self, out: &mut [u8], end: usize) -> usize {
         match self {
-            SignalId::Idx(idx) => write_u32_value(out, 2, *idx),
-            SignalId::Name(name) => write_text_value(out, 3, name),
+            SignalId::Idx(idx) => write_u32_value(out, end, 2, *idx),
+            SignalId::Name(name) => write_text_value(out, end, 3, name),
         }
     }
 
@@ -117,9 +118,9 @@ impl WireRecord for SignalNotificationMessage {
         size.oneof(&self.result);
     }
 
-    fn encode_raw(&self, out: &mut Vec<u8>) -> result::Result<(), AllocError> {
-        write_oneof(out, &self.signal_id)?;
-        write_oneof(out, &self.result)
+    fn encode_back(&self, out: &mut [u8], end: usize) -> usize {
+        let end = write_oneof(out, end, &self.result);
+        write_oneof(out, end, &self.signal_id)
     }
 
     ghost use Rattle.shared_core_notifications.specs.contracts.signal_notification_message.SignalIdOneOf.TheImpl.Laws.{equality-law as signal_id_equality, present-law as signal_id_present};
@@ -145,7 +146,11 @@ impl RestateEncodableMessage for SignalNotificationMessage {
 
     ghost is_rewritten = { λ _. false };
 
-    fn encode(&self, alloc: Global, _version: Version) -> result::Result<Bytes, EncodingError> {
-        encode_frame(self, alloc, None)
+    fn encode_into(
+        &self,
+        _version: Version,
+        out: &mut Vec<u8>,
+    ) -> result::Result<(), EncodingError> {
+        encode_frame_into(self, None, out)
     }
 }

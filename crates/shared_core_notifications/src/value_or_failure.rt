@@ -15,7 +15,6 @@ use shared_core_record::record::WireRecord;
 use shared_core_record::size::Size;
 use shared_core_record::write::write_message_value;
 use shared_core_wire::error::WireError;
-use std::alloc::AllocError;
 
 /// A result that is a value or a failure.
 #[derive(Debug, PartialEq, Drop)]
@@ -61,10 +60,10 @@ impl OneOf for ValueOrFailure {
         }
     }
 
-    fn encode_raw(&self, out: &mut Vec<u8>) -> Result<(), AllocError> {
+    fn encode_back(&self, out: &mut [u8], end: usize) -> usize {
         match self {
-            ValueOrFailure::Value(value) => write_message_value(out, 5, value),
-            ValueOrFailure::Failure(failure) => write_message_value(out, 6, failure),
+            ValueOrFailure::Value(value) => write_message_value(out, end, 5, value),
+            ValueOrFailure::Failure(failure) => write_message_value(out, end, 6, failure),
         }
     }
 

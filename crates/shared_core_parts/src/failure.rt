@@ -17,7 +17,7 @@ use shared_core_record::record::WireRecord;
 use shared_core_record::size::Size;
 use shared_core_record::write::{write_messages, write_text, write_u32};
 use shared_core_wire::error::WireError;
-use std::alloc::{AllocError, Global};
+use std::alloc::Global;
 use std::fmt;
 
 /// A terminal failure, which is a result as a value is.
@@ -98,10 +98,10 @@ impl WireRecord for Failure {
         size.messages(3, &self.metadata);
     }
 
-    fn encode_raw(&self, out: &mut Vec<u8>) -> Result<(), AllocError> {
-        write_u32(out, 1, self.code)?;
-        write_text(out, 2, &self.message)?;
-        write_messages(out, 3, &self.metadata)
+    fn encode_back(&self, out: &mut [u8], end: usize) -> usize {
+        let end = write_messages(out, end, 3, &self.metadata);
+        let end = write_text(out, end, 2, &self.message);
+        write_u32(out, end, 1, self.code)
     }
 
     ghost use Rattle.shared_core_parts.specs.contracts.failure_metadata.FailureMetadataWireRecord.TheImpl.Laws.{equality-law as failure_metadata_equality};

@@ -10,7 +10,7 @@ use shared_core_record::record::WireRecord;
 use shared_core_record::size::Size;
 use shared_core_record::write::write_text;
 use shared_core_wire::error::WireError;
-use std::alloc::{AllocError, Global};
+use std::alloc::Global;
 
 /// An entry of the metadata of a failure.
 #[derive(Debug, PartialEq, Drop)]
@@ -48,9 +48,9 @@ impl WireRecord for FailureMetadata {
         size.text(2, &self.value);
     }
 
-    fn encode_raw(&self, out: &mut Vec<u8>) -> Result<(), AllocError> {
-        write_text(out, 1, &self.key)?;
-        write_text(out, 2, &self.value)
+    fn encode_back(&self, out: &mut [u8], end: usize) -> usize {
+        let end = write_text(out, end, 2, &self.value);
+        write_text(out, end, 1, &self.key)
     }
 
     ghost equality = { Prim.search equality_rules };

@@ -1,6 +1,6 @@
 //! What an invocation waits for, as a tree.
 
-ghost use Rattle.std.specs.Prelude.{◌≡◌, ◌+◌, ◌++◌, length, IfOk, OnOk, false};
+ghost use Rattle.std.specs.Prelude.{◌≡◌, ◌+◌, ◌≤◌, ◌++◌, length, drop, IfOk, OnOk, false};
 ghost use Rattle.std.specs.Result.{IsErrOf};
 ghost use Rattle.shared_core_wire.specs.Items.{record_items};
 ghost use Rattle.shared_core_wire.specs.Schema.{Message, Repeated};
@@ -11,9 +11,8 @@ ghost use Rattle.shared_core_record.specs.FieldParts.{message_part};
 ghost use Rattle.shared_core_record.specs.Computed.{IsComputed};
 ghost use Rattle.shared_core_record.specs.Folding.{fold_items};
 ghost use Rattle.shared_core_record.specs.Occurrences.{schema_accepts, RecordMerges, field_accepts, FieldBecomes, repeated_accepts, FieldExtends, merged_with};
-ghost use Rattle.shared_core_record.specs.RowSpelling.{capped, value_bytes, measured_row, measured_rows, with_row, with_rows};
+ghost use Rattle.shared_core_record.specs.RowSpelling.{capped, value_bytes, measured_row, measured_rows, before_row, before_rows, row_size, rows_size};
 ghost use Rattle.shared_core_record.specs.RowFitting.{ValueFits, FieldFits, FieldsFit};
-ghost use Rattle.shared_core_record.specs.SmallRows.{IsSmallValue, IsSmall, AreSmall};
 ghost use Rattle.shared_core_record.specs.Equality.{part_equal, parts_equal};
 ghost use Rattle.shared_core_wire.specs.declared.error.WireError.TheVariants as error;
 ghost use Rattle.shared_core_parts.specs.Futures.{future_parts, future_elements, futures_part};
@@ -25,7 +24,7 @@ use shared_core_record::size::Size;
 use shared_core_record::write::{write_enumeration, write_length, write_texts, write_u32s};
 use shared_core_wire::error::WireError;
 use shared_core_wire::records::Records;
-use std::alloc::{AllocError, Global};
+use std::alloc::Global;
 
 /// What an invocation waits for, as a tree: ids and names at each future, and the futures that it combines.
 #[derive(Debug, Drop)]
@@ -59,8 +58,8 @@ impl WireRecord for Future {
         measure_future(self, size);
     }
 
-    fn encode_raw(&self, out: &mut Vec<u8>) -> Result<(), AllocError> {
-        encode_future(self, out)
+    fn encode_back(&self, out: &mut [u8], end: usize) -> usize {
+        encode_future(self, out, end)
     }
 
     ghost use Rattle.shared_core_record.specs.EqualityRules.{parts_equal_decides};
@@ -189,39 +188,43 @@ fn measure_nested(future: &Future, size: &mut Size)
 }
 
 #[cycle(encode_future)]
-fn encode_future(future: &Future, out: &mut Vec<u8>) -> Result<(), AllocError>
-    requires small { AreSmall (table tables.future) (future_parts future.now) }
-    ensures { OnOk result (out.new.items ≡ with_rows (table tables.future) (future_parts future.now) out.old.items) }
+fn encode_future(future: &Future, out: &mut [u8], end: usize) -> usize
+    requires within { end ≤ length out.old }
+    requires room { rows_size (table tables.future) (future_parts future.now) ≤ end }
+    ensures start { result + rows_size (table tables.future) (future_parts future.now) ≡ end }
+    ensures written { drop result out.new ≡ before_rows (table tables.future) (future_parts future.now) (drop end out.old) }
 {
-    write_u32s(out, 1, &future.waiting_completions)?;
-    write_u32s(out, 2, &future.waiting_signals)?;
-    write_texts(out, 3, &future.waiting_named_signals)?;
-    encode_futures(&future.nested_futures, out)?;
-    write_enumeration(out, 5, future.combinator_type)
+    let end = write_enumeration(out, end, 5, future.combinator_type);
+    let end = encode_futures(&future.nested_futures, out, end);
+    let end = write_texts(out, end, 3, &future.waiting_named_signals);
+    let end = write_u32s(out, end, 2, &future.waiting_signals);
+    write_u32s(out, end, 1, &future.waiting_completions)
 }
 
 #[cycle(encode_future)]
-fn encode_futures(futures: &Vec<Future>, out: &mut Vec<u8>) -> Result<(), AllocError>
-    requires small { IsSmall (Repeated 4 (Message tables.future)) (futures_part futures.now.items) }
-    ensures { OnOk result (out.new.items ≡ with_row (Repeated 4 (Message tables.future)) (futures_part futures.now.items) out.old.items) }
+fn encode_futures(futures: &Vec<Future>, out: &mut [u8], end: usize) -> usize
+    requires within { end ≤ length out.old }
+    requires room { row_size (Repeated 4 (Message tables.future)) (futures_part futures.now.items) ≤ end }
+    ensures start { result + row_size (Repeated 4 (Message tables.future)) (futures_part futures.now.items) ≡ end }
+    ensures written { drop result out.new ≡ before_row (Repeated 4 (Message tables.future)) (futures_part futures.now.items) (drop end out.old) }
 {
-    for future in futures {
-        encode_nested(future, out)?;
+    let mut start = end;
+    for i in (0..futures.len()).rev() {
+        start = encode_nested(&futures[i], out, start);
     }
-    Ok(())
+    start
 }
 
 #[cycle(encode_future)]
-#[tactic(auto, using(shared_core_record::proofs::SmallParts::message_written, shared_core_record::proofs::SmallParts::small_message))]
-fn encode_nested(future: &Future, out: &mut Vec<u8>) -> Result<(), AllocError>
-    requires small { IsSmallValue 4 (Message tables.future) (message_part future_parts future.now) }
-    ensures { OnOk result (out.new.items ≡ out.old.items ++ value_bytes 4 (Message tables.future) (message_part future_parts future.now)) }
+#[tactic(auto, using(shared_core_record::proofs::Backwards::message_before, shared_core_record::proofs::Backwards::message_size))]
+fn encode_nested(future: &Future, out: &mut [u8], end: usize) -> usize
+    requires within { end ≤ length out.old }
+    requires room { length (value_bytes 4 (Message tables.future) (message_part future_parts future.now)) ≤ end }
+    ensures start { result + length (value_bytes 4 (Message tables.future) (message_part future_parts future.now)) ≡ end }
+    ensures written { drop result out.new ≡ value_bytes 4 (Message tables.future) (message_part future_parts future.now) ++ drop end out.old }
 {
-    let mut nested = Size::new();
-    measure_future(future, &mut nested);
-    write_length(out, 4, &nested)?;
-    encode_future(future, out)?;
-    Ok(())
+    let start = encode_future(future, out, end);
+    write_length(out, start, 4, end - start)
 }
 
 #[cycle(futures_equal)]

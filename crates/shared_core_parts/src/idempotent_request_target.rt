@@ -10,7 +10,7 @@ use shared_core_record::record::WireRecord;
 use shared_core_record::size::Size;
 use shared_core_record::write::{write_optional_text, write_text};
 use shared_core_wire::error::WireError;
-use std::alloc::{AllocError, Global};
+use std::alloc::Global;
 
 /// A request with an idempotency key, as a target.
 #[derive(Debug, PartialEq, Drop)]
@@ -66,12 +66,12 @@ impl WireRecord for IdempotentRequestTarget {
         size.optional_text(5, &self.scope);
     }
 
-    fn encode_raw(&self, out: &mut Vec<u8>) -> Result<(), AllocError> {
-        write_text(out, 1, &self.service_name)?;
-        write_optional_text(out, 2, &self.service_key)?;
-        write_text(out, 3, &self.handler_name)?;
-        write_text(out, 4, &self.idempotency_key)?;
-        write_optional_text(out, 5, &self.scope)
+    fn encode_back(&self, out: &mut [u8], end: usize) -> usize {
+        let end = write_optional_text(out, end, 5, &self.scope);
+        let end = write_text(out, end, 4, &self.idempotency_key);
+        let end = write_text(out, end, 3, &self.handler_name);
+        let end = write_optional_text(out, end, 2, &self.service_key);
+        write_text(out, end, 1, &self.service_name)
     }
 
     ghost equality = { Prim.search equality_rules depth 22 };

@@ -21,7 +21,7 @@ use shared_core_record::write::{
     write_message_value, write_oneof, write_text_value, write_u32_value,
 };
 use shared_core_wire::error::WireError;
-use std::alloc::{AllocError, Global};
+use std::alloc::Global;
 use std::result;
 
 /// What all notifications have in common: an id and a result. A payload of any notification may be read as one.
@@ -60,9 +60,9 @@ impl WireRecord for NotificationTemplate {
         size.oneof(&self.result);
     }
 
-    fn encode_raw(&self, out: &mut Vec<u8>) -> result::Result<(), AllocError> {
-        write_oneof(out, &self.id)?;
-        write_oneof(out, &self.result)
+    fn encode_back(&self, out: &mut [u8], end: usize) -> usize {
+        let end = write_oneof(out, end, &self.result);
+        write_oneof(out, end, &self.id)
     }
 
     ghost use Rattle.shared_core_parts.specs.contracts.notification_template.IdOneOf.TheImpl.Laws.{equality-law as id_equality, present-law as id_present};
@@ -117,11 +117,11 @@ impl OneOf for Id {
         }
     }
 
-    fn encode_raw(&self, out: &mut Vec<u8>) -> result::Result<(), AllocError> {
+    fn encode_back(&self, out: &mut [u8], end: usize) -> usize {
         match self {
-            Id::CompletionId(completion_id) => write_u32_value(out, 1, *completion_id),
-            Id::SignalId(signal_id) => write_u32_value(out, 2, *signal_id),
-            Id::SignalName(signal_name) => write_text_value(out, 3, signal_name),
+            Id::CompletionId(completion_id) => write_u32_value(out, end, 1, *completion_id),
+            Id::SignalId(signal_id) => write_u32_value(out, end, 2, *signal_id),
+            Id::SignalName(signal_name) => write_text_value(out, end, 3, signal_name),
         }
     }
 
@@ -234,13 +234,13 @@ impl OneOf for Result {
         }
     }
 
-    fn encode_raw(&self, out: &mut Vec<u8>) -> result::Result<(), AllocError> {
+    fn encode_back(&self, out: &mut [u8], end: usize) -> usize {
         match self {
-            Result::Void(void) => write_message_value(out, 4, void),
-            Result::Value(value) => write_message_value(out, 5, value),
-            Result::Failure(failure) => write_message_value(out, 6, failure),
-            Result::InvocationId(invocation_id) => write_text_value(out, 16, invocation_id),
-            Result::StateKeys(state_keys) => write_message_value(out, 17, state_keys),
+            Result::Void(void) => write_message_value(out, end, 4, void),
+            Result::Value(value) => write_message_value(out, end, 5, value),
+            Result::Failure(failure) => write_message_value(out, end, 6, failure),
+            Result::InvocationId(invocation_id) => write_text_value(out, end, 16, invocation_id),
+            Result::StateKeys(state_keys) => write_message_value(out, end, 17, state_keys),
         }
     }
 

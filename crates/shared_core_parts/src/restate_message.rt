@@ -1,14 +1,16 @@
 //! Messages: records with a type, and what they are written as.
 
-ghost use Rattle.std.specs.Prelude.{◌≡◌, ◌≤◌, ◌<◌, ◌^◌, Bool, Option, IfOk, IsErr, Err, false, MatchBool, length};
+ghost use Rattle.std.specs.Prelude.{◌≡◌, ◌≤◌, ◌<◌, ◌+◌, ◌^◌, ◌++◌, Bool, Option, IfOk, OnOk, OnErr, IsErr, Err, false, MatchBool, length, vec_len, vec_capacity};
+ghost use Rattle.std.specs.Int.{w64, to_be_bytes};
 ghost use Rattle.std.specs.Result.{IsErrOf};
 ghost use Rattle.shared_core_base.specs.declared.header.MessageType.{MessageType as AnyType};
+ghost use Rattle.shared_core_base.specs.MessageHeader.{word_of};
 ghost use Rattle.shared_core_base.specs.MessageType.{IsNamed};
 ghost use Rattle.shared_core_base.specs.declared.version.Version.{Version as AnyVersion};
 ghost use Rattle.shared_core_wire.specs.Canonical.{canonical_payload, size};
 ghost use Rattle.shared_core_wire.specs.Fitting.{Fits};
 ghost use Rattle.shared_core_record.specs.Table.{table};
-ghost use Rattle.shared_core_record.specs.declared.error.EncodingError.TheVariants.{PayloadTooLong};
+ghost use Rattle.shared_core_record.specs.declared.error.EncodingError.TheVariants.{PayloadTooLong, OutOfMemory};
 ghost use Rattle.shared_core_parts.specs.Frames.{frame, WireForm, WireFits, wire_size, wire_frame};
 ghost use Rattle.shared_core_parts.specs.Messages.{IsSchemaOf};
 
@@ -43,29 +45,51 @@ pub trait RestateEncodableMessage: RestateMessage {
     /// Whether it is written as another record at a version, for which memory is asked first.
     ghost is_rewritten: { AnyVersion → Bool };
 
+    /// Appends the frame: the header's eight bytes and the canonical payload of what it is written as.
+    ///
+    /// The errors are those of `encode`; `OutOfMemory` comes only where the buffer has too little room, or where the message is rewritten
+    /// first. After either the buffer holds what it held, and the message stands.
+    fn encode_into(&self, version: Version, out: &mut Vec<u8>) -> Result<(), EncodingError>
+        ensures ok { OnOk result (out.new.items ≡ out.old.items ++ wire_frame Self.message_type (wire_form self.now version)) }
+        ensures short { OnOk result (wire_size (wire_form self.now version) < 2 ^ 32) }
+        // what is written is a value of its schema
+        ensures fits { OnOk result (WireFits (wire_form self.now version)) }
+        ensures unchanged { OnErr result (out.new.items ≡ out.old.items) }
+        ensures full { is_rewritten version ≡ false → IsErrOf result OutOfMemory → vec_capacity out.old < vec_len out.old + (8 + wire_size (wire_form self.now version)) }
+        ensures too_long { IsErrOf result PayloadTooLong → 2 ^ 32 ≤ wire_size (wire_form self.now version) }
+        ensures refused { 2 ^ 32 ≤ wire_size (wire_form self.now version)
+            → MatchBool (is_rewritten version) (IsErr result) (result ≡ Err PayloadTooLong) };
+
     /// The frame: the header's eight bytes and the canonical payload of what it is written as.
     ///
     /// `PayloadTooLong` exactly where that payload has more than 4,294,967,295 bytes, which is known before memory is asked for, unless the
     /// message is rewritten first. `OutOfMemory` where a request for memory was refused. The message stands after either.
-    fn encode(&self, alloc: Global, version: Version) -> Result<Bytes, EncodingError>
+    final fn encode(&self, alloc: Global, version: Version) -> Result<Bytes, EncodingError>
         ensures ok { IfOk result (λ bytes. bytes ≡ wire_frame Self.message_type (wire_form self.now version)) }
         ensures short { IfOk result (λ bytes. wire_size (wire_form self.now version) < 2 ^ 32) }
         // what is written is a value of its schema
         ensures fits { IfOk result (λ bytes. WireFits (wire_form self.now version)) }
         ensures too_long { IsErrOf result PayloadTooLong → 2 ^ 32 ≤ wire_size (wire_form self.now version) }
         ensures refused { 2 ^ 32 ≤ wire_size (wire_form self.now version)
-            → MatchBool (is_rewritten version) (IsErr result) (result ≡ Err PayloadTooLong) };
+            → MatchBool (is_rewritten version) (IsErr result) (result ≡ Err PayloadTooLong) }
+    {
+        let mut frame = Vec::new(alloc);
+        self.encode_into(version, &mut frame)?;
+        Ok(Bytes::from_vec(frame)?)
+    }
 }
 
-/// The frame of a record as it stands, with a flag in its header or none: one allocation for its bytes, each of which is written once.
-pub fn encode_frame<M: RestateMessage>(
+/// Appends the frame of a record as it stands, with a flag in its header or none. After an error the buffer holds what it held.
+pub fn encode_frame_into<M: RestateMessage>(
     message: &M,
-    alloc: Global,
     requested_ack: Option<bool>,
-) -> Result<Bytes, EncodingError>
-    ensures ok { IfOk result (λ bytes. bytes ≡ frame M.message_type requested_ack (canonical_payload table M.schema (M.parts message.now))) }
-    ensures short { IfOk result (λ bytes. size table M.schema (M.parts message.now) < 2 ^ 32) }
-    ensures fits { IfOk result (λ bytes. Fits table (M.parts message.now) (table M.schema)) }
+    out: &mut Vec<u8>,
+) -> Result<(), EncodingError>
+    ensures ok { OnOk result (out.new.items ≡ out.old.items ++ frame M.message_type requested_ack (canonical_payload table M.schema (M.parts message.now))) }
+    ensures short { OnOk result (size table M.schema (M.parts message.now) < 2 ^ 32) }
+    ensures fits { OnOk result (Fits table (M.parts message.now) (table M.schema)) }
+    ensures unchanged { OnErr result (out.new.items ≡ out.old.items) }
+    ensures full { IsErrOf result OutOfMemory → vec_capacity out.old < vec_len out.old + (8 + size table M.schema (M.parts message.now)) }
     ensures too_long { IsErrOf result PayloadTooLong → 2 ^ 32 ≤ size table M.schema (M.parts message.now) }
     ensures refused { 2 ^ 32 ≤ size table M.schema (M.parts message.now) → result ≡ Err PayloadTooLong }
 {
@@ -76,8 +100,18 @@ pub fn encode_frame<M: RestateMessage>(
         Some(flag) => MessageHeader::new_with_requested_ack(M::ty(), flag, len),
         None => MessageHeader::new(M::ty(), len),
     };
-    let mut frame = Vec::with_capacity(alloc, 8 + len as usize)?;
-    frame.extend_from_slice(&u64::from(header).to_be_bytes())?;
-    message.append_payload(&mut frame)?;
-    Ok(Bytes::from_vec(frame)?)
+    let start = out.len();
+    out.resize(start + 8 + len as usize, 0)?;
+    fill_frame(message, header, &mut out[start..]);
+    Ok(())
+}
+
+/// Writes a header and the canonical payload of a record into a slice of as many bytes.
+fn fill_frame<M: RestateMessage>(message: &M, header: MessageHeader, out: &mut [u8])
+    requires len { length out.old ≡ 8 + size table M.schema (M.parts message.now) }
+    ensures { out.new ≡ to_be_bytes w64 (word_of header) ++ canonical_payload table M.schema (M.parts message.now) }
+{
+    let (head, payload) = out.split_at_mut(8);
+    head.copy_from_slice(&u64::from(header).to_be_bytes());
+    message.fill_payload(payload);
 }

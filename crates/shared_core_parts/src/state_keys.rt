@@ -50,8 +50,8 @@ impl WireRecord for StateKeys {
         size.byte_strings(1, &self.keys);
     }
 
-    fn encode_raw(&self, out: &mut Vec<u8>) -> Result<(), AllocError> {
-        write_byte_strings(out, 1, &self.keys)
+    fn encode_back(&self, out: &mut [u8], end: usize) -> usize {
+        write_byte_strings(out, end, 1, &self.keys)
     }
 
     ghost equality = { Prim.search equality_rules };

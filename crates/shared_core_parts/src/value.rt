@@ -14,7 +14,7 @@ use shared_core_record::record::WireRecord;
 use shared_core_record::size::Size;
 use shared_core_record::write::write_bytes;
 use shared_core_wire::error::WireError;
-use std::alloc::{AllocError, Global};
+use std::alloc::Global;
 use std::fmt;
 
 /// A value of the service.
@@ -47,8 +47,8 @@ impl WireRecord for Value {
         size.bytes(1, &self.content);
     }
 
-    fn encode_raw(&self, out: &mut Vec<u8>) -> Result<(), AllocError> {
-        write_bytes(out, 1, &self.content)
+    fn encode_back(&self, out: &mut [u8], end: usize) -> usize {
+        write_bytes(out, end, 1, &self.content)
     }
 
     ghost equality = { Prim.search equality_rules };

@@ -8,7 +8,7 @@ use shared_core_record::occurrence::Occurrence;
 use shared_core_record::record::WireRecord;
 use shared_core_record::size::Size;
 use shared_core_wire::error::WireError;
-use std::alloc::{AllocError, Global};
+use std::alloc::Global;
 
 /// A result without content.
 #[derive(Debug, PartialEq, Drop)]
@@ -29,8 +29,8 @@ impl WireRecord for Void {
 
     fn measure(&self, _size: &mut Size) {}
 
-    fn encode_raw(&self, _out: &mut Vec<u8>) -> Result<(), AllocError> {
-        Ok(())
+    fn encode_back(&self, _out: &mut [u8], end: usize) -> usize {
+        end
     }
 
     ghost equality = { Prim.search equality_rules };

@@ -10,7 +10,7 @@ use shared_core_record::record::WireRecord;
 use shared_core_record::size::Size;
 use shared_core_record::write::{write_optional_text, write_text};
 use shared_core_wire::error::WireError;
-use std::alloc::{AllocError, Global};
+use std::alloc::Global;
 
 /// A run of a workflow, as a target.
 #[derive(Debug, PartialEq, Drop)]
@@ -54,10 +54,10 @@ impl WireRecord for WorkflowTarget {
         size.optional_text(3, &self.scope);
     }
 
-    fn encode_raw(&self, out: &mut Vec<u8>) -> Result<(), AllocError> {
-        write_text(out, 1, &self.workflow_name)?;
-        write_text(out, 2, &self.workflow_key)?;
-        write_optional_text(out, 3, &self.scope)
+    fn encode_back(&self, out: &mut [u8], end: usize) -> usize {
+        let end = write_optional_text(out, end, 3, &self.scope);
+        let end = write_text(out, end, 2, &self.workflow_key);
+        write_text(out, end, 1, &self.workflow_name)
     }
 
     ghost equality = { Prim.search equality_rules depth 18 };

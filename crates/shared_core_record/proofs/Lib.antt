@@ -1,6 +1,6 @@
 pub mod RowBytes
 pub mod Measuring
-pub mod SmallParts
+pub mod Backwards
 pub mod FittingRows
 pub mod ElementLoops
 pub mod FieldElements

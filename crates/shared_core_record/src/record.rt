@@ -1,6 +1,6 @@
 //! Records: reading payloads into them, merging and writing.
 
-ghost use Rattle.std.specs.Prelude.{◌≡◌, ◌≤◌, ◌<◌, ◌^◌, ◌++◌, ℕ, IfOk, OnOk, MatchOption, Err, false, true, length};
+ghost use Rattle.std.specs.Prelude.{◌≡◌, ◌≤◌, ◌<◌, ◌^◌, ◌++◌, ◌+◌, ℕ, drop, IfOk, OnOk, OnErr, vec_len, vec_capacity, MatchOption, Err, false, true, length};
 ghost use Rattle.std.specs.List.{All, concat};
 ghost use Rattle.std.specs.Result.{IsErrOf};
 ghost use Rattle.shared_core_wire.specs.Items.{record_items};
@@ -14,11 +14,10 @@ ghost use Rattle.shared_core_record.specs.Computed.{IsComputed};
 ghost use Rattle.shared_core_record.specs.Folding.{fold_items};
 ghost use Rattle.shared_core_record.specs.Occurrences.{schema_accepts, RecordMerges, merged_with};
 ghost use Rattle.shared_core_record.specs.Payloads.{IsAccepted, merged_payload, payload_meaning, IsReadBack};
-ghost use Rattle.shared_core_record.specs.RowSpelling.{measured_rows, with_rows};
+ghost use Rattle.shared_core_record.specs.RowSpelling.{measured_rows, before_rows, rows_size};
 ghost use Rattle.shared_core_record.specs.RowFitting.{FieldsFit};
-ghost use Rattle.shared_core_record.specs.SmallRows.{AreSmall};
 ghost use Rattle.shared_core_record.specs.Equality.{DecidesEquality};
-ghost use Rattle.shared_core_record.specs.declared.error.EncodingError.TheVariants.{PayloadTooLong};
+ghost use Rattle.shared_core_record.specs.declared.error.EncodingError.TheVariants.{PayloadTooLong, OutOfMemory};
 ghost use Rattle.shared_core_wire.specs.declared.error.WireError.TheVariants as error;
 
 use crate::error::EncodingError;
@@ -28,12 +27,12 @@ use crate::size::Size;
 use bytes::Bytes;
 use shared_core_wire::error::WireError;
 use shared_core_wire::records::Records;
-use std::alloc::{AllocError, Global};
+use std::alloc::Global;
 
 /// A record: a message of the protocol as a struct, which payloads of its schema spell.
 ///
 /// Whoever writes one says its schema and its parts, and writes four functions, one line a field each: `empty`, `merge_field`, `measure`
-/// and `encode_raw`. Reading and writing whole payloads stand on these, and are written here once.
+/// and `encode_back`. Reading and writing whole payloads stand on these, and are written here once.
 pub trait WireRecord: Sized + Drop + PartialEq {
     /// The place of its schema in the table.
     ghost schema: { ℕ };
@@ -55,10 +54,12 @@ pub trait WireRecord: Sized + Drop + PartialEq {
         ensures sum { size.new ≡ measured_rows (table schema) (parts self.now) size.old }
         ensures fit { FieldsFit (table schema) (parts self.now) };
 
-    /// Writes the fields, in the order of the schema. (For the code of records.)
-    fn encode_raw(&self, out: &mut Vec<u8>) -> Result<(), AllocError>
-        requires small { AreSmall (table schema) (parts self.now) }
-        ensures { OnOk result (out.new.items ≡ with_rows (table schema) (parts self.now) out.old.items) };
+    /// Writes the fields before `end`, the last one first, and returns where the first begins. (For the code of records.)
+    fn encode_back(&self, out: &mut [u8], end: usize) -> usize
+        requires within { end ≤ length out.old }
+        requires room { rows_size (table schema) (parts self.now) ≤ end }
+        ensures start { result + rows_size (table schema) (parts self.now) ≡ end }
+        ensures written { drop result out.new ≡ before_rows (table schema) (parts self.now) (drop end out.old) };
 
     /// Two records are equal exactly if they are the same value.
     ghost equality: { (a b : Self) → DecidesEquality (Self.eq a b) (parts a) (parts b) };
@@ -100,13 +101,35 @@ pub trait WireRecord: Sized + Drop + PartialEq {
         }
     }
 
-    /// Appends the canonical payload, which has less than 2^32 bytes. (For the code of records.)
-    #[tactic(auto, using(crate::proofs::RowBytes::written_behind, crate::proofs::SmallParts::small_record))]
-    final fn append_payload(&self, out: &mut Vec<u8>) -> Result<(), AllocError>
-        requires small { size table schema (parts self.now) < 2 ^ 32 }
-        ensures { OnOk result (out.new.items ≡ out.old.items ++ canonical_payload table schema (parts self.now)) }
+    /// Writes the canonical payload into a slice of as many bytes. (For the code of records.)
+    #[tactic(auto, using(crate::proofs::Backwards::payload_fits, crate::proofs::Backwards::payload_whole))]
+    final fn fill_payload(&self, out: &mut [u8])
+        requires len { length out.old ≡ size table schema (parts self.now) }
+        ensures { out.new ≡ canonical_payload table schema (parts self.now) }
     {
-        self.encode_raw(out)
+        let end = out.len();
+        self.encode_back(out, end);
+    }
+
+    /// Appends the canonical payload. `PayloadTooLong` exactly where it has more than 4,294,967,295 bytes, which is known before memory is
+    /// asked for; `OutOfMemory` where a request for memory was refused, which is made only where the buffer has too little room. After either
+    /// the buffer holds what it held.
+    final fn encode_payload_into(&self, out: &mut Vec<u8>) -> Result<(), EncodingError>
+        ensures ok { OnOk result (out.new.items ≡ out.old.items ++ canonical_payload table schema (parts self.now)) }
+        ensures short { OnOk result (size table schema (parts self.now) < 2 ^ 32) }
+        ensures reads_back { OnOk result (IsReadBack schema (parts self.now) (canonical_payload table schema (parts self.now))) }
+        ensures unchanged { OnErr result (out.new.items ≡ out.old.items) }
+        ensures full { IsErrOf result OutOfMemory → vec_capacity out.old < vec_len out.old + size table schema (parts self.now) }
+        ensures too_long { IsErrOf result PayloadTooLong → 2 ^ 32 ≤ size table schema (parts self.now) }
+        ensures refused { 2 ^ 32 ≤ size table schema (parts self.now) → result ≡ Err PayloadTooLong }
+    {
+        let Some(len) = self.encoded_len() else {
+            return Err(EncodingError::PayloadTooLong);
+        };
+        let start = out.len();
+        out.resize(start + len as usize, 0)?;
+        self.fill_payload(&mut out[start..]);
+        Ok(())
     }
 
     /// The canonical payload. `PayloadTooLong` exactly where it has more than 4,294,967,295 bytes, which is known before memory is asked
@@ -118,14 +141,9 @@ pub trait WireRecord: Sized + Drop + PartialEq {
         ensures too_long { IsErrOf result PayloadTooLong → 2 ^ 32 ≤ size table schema (parts self.now) }
         ensures refused { 2 ^ 32 ≤ size table schema (parts self.now) → result ≡ Err PayloadTooLong }
     {
-        match self.encoded_len() {
-            None => Err(EncodingError::PayloadTooLong),
-            Some(len) => {
-                let mut out = Vec::with_capacity(alloc, len as usize)?;
-                self.append_payload(&mut out)?;
-                Ok(Bytes::from_vec(out)?)
-            }
-        }
+        let mut out = Vec::new(alloc);
+        self.encode_payload_into(&mut out)?;
+        Ok(Bytes::from_vec(out)?)
     }
 }
 

@@ -9,18 +9,19 @@ ghost use Rattle.shared_core_record.specs.Table as tables;
 ghost use Rattle.shared_core_record.specs.FieldParts.{boolean_part, message_part, option_part};
 ghost use Rattle.shared_core_record.specs.EqualityRules.{equality_rules};
 
-use bytes::Bytes;
 use shared_core_base::header::MessageType;
 use shared_core_base::version::Version;
 use shared_core_parts::future::Future;
-use shared_core_parts::restate_message::{RestateEncodableMessage, RestateMessage, encode_frame};
+use shared_core_parts::restate_message::{
+    RestateEncodableMessage, RestateMessage, encode_frame_into,
+};
 use shared_core_record::error::EncodingError;
 use shared_core_record::occurrence::Occurrence;
 use shared_core_record::record::WireRecord;
 use shared_core_record::size::Size;
 use shared_core_record::write::{write_boolean, write_optional_message};
 use shared_core_wire::error::WireError;
-use std::alloc::{AllocError, Global};
+use std::alloc::Global;
 
 /// Says what the invocation waits for.
 #[derive(Debug, PartialEq, Drop)]
@@ -58,9 +59,9 @@ impl WireRecord for AwaitingOnMessage {
         size.boolean(2, self.executing_side_effects);
     }
 
-    fn encode_raw(&self, out: &mut Vec<u8>) -> Result<(), AllocError> {
-        write_optional_message(out, 1, &self.awaiting_on)?;
-        write_boolean(out, 2, self.executing_side_effects)
+    fn encode_back(&self, out: &mut [u8], end: usize) -> usize {
+        let end = write_boolean(out, end, 2, self.executing_side_effects);
+        write_optional_message(out, end, 1, &self.awaiting_on)
     }
 
     ghost use Rattle.shared_core_parts.specs.contracts.future.FutureWireRecord.TheImpl.Laws.{equality-law as future_equality};
@@ -85,7 +86,7 @@ impl RestateEncodableMessage for AwaitingOnMessage {
 
     ghost is_rewritten = { λ _. false };
 
-    fn encode(&self, alloc: Global, _version: Version) -> Result<Bytes, EncodingError> {
-        encode_frame(self, alloc, None)
+    fn encode_into(&self, _version: Version, out: &mut Vec<u8>) -> Result<(), EncodingError> {
+        encode_frame_into(self, None, out)
     }
 }

@@ -8,16 +8,17 @@ ghost use Rattle.std.proofs.Common.{inl};
 ghost use Rattle.shared_core_record.specs.Table as tables;
 ghost use Rattle.shared_core_record.specs.EqualityRules.{equality_rules};
 
-use bytes::Bytes;
 use shared_core_base::header::MessageType;
 use shared_core_base::version::Version;
-use shared_core_parts::restate_message::{RestateEncodableMessage, RestateMessage, encode_frame};
+use shared_core_parts::restate_message::{
+    RestateEncodableMessage, RestateMessage, encode_frame_into,
+};
 use shared_core_record::error::EncodingError;
 use shared_core_record::occurrence::Occurrence;
 use shared_core_record::record::WireRecord;
 use shared_core_record::size::Size;
 use shared_core_wire::error::WireError;
-use std::alloc::{AllocError, Global};
+use std::alloc::Global;
 
 /// Ends the invocation.
 #[derive(Debug, PartialEq, Drop)]
@@ -38,8 +39,8 @@ impl WireRecord for EndMessage {
 
     fn measure(&self, _size: &mut Size) {}
 
-    fn encode_raw(&self, _out: &mut Vec<u8>) -> Result<(), AllocError> {
-        Ok(())
+    fn encode_back(&self, _out: &mut [u8], end: usize) -> usize {
+        end
     }
 
     ghost equality = { Prim.search equality_rules };
@@ -62,7 +63,7 @@ impl RestateEncodableMessage for EndMessage {
 
     ghost is_rewritten = { λ _. false };
 
-    fn encode(&self, alloc: Global, _version: Version) -> Result<Bytes, EncodingError> {
-        encode_frame(self, alloc, None)
+    fn encode_into(&self, _version: Version, out: &mut Vec<u8>) -> Result<(), EncodingError> {
+        encode_frame_into(self, None, out)
     }
 }

@@ -9,10 +9,11 @@ ghost use Rattle.shared_core_record.specs.Table as tables;
 ghost use Rattle.shared_core_record.specs.FieldParts.{enum_part, option_part, text_part};
 ghost use Rattle.shared_core_record.specs.EqualityRules.{equality_rules};
 
-use bytes::Bytes;
 use shared_core_base::header::MessageType;
 use shared_core_base::version::Version;
-use shared_core_parts::restate_message::{RestateEncodableMessage, RestateMessage, encode_frame};
+use shared_core_parts::restate_message::{
+    RestateEncodableMessage, RestateMessage, encode_frame_into,
+};
 use shared_core_record::error::EncodingError;
 use shared_core_record::occurrence::Occurrence;
 use shared_core_record::record::WireRecord;
@@ -22,7 +23,7 @@ use shared_core_record::write::{
     write_u32,
 };
 use shared_core_wire::error::WireError;
-use std::alloc::{AllocError, Global};
+use std::alloc::Global;
 
 /// Ends the stream with an error that may be tried again.
 #[derive(Debug, PartialEq, Drop)]
@@ -96,15 +97,15 @@ impl WireRecord for ErrorMessage {
         size.enumeration(9, self.behavior);
     }
 
-    fn encode_raw(&self, out: &mut Vec<u8>) -> Result<(), AllocError> {
-        write_u32(out, 1, self.code)?;
-        write_text(out, 2, &self.message)?;
-        write_text(out, 3, &self.stacktrace)?;
-        write_optional_u32(out, 4, self.related_command_index)?;
-        write_optional_text(out, 5, &self.related_command_name)?;
-        write_optional_u32(out, 6, self.related_command_type)?;
-        write_optional_u64(out, 8, self.next_retry_delay)?;
-        write_enumeration(out, 9, self.behavior)
+    fn encode_back(&self, out: &mut [u8], end: usize) -> usize {
+        let end = write_enumeration(out, end, 9, self.behavior);
+        let end = write_optional_u64(out, end, 8, self.next_retry_delay);
+        let end = write_optional_u32(out, end, 6, self.related_command_type);
+        let end = write_optional_text(out, end, 5, &self.related_command_name);
+        let end = write_optional_u32(out, end, 4, self.related_command_index);
+        let end = write_text(out, end, 3, &self.stacktrace);
+        let end = write_text(out, end, 2, &self.message);
+        write_u32(out, end, 1, self.code)
     }
 
     ghost equality = { Prim.search equality_rules depth 28 };
@@ -127,7 +128,7 @@ impl RestateEncodableMessage for ErrorMessage {
 
     ghost is_rewritten = { λ _. false };
 
-    fn encode(&self, alloc: Global, _version: Version) -> Result<Bytes, EncodingError> {
-        encode_frame(self, alloc, None)
+    fn encode_into(&self, _version: Version, out: &mut Vec<u8>) -> Result<(), EncodingError> {
+        encode_frame_into(self, None, out)
     }
 }

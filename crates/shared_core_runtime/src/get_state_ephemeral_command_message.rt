@@ -11,14 +11,16 @@ ghost use Rattle.shared_core_record.specs.EqualityRules.{equality_rules};
 use bytes::Bytes;
 use shared_core_base::header::MessageType;
 use shared_core_base::version::Version;
-use shared_core_parts::restate_message::{RestateEncodableMessage, RestateMessage, encode_frame};
+use shared_core_parts::restate_message::{
+    RestateEncodableMessage, RestateMessage, encode_frame_into,
+};
 use shared_core_record::error::EncodingError;
 use shared_core_record::occurrence::Occurrence;
 use shared_core_record::record::WireRecord;
 use shared_core_record::size::Size;
 use shared_core_record::write::{write_bytes, write_u32};
 use shared_core_wire::error::WireError;
-use std::alloc::{AllocError, Global};
+use std::alloc::Global;
 
 /// Asks for a state that is not recorded in the journal.
 #[derive(Debug, PartialEq, Drop)]
@@ -56,9 +58,9 @@ impl WireRecord for GetStateEphemeralCommandMessage {
         size.u32(2, self.completion_id);
     }
 
-    fn encode_raw(&self, out: &mut Vec<u8>) -> Result<(), AllocError> {
-        write_bytes(out, 1, &self.key)?;
-        write_u32(out, 2, self.completion_id)
+    fn encode_back(&self, out: &mut [u8], end: usize) -> usize {
+        let end = write_u32(out, end, 2, self.completion_id);
+        write_bytes(out, end, 1, &self.key)
     }
 
     ghost equality = { Prim.search equality_rules depth 16 };
@@ -81,7 +83,7 @@ impl RestateEncodableMessage for GetStateEphemeralCommandMessage {
 
     ghost is_rewritten = { λ _. false };
 
-    fn encode(&self, alloc: Global, _version: Version) -> Result<Bytes, EncodingError> {
-        encode_frame(self, alloc, None)
+    fn encode_into(&self, _version: Version, out: &mut Vec<u8>) -> Result<(), EncodingError> {
+        encode_frame_into(self, None, out)
     }
 }

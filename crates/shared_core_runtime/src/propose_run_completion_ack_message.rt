@@ -8,17 +8,18 @@ ghost use Rattle.std.proofs.Common.{inl};
 ghost use Rattle.shared_core_record.specs.Table as tables;
 ghost use Rattle.shared_core_record.specs.EqualityRules.{equality_rules};
 
-use bytes::Bytes;
 use shared_core_base::header::MessageType;
 use shared_core_base::version::Version;
-use shared_core_parts::restate_message::{RestateEncodableMessage, RestateMessage, encode_frame};
+use shared_core_parts::restate_message::{
+    RestateEncodableMessage, RestateMessage, encode_frame_into,
+};
 use shared_core_record::error::EncodingError;
 use shared_core_record::occurrence::Occurrence;
 use shared_core_record::record::WireRecord;
 use shared_core_record::size::Size;
 use shared_core_record::write::write_u32;
 use shared_core_wire::error::WireError;
-use std::alloc::{AllocError, Global};
+use std::alloc::Global;
 
 /// Says that the proposed result of a run was recorded.
 #[derive(Debug, PartialEq, Drop)]
@@ -48,8 +49,8 @@ impl WireRecord for ProposeRunCompletionAckMessage {
         size.u32(1, self.completion_id);
     }
 
-    fn encode_raw(&self, out: &mut Vec<u8>) -> Result<(), AllocError> {
-        write_u32(out, 1, self.completion_id)
+    fn encode_back(&self, out: &mut [u8], end: usize) -> usize {
+        write_u32(out, end, 1, self.completion_id)
     }
 
     ghost equality = { Prim.search equality_rules depth 14 };
@@ -72,7 +73,7 @@ impl RestateEncodableMessage for ProposeRunCompletionAckMessage {
 
     ghost is_rewritten = { λ _. false };
 
-    fn encode(&self, alloc: Global, _version: Version) -> Result<Bytes, EncodingError> {
-        encode_frame(self, alloc, None)
+    fn encode_into(&self, _version: Version, out: &mut Vec<u8>) -> Result<(), EncodingError> {
+        encode_frame_into(self, None, out)
     }
 }

@@ -19,7 +19,7 @@ use shared_core_record::record::WireRecord;
 use shared_core_record::size::Size;
 use shared_core_record::write::{write_bytes_value, write_message_value, write_oneof, write_u32};
 use shared_core_wire::error::WireError;
-use std::alloc::{AllocError, Global};
+use std::alloc::Global;
 use std::result;
 
 /// The result.
@@ -63,10 +63,10 @@ impl OneOf for Result {
         }
     }
 
-    fn encode_raw(&self, out: &mut Vec<u8>) -> result::Result<(), AllocError> {
+    fn encode_back(&self, out: &mut [u8], end: usize) -> usize {
         match self {
-            Result::Value(value) => write_bytes_value(out, 14, value),
-            Result::Failure(failure) => write_message_value(out, 15, failure),
+            Result::Value(value) => write_bytes_value(out, end, 14, value),
+            Result::Failure(failure) => write_message_value(out, end, 15, failure),
         }
     }
 
@@ -116,9 +116,9 @@ impl WireRecord for ProposeRunCompletionMessage {
         size.oneof(&self.result);
     }
 
-    fn encode_raw(&self, out: &mut Vec<u8>) -> result::Result<(), AllocError> {
-        write_u32(out, 1, self.result_completion_id)?;
-        write_oneof(out, &self.result)
+    fn encode_back(&self, out: &mut [u8], end: usize) -> usize {
+        let end = write_oneof(out, end, &self.result);
+        write_u32(out, end, 1, self.result_completion_id)
     }
 
     ghost use Rattle.shared_core_runtime.specs.contracts.propose_run_completion_message.ResultOneOf.TheImpl.Laws.{equality-law as result_equality, present-law as result_present};

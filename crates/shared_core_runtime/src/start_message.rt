@@ -12,7 +12,9 @@ ghost use Rattle.shared_core_record.specs.EqualityRules.{equality_rules};
 use bytes::Bytes;
 use shared_core_base::header::MessageType;
 use shared_core_base::version::Version;
-use shared_core_parts::restate_message::{RestateEncodableMessage, RestateMessage, encode_frame};
+use shared_core_parts::restate_message::{
+    RestateEncodableMessage, RestateMessage, encode_frame_into,
+};
 use shared_core_parts::state_entry::StateEntry;
 use shared_core_record::error::EncodingError;
 use shared_core_record::occurrence::Occurrence;
@@ -23,7 +25,7 @@ use shared_core_record::write::{
     write_u64,
 };
 use shared_core_wire::error::WireError;
-use std::alloc::{AllocError, Global};
+use std::alloc::Global;
 
 /// Starts an invocation, or goes on with it.
 #[derive(Debug, PartialEq, Drop)]
@@ -121,19 +123,19 @@ impl WireRecord for StartMessage {
         size.optional_text(12, &self.idempotency_key);
     }
 
-    fn encode_raw(&self, out: &mut Vec<u8>) -> Result<(), AllocError> {
-        write_bytes(out, 1, &self.id)?;
-        write_text(out, 2, &self.debug_id)?;
-        write_u32(out, 3, self.known_entries)?;
-        write_messages(out, 4, &self.state_map)?;
-        write_boolean(out, 5, self.partial_state)?;
-        write_text(out, 6, &self.key)?;
-        write_u32(out, 7, self.retry_count_since_last_stored_entry)?;
-        write_u64(out, 8, self.duration_since_last_stored_entry)?;
-        write_u64(out, 9, self.random_seed)?;
-        write_optional_text(out, 10, &self.scope)?;
-        write_optional_text(out, 11, &self.limit_key)?;
-        write_optional_text(out, 12, &self.idempotency_key)
+    fn encode_back(&self, out: &mut [u8], end: usize) -> usize {
+        let end = write_optional_text(out, end, 12, &self.idempotency_key);
+        let end = write_optional_text(out, end, 11, &self.limit_key);
+        let end = write_optional_text(out, end, 10, &self.scope);
+        let end = write_u64(out, end, 9, self.random_seed);
+        let end = write_u64(out, end, 8, self.duration_since_last_stored_entry);
+        let end = write_u32(out, end, 7, self.retry_count_since_last_stored_entry);
+        let end = write_text(out, end, 6, &self.key);
+        let end = write_boolean(out, end, 5, self.partial_state);
+        let end = write_messages(out, end, 4, &self.state_map);
+        let end = write_u32(out, end, 3, self.known_entries);
+        let end = write_text(out, end, 2, &self.debug_id);
+        write_bytes(out, end, 1, &self.id)
     }
 
     ghost use Rattle.shared_core_parts.specs.contracts.state_entry.StateEntryWireRecord.TheImpl.Laws.{equality-law as state_entry_equality};
@@ -158,7 +160,7 @@ impl RestateEncodableMessage for StartMessage {
 
     ghost is_rewritten = { λ _. false };
 
-    fn encode(&self, alloc: Global, _version: Version) -> Result<Bytes, EncodingError> {
-        encode_frame(self, alloc, None)
+    fn encode_into(&self, _version: Version, out: &mut Vec<u8>) -> Result<(), EncodingError> {
+        encode_frame_into(self, None, out)
     }
 }

@@ -16,7 +16,7 @@ use shared_core_record::record::WireRecord;
 use shared_core_record::size::Size;
 use shared_core_record::write::write_optional_message;
 use shared_core_wire::error::WireError;
-use std::alloc::{AllocError, Global};
+use std::alloc::Global;
 
 /// Ends the stream until something awaited has come.
 #[derive(Debug, PartialEq, Drop)]
@@ -46,8 +46,8 @@ impl WireRecord for SuspensionMessage {
         size.optional_message(4, &self.awaiting_on);
     }
 
-    fn encode_raw(&self, out: &mut Vec<u8>) -> Result<(), AllocError> {
-        write_optional_message(out, 4, &self.awaiting_on)
+    fn encode_back(&self, out: &mut [u8], end: usize) -> usize {
+        write_optional_message(out, end, 4, &self.awaiting_on)
     }
 
     ghost use Rattle.shared_core_parts.specs.contracts.future.FutureWireRecord.TheImpl.Laws.{equality-law as future_equality};

@@ -15,7 +15,7 @@ use shared_core_record::record::WireRecord;
 use shared_core_record::size::Size;
 use shared_core_record::write::{write_texts, write_u32s};
 use shared_core_wire::error::WireError;
-use std::alloc::{AllocError, Global};
+use std::alloc::Global;
 
 /// The suspension as it is written before version 7: all that is awaited, in three lists.
 #[derive(Debug, PartialEq, Drop)]
@@ -59,10 +59,10 @@ impl WireRecord for SuspensionMessageV6 {
         size.texts(3, &self.waiting_named_signals);
     }
 
-    fn encode_raw(&self, out: &mut Vec<u8>) -> Result<(), AllocError> {
-        write_u32s(out, 1, &self.waiting_completions)?;
-        write_u32s(out, 2, &self.waiting_signals)?;
-        write_texts(out, 3, &self.waiting_named_signals)
+    fn encode_back(&self, out: &mut [u8], end: usize) -> usize {
+        let end = write_texts(out, end, 3, &self.waiting_named_signals);
+        let end = write_u32s(out, end, 2, &self.waiting_signals);
+        write_u32s(out, end, 1, &self.waiting_completions)
     }
 
     ghost equality = { Prim.search equality_rules depth 18 };

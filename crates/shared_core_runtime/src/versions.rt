@@ -8,10 +8,9 @@ ghost use Rattle.shared_core_runtime.specs.Versions.{is_before_v7, proposal_form
 use crate::propose_run_completion_message::ProposeRunCompletionMessage;
 use crate::suspension_message::SuspensionMessage;
 use crate::suspension_message_v6::SuspensionMessageV6;
-use bytes::Bytes;
 use shared_core_base::version::Version;
 use shared_core_parts::future::Future;
-use shared_core_parts::restate_message::{RestateEncodableMessage, encode_frame};
+use shared_core_parts::restate_message::{RestateEncodableMessage, encode_frame_into};
 use shared_core_record::error::EncodingError;
 use shared_core_record::record::WireRecord;
 use std::alloc::{AllocError, Global};
@@ -22,11 +21,11 @@ impl RestateEncodableMessage for ProposeRunCompletionMessage {
 
     ghost is_rewritten = { λ _. false };
 
-    fn encode(&self, alloc: Global, version: Version) -> Result<Bytes, EncodingError> {
+    fn encode_into(&self, version: Version, out: &mut Vec<u8>) -> Result<(), EncodingError> {
         if is_before_v7(version) {
-            return encode_frame(self, alloc, None);
+            return encode_frame_into(self, None, out);
         }
-        encode_frame(self, alloc, Some(true))
+        encode_frame_into(self, Some(true), out)
     }
 }
 
@@ -37,11 +36,12 @@ impl RestateEncodableMessage for SuspensionMessage {
 
     ghost is_rewritten = { is_before_v7 };
 
-    fn encode(&self, alloc: Global, version: Version) -> Result<Bytes, EncodingError> {
+    fn encode_into(&self, version: Version, out: &mut Vec<u8>) -> Result<(), EncodingError> {
         if is_before_v7(version) {
-            return encode_frame(&flatten(self, alloc)?, alloc, None);
+            // its lists stand in memory of the buffer's allocator
+            return encode_frame_into(&flatten(self, *out.allocator())?, None, out);
         }
-        encode_frame(self, alloc, None)
+        encode_frame_into(self, None, out)
     }
 }
 

@@ -13,7 +13,9 @@ ghost use Rattle.shared_core_record.specs.EqualityRules.{different_members, equa
 use bytes::Bytes;
 use shared_core_base::header::MessageType;
 use shared_core_base::version::Version;
-use shared_core_parts::restate_message::{RestateEncodableMessage, RestateMessage, encode_frame};
+use shared_core_parts::restate_message::{
+    RestateEncodableMessage, RestateMessage, encode_frame_into,
+};
 use shared_core_parts::value::Value;
 use shared_core_parts::void::Void;
 use shared_core_record::error::EncodingError;
@@ -23,7 +25,7 @@ use shared_core_record::record::WireRecord;
 use shared_core_record::size::Size;
 use shared_core_record::write::{write_bytes, write_message_value, write_oneof, write_text};
 use shared_core_wire::error::WireError;
-use std::alloc::{AllocError, Global};
+use std::alloc::Global;
 use std::result;
 
 /// The result.
@@ -70,10 +72,10 @@ impl OneOf for Result {
         }
     }
 
-    fn encode_raw(&self, out: &mut Vec<u8>) -> result::Result<(), AllocError> {
+    fn encode_back(&self, out: &mut [u8], end: usize) -> usize {
         match self {
-            Result::Void(void) => write_message_value(out, 13, void),
-            Result::Value(value) => write_message_value(out, 14, value),
+            Result::Void(void) => write_message_value(out, end, 13, void),
+            Result::Value(value) => write_message_value(out, end, 14, value),
         }
     }
 
@@ -130,10 +132,10 @@ impl WireRecord for GetEagerStateCommandMessage {
         size.oneof(&self.result);
     }
 
-    fn encode_raw(&self, out: &mut Vec<u8>) -> result::Result<(), AllocError> {
-        write_bytes(out, 1, &self.key)?;
-        write_text(out, 12, &self.name)?;
-        write_oneof(out, &self.result)
+    fn encode_back(&self, out: &mut [u8], end: usize) -> usize {
+        let end = write_oneof(out, end, &self.result);
+        let end = write_text(out, end, 12, &self.name);
+        write_bytes(out, end, 1, &self.key)
     }
 
     ghost use Rattle.shared_core_state_commands.specs.contracts.get_eager_state_command_message.ResultOneOf.TheImpl.Laws.{equality-law as result_equality, present-law as result_present};
@@ -158,7 +160,11 @@ impl RestateEncodableMessage for GetEagerStateCommandMessage {
 
     ghost is_rewritten = { λ _. false };
 
-    fn encode(&self, alloc: Global, _version: Version) -> result::Result<Bytes, EncodingError> {
-        encode_frame(self, alloc, None)
+    fn encode_into(
+        &self,
+        _version: Version,
+        out: &mut Vec<u8>,
+    ) -> result::Result<(), EncodingError> {
+        encode_frame_into(self, None, out)
     }
 }

@@ -9,11 +9,12 @@ ghost use Rattle.shared_core_record.specs.Table as tables;
 ghost use Rattle.shared_core_record.specs.FieldParts.{elements_part, message_part, option_part, text_part};
 ghost use Rattle.shared_core_record.specs.EqualityRules.{equality_rules};
 
-use bytes::Bytes;
 use shared_core_base::header::MessageType;
 use shared_core_base::version::Version;
 use shared_core_parts::header::Header;
-use shared_core_parts::restate_message::{RestateEncodableMessage, RestateMessage, encode_frame};
+use shared_core_parts::restate_message::{
+    RestateEncodableMessage, RestateMessage, encode_frame_into,
+};
 use shared_core_parts::value::Value;
 use shared_core_record::error::EncodingError;
 use shared_core_record::occurrence::Occurrence;
@@ -21,7 +22,7 @@ use shared_core_record::record::WireRecord;
 use shared_core_record::size::Size;
 use shared_core_record::write::{write_messages, write_optional_message, write_text};
 use shared_core_wire::error::WireError;
-use std::alloc::{AllocError, Global};
+use std::alloc::Global;
 
 /// The input of the handler.
 #[derive(Debug, PartialEq, Drop)]
@@ -65,10 +66,10 @@ impl WireRecord for InputCommandMessage {
         size.optional_message(14, &self.value);
     }
 
-    fn encode_raw(&self, out: &mut Vec<u8>) -> Result<(), AllocError> {
-        write_messages(out, 1, &self.headers)?;
-        write_text(out, 12, &self.name)?;
-        write_optional_message(out, 14, &self.value)
+    fn encode_back(&self, out: &mut [u8], end: usize) -> usize {
+        let end = write_optional_message(out, end, 14, &self.value);
+        let end = write_text(out, end, 12, &self.name);
+        write_messages(out, end, 1, &self.headers)
     }
 
     ghost use Rattle.shared_core_parts.specs.contracts.header.HeaderWireRecord.TheImpl.Laws.{equality-law as header_equality};
@@ -94,7 +95,7 @@ impl RestateEncodableMessage for InputCommandMessage {
 
     ghost is_rewritten = { λ _. false };
 
-    fn encode(&self, alloc: Global, _version: Version) -> Result<Bytes, EncodingError> {
-        encode_frame(self, alloc, None)
+    fn encode_into(&self, _version: Version, out: &mut Vec<u8>) -> Result<(), EncodingError> {
+        encode_frame_into(self, None, out)
     }
 }

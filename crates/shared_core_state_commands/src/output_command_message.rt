@@ -10,11 +10,12 @@ ghost use Rattle.shared_core_record.specs.Table as tables;
 ghost use Rattle.shared_core_record.specs.FieldParts.{message_part, option_part, text_part};
 ghost use Rattle.shared_core_record.specs.EqualityRules.{different_members, equality_rules};
 
-use bytes::Bytes;
 use shared_core_base::header::MessageType;
 use shared_core_base::version::Version;
 use shared_core_parts::failure::Failure;
-use shared_core_parts::restate_message::{RestateEncodableMessage, RestateMessage, encode_frame};
+use shared_core_parts::restate_message::{
+    RestateEncodableMessage, RestateMessage, encode_frame_into,
+};
 use shared_core_parts::value::Value;
 use shared_core_record::error::EncodingError;
 use shared_core_record::occurrence::Occurrence;
@@ -23,7 +24,7 @@ use shared_core_record::record::WireRecord;
 use shared_core_record::size::Size;
 use shared_core_record::write::{write_message_value, write_oneof, write_text};
 use shared_core_wire::error::WireError;
-use std::alloc::{AllocError, Global};
+use std::alloc::Global;
 use std::result;
 
 /// The result.
@@ -70,10 +71,10 @@ impl OneOf for Result {
         }
     }
 
-    fn encode_raw(&self, out: &mut Vec<u8>) -> result::Result<(), AllocError> {
+    fn encode_back(&self, out: &mut [u8], end: usize) -> usize {
         match self {
-            Result::Value(value) => write_message_value(out, 14, value),
-            Result::Failure(failure) => write_message_value(out, 15, failure),
+            Result::Value(value) => write_message_value(out, end, 14, value),
+            Result::Failure(failure) => write_message_value(out, end, 15, failure),
         }
     }
 
@@ -124,9 +125,9 @@ impl WireRecord for OutputCommandMessage {
         size.oneof(&self.result);
     }
 
-    fn encode_raw(&self, out: &mut Vec<u8>) -> result::Result<(), AllocError> {
-        write_text(out, 12, &self.name)?;
-        write_oneof(out, &self.result)
+    fn encode_back(&self, out: &mut [u8], end: usize) -> usize {
+        let end = write_oneof(out, end, &self.result);
+        write_text(out, end, 12, &self.name)
     }
 
     ghost use Rattle.shared_core_state_commands.specs.contracts.output_command_message.ResultOneOf.TheImpl.Laws.{equality-law as result_equality, present-law as result_present};
@@ -151,7 +152,11 @@ impl RestateEncodableMessage for OutputCommandMessage {
 
     ghost is_rewritten = { λ _. false };
 
-    fn encode(&self, alloc: Global, _version: Version) -> result::Result<Bytes, EncodingError> {
-        encode_frame(self, alloc, None)
+    fn encode_into(
+        &self,
+        _version: Version,
+        out: &mut Vec<u8>,
+    ) -> result::Result<(), EncodingError> {
+        encode_frame_into(self, None, out)
     }
 }

@@ -12,7 +12,9 @@ ghost use Rattle.shared_core_record.specs.EqualityRules.{equality_rules};
 use bytes::Bytes;
 use shared_core_base::header::MessageType;
 use shared_core_base::version::Version;
-use shared_core_parts::restate_message::{RestateEncodableMessage, RestateMessage, encode_frame};
+use shared_core_parts::restate_message::{
+    RestateEncodableMessage, RestateMessage, encode_frame_into,
+};
 use shared_core_parts::value::Value;
 use shared_core_record::error::EncodingError;
 use shared_core_record::occurrence::Occurrence;
@@ -20,7 +22,7 @@ use shared_core_record::record::WireRecord;
 use shared_core_record::size::Size;
 use shared_core_record::write::{write_bytes, write_optional_message, write_text};
 use shared_core_wire::error::WireError;
-use std::alloc::{AllocError, Global};
+use std::alloc::Global;
 
 /// Sets the value of a key.
 #[derive(Debug, PartialEq, Drop)]
@@ -64,10 +66,10 @@ impl WireRecord for SetStateCommandMessage {
         size.text(12, &self.name);
     }
 
-    fn encode_raw(&self, out: &mut Vec<u8>) -> Result<(), AllocError> {
-        write_bytes(out, 1, &self.key)?;
-        write_optional_message(out, 3, &self.value)?;
-        write_text(out, 12, &self.name)
+    fn encode_back(&self, out: &mut [u8], end: usize) -> usize {
+        let end = write_text(out, end, 12, &self.name);
+        let end = write_optional_message(out, end, 3, &self.value);
+        write_bytes(out, end, 1, &self.key)
     }
 
     ghost use Rattle.shared_core_parts.specs.contracts.value.ValueWireRecord.TheImpl.Laws.{equality-law as value_equality};
@@ -92,7 +94,7 @@ impl RestateEncodableMessage for SetStateCommandMessage {
 
     ghost is_rewritten = { λ _. false };
 
-    fn encode(&self, alloc: Global, _version: Version) -> Result<Bytes, EncodingError> {
-        encode_frame(self, alloc, None)
+    fn encode_into(&self, _version: Version, out: &mut Vec<u8>) -> Result<(), EncodingError> {
+        encode_frame_into(self, None, out)
     }
 }

@@ -1,32 +1,38 @@
-use Rattle.std.proofs.Common.{◌∙◌, ap, sym, refl, subst, arith, rules}
+use Rattle.std.proofs.Common.{◌≤◌, drop, sym, refl, subst, arith, rules}
 use Rattle.shared_core_parts.specs.declared.future.Future.TheFolds.{the_lemmas}
 use Rattle.shared_core_parts.proofs.NestedFutures.{future_part, all_parts}
-use Rattle.shared_core_record.proofs.ElementLoops.{write_step}
-use Rattle.shared_core_record.proofs.Measuring.{write_from}
-use Rattle.shared_core_record.proofs.SmallParts.{small_next, small_rest, small_start}
-use Rattle.shared_core_record.specs.RowSpelling.{with_row}
-use Rattle.shared_core_record.specs.SmallRows.{IsSmall}
+use Rattle.shared_core_record.proofs.Backwards.{IsBehind, behind_all, behind_next, behind_room, behind_start, message_before}
+use Rattle.shared_core_parts.specs.Futures.{future_parts}
+use Rattle.shared_core_record.specs.RowSpelling.{row_bytes, row_size}
 use Rattle.shared_core_record.specs.Table.{future}
 use Rattle.shared_core_wire.specs.Schema.{Message, Repeated}
 use Rattle.shared_core_wire.specs.Value.{Part}
 use Rattle.shared_core_parts.proofs.future.+encode_future.Goals as goal
 
-pub encode_futures-loop-future-init : goal.encode_futures-loop-future-init
-encode_futures-loop-future-init t c =
-    (refl, small_start future_part 4 (Message future) c.args.futures.now.items refl (subst (λ (p : Part). IsSmall (Repeated 4 (Message future)) p) (sym (all_parts c.args.futures.now.items)) c.requires.small))
+pub encode_futures-loop-i-init : goal.encode_futures-loop-i-init
+encode_futures-loop-i-init t c = behind_start future_part 4 (Message future) c.args.futures.now.items c.len-i.result c.args.end (drop c.args.end c.args.out.now) (omega arith)
 
-pub encode_futures-encode_nested-requires : goal.encode_futures-encode_nested-requires
-encode_futures-encode_nested-requires t c =
-    (search (rules, the_lemmas), small_next future_part 4 (Message future) c.args.futures.now.items c.loop-future.future-index c.future-item.result (omega arith) (rw c.deref-future-items.ensures.value at c.future-item.is) c.loop-future.invariant.1)
+pub encode_futures-encode_nested-start-requires : goal.encode_futures-encode_nested-start-requires
+encode_futures-encode_nested-start-requires t c = (
+  search (rules, the_lemmas),
+  (
+    omega (arith, c.loop-i.invariant.0),
+    behind_room future_part 4 (Message future) c.args.futures.now.items c.loop-i.i c.index.result.now c.args.end c.loop-i.start (omega arith) (omega arith) c.index.ensures refl c.loop-i.invariant.0
+        (subst (λ (p : Part). row_size (Repeated 4 (Message future)) p ≤ c.args.end) (sym (all_parts c.args.futures.now.items)) c.requires.room),
+  ),
+)
 
-pub encode_futures-loop-future-preserved : goal.encode_futures-loop-future-preserved
-encode_futures-loop-future-preserved t c =
-    let i = rw c.deref-future-items.ensures.value at c.future-item.is in (
-      write_step future_part 4 (Message future) c.args.futures.now.items c.loop-future.future-index c.future-item.result c.args.out.now.items c.loop-future.out.items c.encode_nested.new.out.items (omega arith) i c.in_ok-encode_nested.ensures c.loop-future.invariant.0,
-      small_rest future_part 4 (Message future) c.args.futures.now.items c.loop-future.future-index c.future-item.result (omega arith) i c.loop-future.invariant.1,
-    )
+pub encode_futures-loop-i-preserved : goal.encode_futures-loop-i-preserved
+encode_futures-loop-i-preserved t c =
+    behind_next future_part 4 (Message future) c.args.futures.now.items c.loop-i.i c.index.result.now c.args.end c.loop-i.start c.encode_nested-start.result (drop c.args.end c.args.out.now) (drop c.loop-i.start c.loop-i.out) (drop c.encode_nested-start.result c.encode_nested-start.new.out) (omega arith) (omega arith)
+    c.index.ensures c.encode_nested-start.ensures.start c.encode_nested-start.ensures.written c.loop-i.invariant
 
 pub encode_futures-returns : goal.encode_futures-returns
 encode_futures-returns t c =
-    write_from future_part 4 (Message future) c.args.futures.now.items c.args.out.now.items c.loop-future.out.items c.loop-future.future-index (omega arith) refl c.loop-future.invariant.0
-    ∙ ap (λ (p : Part). with_row (Repeated 4 (Message future)) p c.args.out.now.items) (all_parts c.args.futures.now.items)
+    let b = behind_all future_part 4 (Message future) c.args.futures.now.items c.loop-i.i c.args.end c.loop-i.start (drop c.args.end c.args.out.now) (drop c.loop-i.start c.loop-i.out) (omega arith) refl c.loop-i.invariant in
+    let w = subst (λ (p : Part). IsBehind (row_bytes (Repeated 4 (Message future)) p) c.args.end c.loop-i.start (drop c.args.end c.args.out.now) (drop c.loop-i.start c.loop-i.out)) (all_parts c.args.futures.now.items) b in
+    record { start = w.0; written = w.1 }
+
+pub encode_nested-returns-clause-written : goal.encode_nested-returns-clause-written
+encode_nested-returns-clause-written t c =
+    message_before 4 future c.encode_future-start.result c.args.end (future_parts c.args.future.now) _ _ _ c.write_length.ensures.written c.encode_future-start.ensures.start c.encode_future-start.ensures.written
