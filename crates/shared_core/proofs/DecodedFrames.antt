@@ -1,5 +1,5 @@
 -- What was written decodes to what was written.
-use Rattle.std.proofs.Common.{◌≡◌, ◌≢◌, ℕ, List, ◌++◌, Option, Result, Ok, Err, ◌^◌, ◌<◌, ◌≤◌, Bool, true, false, not, Some, None, cond, eqb, refl, sym, ap, subst, arith}
+use Rattle.std.proofs.Common.{◌≡◌, ◌≢◌, ℕ, List, ◌++◌, Option, Result, Ok, Err, OnOk, ◌^◌, ◌<◌, ◌≤◌, Bool, true, false, not, Some, None, cond, eqb, refl, sym, ap, subst, arith}
 use Rattle.shared_core_base.specs.declared.header.MessageType.{MessageType}
 use Rattle.shared_core_base.specs.declared.header.MessageType.TheVariants.{ProposeRunCompletion, Suspension}
 use Rattle.shared_core_base.specs.declared.version.Version.{Version}
@@ -64,6 +64,17 @@ frame_comes_out version ty form bytes named fits small is low rest new answer = 
           | OutOfMemory ↦ λ answers. (refl, answers.0)
           | _ ↦ λ answers. absurd answers
         ]
+
+-- .. and the same of a frame that a call appends where it succeeds
+pub appended_is_item : {T E : Type 0} (result : Result T E) (version : Version) (ty : MessageType) (form : WireForm) → IsNamed ty → OnOk result (wire_size form < 2 ^ 32) → OnOk result (IsItem version (wire_frame ty form) (item_written ty form))
+appended_is_item (Ok x) version ty form named small = frame_is_item version ty form (wire_frame ty form) named small refl
+appended_is_item (Err e) version ty form named small = small
+
+pub appended_comes_out : {T E : Type 0} (result : Result T E) (version : Version) (ty : MessageType) (form : WireForm) → IsNamed ty → OnOk result (WireFits form) → OnOk result (wire_size form < 2 ^ 32)
+    → OnOk result (levels form.parts ≤ 100 → (rest new : List ℕ) (answer : Result (Option RawMessage) DecodingError) → AnswersNext version (wire_frame ty form ++ rest) answer new
+    → AnswersWritten ty form (wire_frame ty form ++ rest) answer rest new)
+appended_comes_out (Ok x) version ty form named fits small = frame_comes_out version ty form (wire_frame ty form) named fits small refl
+appended_comes_out (Err e) version ty form named fits small = small
 
 -- a suspension before V7 comes out as its three lists
 pub suspension_decodes : (version : Version) (suspension : Parts) → is_before_v7 version ≡ true → Fits table suspension (table tables.suspension) → wire_size (suspension_form suspension version) < 2 ^ 32

@@ -1,8 +1,8 @@
 //! Messages into frames.
-ghost use Rattle.std.specs.Prelude.{◌≡◌, ◌≤◌, ◌^◌, IfOk, IsErr, Err, MatchBool};
+ghost use Rattle.std.specs.Prelude.{◌≡◌, ◌+◌, ◌<◌, ◌≤◌, ◌^◌, IfOk, OnOk, OnErr, IsErr, Err, MatchBool, false, vec_len, vec_capacity};
 ghost use Rattle.std.specs.Result.{IsErrOf};
 ghost use Rattle.shared_core_base.specs.Version.{version_number};
-ghost use Rattle.shared_core_record.specs.declared.error.EncodingError.TheVariants.{PayloadTooLong};
+ghost use Rattle.shared_core_record.specs.declared.error.EncodingError.TheVariants.{PayloadTooLong, OutOfMemory};
 ghost use Rattle.shared_core_parts.specs.Frames.{wire_size, wire_frame};
 
 use bytes::Bytes;
@@ -61,5 +61,33 @@ impl Encoder {
             → MatchBool (M.is_rewritten self.now.version) (IsErr result) (result ≡ Err PayloadTooLong) }
     {
         message.encode(alloc, self.version)
+    }
+
+    /// Appends the frame of a message to a buffer: what `encode` answers, behind what the buffer holds.
+    ///
+    /// The errors are those of `encode`, and after one the buffer holds what it held. Memory is asked for only where the buffer has too
+    /// little room, or where the message is rewritten first, as a suspension is before V7; so a buffer that is cleared and used again
+    /// needs no more, once it has had room for the longest frame.
+    #[tactic(auto, using(crate::proofs::DecodedFrames::appended_is_item, crate::proofs::DecodedFrames::frame_is_read_back, crate::proofs::DecodedFrames::appended_comes_out))]
+    pub fn encode_into<M: RestateEncodableMessage>(
+        &self,
+        message: &M,
+        out: &mut Vec<u8>,
+    ) -> Result<(), EncodingError>
+        ensures frame { OnOk result (out.new.items ≡ out.old.items ++ wire_frame M.message_type (M.wire_form message.now self.now.version)) }
+        ensures item { OnOk result (IsItem self.now.version (wire_frame M.message_type (M.wire_form message.now self.now.version)) (item_written M.message_type (M.wire_form message.now self.now.version))) }
+        // what is written means what was written, where it has at most one hundred levels
+        ensures reads_back { OnOk result (IsReadBack (M.wire_form message.now self.now.version).schema (M.wire_form message.now self.now.version).parts (wire_payload (M.wire_form message.now self.now.version))) }
+        // and a decoder that the frame was pushed to answers that message next
+        ensures comes_out { OnOk result (levels (M.wire_form message.now self.now.version).parts ≤ 100
+            → (rest new : List ℕ) (answer : Result (Option RawMessage) DecodingError) → AnswersNext self.now.version (wire_frame M.message_type (M.wire_form message.now self.now.version) ++ rest) answer new
+            → AnswersWritten M.message_type (M.wire_form message.now self.now.version) (wire_frame M.message_type (M.wire_form message.now self.now.version) ++ rest) answer rest new) }
+        ensures unchanged { OnErr result (out.new.items ≡ out.old.items) }
+        ensures full { M.is_rewritten self.now.version ≡ false → IsErrOf result OutOfMemory → vec_capacity out.old < vec_len out.old + (8 + wire_size (M.wire_form message.now self.now.version)) }
+        ensures too_long { IsErrOf result PayloadTooLong → 2 ^ 32 ≤ wire_size (M.wire_form message.now self.now.version) }
+        ensures refused { 2 ^ 32 ≤ wire_size (M.wire_form message.now self.now.version)
+            → MatchBool (M.is_rewritten self.now.version) (IsErr result) (result ≡ Err PayloadTooLong) }
+    {
+        message.encode_into(self.version, out)
     }
 }
