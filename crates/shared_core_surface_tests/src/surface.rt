@@ -316,13 +316,20 @@ fn records_of_payloads(payload: &[u8], level: u32, records: &mut Records<'_>, fo
     is_error::<WireError>();
 }
 
-fn any_record<M: WireRecord>(alloc: Global, payload: Bytes, rest: &[Bytes], record: M) {
+fn any_record<M: WireRecord>(
+    alloc: Global,
+    payload: Bytes,
+    rest: &[Bytes],
+    record: M,
+    out: &mut Vec<u8>,
+) {
     return;
     let _: M = M::empty(alloc);
     let _: Result<M, WireError> = M::decode(alloc, payload);
     let _: Result<M, WireError> = M::merge(record, alloc, payload);
     let _: Option<u32> = M::encoded_len(&record);
     let _: Result<Bytes, EncodingError> = M::encode_payload(&record, alloc);
+    let _: Result<(), EncodingError> = M::encode_payload_into(&record, out);
     let _: Result<M, WireError> = decode_parts::<M>(alloc, payload, rest);
     let _: bool = record == record;
 }
@@ -333,10 +340,12 @@ fn any_message<M: RestateMessage + RestateEncodableMessage>(
     alloc: Global,
     version: Version,
     message: &M,
+    out: &mut Vec<u8>,
 ) {
     return;
     let _: MessageType = M::ty();
     let _: Result<Bytes, EncodingError> = M::encode(message, alloc, version);
+    let _: Result<(), EncodingError> = M::encode_into(message, version, out);
 }
 
 fn any_command<
@@ -594,10 +603,12 @@ fn encoders_and_decoders<M: RestateMessage + RestateEncodableMessage>(
     message: &M,
     encoder: &Encoder,
     decoder: &mut Decoder,
+    out: &mut Vec<u8>,
 ) {
     return;
     let _: Encoder = Encoder::new(version);
     let _: Result<Bytes, EncodingError> = Encoder::encode(encoder, alloc, message);
+    let _: Result<(), EncodingError> = Encoder::encode_into(encoder, message, out);
     let _: Decoder = Decoder::new(alloc, version);
     let _: Result<(), PushError> = Decoder::push(decoder, piece);
     let _: u64 = Decoder::pending(decoder);

@@ -8,8 +8,8 @@ use shared_core::header::MessageType;
 use shared_core::messages::{
     EncodingError, GetEagerStateKeysCommandMessage, GetLazyStateCommandMessage,
     GetLazyStateCompletionNotificationMessage, InputCommandMessage, OutputCommandMessage,
-    RestateEncodableMessage, RestateMessage, StartMessage, StateKeys, SuspensionMessage, Value,
-    Void, get_lazy_state_completion_notification_message,
+    RestateMessage, StartMessage, StateKeys, SuspensionMessage, Value, Void,
+    get_lazy_state_completion_notification_message,
 };
 use shared_core::wire::{WireError, WireRecord};
 use std::alloc::Global;
@@ -94,28 +94,20 @@ fn several_messages_come_out_cut_at_each_place(rt: HostRuntime) -> Result<(), Fa
     Ok(())
 }
 
-/// Appends the frame of a message.
-fn append<M: RestateEncodableMessage>(
-    frames: &mut Vec<u8>,
-    alloc: Global,
-    encoder: &Encoder,
-    message: &M,
-) -> Result<(), Fail> {
-    frames.extend_from_slice(encoder.encode(alloc, message)?.as_slice())?;
+/// Appends the frames of the three messages.
+fn append_three(encoder: &Encoder, frames: &mut Vec<u8>) -> Result<(), Fail> {
+    let alloc = *frames.allocator();
+    encoder.encode_into(&start(alloc)?, frames)?;
+    encoder.encode_into(&input(alloc)?, frames)?;
+    encoder.encode_into(&state(alloc)?, frames)?;
     Ok(())
-}
-
-/// The frames of the three messages, one behind the other.
-fn three_frames(alloc: Global, encoder: &Encoder) -> Result<Vec<u8>, Fail> {
-    let mut frames = Vec::new(alloc);
-    append(&mut frames, alloc, encoder, &start(alloc)?)?;
-    append(&mut frames, alloc, encoder, &input(alloc)?)?;
-    append(&mut frames, alloc, encoder, &state(alloc)?)?;
-    Ok(frames)
 }
 
 #[test]
 fn frames_are_the_literal_bytes(rt: HostRuntime) -> Result<(), Fail> {
+    // One buffer, which is large enough, for all of them.
+    let mut frames = Vec::with_capacity(rt.alloc(), THREE_FRAMES.len())?;
+    let room = frames.capacity();
     for version in [
         Version::V5,
         Version::V6,
@@ -123,8 +115,12 @@ fn frames_are_the_literal_bytes(rt: HostRuntime) -> Result<(), Fail> {
         Version::V8,
         Version::V9,
     ] {
-        let frames = three_frames(rt.alloc(), &Encoder::new(version))?;
-        assert!(rt; frames.as_slice() == THREE_FRAMES.as_slice(), "{version:?}");
+        frames.clear();
+        append_three(&Encoder::new(version), &mut frames)?;
+        assert!(rt;
+            frames.as_slice() == THREE_FRAMES.as_slice() && frames.capacity() == room,
+            "{version:?}"
+        );
     }
     Ok(())
 }
