@@ -1,0 +1,60 @@
+-- What is printed of two journals that are compared.
+use Rattle.std.specs.Prelude.{◌≡◌, ℕ, Bool, true, false, List, [], ◌++◌, codes, decimal, Option, Result, Ok, Err}
+use Rattle.std.specs.String.{string_bytes}
+use Rattle.shared_core_base.specs.declared.version.Version.{Version}
+use Rattle.replay_bench.specs.declared.verdicts.Side.{Side}
+use Rattle.replay_bench.specs.declared.verdicts.Side.TheVariants.{Recorded, Replayed}
+use Rattle.replay_bench.specs.declared.verdicts.Verdict.{Verdict}
+use Rattle.replay_bench.specs.declared.verdicts.Verdict.TheVariants.{Same, RecordedEnded, ReplayedEnded, TypeMismatch, HeaderMismatch}
+use Rattle.replay_bench.specs.declared.verdicts.BenchError.TheVariants.{Malformed, TooLong, OutOfMemory}
+use Rattle.replay_bench.specs.declared.verdicts.ReaderError.{ReaderError}
+use Rattle.replay_bench.specs.declared.verdicts.ReaderError.TheVariants.{Read, Bench}
+use Rattle.replay_bench.specs.Verdicts.{ComparesKnown}
+use Rattle.journal_diff.specs.declared.diff.DiffError.{DiffError}
+use Rattle.journal_diff.specs.declared.diff.DiffError.TheVariants.{Unanswered, Output}
+
+-- What a side is called.
+abbrev pub side_text : Side → List ℕ
+side_text Recorded = codes "recorded"
+side_text Replayed = codes "replayed"
+
+-- The word for so many commands.
+abbrev pub commands_word : ℕ → List ℕ
+commands_word 1 = codes " command\n"
+commands_word n = codes " commands\n"
+
+-- The line of a verdict; a mismatch's text may have lines of its own.
+abbrev pub verdict_line : Verdict → List ℕ
+verdict_line (Same count) = codes "same, " ++ (decimal count ++ commands_word count)
+verdict_line (RecordedEnded index) = codes "recorded ends at command " ++ (decimal index ++ codes "\n")
+verdict_line (ReplayedEnded index) = codes "replayed ends at command " ++ (decimal index ++ codes "\n")
+verdict_line (TypeMismatch index text) = codes "command " ++ (decimal index ++ (codes ": " ++ (string_bytes text ++ codes "\n")))
+verdict_line (HeaderMismatch index text) = codes "command " ++ (decimal index ++ (codes ": " ++ (string_bytes text ++ codes "\n")))
+
+-- Whether a verdict is that the journals are the same.
+abbrev pub is_same : Verdict → Bool
+is_same (Same count) = true
+is_same verdict = false
+
+-- The text of what came between.
+abbrev pub error_text : DiffError → List ℕ
+error_text (Unanswered (Read side)) = codes "reading the " ++ (side_text side ++ codes " journal failed")
+error_text (Unanswered (Bench (Malformed side index))) = codes "the " ++ (side_text side ++ (codes " command " ++ (decimal index ++ codes " is malformed")))
+error_text (Unanswered (Bench TooLong)) = codes "a journal has more than 2^64 - 1 bytes"
+error_text (Unanswered (Bench OutOfMemory)) = codes "out of memory"
+error_text Output = codes "output failed"
+
+-- All of a text is written, or a beginning of it where the output failed.
+abbrev pub IsWritten : {T : Type 0} → Result T DiffError → List ℕ → List ℕ → Type 0
+IsWritten (Ok done) written text = written ≡ text
+IsWritten (Err error) written text = (error ≡ Output) × (rest : List ℕ) × (text ≡ written ++ rest)
+
+-- What a comparison of two readers' journals writes and answers: the line of their verdict and whether it is that they are the same; nothing, and
+-- why there is no verdict; or a beginning of the line, where the output failed.
+abbrev pub Reports : Version → Bool → Option (List ℕ) → Option (List ℕ) → Result Bool DiffError → List ℕ → Type 0
+Reports version ignore recorded replayed (Ok same) written =
+    (verdict : Verdict) × ComparesKnown version ignore recorded replayed (Ok verdict) × (same ≡ is_same verdict) × (written ≡ verdict_line verdict)
+Reports version ignore recorded replayed (Err (Unanswered why)) written =
+    ComparesKnown version ignore recorded replayed (Err why) × (written ≡ [])
+Reports version ignore recorded replayed (Err Output) written =
+    (verdict : Verdict) × ComparesKnown version ignore recorded replayed (Ok verdict) × (rest : List ℕ) × (verdict_line verdict ≡ written ++ rest)

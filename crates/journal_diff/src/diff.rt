@@ -1,0 +1,144 @@
+//! Two journals compared, from any readers to any writer.
+
+ghost use Rattle.std.specs.Prelude.{◌≡◌, ◌≤◌, ◌++◌, ℕ, List, IfOk};
+ghost use Rattle.std.specs.Io.KnownBytes.{Appends};
+ghost use Rattle.std.specs.String.{string_bytes};
+ghost use Rattle.shared_core_base.specs.Version.{version_number};
+ghost use Rattle.journal_diff.specs.Verdicts.{Reports, IsWritten, side_text, verdict_line};
+
+use replay_bench::{BenchError, ReaderError, Side, Verdict, compare_readers};
+use shared_core::version::Version;
+use std::alloc::{AllocError, Global};
+use std::fmt;
+use std::io::{Read, Write};
+
+/// How many bytes are read at a time.
+const PIECE: usize = 65536;
+
+/// Why two journals have no verdict that is printed whole.
+#[derive(Debug, Clone, Copy, PartialEq, Eq, Drop)]
+pub enum DiffError {
+    /// The comparison has no verdict. Nothing is written.
+    Unanswered(ReaderError),
+    /// A write failed, or took no byte. A beginning of the verdict's line may stand.
+    Output,
+}
+
+impl From<ReaderError> for DiffError {
+    ghost use Rattle.std.specs.Prelude.{◌≡◌};
+    ghost use Rattle.journal_diff.specs.declared.diff.DiffError.TheVariants.{Unanswered};
+
+    ghost from_gives = { λ why error. error ≡ Unanswered why };
+
+    fn from(error: ReaderError) -> DiffError {
+        DiffError::Unanswered(error)
+    }
+}
+
+impl From<AllocError> for DiffError {
+    ghost use Rattle.std.specs.Prelude.{◌≡◌};
+    ghost use Rattle.journal_diff.specs.declared.diff.DiffError.TheVariants.{Unanswered};
+    ghost use Rattle.replay_bench.specs.declared.verdicts.ReaderError.TheVariants.{Bench};
+    ghost use Rattle.replay_bench.specs.declared.verdicts.BenchError.TheVariants.{OutOfMemory};
+
+    ghost from_gives = { λ _ error. error ≡ Unanswered (Bench OutOfMemory) };
+
+    fn from(_error: AllocError) -> DiffError {
+        DiffError::Unanswered(ReaderError::Bench(BenchError::OutOfMemory))
+    }
+}
+
+/// Says in a line what came between, without a line feed.
+impl fmt::Display for DiffError {
+    ghost use Rattle.std.specs.Prelude.{Some};
+    ghost use Rattle.journal_diff.specs.Verdicts.{error_text};
+
+    ghost output = { λ error. Some (error_text error) };
+
+    fn fmt<W: fmt::Write>(&self, f: &mut fmt::Formatter<W>) -> fmt::Result {
+        match self {
+            DiffError::Unanswered(ReaderError::Read(side)) => {
+                let side = side_name(*side);
+                write!(f, "reading the {side} journal failed")
+            }
+            DiffError::Unanswered(ReaderError::Bench(BenchError::Malformed { side, index })) => {
+                let side = side_name(*side);
+                let index = *index;
+                write!(f, "the {side} command {index} is malformed")
+            }
+            DiffError::Unanswered(ReaderError::Bench(BenchError::TooLong)) => {
+                f.write_str("a journal has more than 2^64 - 1 bytes")
+            }
+            DiffError::Unanswered(ReaderError::Bench(BenchError::OutOfMemory)) => {
+                f.write_str("out of memory")
+            }
+            DiffError::Output => f.write_str("output failed"),
+        }
+    }
+}
+
+/// What a side is called.
+fn side_name(side: Side) -> &'static str
+    ensures { result.now ≡ side_text side }
+{
+    match side {
+        Side::Recorded => "recorded",
+        Side::Replayed => "replayed",
+    }
+}
+
+/// Compares two journals of a version, at least V5, that readers give, writes the verdict in a line, or in the lines of its text, and answers
+/// whether the journals are the same. The line is written only once the verdict is known and its whole text is made.
+pub fn diff<A: Read + Drop, B: Read + Drop, W: Write>(
+    alloc: Global,
+    version: Version,
+    recorded: A,
+    replayed: B,
+    ignore_payloads: bool,
+    output: &mut W,
+) -> Result<bool, DiffError>
+    requires { 5 ≤ version_number version }
+    ensures { (written : List ℕ)
+        × Appends (W.contents output.old) (W.contents output.new) written
+        × Reports version ignore_payloads (A.remaining recorded.entry) (B.remaining replayed.entry) result written }
+{
+    let verdict = compare_readers(alloc, version, recorded, replayed, PIECE, ignore_payloads)?;
+    let line = line_of(alloc, &verdict)?;
+    write_text(output, line.as_bytes())?;
+    Ok(matches!(verdict, Verdict::Same(_)))
+}
+
+/// The line of a verdict.
+fn line_of(alloc: Global, verdict: &Verdict) -> Result<String, AllocError>
+    ensures { IfOk result (λ line. string_bytes line ≡ verdict_line verdict.now) }
+{
+    match verdict {
+        Verdict::Same(1) => format!(in alloc; "same, 1 command\n"),
+        Verdict::Same(count) => format!(in alloc; "same, {count} commands\n"),
+        Verdict::RecordedEnded(index) => { format!(in alloc; "recorded ends at command {index}\n") }
+        Verdict::ReplayedEnded(index) => { format!(in alloc; "replayed ends at command {index}\n") }
+        Verdict::TypeMismatch { index, text } => { format!(in alloc; "command {index}: {text}\n") }
+        Verdict::HeaderMismatch { index, text } => {
+            format!(in alloc; "command {index}: {text}\n")
+        }
+    }
+}
+
+/// Writes until all is written, a write fails, or one takes nothing.
+fn write_text<W: Write>(output: &mut W, bytes: &[u8]) -> Result<(), DiffError>
+    ensures { (written : List ℕ)
+        × Appends (W.contents output.old) (W.contents output.new) written
+        × IsWritten result written bytes.now }
+{
+    let mut written = 0;
+    while written < bytes.len() {
+        let Ok(count) = output.write(&bytes[written..]) else {
+            return Err(DiffError::Output);
+        };
+        if count == 0 {
+            return Err(DiffError::Output);
+        }
+        written += count;
+    }
+    Ok(())
+}

@@ -1,0 +1,101 @@
+//! The program's words.
+
+ghost use Rattle.std.specs.Prelude.{◌≤◌, IfOk, IfSome};
+ghost use Rattle.shared_core_base.specs.Version.{version_number};
+
+use clap::error::ErrorKind;
+use clap::{Arg, ArgAction, Command, Error};
+use shared_core::version::Version;
+use std::alloc::{AllocError, Global};
+
+/// What the words ask for.
+#[derive(Debug, Clone, Copy, Drop)]
+pub struct Options<'a> {
+    /// The path of the recorded journal, or `-` for the standard input.
+    pub recorded: &'a str,
+    /// The path of the replayed journal, or `-` for the standard input.
+    pub replayed: &'a str,
+    /// The version of the protocol of both journals.
+    pub version: Version,
+    /// Whether payloads are left out of the comparison.
+    pub ignore_payloads: bool,
+}
+
+/// The versions that can be asked for, by their words.
+const VERSIONS: [&str; 5] = ["5", "6", "7", "8", "9"];
+
+/// The version of a word, of those that can be asked for.
+fn version_of(word: &str) -> Option<Version>
+    ensures { IfSome result (λ version. 5 ≤ version_number version) }
+{
+    match word {
+        "5" => Some(Version::V5),
+        "6" => Some(Version::V6),
+        "7" => Some(Version::V7),
+        "8" => Some(Version::V8),
+        "9" => Some(Version::V9),
+        _ => None,
+    }
+}
+
+/// The program as its words see it.
+fn command<'a>(alloc: Global) -> Result<Command<'a>, AllocError> {
+    let recorded = Arg::new(alloc, "recorded")
+        .value_name("RECORDED")
+        .required(true)
+        .help("The journal that was recorded: a file, or - for the standard input");
+    let replayed = Arg::new(alloc, "replayed")
+        .value_name("REPLAYED")
+        .required(true)
+        .help("The journal that is replayed: a file, or - for the standard input");
+    let protocol = Arg::new(alloc, "protocol")
+        .long("protocol")
+        .value_name("VERSION")
+        .value_parser(VERSIONS.as_slice())
+        .default_value("8")
+        .help("The version of the protocol of both journals");
+    let ignore_payloads = Arg::new(alloc, "ignore-payloads")
+        .long("ignore-payloads")
+        .action(ArgAction::SetTrue)
+        .help("Compares all but payloads");
+    Command::new(alloc, "journal_diff")
+        .version("0.1.0")
+        .about(
+            "Compares two journals, command by command. Ends with 0 where they are the same, 1 where they differ, and 2 where there is trouble.",
+        )
+        .arg(ignore_payloads)?
+        .arg(protocol)?
+        .arg(recorded)?
+        .arg(replayed)
+}
+
+/// What the words behind the program's name ask for. An error is one of these words, or asks for the help or the version.
+pub fn read_options<'a>(alloc: Global, words: &'a [String]) -> Result<Options<'a>, Error>
+    ensures { IfOk result (λ options. 5 ≤ version_number options.version) }
+{
+    let mut command = command(alloc)?;
+    let matches = command.try_get_matches_from_mut(words)?;
+    let version = matches.get_str("protocol").and_then(version_of);
+    let (Some(recorded), Some(replayed), Some(version)) = (
+        matches.get_str("recorded"),
+        matches.get_str("replayed"),
+        version,
+    ) else {
+        return Err(command.error(
+            ErrorKind::MissingRequiredArgument,
+            "two journals are compared",
+        )?);
+    };
+    if recorded == "-" && replayed == "-" {
+        return Err(command.error(
+            ErrorKind::ArgumentConflict,
+            "only one journal can come from the standard input",
+        )?);
+    }
+    Ok(Options {
+        recorded,
+        replayed,
+        version,
+        ignore_payloads: matches.get_flag("ignore-payloads"),
+    })
+}
