@@ -30,6 +30,7 @@ stage sh scripts/check_table.sh
 stage sh scripts/check_records.sh
 stage sh scripts/check_program.sh
 stage sh scripts/check_streams.sh
+stage sh scripts/check_diff.sh
 # these take the proved programs that rt ci has built
 stage sh scripts/conformance.sh
 stage sh scripts/refusals.sh

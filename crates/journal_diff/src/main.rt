@@ -4,6 +4,8 @@
 mod diff;
 mod inputs;
 mod options;
+#[cfg(test)]
+mod tests;
 
 use crate::diff::diff;
 use crate::inputs::{Inputs, open};
