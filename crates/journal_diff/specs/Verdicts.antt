@@ -1,5 +1,5 @@
 -- What is printed of two journals that are compared.
-use Rattle.std.specs.Prelude.{◌≡◌, ℕ, Bool, true, false, List, [], ◌++◌, codes, decimal, Option, Result, Ok, Err}
+use Rattle.std.specs.Prelude.{◌≡◌, ℕ, Bool, true, false, List, [], ◌++◌, codes, decimal, nat_eq, if◌then◌else◌, Option, Result, Ok, Err}
 use Rattle.std.specs.String.{string_bytes}
 use Rattle.shared_core_base.specs.declared.version.Version.{Version}
 use Rattle.replay_bench.specs.declared.verdicts.Side.{Side}
@@ -20,12 +20,11 @@ side_text Replayed = codes "replayed"
 
 -- The word for so many commands.
 abbrev pub commands_word : ℕ → List ℕ
-commands_word 1 = codes " command\n"
-commands_word n = codes " commands\n"
+commands_word count = if nat_eq count 1 then codes "command" else codes "commands"
 
 -- The line of a verdict; a mismatch's text may have lines of its own.
 abbrev pub verdict_line : Verdict → List ℕ
-verdict_line (Same count) = codes "same, " ++ (decimal count ++ commands_word count)
+verdict_line (Same count) = codes "same, " ++ (decimal count ++ (codes " " ++ (commands_word count ++ codes "\n")))
 verdict_line (RecordedEnded index) = codes "recorded ends at command " ++ (decimal index ++ codes "\n")
 verdict_line (ReplayedEnded index) = codes "replayed ends at command " ++ (decimal index ++ codes "\n")
 verdict_line (TypeMismatch index text) = codes "command " ++ (decimal index ++ (codes ": " ++ (string_bytes text ++ codes "\n")))
@@ -49,12 +48,16 @@ abbrev pub IsWritten : {T : Type 0} → Result T DiffError → List ℕ → List
 IsWritten (Ok done) written text = written ≡ text
 IsWritten (Err error) written text = (error ≡ Output) × (rest : List ℕ) × (text ≡ written ++ rest)
 
--- What a comparison of two readers' journals writes and answers: the line of their verdict and whether it is that they are the same; nothing, and
--- why there is no verdict; or a beginning of the line, where the output failed.
+-- What is written and answered of a verdict: its line and whether it is that the journals are the same; nothing, where memory is refused; or a
+-- beginning of the line, where the output failed.
+abbrev pub ReportsVerdict : Verdict → Result Bool DiffError → List ℕ → Type 0
+ReportsVerdict verdict (Ok same) written = (same ≡ is_same verdict) × (written ≡ verdict_line verdict)
+ReportsVerdict verdict (Err (Unanswered why)) written = (why ≡ Bench OutOfMemory) × (written ≡ [])
+ReportsVerdict verdict (Err Output) written = (rest : List ℕ) × (verdict_line verdict ≡ written ++ rest)
+
+-- What a comparison of two readers' journals writes and answers: their verdict is reported; or they have none, nothing is written, and this is why.
 abbrev pub Reports : Version → Bool → Option (List ℕ) → Option (List ℕ) → Result Bool DiffError → List ℕ → Type 0
-Reports version ignore recorded replayed (Ok same) written =
-    (verdict : Verdict) × ComparesKnown version ignore recorded replayed (Ok verdict) × (same ≡ is_same verdict) × (written ≡ verdict_line verdict)
 Reports version ignore recorded replayed (Err (Unanswered why)) written =
     ComparesKnown version ignore recorded replayed (Err why) × (written ≡ [])
-Reports version ignore recorded replayed (Err Output) written =
-    (verdict : Verdict) × ComparesKnown version ignore recorded replayed (Ok verdict) × (rest : List ℕ) × (verdict_line verdict ≡ written ++ rest)
+Reports version ignore recorded replayed answer written =
+    (verdict : Verdict) × ComparesKnown version ignore recorded replayed (Ok verdict) × ReportsVerdict verdict answer written

@@ -4,7 +4,7 @@ ghost use Rattle.std.specs.Prelude.{◌≡◌, ◌≤◌, ◌++◌, ℕ, List, I
 ghost use Rattle.std.specs.Io.KnownBytes.{Appends};
 ghost use Rattle.std.specs.String.{string_bytes};
 ghost use Rattle.shared_core_base.specs.Version.{version_number};
-ghost use Rattle.journal_diff.specs.Verdicts.{Reports, IsWritten, side_text, verdict_line};
+ghost use Rattle.journal_diff.specs.Verdicts.{Reports, ReportsVerdict, IsWritten, commands_word, is_same, side_text, verdict_line};
 
 use replay_bench::{BenchError, ReaderError, Side, Verdict, compare_readers};
 use shared_core::version::Version;
@@ -89,6 +89,7 @@ fn side_name(side: Side) -> &'static str
 
 /// Compares two journals of a version, at least V5, that readers give, writes the verdict in a line, or in the lines of its text, and answers
 /// whether the journals are the same. The line is written only once the verdict is known and its whole text is made.
+#[tactic(auto, using(crate::proofs::Reporting::reported))]
 pub fn diff<A: Read + Drop, B: Read + Drop, W: Write>(
     alloc: Global,
     version: Version,
@@ -100,12 +101,35 @@ pub fn diff<A: Read + Drop, B: Read + Drop, W: Write>(
     requires { 5 ≤ version_number version }
     ensures { (written : List ℕ)
         × Appends (W.contents output.old) (W.contents output.new) written
-        × Reports version ignore_payloads (A.remaining recorded.entry) (B.remaining replayed.entry) result written }
+        × Reports version ignore_payloads (A.remaining recorded) (B.remaining replayed) result written }
 {
     let verdict = compare_readers(alloc, version, recorded, replayed, PIECE, ignore_payloads)?;
-    let line = line_of(alloc, &verdict)?;
+    report(alloc, &verdict, output)
+}
+
+/// Writes the line of a verdict, and answers whether it is that the journals are the same.
+fn report<W: Write>(alloc: Global, verdict: &Verdict, output: &mut W) -> Result<bool, DiffError>
+    ensures { (written : List ℕ)
+        × Appends (W.contents output.old) (W.contents output.new) written
+        × ReportsVerdict verdict.now result written }
+{
+    let line = line_of(alloc, verdict)?;
     write_text(output, line.as_bytes())?;
-    Ok(matches!(verdict, Verdict::Same(_)))
+    Ok(is_same(verdict))
+}
+
+/// Whether a verdict is that the journals are the same.
+fn is_same(verdict: &Verdict) -> bool
+    ensures { result ≡ is_same verdict.now }
+{
+    matches!(verdict, Verdict::Same(_))
+}
+
+/// The word for so many commands.
+fn commands_word(count: u64) -> &'static str
+    ensures { result.now ≡ commands_word count }
+{
+    if count == 1 { "command" } else { "commands" }
 }
 
 /// The line of a verdict.
@@ -113,8 +137,10 @@ fn line_of(alloc: Global, verdict: &Verdict) -> Result<String, AllocError>
     ensures { IfOk result (λ line. string_bytes line ≡ verdict_line verdict.now) }
 {
     match verdict {
-        Verdict::Same(1) => format!(in alloc; "same, 1 command\n"),
-        Verdict::Same(count) => format!(in alloc; "same, {count} commands\n"),
+        Verdict::Same(count) => {
+            let word = commands_word(*count);
+            format!(in alloc; "same, {count} {word}\n")
+        }
         Verdict::RecordedEnded(index) => { format!(in alloc; "recorded ends at command {index}\n") }
         Verdict::ReplayedEnded(index) => { format!(in alloc; "replayed ends at command {index}\n") }
         Verdict::TypeMismatch { index, text } => { format!(in alloc; "command {index}: {text}\n") }

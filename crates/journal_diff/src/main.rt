@@ -1,6 +1,9 @@
 //! Compares two journals, each a file or one of them the standard input, and prints where they differ.
 #![tactic(auto)]
 
+ghost use Rattle.std.specs.Prelude.{◌≤◌};
+ghost use Rattle.shared_core_base.specs.Version.{version_number};
+
 mod diff;
 mod inputs;
 mod options;
@@ -48,7 +51,9 @@ fn answer_words(rt: &HostRuntime, error: &Error) -> ExitCode {
 }
 
 /// Compares the two inputs, prints the verdict and answers its status.
-fn compare(rt: &HostRuntime, options: &Options<'_>, inputs: Inputs) -> ExitCode {
+fn compare(rt: &HostRuntime, options: &Options<'_>, inputs: Inputs) -> ExitCode
+    requires { 5 ≤ version_number options.now.version }
+{
     let answer = diff(
         rt.alloc(),
         options.version,
