@@ -22,9 +22,6 @@ const FUTURES: u32 = 7;
 /// The version from which on a message of an unknown type is skipped with its payload.
 const SKIPS: u32 = 9;
 
-/// The version of the streams that are measured.
-const MEASURED: u32 = 8;
-
 /// Why a call gives no answer.
 #[derive(Debug)]
 pub enum Refusal {
@@ -257,21 +254,16 @@ impl Iterator for Items {
 }
 
 /// A word for each item of a stream, which is copied once and read several times.
-pub fn items(stream: &[u8], piece: usize, rounds: usize, words: &mut Vec<u64>) {
+pub fn items(version: u32, stream: &[u8], piece: usize, rounds: usize, words: &mut Vec<u64>) {
     let stream = Bytes::copy_from_slice(stream);
     for _ in 0..rounds.max(1) {
         words.clear();
-        words.extend(Items::new(MEASURED, stream.clone(), piece).map(|item| item.word()));
+        words.extend(Items::new(version, stream.clone(), piece).map(|item| item.word()));
     }
 }
 
 /// Decodes each message of a named type of a stream, and says how many there are.
-pub fn messages(stream: &[u8], piece: usize, rounds: usize) -> Result<usize, Refusal> {
-    messages_at(MEASURED, stream, piece, rounds)
-}
-
-/// The same of a stream of any version.
-pub fn messages_at(
+pub fn messages(
     version: u32,
     stream: &[u8],
     piece: usize,
@@ -304,10 +296,10 @@ fn decode(code: u16, payload: Bytes) -> Result<bool, DecodeError> {
 }
 
 /// Decodes each command of a stream twice, compares the two so many times by their derived `==`, and says how many comparisons hold.
-pub fn compare(stream: &[u8], rounds: usize) -> Result<usize, Refusal> {
+pub fn compare(version: u32, stream: &[u8], rounds: usize) -> Result<usize, Refusal> {
     let stream = Bytes::copy_from_slice(stream);
     let mut count = 0;
-    for item in Items::new(MEASURED, stream, 0) {
+    for item in Items::new(version, stream, 0) {
         if let Item::Message(header, payload) = item {
             if is_command(header.code) {
                 count += compare_command(header.code, payload, rounds)?;

@@ -1,6 +1,6 @@
 //! Measures the library and the peer side by side, and prints a table in Markdown:
 //! speed [--check] [--only WORKLOAD] [--side ours|peer] [--what items|messages|encode|payloads|headers] [--piece N] [--row NAME] [--size N]
-//! [--rounds N]
+//! [--rounds N] [--protocol 5..9]
 //!
 //! With --side nothing is compared or printed: that side alone goes over the workload so many times, for a profiler. Before a table is printed,
 //! and by `speed --check` alone, the requests for memory show that the rounds are made and the pieces used that are asked for.
@@ -17,6 +17,7 @@ use pendratsoa_bench::schema;
 use pendratsoa_bench::streams::{self, Frame};
 use pendratsoa_bench::{ours, peer};
 
+/// The version of the protocol, if none is said.
 const VERSION: u32 = 8;
 
 /// The length of the pieces in which a stream comes, if not whole.
@@ -101,6 +102,7 @@ enum Side {
 
 /// What is measured: messages, and the stream that they make.
 struct Workload {
+    version: u32,
     name: &'static str,
     frames: Vec<Frame>,
     stream: Vec<u8>,
@@ -108,9 +110,15 @@ struct Workload {
 }
 
 impl Workload {
-    fn new(name: &'static str, frames: Vec<Frame>, whats: &'static [What]) -> Workload {
+    fn new(
+        version: u32,
+        name: &'static str,
+        frames: Vec<Frame>,
+        whats: &'static [What],
+    ) -> Workload {
         let stream = streams::stream(&frames);
         Workload {
+            version,
             name,
             frames,
             stream,
@@ -130,14 +138,20 @@ impl Workload {
         count
     }
 
-    fn all() -> [Workload; 4] {
+    fn all(version: u32) -> [Workload; 4] {
         let mut random = Random::new(1, 0);
         [
-            Workload::new("replay", streams::replay(&mut random), &What::STREAM),
-            Workload::new("mixed", streams::mixed(&mut random), &What::STREAM),
-            Workload::new("large", streams::large(&mut random), &What::STREAM),
+            Workload::new(
+                version,
+                "replay",
+                streams::replay(&mut random),
+                &What::STREAM,
+            ),
+            Workload::new(version, "mixed", streams::mixed(&mut random), &What::STREAM),
+            Workload::new(version, "large", streams::large(&mut random), &What::STREAM),
             // the commands of the first
             Workload::new(
+                version,
                 "compare",
                 streams::commands(&mut Random::new(1, 0)),
                 &What::COMMANDS,
@@ -192,20 +206,21 @@ impl<'a> Bench<'a> {
     /// Goes over the workload so many times.
     fn go(&mut self, side: Side, rounds: usize) -> Result<(), Failed> {
         let stream = &self.workload.stream;
+        let version = self.workload.version;
         let count = match (self.what, side) {
             (What::Items, Side::Ours) => {
-                ours::items(VERSION, stream, self.piece, rounds, &mut self.words)?
+                ours::items(version, stream, self.piece, rounds, &mut self.words)?
             }
             (What::Items, Side::Peer) => {
-                peer::items(stream, self.piece, rounds, &mut self.words);
+                peer::items(version, stream, self.piece, rounds, &mut self.words);
                 self.words.len()
             }
-            (What::Messages, Side::Ours) => ours::messages(VERSION, stream, self.piece, rounds)?,
-            (What::Messages, Side::Peer) => peer::messages(stream, self.piece, rounds)?,
+            (What::Messages, Side::Ours) => ours::messages(version, stream, self.piece, rounds)?,
+            (What::Messages, Side::Peer) => peer::messages(version, stream, self.piece, rounds)?,
             (What::Encode, side) => self.encode(side, rounds)?,
-            (What::Payloads, Side::Ours) => ours::compare(VERSION, stream, false, rounds)?,
-            (What::Headers, Side::Ours) => ours::compare(VERSION, stream, true, rounds)?,
-            (What::Payloads | What::Headers, Side::Peer) => peer::compare(stream, rounds)?,
+            (What::Payloads, Side::Ours) => ours::compare(version, stream, false, rounds)?,
+            (What::Headers, Side::Ours) => ours::compare(version, stream, true, rounds)?,
+            (What::Payloads | What::Headers, Side::Peer) => peer::compare(version, stream, rounds)?,
         };
         if black_box(count) != self.expected(rounds) {
             return Err(Failed(format!("{count} is not what was to be counted")));
@@ -225,13 +240,14 @@ impl<'a> Bench<'a> {
 
     /// Encodes each frame so many times.
     fn encode(&mut self, side: Side, rounds: usize) -> Result<usize, Failed> {
+        let version = self.workload.version;
         for frame in &self.workload.frames {
             match side {
                 Side::Ours => {
-                    ours::frame_to(VERSION, frame.code, &frame.payload, rounds, &mut self.out)?;
+                    ours::frame_to(version, frame.code, &frame.payload, rounds, &mut self.out)?;
                 }
                 Side::Peer => {
-                    let frame = peer::frame(VERSION, frame.code, &frame.payload, rounds)?;
+                    let frame = peer::frame(version, frame.code, &frame.payload, rounds)?;
                     self.out[..frame.len()].copy_from_slice(&frame);
                 }
             }
@@ -318,7 +334,7 @@ impl Growing {
     fn new(hostile: &'static Hostile, size: usize) -> Growing {
         let sized = |times| {
             let frame = hostile.frame(times * size);
-            Workload::new(hostile.name, vec![frame], &[What::Messages])
+            Workload::new(VERSION, hostile.name, vec![frame], &[What::Messages])
         };
         Growing {
             hostile,
@@ -479,6 +495,13 @@ fn a_second(count: usize, time: Duration) -> String {
     }
 }
 
+/// A version that is spoken.
+fn protocol(word: &str) -> Option<u32> {
+    word.parse()
+        .ok()
+        .filter(|version| (5..=9).contains(version))
+}
+
 /// What is asked for on the command line.
 #[derive(Debug, Default)]
 struct Options {
@@ -489,6 +512,7 @@ struct Options {
     row: Option<String>,
     size: Option<usize>,
     rounds: Option<usize>,
+    protocol: Option<u32>,
     check: bool,
 }
 
@@ -509,6 +533,7 @@ impl Options {
                 "--row" => options.row = Some(value),
                 "--size" => options.size = Some(value.parse().ok()?),
                 "--rounds" => options.rounds = Some(value.parse().ok()?),
+                "--protocol" => options.protocol = Some(protocol(&value)?),
                 _ => return None,
             }
         }
@@ -542,7 +567,7 @@ impl Options {
         if self.row.is_some() || self.only.as_deref() == Some(HOSTILE) {
             return Vec::new();
         }
-        Workload::all()
+        Workload::all(self.protocol.unwrap_or(VERSION))
             .into_iter()
             .filter(|workload| self.takes(workload.name))
             .collect()
@@ -645,7 +670,7 @@ fn measure_hostile(hostile: &[Growing]) -> Result<(), Failed> {
 fn main() -> ExitCode {
     let Some(options) = Options::read(env::args().skip(1)) else {
         eprintln!(
-            "usage: speed [--check] [--only WORKLOAD] [--side ours|peer] [--what items|messages|encode|payloads|headers] [--piece N] [--row NAME] [--size N] [--rounds N]"
+            "usage: speed [--check] [--only WORKLOAD] [--side ours|peer] [--what items|messages|encode|payloads|headers] [--piece N] [--row NAME] [--size N] [--rounds N] [--protocol 5..9]"
         );
         return ExitCode::from(2);
     };

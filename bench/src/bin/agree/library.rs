@@ -139,7 +139,7 @@ fn compare_messages(
         Err(refusal) => refusal.to_string(),
     };
     let (expected, departs) = messages_by_rules(version, stream);
-    let peer = peer::messages_at(version, stream, piece, rounds).ok();
+    let peer = peer::messages(version, stream, piece, rounds).ok();
     if peer != expected && !departs {
         let answers = format!("  prost:     {peer:?}\n  the rules: {expected:?}");
         return tally.fails(KIND, case, answers);
