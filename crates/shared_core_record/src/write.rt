@@ -56,7 +56,7 @@ fn write_long_varint(out: &mut [u8], end: usize, number: u64) -> usize
 
 /// Writes bytes.
 #[inline(always)]
-pub fn write_content(out: &mut [u8], end: usize, content: &[u8]) -> usize
+fn write_content(out: &mut [u8], end: usize, content: &[u8]) -> usize
     requires within { end ≤ length out.old }
     requires room { length content.now ≤ end }
     ensures start { result + length content.now ≡ end }

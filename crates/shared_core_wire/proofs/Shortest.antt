@@ -1,5 +1,5 @@
 -- The shortest varint.
-use Rattle.std.proofs.Common.{◌≡◌, ℕ, zero, suc, ◌+◌, ◌-◌, ◌*◌, ◌/◌, ◌%◌, ◌^◌, ◌<◌, ◌≤◌, List, [], ◌∷◌, ◌++◌, length, refl, sym, ap, ◌∙◌, append_assoc, arith, lit<, inl, inr}
+use Rattle.std.proofs.Common.{◌≡◌, ℕ, zero, suc, ◌+◌, ◌-◌, ◌*◌, ◌/◌, ◌%◌, ◌^◌, ◌<◌, ◌≤◌, List, [], ◌∷◌, ◌++◌, length, refl, sym, ap, ◌∙◌, arith, lit<, inl, inr}
 use Rattle.std.proofs.Math.Nat.{pow-suc, pow-le-pow_right}
 use Rattle.std.proofs.lemmas.Bool.{lt-ltb, le-ltb, cases_lt}
 use Rattle.shared_core_wire.specs.Grammar.{IsBase128, IsVarint, IsKey}
@@ -34,10 +34,6 @@ large_within (suc more) n h le = rw (le-ltb n 128 le) (ap (λ (w : List ℕ). (n
 pub shortest_large : (n : ℕ) → 128 ≤ n → shortest_varint n ≡ (n % 128 + 128) ∷ shortest_varint (n / 128)
 unfolding shortest_varint
 shortest_large n le = large_within n n (omega arith) le
-
--- a byte is written, and the rest is still to come
-pub written_large : (old : List ℕ) (n : ℕ) → 128 ≤ n → (old ++ (n % 128 + 128) ∷ []) ++ shortest_varint (n / 128) ≡ old ++ shortest_varint n
-written_large old n le = append_assoc old ((n % 128 + 128) ∷ []) (shortest_varint (n / 128)) ∙ ap (λ (w : List ℕ). old ++ w) (sym (shortest_large n le))
 
 -- ---- it is a spelling
 

@@ -1,18 +1,12 @@
-//! Varints and keys, as the public format of Protocol Buffers spells them.
+//! Varints, as the public format of Protocol Buffers spells them.
 
-use shared_core_wire::varint::{append_key, append_varint, key_len, read_varint, varint_len};
+use shared_core_wire::varint::{read_varint, varint_len};
 use std::alloc::Global;
 use std::test::Fail;
 
-/// Whether the number is written as these bytes, which are read as the number.
-fn is_spelled(alloc: Global, number: u64, bytes: &[u8]) -> Result<bool, Fail> {
-    let mut out = Vec::new(alloc);
-    append_varint(&mut out, number)?;
-    Ok(
-        out.as_slice() == bytes
-            && varint_len(number) == bytes.len() as u64
-            && read_varint(bytes) == Some((number, [].as_slice())),
-    )
+/// Whether these bytes are as many as the number's shortest varint has and are read as the number.
+fn is_spelled(number: u64, bytes: &[u8]) -> bool {
+    varint_len(number) == bytes.len() as u64 && read_varint(bytes) == Some((number, [].as_slice()))
 }
 
 /// So many bytes, all alike but for the last.
@@ -39,9 +33,9 @@ fn varints_of_every_length(rt: HostRuntime) -> Result<(), Fail> {
         (10, 9_223_372_036_854_775_808, 18_446_744_073_709_551_615),
     ] {
         let first = spelling(alloc, len, 0x80, if len == 1 { 0 } else { 1 })?;
-        assert!(rt; is_spelled(alloc, least, first.as_slice())?, "{least}");
+        assert!(rt; is_spelled(least, first.as_slice()), "{least}");
         let last = spelling(alloc, len, 0xFF, if len == 10 { 0x01 } else { 0x7F })?;
-        assert!(rt; is_spelled(alloc, greatest, last.as_slice())?, "{greatest}");
+        assert!(rt; is_spelled(greatest, last.as_slice()), "{greatest}");
     }
     Ok(())
 }
@@ -68,26 +62,4 @@ fn varints_that_are_longer_than_needed(rt: HostRuntime) {
     ] {
         assert!(rt; read_varint(bytes) == read, "{bytes:?}");
     }
-}
-
-/// A key, a number, and two keys more.
-fn four_spellings(alloc: Global) -> Result<Vec<u8>, Fail> {
-    let mut out = Vec::new(alloc);
-    append_key(&mut out, 1, 0)?;
-    append_varint(&mut out, 300)?;
-    append_key(&mut out, 17, 2)?;
-    append_key(&mut out, 536_870_911, 5)?;
-    Ok(out)
-}
-
-#[test]
-fn keys(rt: HostRuntime) -> Result<(), Fail> {
-    let out = four_spellings(rt.alloc())?;
-    assert!(rt;
-        out.as_slice() == [0x08, 0xAC, 0x02, 0x8A, 0x01, 0xFD, 0xFF, 0xFF, 0xFF, 0x0F].as_slice()
-    );
-    for (number, wire, len) in [(1, 0, 1), (15, 5, 1), (16, 0, 2), (536_870_911, 5, 5)] {
-        assert!(rt; key_len(number, wire) == len, "{number}");
-    }
-    Ok(())
 }
