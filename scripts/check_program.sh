@@ -1,6 +1,6 @@
 #!/bin/sh
 # Runs journal_list on the streams of examples/, on words that it refuses, on inputs and outputs that fail, and with little memory, and
-# compares standard output, the whole of standard error and the status. It runs the proved program, which rt ci or scripts/run.sh --proved
+# compares standard output, the whole of standard error and the status. It runs the proved program, which rt ci or scripts/run.sh --proved list
 # leaves in out/. Where there is none, or a source is newer, it runs by rt try, without the proofs, what can be run so, and
 # says 'not run' of the rest. The last line is 'N passed, M failed'.
 set -u
@@ -101,7 +101,7 @@ if [ -z "$program" ]; then
   rt try --cases ../../examples > "$out" 2> "$err"
   status=$?
   outcome 'the listings of examples/' "$status"
-  echo "check_program.sh: inputs and outputs that fail, little memory and the size of a piece: not run, since $why; sh scripts/run.sh --proved builds it"
+  echo "check_program.sh: inputs and outputs that fail, little memory and the size of a piece: not run, since $why; sh scripts/run.sh --proved list builds it"
   echo "$passed passed, $failed failed"
   [ "$failed" -eq 0 ]
   exit

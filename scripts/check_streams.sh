@@ -1,5 +1,5 @@
 #!/bin/sh
-# Runs the proved journal_list, which rt ci or scripts/run.sh --proved leaves in out/, on streams that nobody means well with: some MiB of any
+# Runs the proved journal_list, which rt ci or scripts/run.sh --proved list leaves in out/, on streams that nobody means well with: some MiB of any
 # bytes, unknown headers alone, a header that promises 4 GiB, and frames of all types with any payload, at v9 unknown ones too. It reads each in pieces of several sizes, under
 # a bound of address space. The listing has to be that of scripts/list_stream.awk, which knows the rule of items and nothing of the library.
 # The streams are the same in each run. The last line is 'N passed, M failed'; it is '0 passed, 0 failed' where nothing can be run.
@@ -17,8 +17,8 @@ not_run() {
 }
 
 program=crates/journal_list/out/journal_list
-[ -x "$program" ] || not_run "there is no $program; sh scripts/run.sh --proved builds it"
-[ -z "$(find crates/*/src -name '*.rt' -newer "$program")" ] || not_run "$program is older than a source; sh scripts/run.sh --proved builds it"
+[ -x "$program" ] || not_run "there is no $program; sh scripts/run.sh --proved list builds it"
+[ -z "$(find crates/*/src -name '*.rt' -newer "$program")" ] || not_run "$program is older than a source; sh scripts/run.sh --proved list builds it"
 # 2147466840 is what the generator's greatest number is followed by
 fit='\000\310\n2147466840'
 [ "$(awk 'BEGIN { printf "%c%c%c%.0f", 0, 200, 10, 2147483646 * 16807 % 2147483647 }' | od -An -v -t u1)" = "$(printf "$fit" | od -An -v -t u1)" ] ||

@@ -1,30 +1,68 @@
 #!/bin/sh
-# Builds the program journal_list and runs it on a stream: scripts/run.sh [--proved] [STREAM [PIECE] [v9]]
+# Builds a program of this repository and runs it.
 #
-# STREAM is a file, examples/replay if none is given. PIECE is how many bytes are read at a time, 1 to 65536; v9 is the version, which is
-# else V8.
-# Without --proved nothing is proved, which takes seconds; with it every crate below the program is proved first.
+#   scripts/run.sh [--proved] list [STREAM [PIECE] [v9]]     the listing of a stream, examples/replay if none is given
+#   scripts/run.sh [--proved] diff [WORD..] RECORDED REPLAYED   where two journals differ; WORD: --ignore-payloads, --protocol 5..9
+#
+# Without --proved nothing is proved, which takes less than a minute; with it every crate below the program is proved first.
+# The status is the program's.
 set -eu
-cd "$(dirname "$0")/.."
+
+usage() {
+  sed -n '2,8s/^# \{0,1\}//p' "$0"
+}
+
+# run PROGRAM WORD..: builds the program and runs it with these words
+run() {
+  program=$1
+  shift
+  cd "$(dirname "$0")/../crates/$program"
+  if [ "$proved" = yes ]; then
+    rt run -- "$@"
+  else
+    echo 'run.sh: built without the proofs; --proved builds the proved program' >&2
+    # What the tool says of the run comes behind the program's own lines.
+    rt try -- "$@"
+  fi
+}
+
+# place FILE: the file's path from the root, since the program runs in another folder
+place() {
+  case $1 in
+    /* | -*) echo "$1" ;;
+    *) echo "$PWD/$1" ;;
+  esac
+}
 
 proved=no
 if [ "${1-}" = --proved ]; then
   proved=yes
   shift
 fi
-stream=${1-examples/replay}
-case $stream in
-  /*) ;;
-  *) stream=$PWD/$stream ;;
-esac
-[ -r "$stream" ] || { echo "run.sh: no such file: $stream" >&2; exit 2; }
+command=${1---help}
 [ $# -eq 0 ] || shift
-
-cd crates/journal_list
-if [ "$proved" = yes ]; then
-  rt run -- "$@" < "$stream"
-else
-  echo "run.sh: built without the proofs; --proved builds the proved program" >&2
-  # What the tool says of the run comes behind the program's own lines.
-  rt try -- "$@" < "$stream"
-fi
+case $command in
+  list)
+    stream=$(dirname "$0")/../examples/replay
+    if [ $# -gt 0 ]; then
+      stream=$1
+      shift
+    fi
+    [ -r "$stream" ] || { echo "run.sh: no such file: $stream" >&2; exit 2; }
+    run journal_list "$@" < "$stream"
+    ;;
+  diff)
+    # each word that names a file stands for it from wherever the program runs
+    for word in "$@"; do
+      shift
+      [ ! -e "$word" ] || word=$(place "$word")
+      set -- "$@" "$word"
+    done
+    run journal_diff "$@"
+    ;;
+  --help) usage ;;
+  *)
+    usage >&2
+    exit 2
+    ;;
+esac

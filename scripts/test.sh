@@ -27,6 +27,7 @@ stage() {
 
 stage rt ci
 stage sh scripts/check_table.sh
+stage sh scripts/check_pages.sh
 stage sh scripts/check_records.sh
 stage sh scripts/check_program.sh
 stage sh scripts/check_streams.sh

@@ -1,0 +1,79 @@
+#!/bin/sh
+# Shows that the pages lead somewhere: each link, each path of this repository in `code`, each worked line of conformance, and, in a table of
+# promises, each name behind a promise in the crates that it is about. The last line is 'N passed, M failed'; what is missing is
+# shown above it.
+set -u
+cd "$(dirname "$0")/.." || exit 1
+
+work=$(mktemp -d) || exit 1
+trap 'rm -rf "$work"' EXIT
+pages=$(find . -name '*.md' -not -path '*/out/*' -not -path '*/target/*' | sed 's|^\./||' | sort)
+passed=0
+failed=0
+
+# missing PAGE WHAT
+missing() {
+  failed=$((failed + 1))
+  echo "failed: $1: $2"
+}
+
+# links, and paths in code that begin with a folder of this repository
+for page in $pages; do
+  folder=$(dirname "$page")
+  {
+    awk '{ while (match($0, /\]\([^)#: ]+[)#]/)) { print "link " substr($0, RSTART + 2, RLENGTH - 3); $0 = substr($0, RSTART + RLENGTH) } }' "$page"
+    awk -v RS='`' 'NR % 2 == 0 && /^(bench|conformance|crates|docs|examples|proto|scripts)\/[A-Za-z0-9_.\/-]+$/ { print "path " $0 }' "$page"
+  } | sort -u > "$work/targets"
+  while read -r kind target; do
+    case $kind in
+      link) place=$folder/$target ;;
+      path) place=$target ;;
+    esac
+    # what a build leaves is not there before it
+    case $target in
+      */out/* | */target/*) continue ;;
+    esac
+    if [ -e "$place" ]; then passed=$((passed + 1)); else missing "$page" "there is no $target"; fi
+  done < "$work/targets"
+done
+
+# worked lines
+cat conformance/*.txt > "$work/lines"
+for page in $pages; do
+  [ "$page" != conformance/README.md ] || continue
+  sed -n 's/^    \(\(payload\|merge\|frame\|stream\|record\|compare\) .* = .*\)$/\1/p' "$page" > "$work/worked"
+  while read -r line; do
+    if grep -qxF -- "$line" "$work/lines"; then passed=$((passed + 1)); else missing "$page" "no line of conformance/: $line"; fi
+  done < "$work/worked"
+done
+
+# names behind promises: each `Name` or `path::name` of a table's last column is a word of the code or the definitions of the crate in the heading, of
+# one that it stands on, or of one that the column names
+for page in README.md docs/PROOFS.md; do
+  [ -e "$page" ] || continue
+  awk -F'|' '
+    /^##/ { crate = ""; name = $0; sub(/^##+ /, "", name); sub(/[:,].*/, "", name); if (name ~ /^[a-z_]+$/) crate = name }
+    /^\| / && crate != "" && NF >= 4 {
+      count = split($(NF - 1), words, "`")
+      names = ""
+      for (i = 2; i <= count; i += 2) { word = words[i]; sub(/[<( ].*/, "", word); sub(/^.*::/, "", word); if (word ~ /^[A-Za-z_0-9]+$/) names = names " " word }
+      print crate names
+    }' "$page" > "$work/promises"
+  while read -r crate names; do
+    below=$(sed -n "s/^$crate[a-z ]*: *//p" crates.txt)
+    for place in $crate $below $names; do
+      [ ! -d "crates/$place/src" ] || echo "crates/$place/src"
+      [ ! -d "crates/$place/specs" ] || echo "crates/$place/specs"
+    done > "$work/places"
+    for name in $names; do
+      if [ -d "crates/$name" ] || xargs grep -rqw --include='*.rt' --include='*.antt' -e "$name" < "$work/places"; then
+        passed=$((passed + 1))
+      else
+        missing "$page" "$name is not in crates/$crate"
+      fi
+    done
+  done < "$work/promises"
+done
+
+echo "$passed passed, $failed failed"
+[ "$failed" -eq 0 ]
