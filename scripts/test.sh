@@ -1,9 +1,19 @@
 #!/bin/sh
+# scripts/test.sh [--quick]
+#
 # All tests: the gate (every proof from nothing, the edits that must fail, each test and the stored runs of the programs), then
 # that the table of fields is one everywhere and written files are up to date, the program on the examples, where it fails and on hostile streams, the library on all
-# conformance lines and with each request for memory refused in turn, and prost on the same lines and on random ones. The last line is 'N passed, M failed', of all.
+# conformance lines and with each request for memory refused in turn, and prost on the same lines and on random ones. With --quick: what can be
+# known within minutes, without a proof (scripts/quick.sh). The last line is 'N passed, M failed', of all.
 set -u
 cd "$(dirname "$0")/.." || exit 1
+
+case $#:${1-} in
+  0:) ;;
+  1:--quick) exec sh scripts/quick.sh ;;
+  1:--help) sed -n '2,8s/^# \{0,1\}//p' scripts/test.sh; exit 0 ;;
+  *) echo 'usage: test.sh [--quick]' >&2; exit 2 ;;
+esac
 
 log=$(mktemp) || exit 1
 trap 'rm -f "$log" "$log.status"' EXIT
