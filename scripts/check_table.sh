@@ -99,8 +99,9 @@ done | awk '
     return out
   }
   function scope(name) { return (file, name) in alias ? alias[file, name] : file SUBSEP name }
-  BEGIN { split("u32 u32 u64 u64 boolean bool enumeration enum text text bytes bytes", pairs, " "); for (i = 1; i < 12; i += 2) kinds[pairs[i]] = pairs[i + 1]
-    split("u32s u32 texts text bytes bytes", pairs, " "); for (i = 1; i < 6; i += 2) lists[pairs[i]] = pairs[i + 1] }
+  # the kind of a field is told by the type of what it holds
+  function kind_of(type) { sub(/^(Option|Vec)</, "", type); sub(/>$/, "", type); return type in kinds ? kinds[type] : type }
+  BEGIN { split("u32 u32 u64 u64 bool bool i32 enum String text Bytes bytes", pairs, " "); for (i = 1; i < 12; i += 2) kinds[pairs[i]] = pairs[i + 1] }
   $1 == "FILE" { file = $2; folder = file; sub(/[^\/]*$/, "", folder); holder = ""; next }
   /^pub use crate::.* as [A-Za-z]+;$/ {
     path = $3; sub(/^crate::/, "", path); split(path, names, "::"); name = $5; sub(/;/, "", name)
@@ -121,26 +122,22 @@ done | awk '
     arm = $0; numbers = arm; sub(/ =>.*/, "", numbers); sub(/^[^>]*=> /, "", arm)
     if (value != "self") { sub("&mut " value "\\.", "\\&mut self.", arm); sub("^" value "\\.", "self.", arm) }
     number = numbers + 0
-    if (arm ~ /^self\.[a-z_0-9]+ = Some\(field\./) { name = arm; sub(/^self\./, "", name); sub(/ .*/, "", name); method = arm; sub(/.*field\./, "", method); sub(/\(.*/, "", method); found[holder, number] = kinds[method] " optional - " name }
-    else if (arm ~ /^self\.[a-z_0-9]+ = field\./) { name = arm; sub(/^self\./, "", name); sub(/ .*/, "", name); method = arm; sub(/.*field\./, "", method); sub(/\(.*/, "", method); found[holder, number] = kinds[method] " plain - " name }
-    else if (arm ~ /^field\.read_(optional_)?text\(/) { name = arm; sub(/.*self\./, "", name); sub(/\).*/, "", name); found[holder, number] = "text " (arm ~ /optional/ ? "optional" : "plain") " - " name }
-    else if (arm ~ /^OneOf::merge_member/) { name = arm; sub(/.*self\./, "", name); sub(/,.*/, "", name); gsub(/ /, "", numbers); oneofs[holder, name] = numbers }
-    else if (arm ~ /^field\.merge_optional_message/) { name = arm; sub(/.*self\./, "", name); sub(/\).*/, "", name); type = types[holder, name]; sub(/^Option</, "", type); sub(/>$/, "", type); found[holder, number] = type " message - " name }
-    else if (arm ~ /^extend_[a-z_]+\(&mut self\./) { name = arm; sub(/.*self\./, "", name); sub(/,.*/, "", name); type = types[holder, name]; sub(/^Vec</, "", type); sub(/>$/, "", type); found[holder, number] = type " repeated - " name }
-    else if (arm ~ /^field\.extend_/) { name = arm; sub(/.*self\./, "", name); sub(/\).*/, "", name); method = arm; sub(/^field\.extend_/, "", method); sub(/\(.*/, "", method)
-      type = types[holder, name]; sub(/^Vec</, "", type); sub(/>$/, "", type); found[holder, number] = (method == "messages" ? type : lists[method]) " repeated - " name }
+    name = arm; sub(/^[^&]*&mut self\./, "", name); sub(/,.*/, "", name); kind = kind_of(types[holder, name])
+    if (arm ~ /^plain::merge\(/) found[holder, number] = kind " plain - " name
+    else if (arm ~ /^optional::merge\(/) found[holder, number] = kind " " (kind ~ /^[A-Z]/ ? "message" : "optional") " - " name
+    else if (arm ~ /^(repeated::merge|packed::merge|extend_[a-z_]+)\(/) found[holder, number] = kind " repeated - " name
+    else if (arm ~ /^oneof::merge\(/) { gsub(/ /, "", numbers); oneofs[holder, name] = numbers }
     next
   }
   holder != "" && kind_of_holder == "oneof" && /^            [0-9]+ => / {
     arm = $0; number = arm + 0; sub(/^[^>]*=> /, "", arm)
     if (arm ~ /^match oneof/) { waiting = number; next }
-    name = arm; sub(/.*::/, "", name); sub(/\(.*/, "", name); method = arm; sub(/.*field\./, "", method); sub(/\(.*/, "", method)
-    members[file, holder, number] = kinds[method] " " snake(name); next
+    name = arm; sub(/^[^:]*::/, "", name); sub(/\(.*/, "", name)
+    members[file, holder, number] = kind_of(holds[file, holder, name]) " " snake(name); next
   }
   waiting != "" && /Some\([A-Za-z]+::[A-Za-z]+\(/ {
     name = $0; sub(/.*Some\([A-Za-z]+::/, "", name); sub(/\(.*/, "", name)
-    type = holds[file, holder, name]; if (type == "String") type = "text"
-    members[file, holder, waiting] = type " " snake(name); waiting = ""
+    members[file, holder, waiting] = kind_of(holds[file, holder, name]) " " snake(name); waiting = ""
   }
   END {
     for (record in records) if (print_empty[record]) print record

@@ -129,7 +129,7 @@ BY_HAND = {"shared_core_runtime": ["versions"]}
 
 TYPES = {"u32": "u32", "u64": "u64", "bool": "bool", "enum": "i32", "text": "String", "bytes": "Bytes"}
 
-# By kind: the part that a field is, the method that reads it, and the name of its kind in functions and in schemas.
+# By kind: the part that a field is, and the name of its kind in schemas.
 PARTS = {
     "u32": "Number",
     "u64": "Number",
@@ -138,10 +138,7 @@ PARTS = {
     "text": "text_part",
     "bytes": "Content",
 }
-METHODS = {"u32": "u32", "u64": "u64", "bool": "boolean", "enum": "enumeration", "text": "text", "bytes": "bytes"}
 KINDS = {"u32": "U32", "u64": "U64", "bool": "Boolean", "enum": "Enumeration", "text": "Text", "bytes": "ByteString"}
-REPEATED = {"u32": "u32s", "text": "texts", "bytes": "byte_strings", "message": "messages"}
-EXTENDS = {"u32": "u32s", "text": "texts", "bytes": "bytes", "message": "messages"}
 
 # What a field of a kind is where it is absent.
 EMPTY = {"u32": "0", "u64": "0", "bool": "false", "enum": "0", "text": "String::new(alloc)", "bytes": "Bytes::new()"}
@@ -170,7 +167,7 @@ class Source:
         self.prelude = set()
         self.rules = {"equality_rules"}
         self.parts = set()
-        self.writers = set()
+        self.presences = set()
         self.uses = set()
         self.ghosts = set()
         self.shadowed = False
@@ -194,9 +191,15 @@ class Source:
     def result(self):
         return "result::Result" if self.shadowed else "Result"
 
-    def writer(self, name):
-        self.writers.add(f"write_{name}")
-        return f"write_{name}"
+    def lines(self, presence, number, name):
+        """The lines that read, measure and write a field, which are the same whatever its kind is."""
+        self.presences.add(presence)
+        at = "" if number is None else f"{number}, "
+        return (
+            f"{presence}::merge(&mut self.{name}, field)?,\n",
+            f"        {presence}::measure(size, {at}&self.{name});\n",
+            f"{presence}::write(out, end, {at}&self.{name})",
+        )
 
     def text(self):
         ghosts = []
@@ -214,8 +217,9 @@ class Source:
         uses = set(self.uses)
         for message in self.parts:
             uses.add(f"shared_core_parts::{snake(message)}::{message}")
-        if self.writers:
-            uses.add(f"shared_core_record::write::{{{', '.join(sorted(self.writers))}}}")
+        if self.presences:
+            shown = ", ".join(sorted(self.presences))
+            uses.add(f"shared_core_record::{{{shown}}}" if len(self.presences) > 1 else f"shared_core_record::{shown}")
         if self.shadowed:
             uses.add("std::result")
         code = "".join(self.body)
@@ -246,6 +250,7 @@ def part_laws(message):
 def write_oneof(source, module, name, oneof, about):
     """The enum of a oneof and its impl."""
     source.uses |= {
+        "shared_core_record::kind::FieldKind",
         "shared_core_record::occurrence::Occurrence",
         "shared_core_record::oneof::OneOf",
         "shared_core_record::size::Size",
@@ -267,13 +272,6 @@ def write_oneof(source, module, name, oneof, about):
             source.kinds.add("Message")
             kind = f"Message tables.{schema_name(member.message)}"
             held = member.message
-            merge = (
-                f"            {number} => match oneof {{\n"
-                f"                Some({name}::{variant}({member.name})) => field.merge_message({member.name})?,\n"
-                f"                _ => *oneof = Some({name}::{variant}(field.message()?)),\n"
-                "            },\n"
-            )
-            function, by = "message_value", member.name
             line, found = part_laws(member.message)
             if line not in law_lines:
                 law_lines.append(line)
@@ -282,24 +280,22 @@ def write_oneof(source, module, name, oneof, about):
             source.kinds.add(KINDS[member.kind])
             kind = KINDS[member.kind]
             held = TYPES[member.kind]
-            new = f"*oneof = Some({name}::{variant}(field.{METHODS[member.kind]}()?)),\n"
-            if member.kind == "text":
-                merge = (
-                    f"            {number} => match oneof {{\n"
-                    f"                Some({name}::{variant}({member.name})) => field.read_text({member.name})?,\n"
-                    f"                _ => {new}"
-                    "            },\n"
-                )
-            else:
-                merge = f"            {number} => {new}"
-            function = f"{METHODS[member.kind]}_value"
-            by = f"*{member.name}" if member.kind == "u32" else member.name
+        new = f"*oneof = Some({name}::{variant}(FieldKind::read_value(field)?)),\n"
+        if member.kind in ("message", "text"):
+            merge = (
+                f"            {number} => match oneof {{\n"
+                f"                Some({name}::{variant}({member.name})) => {member.name}.merge_value(field)?,\n"
+                f"                _ => {new}"
+                "            },\n"
+            )
+        else:
+            merge = f"            {number} => {new}"
         declared += comment(member.comment, "    ") + f"    {variant}({held}),\n"
         members.append(f"({number}, {kind})")
         parts.append(f"      | {variants}.{variant} x ↦ Member {number} ({source.part(member.kind, member.message, 'x')})\n")
         merges.append(merge)
-        sizes.append(f"            {name}::{variant}({member.name}) => size.{function}({number}, {by}),\n")
-        writes.append(f"            {name}::{variant}({member.name}) => {source.writer(function)}(out, end, {number}, {by}),\n")
+        sizes.append(f"            {name}::{variant}({member.name}) => {member.name}.measure_value(size, {number}),\n")
+        writes.append(f"            {name}::{variant}({member.name}) => {member.name}.write_value(out, end, {number}),\n")
         presents.append(f"{variants}.{variant} x ↦ refl")
         search = f"({', '.join(rules)})" if len(rules) > 1 else rules[0]
         equals.append(
@@ -353,6 +349,12 @@ def write_record(source, crate, message, shared):
             law_lines.append(line)
             rules.extend(found)
 
+    def line(numbers, presence, number, name):
+        merge, size, write = source.lines(presence, number, name)
+        merges.append(f"            {numbers} => {merge}")
+        sizes.append(size)
+        writes.append(write)
+
     for row in message.rows:
         source.values.add("cons")
         at = f"message.{row.name}"
@@ -365,9 +367,7 @@ def write_record(source, crate, message, shared):
             parts.append(f"option_part ⟦<{enum} as OneOf>⟧.part {at}")
             empties.append(f"            {row.name}: None,\n")
             numbers = " | ".join(str(member.number) for member in row.members)
-            merges.append(f"            {numbers} => OneOf::merge_member(&mut self.{row.name}, field)?,\n")
-            sizes.append(f"        size.oneof(&self.{row.name});\n")
-            writes.append(f"{source.writer('oneof')}(out, end, &self.{row.name})")
+            line(numbers, "oneof", None, row.name)
             home, enum_name = shared.get(row.name, (module, enum))
             law(*laws(crate, home, enum_name, "OneOf", row.name))
             continue
@@ -382,9 +382,7 @@ def write_record(source, crate, message, shared):
             fields.append(f"    pub {row.name}: Vec<{kind}>,\n")
             parts.append(f"elements_part {view} {at}.items")
             empties.append(f"            {row.name}: Vec::new(alloc),\n")
-            merges.append(f"            {number} => field.extend_{EXTENDS[row.kind]}(&mut self.{row.name})?,\n")
-            sizes.append(f"        size.{REPEATED[row.kind]}({number}, &self.{row.name});\n")
-            writes.append(f"{source.writer(REPEATED[row.kind])}(out, end, {number}, &self.{row.name})")
+            line(number, "packed" if row.kind == "u32" else "repeated", number, row.name)
         elif row.presence in ("optional", "message"):
             source.views.add("option_part")
             view = source.part(row.kind, row.message, "")
@@ -392,27 +390,12 @@ def write_record(source, crate, message, shared):
             fields.append(f"    pub {row.name}: Option<{kind}>,\n")
             parts.append(f"option_part {view} {at}")
             empties.append(f"            {row.name}: None,\n")
-            if row.kind == "message":
-                merges.append(f"            {number} => field.merge_optional_message(&mut self.{row.name})?,\n")
-            elif row.kind == "text":
-                merges.append(f"            {number} => field.read_optional_text(&mut self.{row.name})?,\n")
-            else:
-                merges.append(f"            {number} => self.{row.name} = Some(field.{METHODS[row.kind]}()?),\n")
-            method = f"optional_{'message' if row.kind == 'message' else METHODS[row.kind]}"
-            by = f"self.{row.name}" if row.kind in ("u32", "u64") else f"&self.{row.name}"
-            sizes.append(f"        size.{method}({number}, {by});\n")
-            writes.append(f"{source.writer(method)}(out, end, {number}, {by})")
+            line(number, "optional", number, row.name)
         else:
             fields.append(f"    pub {row.name}: {kind},\n")
             parts.append(source.part(row.kind, None, at))
             empties.append(f"            {row.name}: {EMPTY[row.kind]},\n")
-            if row.kind == "text":
-                merges.append(f"            {number} => field.read_text(&mut self.{row.name})?,\n")
-            else:
-                merges.append(f"            {number} => self.{row.name} = field.{METHODS[row.kind]}()?,\n")
-            by = f"&self.{row.name}" if row.kind in ("text", "bytes") else f"self.{row.name}"
-            sizes.append(f"        size.{METHODS[row.kind]}({number}, {by});\n")
-            writes.append(f"{source.writer(METHODS[row.kind])}(out, end, {number}, {by})")
+            line(number, "plain", number, row.name)
     value = "nil"
     for part in reversed(parts):
         value = f"cons ({part})\n        ({value})" if value != "nil" else f"cons ({part}) nil"

@@ -20,7 +20,7 @@ use shared_core_record::occurrence::Occurrence;
 use shared_core_record::oneof::OneOf;
 use shared_core_record::record::WireRecord;
 use shared_core_record::size::Size;
-use shared_core_record::write::{write_oneof, write_text, write_u32};
+use shared_core_record::{oneof, plain};
 use shared_core_wire::error::WireError;
 use std::alloc::Global;
 
@@ -52,24 +52,24 @@ impl WireRecord for AttachInvocationCommandMessage {
 
     fn merge_field(&mut self, field: &Occurrence<'_>) -> Result<(), WireError> {
         match field.number {
-            1 | 3 | 4 => OneOf::merge_member(&mut self.target, field)?,
-            11 => self.result_completion_id = field.u32()?,
-            12 => field.read_text(&mut self.name)?,
+            1 | 3 | 4 => oneof::merge(&mut self.target, field)?,
+            11 => plain::merge(&mut self.result_completion_id, field)?,
+            12 => plain::merge(&mut self.name, field)?,
             _ => {}
         }
         Ok(())
     }
 
     fn measure(&self, size: &mut Size) {
-        size.oneof(&self.target);
-        size.u32(11, self.result_completion_id);
-        size.text(12, &self.name);
+        oneof::measure(size, &self.target);
+        plain::measure(size, 11, &self.result_completion_id);
+        plain::measure(size, 12, &self.name);
     }
 
     fn encode_back(&self, out: &mut [u8], end: usize) -> usize {
-        let end = write_text(out, end, 12, &self.name);
-        let end = write_u32(out, end, 11, self.result_completion_id);
-        write_oneof(out, end, &self.target)
+        let end = plain::write(out, end, 12, &self.name);
+        let end = plain::write(out, end, 11, &self.result_completion_id);
+        oneof::write(out, end, &self.target)
     }
 
     ghost use Rattle.shared_core_call_commands.specs.contracts.invocation_target.InvocationTargetOneOf.TheImpl.Laws.{equality-law as target_equality, present-law as target_present};

@@ -18,11 +18,12 @@ use shared_core_parts::restate_message::{
 };
 use shared_core_parts::value::Value;
 use shared_core_record::error::EncodingError;
+use shared_core_record::kind::FieldKind;
 use shared_core_record::occurrence::Occurrence;
 use shared_core_record::oneof::OneOf;
 use shared_core_record::record::WireRecord;
 use shared_core_record::size::Size;
-use shared_core_record::write::{write_message_value, write_oneof, write_text};
+use shared_core_record::{oneof, plain};
 use shared_core_wire::error::WireError;
 use std::alloc::Global;
 use std::result;
@@ -52,12 +53,12 @@ impl OneOf for Result {
     ) -> result::Result<(), WireError> {
         match field.number {
             2 => match oneof {
-                Some(Result::Value(value)) => field.merge_message(value)?,
-                _ => *oneof = Some(Result::Value(field.message()?)),
+                Some(Result::Value(value)) => value.merge_value(field)?,
+                _ => *oneof = Some(Result::Value(FieldKind::read_value(field)?)),
             },
             3 => match oneof {
-                Some(Result::Failure(failure)) => field.merge_message(failure)?,
-                _ => *oneof = Some(Result::Failure(field.message()?)),
+                Some(Result::Failure(failure)) => failure.merge_value(field)?,
+                _ => *oneof = Some(Result::Failure(FieldKind::read_value(field)?)),
             },
             _ => unreachable!(),
         }
@@ -66,15 +67,15 @@ impl OneOf for Result {
 
     fn measure(&self, size: &mut Size) {
         match self {
-            Result::Value(value) => size.message_value(2, value),
-            Result::Failure(failure) => size.message_value(3, failure),
+            Result::Value(value) => value.measure_value(size, 2),
+            Result::Failure(failure) => failure.measure_value(size, 3),
         }
     }
 
     fn encode_back(&self, out: &mut [u8], end: usize) -> usize {
         match self {
-            Result::Value(value) => write_message_value(out, end, 2, value),
-            Result::Failure(failure) => write_message_value(out, end, 3, failure),
+            Result::Value(value) => value.write_value(out, end, 2),
+            Result::Failure(failure) => failure.write_value(out, end, 3),
         }
     }
 
@@ -117,24 +118,24 @@ impl WireRecord for CompleteAwakeableCommandMessage {
 
     fn merge_field(&mut self, field: &Occurrence<'_>) -> result::Result<(), WireError> {
         match field.number {
-            1 => field.read_text(&mut self.awakeable_id)?,
-            2 | 3 => OneOf::merge_member(&mut self.result, field)?,
-            12 => field.read_text(&mut self.name)?,
+            1 => plain::merge(&mut self.awakeable_id, field)?,
+            2 | 3 => oneof::merge(&mut self.result, field)?,
+            12 => plain::merge(&mut self.name, field)?,
             _ => {}
         }
         Ok(())
     }
 
     fn measure(&self, size: &mut Size) {
-        size.text(1, &self.awakeable_id);
-        size.oneof(&self.result);
-        size.text(12, &self.name);
+        plain::measure(size, 1, &self.awakeable_id);
+        oneof::measure(size, &self.result);
+        plain::measure(size, 12, &self.name);
     }
 
     fn encode_back(&self, out: &mut [u8], end: usize) -> usize {
-        let end = write_text(out, end, 12, &self.name);
-        let end = write_oneof(out, end, &self.result);
-        write_text(out, end, 1, &self.awakeable_id)
+        let end = plain::write(out, end, 12, &self.name);
+        let end = oneof::write(out, end, &self.result);
+        plain::write(out, end, 1, &self.awakeable_id)
     }
 
     ghost use Rattle.shared_core_call_commands.specs.contracts.complete_awakeable_command_message.ResultOneOf.TheImpl.Laws.{equality-law as result_equality, present-law as result_present};

@@ -18,11 +18,12 @@ use shared_core_parts::restate_message::{
 };
 use shared_core_parts::value::Value;
 use shared_core_record::error::EncodingError;
+use shared_core_record::kind::FieldKind;
 use shared_core_record::occurrence::Occurrence;
 use shared_core_record::oneof::OneOf;
 use shared_core_record::record::WireRecord;
 use shared_core_record::size::Size;
-use shared_core_record::write::{write_message_value, write_oneof, write_text, write_u32};
+use shared_core_record::{oneof, plain};
 use shared_core_wire::error::WireError;
 use std::alloc::Global;
 
@@ -51,16 +52,15 @@ impl OneOf for Completion {
     ) -> Result<(), WireError> {
         match field.number {
             2 => match oneof {
-                Some(Completion::CompletionValue(completion_value)) => field.merge_message(
-                    completion_value,
+                Some(Completion::CompletionValue(completion_value)) => completion_value.merge_value(
+                    field,
                 )?,
-                _ => *oneof = Some(Completion::CompletionValue(field.message()?)),
+                _ => *oneof = Some(Completion::CompletionValue(FieldKind::read_value(field)?)),
             },
             3 => match oneof {
-                Some(Completion::CompletionFailure(completion_failure)) => field.merge_message(
-                    completion_failure,
-                )?,
-                _ => *oneof = Some(Completion::CompletionFailure(field.message()?)),
+                Some(Completion::CompletionFailure(completion_failure)) =>
+                    completion_failure.merge_value(field)?,
+                _ => *oneof = Some(Completion::CompletionFailure(FieldKind::read_value(field)?)),
             },
             _ => unreachable!(),
         }
@@ -69,30 +69,22 @@ impl OneOf for Completion {
 
     fn measure(&self, size: &mut Size) {
         match self {
-            Completion::CompletionValue(completion_value) => size.message_value(
-                2,
-                completion_value,
+            Completion::CompletionValue(completion_value) => completion_value.measure_value(
+                size, 2,
             ),
-            Completion::CompletionFailure(completion_failure) => size.message_value(
-                3,
-                completion_failure,
+            Completion::CompletionFailure(completion_failure) => completion_failure.measure_value(
+                size, 3,
             ),
         }
     }
 
     fn encode_back(&self, out: &mut [u8], end: usize) -> usize {
         match self {
-            Completion::CompletionValue(completion_value) => write_message_value(
-                out,
-                end,
-                2,
-                completion_value,
+            Completion::CompletionValue(completion_value) => completion_value.write_value(
+                out, end, 2,
             ),
-            Completion::CompletionFailure(completion_failure) => write_message_value(
-                out,
-                end,
-                3,
-                completion_failure,
+            Completion::CompletionFailure(completion_failure) => completion_failure.write_value(
+                out, end, 3,
             ),
         }
     }
@@ -140,27 +132,27 @@ impl WireRecord for CompletePromiseCommandMessage {
 
     fn merge_field(&mut self, field: &Occurrence<'_>) -> Result<(), WireError> {
         match field.number {
-            1 => field.read_text(&mut self.key)?,
-            2 | 3 => OneOf::merge_member(&mut self.completion, field)?,
-            11 => self.result_completion_id = field.u32()?,
-            12 => field.read_text(&mut self.name)?,
+            1 => plain::merge(&mut self.key, field)?,
+            2 | 3 => oneof::merge(&mut self.completion, field)?,
+            11 => plain::merge(&mut self.result_completion_id, field)?,
+            12 => plain::merge(&mut self.name, field)?,
             _ => {}
         }
         Ok(())
     }
 
     fn measure(&self, size: &mut Size) {
-        size.text(1, &self.key);
-        size.oneof(&self.completion);
-        size.u32(11, self.result_completion_id);
-        size.text(12, &self.name);
+        plain::measure(size, 1, &self.key);
+        oneof::measure(size, &self.completion);
+        plain::measure(size, 11, &self.result_completion_id);
+        plain::measure(size, 12, &self.name);
     }
 
     fn encode_back(&self, out: &mut [u8], end: usize) -> usize {
-        let end = write_text(out, end, 12, &self.name);
-        let end = write_u32(out, end, 11, self.result_completion_id);
-        let end = write_oneof(out, end, &self.completion);
-        write_text(out, end, 1, &self.key)
+        let end = plain::write(out, end, 12, &self.name);
+        let end = plain::write(out, end, 11, &self.result_completion_id);
+        let end = oneof::write(out, end, &self.completion);
+        plain::write(out, end, 1, &self.key)
     }
 
     ghost use Rattle.shared_core_call_commands.specs.contracts.complete_promise_command_message.CompletionOneOf.TheImpl.Laws.{equality-law as completion_equality, present-law as completion_present};

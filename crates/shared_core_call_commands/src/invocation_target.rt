@@ -9,11 +9,11 @@ ghost use Rattle.shared_core_record.specs.EqualityRules.{different_members, equa
 
 use shared_core_parts::idempotent_request_target::IdempotentRequestTarget;
 use shared_core_parts::workflow_target::WorkflowTarget;
+use shared_core_record::kind::FieldKind;
 use shared_core_record::occurrence::Occurrence;
 use shared_core_record::oneof::OneOf;
 use shared_core_record::record::WireRecord;
 use shared_core_record::size::Size;
-use shared_core_record::write::{write_message_value, write_text_value};
 use shared_core_wire::error::WireError;
 
 /// Which invocation a command is about.
@@ -44,21 +44,22 @@ impl OneOf for InvocationTarget {
     ) -> Result<(), WireError> {
         match field.number {
             1 => match oneof {
-                Some(InvocationTarget::InvocationId(invocation_id)) => field.read_text(
-                    invocation_id,
+                Some(InvocationTarget::InvocationId(invocation_id)) => invocation_id.merge_value(
+                    field,
                 )?,
-                _ => *oneof = Some(InvocationTarget::InvocationId(field.text()?)),
+                _ => *oneof = Some(InvocationTarget::InvocationId(FieldKind::read_value(field)?)),
             },
             3 => match oneof {
                 Some(InvocationTarget::IdempotentRequestTarget(idempotent_request_target)) =>
-                    field.merge_message(idempotent_request_target)?,
-                _ => *oneof = Some(InvocationTarget::IdempotentRequestTarget(field.message()?)),
+                    idempotent_request_target.merge_value(field)?,
+                _ => *oneof = Some(InvocationTarget::IdempotentRequestTarget(FieldKind::read_value(
+                    field,
+                )?)),
             },
             4 => match oneof {
-                Some(InvocationTarget::WorkflowTarget(workflow_target)) => field.merge_message(
-                    workflow_target,
-                )?,
-                _ => *oneof = Some(InvocationTarget::WorkflowTarget(field.message()?)),
+                Some(InvocationTarget::WorkflowTarget(workflow_target)) =>
+                    workflow_target.merge_value(field)?,
+                _ => *oneof = Some(InvocationTarget::WorkflowTarget(FieldKind::read_value(field)?)),
             },
             _ => unreachable!(),
         }
@@ -67,31 +68,22 @@ impl OneOf for InvocationTarget {
 
     fn measure(&self, size: &mut Size) {
         match self {
-            InvocationTarget::InvocationId(invocation_id) => size.text_value(1, invocation_id),
+            InvocationTarget::InvocationId(invocation_id) => invocation_id.measure_value(size, 1),
             InvocationTarget::IdempotentRequestTarget(idempotent_request_target) =>
-                size.message_value(3, idempotent_request_target),
-            InvocationTarget::WorkflowTarget(workflow_target) => size.message_value(
-                4,
-                workflow_target,
+                idempotent_request_target.measure_value(size, 3),
+            InvocationTarget::WorkflowTarget(workflow_target) => workflow_target.measure_value(
+                size, 4,
             ),
         }
     }
 
     fn encode_back(&self, out: &mut [u8], end: usize) -> usize {
         match self {
-            InvocationTarget::InvocationId(invocation_id) => write_text_value(
-                out,
-                end,
-                1,
-                invocation_id,
-            ),
+            InvocationTarget::InvocationId(invocation_id) => invocation_id.write_value(out, end, 1),
             InvocationTarget::IdempotentRequestTarget(idempotent_request_target) =>
-                write_message_value(out, end, 3, idempotent_request_target),
-            InvocationTarget::WorkflowTarget(workflow_target) => write_message_value(
-                out,
-                end,
-                4,
-                workflow_target,
+                idempotent_request_target.write_value(out, end, 3),
+            InvocationTarget::WorkflowTarget(workflow_target) => workflow_target.write_value(
+                out, end, 4,
             ),
         }
     }

@@ -20,9 +20,7 @@ use shared_core_record::error::EncodingError;
 use shared_core_record::occurrence::Occurrence;
 use shared_core_record::record::WireRecord;
 use shared_core_record::size::Size;
-use shared_core_record::write::{
-    write_bytes, write_messages, write_optional_text, write_text, write_u32, write_u64,
-};
+use shared_core_record::{optional, plain, repeated};
 use shared_core_wire::error::WireError;
 use std::alloc::Global;
 
@@ -86,48 +84,48 @@ impl WireRecord for OneWayCallCommandMessage {
 
     fn merge_field(&mut self, field: &Occurrence<'_>) -> Result<(), WireError> {
         match field.number {
-            1 => field.read_text(&mut self.service_name)?,
-            2 => field.read_text(&mut self.handler_name)?,
-            3 => self.parameter = field.bytes()?,
-            4 => self.invoke_time = field.u64()?,
-            5 => field.extend_messages(&mut self.headers)?,
-            6 => field.read_text(&mut self.key)?,
-            7 => field.read_optional_text(&mut self.idempotency_key)?,
-            8 => field.read_optional_text(&mut self.scope)?,
-            9 => field.read_optional_text(&mut self.limit_key)?,
-            10 => self.invocation_id_notification_idx = field.u32()?,
-            12 => field.read_text(&mut self.name)?,
+            1 => plain::merge(&mut self.service_name, field)?,
+            2 => plain::merge(&mut self.handler_name, field)?,
+            3 => plain::merge(&mut self.parameter, field)?,
+            4 => plain::merge(&mut self.invoke_time, field)?,
+            5 => repeated::merge(&mut self.headers, field)?,
+            6 => plain::merge(&mut self.key, field)?,
+            7 => optional::merge(&mut self.idempotency_key, field)?,
+            8 => optional::merge(&mut self.scope, field)?,
+            9 => optional::merge(&mut self.limit_key, field)?,
+            10 => plain::merge(&mut self.invocation_id_notification_idx, field)?,
+            12 => plain::merge(&mut self.name, field)?,
             _ => {}
         }
         Ok(())
     }
 
     fn measure(&self, size: &mut Size) {
-        size.text(1, &self.service_name);
-        size.text(2, &self.handler_name);
-        size.bytes(3, &self.parameter);
-        size.u64(4, self.invoke_time);
-        size.messages(5, &self.headers);
-        size.text(6, &self.key);
-        size.optional_text(7, &self.idempotency_key);
-        size.optional_text(8, &self.scope);
-        size.optional_text(9, &self.limit_key);
-        size.u32(10, self.invocation_id_notification_idx);
-        size.text(12, &self.name);
+        plain::measure(size, 1, &self.service_name);
+        plain::measure(size, 2, &self.handler_name);
+        plain::measure(size, 3, &self.parameter);
+        plain::measure(size, 4, &self.invoke_time);
+        repeated::measure(size, 5, &self.headers);
+        plain::measure(size, 6, &self.key);
+        optional::measure(size, 7, &self.idempotency_key);
+        optional::measure(size, 8, &self.scope);
+        optional::measure(size, 9, &self.limit_key);
+        plain::measure(size, 10, &self.invocation_id_notification_idx);
+        plain::measure(size, 12, &self.name);
     }
 
     fn encode_back(&self, out: &mut [u8], end: usize) -> usize {
-        let end = write_text(out, end, 12, &self.name);
-        let end = write_u32(out, end, 10, self.invocation_id_notification_idx);
-        let end = write_optional_text(out, end, 9, &self.limit_key);
-        let end = write_optional_text(out, end, 8, &self.scope);
-        let end = write_optional_text(out, end, 7, &self.idempotency_key);
-        let end = write_text(out, end, 6, &self.key);
-        let end = write_messages(out, end, 5, &self.headers);
-        let end = write_u64(out, end, 4, self.invoke_time);
-        let end = write_bytes(out, end, 3, &self.parameter);
-        let end = write_text(out, end, 2, &self.handler_name);
-        write_text(out, end, 1, &self.service_name)
+        let end = plain::write(out, end, 12, &self.name);
+        let end = plain::write(out, end, 10, &self.invocation_id_notification_idx);
+        let end = optional::write(out, end, 9, &self.limit_key);
+        let end = optional::write(out, end, 8, &self.scope);
+        let end = optional::write(out, end, 7, &self.idempotency_key);
+        let end = plain::write(out, end, 6, &self.key);
+        let end = repeated::write(out, end, 5, &self.headers);
+        let end = plain::write(out, end, 4, &self.invoke_time);
+        let end = plain::write(out, end, 3, &self.parameter);
+        let end = plain::write(out, end, 2, &self.handler_name);
+        plain::write(out, end, 1, &self.service_name)
     }
 
     ghost use Rattle.shared_core_parts.specs.contracts.header.HeaderWireRecord.TheImpl.Laws.{equality-law as header_equality};

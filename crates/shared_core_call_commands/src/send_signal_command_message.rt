@@ -19,13 +19,12 @@ use shared_core_parts::restate_message::{
 use shared_core_parts::value::Value;
 use shared_core_parts::void::Void;
 use shared_core_record::error::EncodingError;
+use shared_core_record::kind::FieldKind;
 use shared_core_record::occurrence::Occurrence;
 use shared_core_record::oneof::OneOf;
 use shared_core_record::record::WireRecord;
 use shared_core_record::size::Size;
-use shared_core_record::write::{
-    write_message_value, write_oneof, write_text, write_text_value, write_u32_value,
-};
+use shared_core_record::{oneof, plain};
 use shared_core_wire::error::WireError;
 use std::alloc::Global;
 use std::result;
@@ -54,10 +53,10 @@ impl OneOf for SignalId {
         field: &Occurrence<'_>,
     ) -> result::Result<(), WireError> {
         match field.number {
-            2 => *oneof = Some(SignalId::Idx(field.u32()?)),
+            2 => *oneof = Some(SignalId::Idx(FieldKind::read_value(field)?)),
             3 => match oneof {
-                Some(SignalId::Name(name)) => field.read_text(name)?,
-                _ => *oneof = Some(SignalId::Name(field.text()?)),
+                Some(SignalId::Name(name)) => name.merge_value(field)?,
+                _ => *oneof = Some(SignalId::Name(FieldKind::read_value(field)?)),
             },
             _ => unreachable!(),
         }
@@ -66,15 +65,15 @@ impl OneOf for SignalId {
 
     fn measure(&self, size: &mut Size) {
         match self {
-            SignalId::Idx(idx) => size.u32_value(2, *idx),
-            SignalId::Name(name) => size.text_value(3, name),
+            SignalId::Idx(idx) => idx.measure_value(size, 2),
+            SignalId::Name(name) => name.measure_value(size, 3),
         }
     }
 
     fn encode_back(&self, out: &mut [u8], end: usize) -> usize {
         match self {
-            SignalId::Idx(idx) => write_u32_value(out, end, 2, *idx),
-            SignalId::Name(name) => write_text_value(out, end, 3, name),
+            SignalId::Idx(idx) => idx.write_value(out, end, 2),
+            SignalId::Name(name) => name.write_value(out, end, 3),
         }
     }
 
@@ -114,16 +113,16 @@ impl OneOf for Result {
     ) -> result::Result<(), WireError> {
         match field.number {
             4 => match oneof {
-                Some(Result::Void(void)) => field.merge_message(void)?,
-                _ => *oneof = Some(Result::Void(field.message()?)),
+                Some(Result::Void(void)) => void.merge_value(field)?,
+                _ => *oneof = Some(Result::Void(FieldKind::read_value(field)?)),
             },
             5 => match oneof {
-                Some(Result::Value(value)) => field.merge_message(value)?,
-                _ => *oneof = Some(Result::Value(field.message()?)),
+                Some(Result::Value(value)) => value.merge_value(field)?,
+                _ => *oneof = Some(Result::Value(FieldKind::read_value(field)?)),
             },
             6 => match oneof {
-                Some(Result::Failure(failure)) => field.merge_message(failure)?,
-                _ => *oneof = Some(Result::Failure(field.message()?)),
+                Some(Result::Failure(failure)) => failure.merge_value(field)?,
+                _ => *oneof = Some(Result::Failure(FieldKind::read_value(field)?)),
             },
             _ => unreachable!(),
         }
@@ -132,17 +131,17 @@ impl OneOf for Result {
 
     fn measure(&self, size: &mut Size) {
         match self {
-            Result::Void(void) => size.message_value(4, void),
-            Result::Value(value) => size.message_value(5, value),
-            Result::Failure(failure) => size.message_value(6, failure),
+            Result::Void(void) => void.measure_value(size, 4),
+            Result::Value(value) => value.measure_value(size, 5),
+            Result::Failure(failure) => failure.measure_value(size, 6),
         }
     }
 
     fn encode_back(&self, out: &mut [u8], end: usize) -> usize {
         match self {
-            Result::Void(void) => write_message_value(out, end, 4, void),
-            Result::Value(value) => write_message_value(out, end, 5, value),
-            Result::Failure(failure) => write_message_value(out, end, 6, failure),
+            Result::Void(void) => void.write_value(out, end, 4),
+            Result::Value(value) => value.write_value(out, end, 5),
+            Result::Failure(failure) => failure.write_value(out, end, 6),
         }
     }
 
@@ -191,27 +190,27 @@ impl WireRecord for SendSignalCommandMessage {
 
     fn merge_field(&mut self, field: &Occurrence<'_>) -> result::Result<(), WireError> {
         match field.number {
-            1 => field.read_text(&mut self.target_invocation_id)?,
-            2 | 3 => OneOf::merge_member(&mut self.signal_id, field)?,
-            4 | 5 | 6 => OneOf::merge_member(&mut self.result, field)?,
-            12 => field.read_text(&mut self.entry_name)?,
+            1 => plain::merge(&mut self.target_invocation_id, field)?,
+            2 | 3 => oneof::merge(&mut self.signal_id, field)?,
+            4 | 5 | 6 => oneof::merge(&mut self.result, field)?,
+            12 => plain::merge(&mut self.entry_name, field)?,
             _ => {}
         }
         Ok(())
     }
 
     fn measure(&self, size: &mut Size) {
-        size.text(1, &self.target_invocation_id);
-        size.oneof(&self.signal_id);
-        size.oneof(&self.result);
-        size.text(12, &self.entry_name);
+        plain::measure(size, 1, &self.target_invocation_id);
+        oneof::measure(size, &self.signal_id);
+        oneof::measure(size, &self.result);
+        plain::measure(size, 12, &self.entry_name);
     }
 
     fn encode_back(&self, out: &mut [u8], end: usize) -> usize {
-        let end = write_text(out, end, 12, &self.entry_name);
-        let end = write_oneof(out, end, &self.result);
-        let end = write_oneof(out, end, &self.signal_id);
-        write_text(out, end, 1, &self.target_invocation_id)
+        let end = plain::write(out, end, 12, &self.entry_name);
+        let end = oneof::write(out, end, &self.result);
+        let end = oneof::write(out, end, &self.signal_id);
+        plain::write(out, end, 1, &self.target_invocation_id)
     }
 
     ghost use Rattle.shared_core_call_commands.specs.contracts.send_signal_command_message.SignalIdOneOf.TheImpl.Laws.{equality-law as signal_id_equality, present-law as signal_id_present};

@@ -10,11 +10,11 @@ ghost use Rattle.shared_core_record.specs.EqualityRules.{different_members, equa
 use shared_core_parts::failure::Failure;
 use shared_core_parts::value::Value;
 use shared_core_parts::void::Void;
+use shared_core_record::kind::FieldKind;
 use shared_core_record::occurrence::Occurrence;
 use shared_core_record::oneof::OneOf;
 use shared_core_record::record::WireRecord;
 use shared_core_record::size::Size;
-use shared_core_record::write::write_message_value;
 use shared_core_wire::error::WireError;
 
 /// A result that may be nothing, a value or a failure.
@@ -45,16 +45,16 @@ impl OneOf for AnyResult {
     ) -> Result<(), WireError> {
         match field.number {
             4 => match oneof {
-                Some(AnyResult::Void(void)) => field.merge_message(void)?,
-                _ => *oneof = Some(AnyResult::Void(field.message()?)),
+                Some(AnyResult::Void(void)) => void.merge_value(field)?,
+                _ => *oneof = Some(AnyResult::Void(FieldKind::read_value(field)?)),
             },
             5 => match oneof {
-                Some(AnyResult::Value(value)) => field.merge_message(value)?,
-                _ => *oneof = Some(AnyResult::Value(field.message()?)),
+                Some(AnyResult::Value(value)) => value.merge_value(field)?,
+                _ => *oneof = Some(AnyResult::Value(FieldKind::read_value(field)?)),
             },
             6 => match oneof {
-                Some(AnyResult::Failure(failure)) => field.merge_message(failure)?,
-                _ => *oneof = Some(AnyResult::Failure(field.message()?)),
+                Some(AnyResult::Failure(failure)) => failure.merge_value(field)?,
+                _ => *oneof = Some(AnyResult::Failure(FieldKind::read_value(field)?)),
             },
             _ => unreachable!(),
         }
@@ -63,17 +63,17 @@ impl OneOf for AnyResult {
 
     fn measure(&self, size: &mut Size) {
         match self {
-            AnyResult::Void(void) => size.message_value(4, void),
-            AnyResult::Value(value) => size.message_value(5, value),
-            AnyResult::Failure(failure) => size.message_value(6, failure),
+            AnyResult::Void(void) => void.measure_value(size, 4),
+            AnyResult::Value(value) => value.measure_value(size, 5),
+            AnyResult::Failure(failure) => failure.measure_value(size, 6),
         }
     }
 
     fn encode_back(&self, out: &mut [u8], end: usize) -> usize {
         match self {
-            AnyResult::Void(void) => write_message_value(out, end, 4, void),
-            AnyResult::Value(value) => write_message_value(out, end, 5, value),
-            AnyResult::Failure(failure) => write_message_value(out, end, 6, failure),
+            AnyResult::Void(void) => void.write_value(out, end, 4),
+            AnyResult::Value(value) => value.write_value(out, end, 5),
+            AnyResult::Failure(failure) => failure.write_value(out, end, 6),
         }
     }
 

@@ -20,7 +20,7 @@ use shared_core_record::occurrence::Occurrence;
 use shared_core_record::oneof::OneOf;
 use shared_core_record::record::WireRecord;
 use shared_core_record::size::Size;
-use shared_core_record::write::{write_oneof, write_u32};
+use shared_core_record::{oneof, plain};
 use shared_core_wire::error::WireError;
 use std::alloc::Global;
 use std::result;
@@ -49,21 +49,21 @@ impl WireRecord for CallCompletionNotificationMessage {
 
     fn merge_field(&mut self, field: &Occurrence<'_>) -> result::Result<(), WireError> {
         match field.number {
-            1 => self.completion_id = field.u32()?,
-            5 | 6 => OneOf::merge_member(&mut self.result, field)?,
+            1 => plain::merge(&mut self.completion_id, field)?,
+            5 | 6 => oneof::merge(&mut self.result, field)?,
             _ => {}
         }
         Ok(())
     }
 
     fn measure(&self, size: &mut Size) {
-        size.u32(1, self.completion_id);
-        size.oneof(&self.result);
+        plain::measure(size, 1, &self.completion_id);
+        oneof::measure(size, &self.result);
     }
 
     fn encode_back(&self, out: &mut [u8], end: usize) -> usize {
-        let end = write_oneof(out, end, &self.result);
-        write_u32(out, end, 1, self.completion_id)
+        let end = oneof::write(out, end, &self.result);
+        plain::write(out, end, 1, &self.completion_id)
     }
 
     ghost use Rattle.shared_core_notifications.specs.contracts.value_or_failure.ValueOrFailureOneOf.TheImpl.Laws.{equality-law as result_equality, present-law as result_present};

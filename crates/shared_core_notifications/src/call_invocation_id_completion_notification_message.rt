@@ -16,9 +16,9 @@ use shared_core_parts::restate_message::{
 };
 use shared_core_record::error::EncodingError;
 use shared_core_record::occurrence::Occurrence;
+use shared_core_record::plain;
 use shared_core_record::record::WireRecord;
 use shared_core_record::size::Size;
-use shared_core_record::write::{write_text, write_u32};
 use shared_core_wire::error::WireError;
 use std::alloc::Global;
 
@@ -46,21 +46,21 @@ impl WireRecord for CallInvocationIdCompletionNotificationMessage {
 
     fn merge_field(&mut self, field: &Occurrence<'_>) -> Result<(), WireError> {
         match field.number {
-            1 => self.completion_id = field.u32()?,
-            16 => field.read_text(&mut self.invocation_id)?,
+            1 => plain::merge(&mut self.completion_id, field)?,
+            16 => plain::merge(&mut self.invocation_id, field)?,
             _ => {}
         }
         Ok(())
     }
 
     fn measure(&self, size: &mut Size) {
-        size.u32(1, self.completion_id);
-        size.text(16, &self.invocation_id);
+        plain::measure(size, 1, &self.completion_id);
+        plain::measure(size, 16, &self.invocation_id);
     }
 
     fn encode_back(&self, out: &mut [u8], end: usize) -> usize {
-        let end = write_text(out, end, 16, &self.invocation_id);
-        write_u32(out, end, 1, self.completion_id)
+        let end = plain::write(out, end, 16, &self.invocation_id);
+        plain::write(out, end, 1, &self.completion_id)
     }
 
     ghost equality = { Prim.search equality_rules depth 16 };

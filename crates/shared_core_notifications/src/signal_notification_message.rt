@@ -17,11 +17,12 @@ use shared_core_parts::restate_message::{
     RestateEncodableMessage, RestateMessage, encode_frame_into,
 };
 use shared_core_record::error::EncodingError;
+use shared_core_record::kind::FieldKind;
 use shared_core_record::occurrence::Occurrence;
+use shared_core_record::oneof;
 use shared_core_record::oneof::OneOf;
 use shared_core_record::record::WireRecord;
 use shared_core_record::size::Size;
-use shared_core_record::write::{write_oneof, write_text_value, write_u32_value};
 use shared_core_wire::error::WireError;
 use std::alloc::Global;
 use std::result;
@@ -50,10 +51,10 @@ impl OneOf for SignalId {
         field: &Occurrence<'_>,
     ) -> result::Result<(), WireError> {
         match field.number {
-            2 => *oneof = Some(SignalId::Idx(field.u32()?)),
+            2 => *oneof = Some(SignalId::Idx(FieldKind::read_value(field)?)),
             3 => match oneof {
-                Some(SignalId::Name(name)) => field.read_text(name)?,
-                _ => *oneof = Some(SignalId::Name(field.text()?)),
+                Some(SignalId::Name(name)) => name.merge_value(field)?,
+                _ => *oneof = Some(SignalId::Name(FieldKind::read_value(field)?)),
             },
             _ => unreachable!(),
         }
@@ -62,15 +63,15 @@ impl OneOf for SignalId {
 
     fn measure(&self, size: &mut Size) {
         match self {
-            SignalId::Idx(idx) => size.u32_value(2, *idx),
-            SignalId::Name(name) => size.text_value(3, name),
+            SignalId::Idx(idx) => idx.measure_value(size, 2),
+            SignalId::Name(name) => name.measure_value(size, 3),
         }
     }
 
     fn encode_back(&self, out: &mut [u8], end: usize) -> usize {
         match self {
-            SignalId::Idx(idx) => write_u32_value(out, end, 2, *idx),
-            SignalId::Name(name) => write_text_value(out, end, 3, name),
+            SignalId::Idx(idx) => idx.write_value(out, end, 2),
+            SignalId::Name(name) => name.write_value(out, end, 3),
         }
     }
 
@@ -106,21 +107,21 @@ impl WireRecord for SignalNotificationMessage {
 
     fn merge_field(&mut self, field: &Occurrence<'_>) -> result::Result<(), WireError> {
         match field.number {
-            2 | 3 => OneOf::merge_member(&mut self.signal_id, field)?,
-            4 | 5 | 6 => OneOf::merge_member(&mut self.result, field)?,
+            2 | 3 => oneof::merge(&mut self.signal_id, field)?,
+            4 | 5 | 6 => oneof::merge(&mut self.result, field)?,
             _ => {}
         }
         Ok(())
     }
 
     fn measure(&self, size: &mut Size) {
-        size.oneof(&self.signal_id);
-        size.oneof(&self.result);
+        oneof::measure(size, &self.signal_id);
+        oneof::measure(size, &self.result);
     }
 
     fn encode_back(&self, out: &mut [u8], end: usize) -> usize {
-        let end = write_oneof(out, end, &self.result);
-        write_oneof(out, end, &self.signal_id)
+        let end = oneof::write(out, end, &self.result);
+        oneof::write(out, end, &self.signal_id)
     }
 
     ghost use Rattle.shared_core_notifications.specs.contracts.signal_notification_message.SignalIdOneOf.TheImpl.Laws.{equality-law as signal_id_equality, present-law as signal_id_present};

@@ -19,7 +19,7 @@ use shared_core_record::error::EncodingError;
 use shared_core_record::occurrence::Occurrence;
 use shared_core_record::record::WireRecord;
 use shared_core_record::size::Size;
-use shared_core_record::write::{write_optional_message, write_u32};
+use shared_core_record::{optional, plain};
 use shared_core_wire::error::WireError;
 use std::alloc::Global;
 
@@ -47,21 +47,21 @@ impl WireRecord for SleepCompletionNotificationMessage {
 
     fn merge_field(&mut self, field: &Occurrence<'_>) -> Result<(), WireError> {
         match field.number {
-            1 => self.completion_id = field.u32()?,
-            4 => field.merge_optional_message(&mut self.void)?,
+            1 => plain::merge(&mut self.completion_id, field)?,
+            4 => optional::merge(&mut self.void, field)?,
             _ => {}
         }
         Ok(())
     }
 
     fn measure(&self, size: &mut Size) {
-        size.u32(1, self.completion_id);
-        size.optional_message(4, &self.void);
+        plain::measure(size, 1, &self.completion_id);
+        optional::measure(size, 4, &self.void);
     }
 
     fn encode_back(&self, out: &mut [u8], end: usize) -> usize {
-        let end = write_optional_message(out, end, 4, &self.void);
-        write_u32(out, end, 1, self.completion_id)
+        let end = optional::write(out, end, 4, &self.void);
+        plain::write(out, end, 1, &self.completion_id)
     }
 
     ghost use Rattle.shared_core_parts.specs.contracts.void.VoidWireRecord.TheImpl.Laws.{equality-law as void_equality};

@@ -9,11 +9,11 @@ ghost use Rattle.shared_core_record.specs.EqualityRules.{different_members, equa
 
 use shared_core_parts::failure::Failure;
 use shared_core_parts::value::Value;
+use shared_core_record::kind::FieldKind;
 use shared_core_record::occurrence::Occurrence;
 use shared_core_record::oneof::OneOf;
 use shared_core_record::record::WireRecord;
 use shared_core_record::size::Size;
-use shared_core_record::write::write_message_value;
 use shared_core_wire::error::WireError;
 
 /// A result that is a value or a failure.
@@ -41,12 +41,12 @@ impl OneOf for ValueOrFailure {
     ) -> Result<(), WireError> {
         match field.number {
             5 => match oneof {
-                Some(ValueOrFailure::Value(value)) => field.merge_message(value)?,
-                _ => *oneof = Some(ValueOrFailure::Value(field.message()?)),
+                Some(ValueOrFailure::Value(value)) => value.merge_value(field)?,
+                _ => *oneof = Some(ValueOrFailure::Value(FieldKind::read_value(field)?)),
             },
             6 => match oneof {
-                Some(ValueOrFailure::Failure(failure)) => field.merge_message(failure)?,
-                _ => *oneof = Some(ValueOrFailure::Failure(field.message()?)),
+                Some(ValueOrFailure::Failure(failure)) => failure.merge_value(field)?,
+                _ => *oneof = Some(ValueOrFailure::Failure(FieldKind::read_value(field)?)),
             },
             _ => unreachable!(),
         }
@@ -55,15 +55,15 @@ impl OneOf for ValueOrFailure {
 
     fn measure(&self, size: &mut Size) {
         match self {
-            ValueOrFailure::Value(value) => size.message_value(5, value),
-            ValueOrFailure::Failure(failure) => size.message_value(6, failure),
+            ValueOrFailure::Value(value) => value.measure_value(size, 5),
+            ValueOrFailure::Failure(failure) => failure.measure_value(size, 6),
         }
     }
 
     fn encode_back(&self, out: &mut [u8], end: usize) -> usize {
         match self {
-            ValueOrFailure::Value(value) => write_message_value(out, end, 5, value),
-            ValueOrFailure::Failure(failure) => write_message_value(out, end, 6, failure),
+            ValueOrFailure::Value(value) => value.write_value(out, end, 5),
+            ValueOrFailure::Failure(failure) => failure.write_value(out, end, 6),
         }
     }
 

@@ -1,5 +1,6 @@
 -- The futures in a future.
-use Rattle.std.proofs.Common.{◌≡◌, List, [], ◌∷◌, ◌++◌, refl, sym, ap, ◌∙◌}
+use Rattle.std.proofs.Common.{◌≡◌, List, [], ◌∷◌, Result, Ok, Err, refl, sym, ap, ◌∙◌}
+use Rattle.std.specs.Prelude.{OnOk}
 use Rattle.shared_core_wire.specs.Value.{Part, Parts, Elements, Nested, cons, ◌+++◌}
 use Rattle.shared_core_record.specs.FieldParts.{elements_part, parts_of}
 use Rattle.shared_core_parts.specs.Futures.{future_parts, future_elements, futures_part}
@@ -15,6 +16,8 @@ each_part (f ∷ fs) = ap (cons (Nested (future_parts f))) (each_part fs)
 pub all_parts : (fs : List Future) → elements_part future_part fs ≡ futures_part fs
 all_parts fs = ap Elements (each_part fs)
 
-pub one_more : (old new : List Future) (x : Future) (qs : Parts) → new ≡ old ++ x ∷ [] → parts_of future_part (old ++ x ∷ []) ≡ parts_of future_part old +++ qs
-    → future_elements new ≡ future_elements old +++ qs
-one_more old new x qs e h = rw e (sym (each_part (old ++ x ∷ [])) ∙ h ∙ ap (λ (ps : Parts). ps +++ qs) (each_part old))
+-- the elements of a list to which something was added, where it was
+pub grown : {T E : Type 0} (A : Type 0) (result : Result T E) (old new : List Future) (qs : Parts) → OnOk result (A × (parts_of future_part new ≡ parts_of future_part old +++ qs))
+    → OnOk result (A × (future_elements new ≡ future_elements old +++ qs))
+grown A (Ok u) old new qs h = (h.0, sym (each_part new) ∙ h.1 ∙ ap (λ (ps : Parts). ps +++ qs) (each_part old))
+grown A (Err e) old new qs h = tt

@@ -15,7 +15,7 @@ use shared_core_base::values::TerminalFailure;
 use shared_core_record::occurrence::Occurrence;
 use shared_core_record::record::WireRecord;
 use shared_core_record::size::Size;
-use shared_core_record::write::{write_messages, write_text, write_u32};
+use shared_core_record::{plain, repeated};
 use shared_core_wire::error::WireError;
 use std::alloc::Global;
 use std::fmt;
@@ -84,24 +84,24 @@ impl WireRecord for Failure {
 
     fn merge_field(&mut self, field: &Occurrence<'_>) -> Result<(), WireError> {
         match field.number {
-            1 => self.code = field.u32()?,
-            2 => field.read_text(&mut self.message)?,
-            3 => field.extend_messages(&mut self.metadata)?,
+            1 => plain::merge(&mut self.code, field)?,
+            2 => plain::merge(&mut self.message, field)?,
+            3 => repeated::merge(&mut self.metadata, field)?,
             _ => {}
         }
         Ok(())
     }
 
     fn measure(&self, size: &mut Size) {
-        size.u32(1, self.code);
-        size.text(2, &self.message);
-        size.messages(3, &self.metadata);
+        plain::measure(size, 1, &self.code);
+        plain::measure(size, 2, &self.message);
+        repeated::measure(size, 3, &self.metadata);
     }
 
     fn encode_back(&self, out: &mut [u8], end: usize) -> usize {
-        let end = write_messages(out, end, 3, &self.metadata);
-        let end = write_text(out, end, 2, &self.message);
-        write_u32(out, end, 1, self.code)
+        let end = repeated::write(out, end, 3, &self.metadata);
+        let end = plain::write(out, end, 2, &self.message);
+        plain::write(out, end, 1, &self.code)
     }
 
     ghost use Rattle.shared_core_parts.specs.contracts.failure_metadata.FailureMetadataWireRecord.TheImpl.Laws.{equality-law as failure_metadata_equality};

@@ -6,9 +6,9 @@ ghost use Rattle.shared_core_record.specs.FieldParts.{text_part};
 ghost use Rattle.shared_core_record.specs.EqualityRules.{equality_rules};
 
 use shared_core_record::occurrence::Occurrence;
+use shared_core_record::plain;
 use shared_core_record::record::WireRecord;
 use shared_core_record::size::Size;
-use shared_core_record::write::write_text;
 use shared_core_wire::error::WireError;
 use std::alloc::Global;
 
@@ -36,21 +36,21 @@ impl WireRecord for FailureMetadata {
 
     fn merge_field(&mut self, field: &Occurrence<'_>) -> Result<(), WireError> {
         match field.number {
-            1 => field.read_text(&mut self.key)?,
-            2 => field.read_text(&mut self.value)?,
+            1 => plain::merge(&mut self.key, field)?,
+            2 => plain::merge(&mut self.value, field)?,
             _ => {}
         }
         Ok(())
     }
 
     fn measure(&self, size: &mut Size) {
-        size.text(1, &self.key);
-        size.text(2, &self.value);
+        plain::measure(size, 1, &self.key);
+        plain::measure(size, 2, &self.value);
     }
 
     fn encode_back(&self, out: &mut [u8], end: usize) -> usize {
-        let end = write_text(out, end, 2, &self.value);
-        write_text(out, end, 1, &self.key)
+        let end = plain::write(out, end, 2, &self.value);
+        plain::write(out, end, 1, &self.key)
     }
 
     ghost equality = { Prim.search equality_rules };

@@ -1,27 +1,28 @@
 //! What an invocation waits for, as a tree.
 
-ghost use Rattle.std.specs.Prelude.{◌≡◌, ◌+◌, ◌≤◌, ◌++◌, length, drop, IfOk, OnOk, false};
+ghost use Rattle.std.specs.Prelude.{◌≡◌, ◌+◌, ◌≤◌, ◌++◌, length, drop, OnOk, false};
 ghost use Rattle.std.specs.Result.{IsErrOf};
 ghost use Rattle.shared_core_wire.specs.Items.{record_items};
 ghost use Rattle.shared_core_wire.specs.Schema.{Message, Repeated};
-ghost use Rattle.shared_core_wire.specs.Value.{Absent, empty_value};
+ghost use Rattle.shared_core_wire.specs.Value.{empty_value};
 ghost use Rattle.shared_core_record.specs.Table.{table};
 ghost use Rattle.shared_core_record.specs.Table as tables;
 ghost use Rattle.shared_core_record.specs.FieldParts.{message_part};
 ghost use Rattle.shared_core_record.specs.Computed.{IsComputed};
 ghost use Rattle.shared_core_record.specs.Folding.{fold_items};
-ghost use Rattle.shared_core_record.specs.Occurrences.{schema_accepts, RecordMerges, field_accepts, FieldBecomes, repeated_accepts, FieldExtends, merged_with};
+ghost use Rattle.shared_core_record.specs.Occurrences.{schema_accepts, RecordMerges, repeated_accepts, FieldExtends, merged_with};
 ghost use Rattle.shared_core_record.specs.RowSpelling.{capped, value_bytes, measured_row, measured_rows, before_row, before_rows, row_size, rows_size};
 ghost use Rattle.shared_core_record.specs.RowFitting.{ValueFits, FieldFits, FieldsFit};
 ghost use Rattle.shared_core_record.specs.Equality.{part_equal, parts_equal};
 ghost use Rattle.shared_core_wire.specs.declared.error.WireError.TheVariants as error;
 ghost use Rattle.shared_core_parts.specs.Futures.{future_parts, future_elements, futures_part};
 
-use shared_core_record::message::MessageBytes;
+use shared_core_record::message_bytes::MessageBytes;
 use shared_core_record::occurrence::Occurrence;
 use shared_core_record::record::WireRecord;
 use shared_core_record::size::Size;
-use shared_core_record::write::{write_enumeration, write_length, write_texts, write_u32s};
+use shared_core_record::write::write_length;
+use shared_core_record::{packed, plain, repeated};
 use shared_core_wire::error::WireError;
 use shared_core_wire::records::Records;
 use std::alloc::Global;
@@ -116,41 +117,29 @@ fn merge_future_field(future: &mut Future, field: &Occurrence<'_>) -> Result<(),
     ensures malformed { IsErrOf result error.Malformed → schema_accepts tables.future field.now ≡ false }
 {
     match field.number {
-        1 => field.extend_u32s(&mut future.waiting_completions)?,
-        2 => field.extend_u32s(&mut future.waiting_signals)?,
-        3 => field.extend_texts(&mut future.waiting_named_signals)?,
+        1 => packed::merge(&mut future.waiting_completions, field)?,
+        2 => packed::merge(&mut future.waiting_signals, field)?,
+        3 => repeated::merge(&mut future.waiting_named_signals, field)?,
         4 => extend_futures(&mut future.nested_futures, field)?,
-        5 => future.combinator_type = field.enumeration()?,
+        5 => plain::merge(&mut future.combinator_type, field)?,
         _ => {}
     }
     Ok(())
 }
 
-/// Appends the future that an occurrence holds.
+/// Appends the future that an occurrence holds, which is read where it stands.
 #[cycle(merge_future)]
 fn extend_futures(futures: &mut Vec<Future>, field: &Occurrence<'_>) -> Result<(), WireError>
     ensures ok { OnOk result (FieldExtends field.now (Message tables.future) (future_elements futures.old.items) (future_elements futures.new.items)) }
     ensures malformed { IsErrOf result error.Malformed → repeated_accepts field.now (Message tables.future) ≡ false }
 {
-    let future = read_future(field)?;
-    let Ok(()) = futures.push(future) else {
-        return Err(WireError::OutOfMemory);
-    };
-    Ok(())
-}
-
-/// The future that an occurrence holds.
-#[cycle(merge_future)]
-fn read_future(field: &Occurrence<'_>) -> Result<Future, WireError>
-    ensures ok { IfOk result (λ f. FieldBecomes field.now (Message tables.future) Absent (message_part future_parts f)) }
-    ensures malformed { IsErrOf result error.Malformed → field_accepts field.now (Message tables.future) ≡ false }
-{
     let Some(nested) = field.nested() else {
         return Err(WireError::Malformed);
     };
-    let mut future = empty_future(field.alloc);
-    merge_future(&mut future, &nested)?;
-    Ok(future)
+    let Ok(future) = futures.push_mut(empty_future(field.alloc)) else {
+        return Err(WireError::OutOfMemory);
+    };
+    merge_future(future, &nested)
 }
 
 #[cycle(measure_future)]
@@ -158,11 +147,11 @@ fn measure_future(future: &Future, size: &mut Size)
     ensures sum { size.new ≡ measured_rows (table tables.future) (future_parts future.now) size.old }
     ensures fit { FieldsFit (table tables.future) (future_parts future.now) }
 {
-    size.u32s(1, &future.waiting_completions);
-    size.u32s(2, &future.waiting_signals);
-    size.texts(3, &future.waiting_named_signals);
+    packed::measure(size, 1, &future.waiting_completions);
+    packed::measure(size, 2, &future.waiting_signals);
+    repeated::measure(size, 3, &future.waiting_named_signals);
     measure_futures(&future.nested_futures, size);
-    size.enumeration(5, future.combinator_type);
+    plain::measure(size, 5, &future.combinator_type);
 }
 
 #[cycle(measure_future)]
@@ -194,11 +183,11 @@ fn encode_future(future: &Future, out: &mut [u8], end: usize) -> usize
     ensures start { result + rows_size (table tables.future) (future_parts future.now) ≡ end }
     ensures written { drop result out.new ≡ before_rows (table tables.future) (future_parts future.now) (drop end out.old) }
 {
-    let end = write_enumeration(out, end, 5, future.combinator_type);
+    let end = plain::write(out, end, 5, &future.combinator_type);
     let end = encode_futures(&future.nested_futures, out, end);
-    let end = write_texts(out, end, 3, &future.waiting_named_signals);
-    let end = write_u32s(out, end, 2, &future.waiting_signals);
-    write_u32s(out, end, 1, &future.waiting_completions)
+    let end = repeated::write(out, end, 3, &future.waiting_named_signals);
+    let end = packed::write(out, end, 2, &future.waiting_signals);
+    packed::write(out, end, 1, &future.waiting_completions)
 }
 
 #[cycle(encode_future)]

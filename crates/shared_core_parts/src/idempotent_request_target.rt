@@ -8,7 +8,7 @@ ghost use Rattle.shared_core_record.specs.EqualityRules.{equality_rules};
 use shared_core_record::occurrence::Occurrence;
 use shared_core_record::record::WireRecord;
 use shared_core_record::size::Size;
-use shared_core_record::write::{write_optional_text, write_text};
+use shared_core_record::{optional, plain};
 use shared_core_wire::error::WireError;
 use std::alloc::Global;
 
@@ -48,30 +48,30 @@ impl WireRecord for IdempotentRequestTarget {
 
     fn merge_field(&mut self, field: &Occurrence<'_>) -> Result<(), WireError> {
         match field.number {
-            1 => field.read_text(&mut self.service_name)?,
-            2 => field.read_optional_text(&mut self.service_key)?,
-            3 => field.read_text(&mut self.handler_name)?,
-            4 => field.read_text(&mut self.idempotency_key)?,
-            5 => field.read_optional_text(&mut self.scope)?,
+            1 => plain::merge(&mut self.service_name, field)?,
+            2 => optional::merge(&mut self.service_key, field)?,
+            3 => plain::merge(&mut self.handler_name, field)?,
+            4 => plain::merge(&mut self.idempotency_key, field)?,
+            5 => optional::merge(&mut self.scope, field)?,
             _ => {}
         }
         Ok(())
     }
 
     fn measure(&self, size: &mut Size) {
-        size.text(1, &self.service_name);
-        size.optional_text(2, &self.service_key);
-        size.text(3, &self.handler_name);
-        size.text(4, &self.idempotency_key);
-        size.optional_text(5, &self.scope);
+        plain::measure(size, 1, &self.service_name);
+        optional::measure(size, 2, &self.service_key);
+        plain::measure(size, 3, &self.handler_name);
+        plain::measure(size, 4, &self.idempotency_key);
+        optional::measure(size, 5, &self.scope);
     }
 
     fn encode_back(&self, out: &mut [u8], end: usize) -> usize {
-        let end = write_optional_text(out, end, 5, &self.scope);
-        let end = write_text(out, end, 4, &self.idempotency_key);
-        let end = write_text(out, end, 3, &self.handler_name);
-        let end = write_optional_text(out, end, 2, &self.service_key);
-        write_text(out, end, 1, &self.service_name)
+        let end = optional::write(out, end, 5, &self.scope);
+        let end = plain::write(out, end, 4, &self.idempotency_key);
+        let end = plain::write(out, end, 3, &self.handler_name);
+        let end = optional::write(out, end, 2, &self.service_key);
+        plain::write(out, end, 1, &self.service_name)
     }
 
     ghost equality = { Prim.search equality_rules depth 22 };

@@ -13,13 +13,12 @@ use crate::value::Value;
 use crate::void::Void;
 use shared_core_base::error::OutOfMemory;
 use shared_core_base::values;
+use shared_core_record::kind::FieldKind;
 use shared_core_record::occurrence::Occurrence;
+use shared_core_record::oneof;
 use shared_core_record::oneof::OneOf;
 use shared_core_record::record::WireRecord;
 use shared_core_record::size::Size;
-use shared_core_record::write::{
-    write_message_value, write_oneof, write_text_value, write_u32_value,
-};
 use shared_core_wire::error::WireError;
 use std::alloc::Global;
 use std::result;
@@ -48,21 +47,21 @@ impl WireRecord for NotificationTemplate {
 
     fn merge_field(&mut self, field: &Occurrence<'_>) -> result::Result<(), WireError> {
         match field.number {
-            1 | 2 | 3 => OneOf::merge_member(&mut self.id, field)?,
-            4 | 5 | 6 | 16 | 17 => OneOf::merge_member(&mut self.result, field)?,
+            1 | 2 | 3 => oneof::merge(&mut self.id, field)?,
+            4 | 5 | 6 | 16 | 17 => oneof::merge(&mut self.result, field)?,
             _ => {}
         }
         Ok(())
     }
 
     fn measure(&self, size: &mut Size) {
-        size.oneof(&self.id);
-        size.oneof(&self.result);
+        oneof::measure(size, &self.id);
+        oneof::measure(size, &self.result);
     }
 
     fn encode_back(&self, out: &mut [u8], end: usize) -> usize {
-        let end = write_oneof(out, end, &self.result);
-        write_oneof(out, end, &self.id)
+        let end = oneof::write(out, end, &self.result);
+        oneof::write(out, end, &self.id)
     }
 
     ghost use Rattle.shared_core_parts.specs.contracts.notification_template.IdOneOf.TheImpl.Laws.{equality-law as id_equality, present-law as id_present};
@@ -98,11 +97,11 @@ impl OneOf for Id {
         field: &Occurrence<'_>,
     ) -> result::Result<(), WireError> {
         match field.number {
-            1 => *oneof = Some(Id::CompletionId(field.u32()?)),
-            2 => *oneof = Some(Id::SignalId(field.u32()?)),
+            1 => *oneof = Some(Id::CompletionId(FieldKind::read_value(field)?)),
+            2 => *oneof = Some(Id::SignalId(FieldKind::read_value(field)?)),
             3 => match oneof {
-                Some(Id::SignalName(signal_name)) => field.read_text(signal_name)?,
-                _ => *oneof = Some(Id::SignalName(field.text()?)),
+                Some(Id::SignalName(signal_name)) => signal_name.merge_value(field)?,
+                _ => *oneof = Some(Id::SignalName(FieldKind::read_value(field)?)),
             },
             _ => unreachable!(),
         }
@@ -111,17 +110,17 @@ impl OneOf for Id {
 
     fn measure(&self, size: &mut Size) {
         match self {
-            Id::CompletionId(completion_id) => size.u32_value(1, *completion_id),
-            Id::SignalId(signal_id) => size.u32_value(2, *signal_id),
-            Id::SignalName(signal_name) => size.text_value(3, signal_name),
+            Id::CompletionId(completion_id) => completion_id.measure_value(size, 1),
+            Id::SignalId(signal_id) => signal_id.measure_value(size, 2),
+            Id::SignalName(signal_name) => signal_name.measure_value(size, 3),
         }
     }
 
     fn encode_back(&self, out: &mut [u8], end: usize) -> usize {
         match self {
-            Id::CompletionId(completion_id) => write_u32_value(out, end, 1, *completion_id),
-            Id::SignalId(signal_id) => write_u32_value(out, end, 2, *signal_id),
-            Id::SignalName(signal_name) => write_text_value(out, end, 3, signal_name),
+            Id::CompletionId(completion_id) => completion_id.write_value(out, end, 1),
+            Id::SignalId(signal_id) => signal_id.write_value(out, end, 2),
+            Id::SignalName(signal_name) => signal_name.write_value(out, end, 3),
         }
     }
 
@@ -200,24 +199,24 @@ impl OneOf for Result {
     ) -> result::Result<(), WireError> {
         match field.number {
             4 => match oneof {
-                Some(Result::Void(void)) => field.merge_message(void)?,
-                _ => *oneof = Some(Result::Void(field.message()?)),
+                Some(Result::Void(void)) => void.merge_value(field)?,
+                _ => *oneof = Some(Result::Void(FieldKind::read_value(field)?)),
             },
             5 => match oneof {
-                Some(Result::Value(value)) => field.merge_message(value)?,
-                _ => *oneof = Some(Result::Value(field.message()?)),
+                Some(Result::Value(value)) => value.merge_value(field)?,
+                _ => *oneof = Some(Result::Value(FieldKind::read_value(field)?)),
             },
             6 => match oneof {
-                Some(Result::Failure(failure)) => field.merge_message(failure)?,
-                _ => *oneof = Some(Result::Failure(field.message()?)),
+                Some(Result::Failure(failure)) => failure.merge_value(field)?,
+                _ => *oneof = Some(Result::Failure(FieldKind::read_value(field)?)),
             },
             16 => match oneof {
-                Some(Result::InvocationId(invocation_id)) => field.read_text(invocation_id)?,
-                _ => *oneof = Some(Result::InvocationId(field.text()?)),
+                Some(Result::InvocationId(invocation_id)) => invocation_id.merge_value(field)?,
+                _ => *oneof = Some(Result::InvocationId(FieldKind::read_value(field)?)),
             },
             17 => match oneof {
-                Some(Result::StateKeys(state_keys)) => field.merge_message(state_keys)?,
-                _ => *oneof = Some(Result::StateKeys(field.message()?)),
+                Some(Result::StateKeys(state_keys)) => state_keys.merge_value(field)?,
+                _ => *oneof = Some(Result::StateKeys(FieldKind::read_value(field)?)),
             },
             _ => unreachable!(),
         }
@@ -226,21 +225,21 @@ impl OneOf for Result {
 
     fn measure(&self, size: &mut Size) {
         match self {
-            Result::Void(void) => size.message_value(4, void),
-            Result::Value(value) => size.message_value(5, value),
-            Result::Failure(failure) => size.message_value(6, failure),
-            Result::InvocationId(invocation_id) => size.text_value(16, invocation_id),
-            Result::StateKeys(state_keys) => size.message_value(17, state_keys),
+            Result::Void(void) => void.measure_value(size, 4),
+            Result::Value(value) => value.measure_value(size, 5),
+            Result::Failure(failure) => failure.measure_value(size, 6),
+            Result::InvocationId(invocation_id) => invocation_id.measure_value(size, 16),
+            Result::StateKeys(state_keys) => state_keys.measure_value(size, 17),
         }
     }
 
     fn encode_back(&self, out: &mut [u8], end: usize) -> usize {
         match self {
-            Result::Void(void) => write_message_value(out, end, 4, void),
-            Result::Value(value) => write_message_value(out, end, 5, value),
-            Result::Failure(failure) => write_message_value(out, end, 6, failure),
-            Result::InvocationId(invocation_id) => write_text_value(out, end, 16, invocation_id),
-            Result::StateKeys(state_keys) => write_message_value(out, end, 17, state_keys),
+            Result::Void(void) => void.write_value(out, end, 4),
+            Result::Value(value) => value.write_value(out, end, 5),
+            Result::Failure(failure) => failure.write_value(out, end, 6),
+            Result::InvocationId(invocation_id) => invocation_id.write_value(out, end, 16),
+            Result::StateKeys(state_keys) => state_keys.write_value(out, end, 17),
         }
     }
 

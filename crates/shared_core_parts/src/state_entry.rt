@@ -6,9 +6,9 @@ ghost use Rattle.shared_core_record.specs.EqualityRules.{equality_rules};
 
 use bytes::Bytes;
 use shared_core_record::occurrence::Occurrence;
+use shared_core_record::plain;
 use shared_core_record::record::WireRecord;
 use shared_core_record::size::Size;
-use shared_core_record::write::write_bytes;
 use shared_core_wire::error::WireError;
 use std::alloc::Global;
 
@@ -36,21 +36,21 @@ impl WireRecord for StateEntry {
 
     fn merge_field(&mut self, field: &Occurrence<'_>) -> Result<(), WireError> {
         match field.number {
-            1 => self.key = field.bytes()?,
-            2 => self.value = field.bytes()?,
+            1 => plain::merge(&mut self.key, field)?,
+            2 => plain::merge(&mut self.value, field)?,
             _ => {}
         }
         Ok(())
     }
 
     fn measure(&self, size: &mut Size) {
-        size.bytes(1, &self.key);
-        size.bytes(2, &self.value);
+        plain::measure(size, 1, &self.key);
+        plain::measure(size, 2, &self.value);
     }
 
     fn encode_back(&self, out: &mut [u8], end: usize) -> usize {
-        let end = write_bytes(out, end, 2, &self.value);
-        write_bytes(out, end, 1, &self.key)
+        let end = plain::write(out, end, 2, &self.value);
+        plain::write(out, end, 1, &self.key)
     }
 
     ghost equality = { Prim.search equality_rules };

@@ -14,8 +14,8 @@ use bstr::{BStr, ByteSlice};
 use bytes::Bytes;
 use shared_core_record::occurrence::Occurrence;
 use shared_core_record::record::WireRecord;
+use shared_core_record::repeated;
 use shared_core_record::size::Size;
-use shared_core_record::write::write_byte_strings;
 use shared_core_wire::error::WireError;
 use std::alloc::{AllocError, Global};
 use std::fmt;
@@ -40,18 +40,18 @@ impl WireRecord for StateKeys {
 
     fn merge_field(&mut self, field: &Occurrence<'_>) -> Result<(), WireError> {
         match field.number {
-            1 => field.extend_bytes(&mut self.keys)?,
+            1 => repeated::merge(&mut self.keys, field)?,
             _ => {}
         }
         Ok(())
     }
 
     fn measure(&self, size: &mut Size) {
-        size.byte_strings(1, &self.keys);
+        repeated::measure(size, 1, &self.keys);
     }
 
     fn encode_back(&self, out: &mut [u8], end: usize) -> usize {
-        write_byte_strings(out, end, 1, &self.keys)
+        repeated::write(out, end, 1, &self.keys)
     }
 
     ghost equality = { Prim.search equality_rules };

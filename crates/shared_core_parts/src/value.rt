@@ -10,9 +10,9 @@ use crate::escape::write_escaped;
 use bytes::Bytes;
 use shared_core_base::fmt::as_utf8;
 use shared_core_record::occurrence::Occurrence;
+use shared_core_record::plain;
 use shared_core_record::record::WireRecord;
 use shared_core_record::size::Size;
-use shared_core_record::write::write_bytes;
 use shared_core_wire::error::WireError;
 use std::alloc::Global;
 use std::fmt;
@@ -37,18 +37,18 @@ impl WireRecord for Value {
 
     fn merge_field(&mut self, field: &Occurrence<'_>) -> Result<(), WireError> {
         match field.number {
-            1 => self.content = field.bytes()?,
+            1 => plain::merge(&mut self.content, field)?,
             _ => {}
         }
         Ok(())
     }
 
     fn measure(&self, size: &mut Size) {
-        size.bytes(1, &self.content);
+        plain::measure(size, 1, &self.content);
     }
 
     fn encode_back(&self, out: &mut [u8], end: usize) -> usize {
-        write_bytes(out, end, 1, &self.content)
+        plain::write(out, end, 1, &self.content)
     }
 
     ghost equality = { Prim.search equality_rules };

@@ -8,7 +8,7 @@ ghost use Rattle.shared_core_record.specs.EqualityRules.{equality_rules};
 use shared_core_record::occurrence::Occurrence;
 use shared_core_record::record::WireRecord;
 use shared_core_record::size::Size;
-use shared_core_record::write::{write_optional_text, write_text};
+use shared_core_record::{optional, plain};
 use shared_core_wire::error::WireError;
 use std::alloc::Global;
 
@@ -40,24 +40,24 @@ impl WireRecord for WorkflowTarget {
 
     fn merge_field(&mut self, field: &Occurrence<'_>) -> Result<(), WireError> {
         match field.number {
-            1 => field.read_text(&mut self.workflow_name)?,
-            2 => field.read_text(&mut self.workflow_key)?,
-            3 => field.read_optional_text(&mut self.scope)?,
+            1 => plain::merge(&mut self.workflow_name, field)?,
+            2 => plain::merge(&mut self.workflow_key, field)?,
+            3 => optional::merge(&mut self.scope, field)?,
             _ => {}
         }
         Ok(())
     }
 
     fn measure(&self, size: &mut Size) {
-        size.text(1, &self.workflow_name);
-        size.text(2, &self.workflow_key);
-        size.optional_text(3, &self.scope);
+        plain::measure(size, 1, &self.workflow_name);
+        plain::measure(size, 2, &self.workflow_key);
+        optional::measure(size, 3, &self.scope);
     }
 
     fn encode_back(&self, out: &mut [u8], end: usize) -> usize {
-        let end = write_optional_text(out, end, 3, &self.scope);
-        let end = write_text(out, end, 2, &self.workflow_key);
-        write_text(out, end, 1, &self.workflow_name)
+        let end = optional::write(out, end, 3, &self.scope);
+        let end = plain::write(out, end, 2, &self.workflow_key);
+        plain::write(out, end, 1, &self.workflow_name)
     }
 
     ghost equality = { Prim.search equality_rules depth 18 };

@@ -1,16 +1,17 @@
 -- Writing from the back.
-use Rattle.std.proofs.Common.{◌≡◌, ℕ, ◌+◌, ◌-◌, ◌/◌, ◌%◌, ◌<◌, ◌≤◌, List, ◌∷◌, ◌++◌, length, drop, set, get_or, subst, append_assoc, append-nil, length-append, length-set, refl, ap, sym, ◌∙◌, arith, true}
+use Rattle.std.proofs.Common.{◌≡◌, ℕ, ◌+◌, ◌-◌, ◌/◌, ◌%◌, ◌<◌, ◌≤◌, List, ◌∷◌, ◌++◌, length, drop, set, get_or, subst, append_assoc, append-nil, length-append, length-set, refl, ap, sym, ◌∙◌, arith, true, false}
 use Rattle.std.proofs.lemmas.List.{drop-set, drop_all}
 use Rattle.shared_core_record.proofs.Measuring.{from_end, from_index, from_next, from_shorter, from_start, packed_all, packed_end, packed_from, packed_at, packed_shorter}
-use Rattle.shared_core_record.proofs.RowBytes.{bytes_value_bytes, message_bytes, no_content, no_number, no_packed, number_value_bytes, payload_size, some_content, some_number, some_packed, unpacked, written_before}
+use Rattle.shared_core_record.proofs.RowBytes.{bytes_value_bytes, message_bytes, no_packed, number_value_bytes, payload_size, plain_default, plain_value, some_packed, written_before}
+use Rattle.shared_core_record.specs.Equality.{is_present}
 use Rattle.shared_core_record.specs.FieldParts.{elements_part}
-use Rattle.shared_core_record.specs.RowSpelling.{before_row, before_rows, length_record, row_bytes, row_size, rows_size, value_bytes, varint_record, varints_of}
+use Rattle.shared_core_record.specs.RowSpelling.{before_row, before_rows, length_record, row_bytes, row_size, rows_size, unpacked, value_bytes, varint_record, varints_of}
 use Rattle.shared_core_record.specs.Table.{table}
 use Rattle.shared_core_wire.proofs.Shortest.{shortest_large, shortest_small}
-use Rattle.shared_core_wire.specs.Canonical.{canonical_payload, written_number}
-use Rattle.shared_core_wire.specs.Schema.{Kind, Message, Plain, Repeated, U32}
+use Rattle.shared_core_wire.specs.Canonical.{canonical_payload, is_default, written_number}
+use Rattle.shared_core_wire.specs.Schema.{Kind, Message, Optional, Plain, Repeated, U32}
 use Rattle.shared_core_wire.specs.Spelling.{key_bytes, shortest_varint}
-use Rattle.shared_core_wire.specs.Value.{Bytes, Nested, Number, Part, Parts}
+use Rattle.shared_core_wire.specs.Value.{Absent, Bytes, Elements, Member, Nested, Number, Part, Parts}
 
 -- ---- varints
 
@@ -46,31 +47,37 @@ record_before at b behind mid now e f = rw (e, f) (simp append_assoc)
 pub record_size : (at : ℕ) (b : List ℕ) → length (length_record at b) ≡ (length (key_bytes at 2) + length (shortest_varint (length b))) + length b
 record_size at b = simp length-append (omega arith)
 
--- ---- fields
+-- ---- plain fields
 
-pub content_before : (at : ℕ) (k : Kind) (b xs : List ℕ) → 0 < length b → row_bytes (Plain at k) (Bytes b) ++ xs ≡ length_record at b ++ xs
-content_before at k b xs h = rw (some_content at k b h) refl
+pub default_before : (at : ℕ) (k : Kind) (p : Part) (xs : List ℕ) → is_default p ≡ true → row_bytes (Plain at k) p ++ xs ≡ xs
+default_before at k p xs d = rw (plain_default at k p d) refl
 
-pub content_size : (at : ℕ) (k : Kind) (b : List ℕ) → 0 < length b → length (row_bytes (Plain at k) (Bytes b)) ≡ length (length_record at b)
-content_size at k b h = rw (some_content at k b h) refl
+pub default_size : (at : ℕ) (k : Kind) (p : Part) → is_default p ≡ true → length (row_bytes (Plain at k) p) ≡ 0
+default_size at k p d = rw (plain_default at k p d) refl
 
-pub no_content_before : (at : ℕ) (k : Kind) (b xs : List ℕ) → length b ≡ 0 → row_bytes (Plain at k) (Bytes b) ++ xs ≡ xs
-no_content_before at k b xs h = rw (no_content at k b h) refl
+pub other_before : (at : ℕ) (k : Kind) (p : Part) (xs : List ℕ) → is_default p ≡ false → row_bytes (Plain at k) p ++ xs ≡ value_bytes at k p ++ xs
+other_before at k p xs d = rw (plain_value at k p d) refl
 
-pub no_content_size : (at : ℕ) (k : Kind) (b : List ℕ) → length b ≡ 0 → length (row_bytes (Plain at k) (Bytes b)) ≡ 0
-no_content_size at k b h = rw (no_content at k b h) refl
+pub other_size : (at : ℕ) (k : Kind) (p : Part) → is_default p ≡ false → length (row_bytes (Plain at k) p) ≡ length (value_bytes at k p)
+other_size at k p d = rw (plain_value at k p d) refl
 
-pub number_before : (at : ℕ) (k : Kind) (v : ℕ) (xs : List ℕ) → 0 < v → row_bytes (Plain at k) (Number v) ++ xs ≡ varint_record at (written_number k v) ++ xs
-number_before at k v xs h = rw (some_number at k v h) refl
+-- ---- optional fields that hold a value
 
-pub number_size : (at : ℕ) (k : Kind) (v : ℕ) → 0 < v → length (row_bytes (Plain at k) (Number v)) ≡ length (varint_record at (written_number k v))
-number_size at k v h = rw (some_number at k v h) refl
+pub present_before : (at : ℕ) (k : Kind) (p : Part) (xs : List ℕ) → is_present p ≡ true → value_bytes at k p ++ xs ≡ before_row (Optional at k) p xs
+present_before at k Absent xs h = cc
+present_before at k (Number v) xs h = refl
+present_before at k (Bytes b) xs h = refl
+present_before at k (Nested ps) xs h = refl
+present_before at k (Elements ps) xs h = refl
+present_before at k (Member v p) xs h = refl
 
-pub zero_before : (at : ℕ) (k : Kind) (v : ℕ) (xs : List ℕ) → v ≡ 0 → row_bytes (Plain at k) (Number v) ++ xs ≡ xs
-zero_before at k v xs h = rw (no_number at k v h) refl
-
-pub zero_size : (at : ℕ) (k : Kind) (v : ℕ) → v ≡ 0 → length (row_bytes (Plain at k) (Number v)) ≡ 0
-zero_size at k v h = rw (no_number at k v h) refl
+pub present_size : (at : ℕ) (k : Kind) (p : Part) → is_present p ≡ true → row_size (Optional at k) p ≡ length (value_bytes at k p)
+present_size at k Absent h = cc
+present_size at k (Number v) h = refl
+present_size at k (Bytes b) h = refl
+present_size at k (Nested ps) h = refl
+present_size at k (Elements ps) h = refl
+present_size at k (Member v p) h = refl
 
 -- ---- values that are written whatever they hold
 

@@ -1,12 +1,10 @@
 //! Records: reading payloads into them, merging and writing.
 
-ghost use Rattle.std.specs.Prelude.{◌≡◌, ◌≤◌, ◌<◌, ◌^◌, ◌++◌, ◌+◌, ℕ, drop, IfOk, OnOk, OnErr, vec_len, vec_capacity, MatchOption, Err, false, true, length};
+ghost use Rattle.std.specs.Prelude.{◌≡◌, ◌≤◌, ◌<◌, ◌^◌, ◌++◌, ◌+◌, ℕ, drop, IfOk, OnOk, OnErr, vec_len, vec_capacity, MatchOption, Err, false, length};
 ghost use Rattle.std.specs.List.{All, concat};
 ghost use Rattle.std.specs.Result.{IsErrOf};
 ghost use Rattle.shared_core_wire.specs.Items.{record_items};
 ghost use Rattle.shared_core_wire.specs.Value.{Parts, empty_value};
-ghost use Rattle.shared_core_wire.specs.Acceptance.{accepts_payload};
-ghost use Rattle.shared_core_wire.specs.Overlay.{overlay_payload};
 ghost use Rattle.shared_core_wire.specs.Canonical.{canonical_payload, size};
 ghost use Rattle.shared_core_wire.specs.Fitting.{Fits};
 ghost use Rattle.shared_core_record.specs.Table.{table};
@@ -21,7 +19,7 @@ ghost use Rattle.shared_core_record.specs.declared.error.EncodingError.TheVarian
 ghost use Rattle.shared_core_wire.specs.declared.error.WireError.TheVariants as error;
 
 use crate::error::EncodingError;
-use crate::message::MessageBytes;
+use crate::message_bytes::MessageBytes;
 use crate::occurrence::Occurrence;
 use crate::size::Size;
 use bytes::Bytes;
@@ -147,8 +145,11 @@ pub trait WireRecord: Sized + Drop + PartialEq {
     }
 }
 
-/// Merges the records of some bytes of a payload into a record, one after the other.
-fn merge_records<M: WireRecord>(target: &mut M, message: &MessageBytes<'_>) -> Result<(), WireError>
+/// Merges bytes that stand as a message into a record, one record of them after the other. On an error some fields may have changed.
+pub(crate) fn merge_records<M: WireRecord>(
+    target: &mut M,
+    message: &MessageBytes<'_>,
+) -> Result<(), WireError>
     ensures { IsComputed (λ _. M.parts target.new) result (fold_items (merged_with message.now.left M.schema) (M.parts target.old) (record_items message.now.left message.now.bytes.now)) }
 {
     for item in Records::within(message.bytes, message.left) {
@@ -158,19 +159,8 @@ fn merge_records<M: WireRecord>(target: &mut M, message: &MessageBytes<'_>) -> R
     Ok(())
 }
 
-/// Merges bytes that stand as a message into a record. On an error some of its fields may have changed. (For the code of records.)
-pub fn merge_message_bytes<M: WireRecord>(
-    target: &mut M,
-    message: &MessageBytes<'_>,
-) -> Result<(), WireError>
-    ensures accepted { OnOk result (accepts_payload table message.now.left M.schema message.now.bytes.now ≡ true) }
-    ensures merged { OnOk result (M.parts target.new ≡ overlay_payload table message.now.left M.schema (M.parts target.old) message.now.bytes.now) }
-    ensures malformed { IsErrOf result error.Malformed → accepts_payload table message.now.left M.schema message.now.bytes.now ≡ false }
-{
-    merge_records(target, message)
-}
-
 /// Merges a whole payload into a record. On an error some of its fields may have changed.
+#[tactic(auto, using(crate::proofs::MergingRecords::computed_accepted, crate::proofs::MergingRecords::computed_merged, crate::proofs::MergingRecords::computed_refused))]
 fn merge_payload<M: WireRecord>(
     target: &mut M,
     alloc: Global,
@@ -180,7 +170,7 @@ fn merge_payload<M: WireRecord>(
     ensures merged { OnOk result (M.parts target.new ≡ merged_payload M.schema (M.parts target.old) payload.now) }
     ensures malformed { IsErrOf result error.Malformed → ¬ (IsAccepted M.schema payload.now) }
 {
-    merge_message_bytes(target, &MessageBytes::whole(alloc, payload))
+    merge_records(target, &MessageBytes::whole(alloc, payload))
 }
 
 /// Reads a payload that its owner keeps: what `decode` does, without a count of one more owner.

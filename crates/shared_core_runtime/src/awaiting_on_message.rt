@@ -19,7 +19,7 @@ use shared_core_record::error::EncodingError;
 use shared_core_record::occurrence::Occurrence;
 use shared_core_record::record::WireRecord;
 use shared_core_record::size::Size;
-use shared_core_record::write::{write_boolean, write_optional_message};
+use shared_core_record::{optional, plain};
 use shared_core_wire::error::WireError;
 use std::alloc::Global;
 
@@ -47,21 +47,21 @@ impl WireRecord for AwaitingOnMessage {
 
     fn merge_field(&mut self, field: &Occurrence<'_>) -> Result<(), WireError> {
         match field.number {
-            1 => field.merge_optional_message(&mut self.awaiting_on)?,
-            2 => self.executing_side_effects = field.boolean()?,
+            1 => optional::merge(&mut self.awaiting_on, field)?,
+            2 => plain::merge(&mut self.executing_side_effects, field)?,
             _ => {}
         }
         Ok(())
     }
 
     fn measure(&self, size: &mut Size) {
-        size.optional_message(1, &self.awaiting_on);
-        size.boolean(2, self.executing_side_effects);
+        optional::measure(size, 1, &self.awaiting_on);
+        plain::measure(size, 2, &self.executing_side_effects);
     }
 
     fn encode_back(&self, out: &mut [u8], end: usize) -> usize {
-        let end = write_boolean(out, end, 2, self.executing_side_effects);
-        write_optional_message(out, end, 1, &self.awaiting_on)
+        let end = plain::write(out, end, 2, &self.executing_side_effects);
+        optional::write(out, end, 1, &self.awaiting_on)
     }
 
     ghost use Rattle.shared_core_parts.specs.contracts.future.FutureWireRecord.TheImpl.Laws.{equality-law as future_equality};

@@ -18,10 +18,7 @@ use shared_core_record::error::EncodingError;
 use shared_core_record::occurrence::Occurrence;
 use shared_core_record::record::WireRecord;
 use shared_core_record::size::Size;
-use shared_core_record::write::{
-    write_enumeration, write_optional_text, write_optional_u32, write_optional_u64, write_text,
-    write_u32,
-};
+use shared_core_record::{optional, plain};
 use shared_core_wire::error::WireError;
 use std::alloc::Global;
 
@@ -73,39 +70,39 @@ impl WireRecord for ErrorMessage {
 
     fn merge_field(&mut self, field: &Occurrence<'_>) -> Result<(), WireError> {
         match field.number {
-            1 => self.code = field.u32()?,
-            2 => field.read_text(&mut self.message)?,
-            3 => field.read_text(&mut self.stacktrace)?,
-            4 => self.related_command_index = Some(field.u32()?),
-            5 => field.read_optional_text(&mut self.related_command_name)?,
-            6 => self.related_command_type = Some(field.u32()?),
-            8 => self.next_retry_delay = Some(field.u64()?),
-            9 => self.behavior = field.enumeration()?,
+            1 => plain::merge(&mut self.code, field)?,
+            2 => plain::merge(&mut self.message, field)?,
+            3 => plain::merge(&mut self.stacktrace, field)?,
+            4 => optional::merge(&mut self.related_command_index, field)?,
+            5 => optional::merge(&mut self.related_command_name, field)?,
+            6 => optional::merge(&mut self.related_command_type, field)?,
+            8 => optional::merge(&mut self.next_retry_delay, field)?,
+            9 => plain::merge(&mut self.behavior, field)?,
             _ => {}
         }
         Ok(())
     }
 
     fn measure(&self, size: &mut Size) {
-        size.u32(1, self.code);
-        size.text(2, &self.message);
-        size.text(3, &self.stacktrace);
-        size.optional_u32(4, self.related_command_index);
-        size.optional_text(5, &self.related_command_name);
-        size.optional_u32(6, self.related_command_type);
-        size.optional_u64(8, self.next_retry_delay);
-        size.enumeration(9, self.behavior);
+        plain::measure(size, 1, &self.code);
+        plain::measure(size, 2, &self.message);
+        plain::measure(size, 3, &self.stacktrace);
+        optional::measure(size, 4, &self.related_command_index);
+        optional::measure(size, 5, &self.related_command_name);
+        optional::measure(size, 6, &self.related_command_type);
+        optional::measure(size, 8, &self.next_retry_delay);
+        plain::measure(size, 9, &self.behavior);
     }
 
     fn encode_back(&self, out: &mut [u8], end: usize) -> usize {
-        let end = write_enumeration(out, end, 9, self.behavior);
-        let end = write_optional_u64(out, end, 8, self.next_retry_delay);
-        let end = write_optional_u32(out, end, 6, self.related_command_type);
-        let end = write_optional_text(out, end, 5, &self.related_command_name);
-        let end = write_optional_u32(out, end, 4, self.related_command_index);
-        let end = write_text(out, end, 3, &self.stacktrace);
-        let end = write_text(out, end, 2, &self.message);
-        write_u32(out, end, 1, self.code)
+        let end = plain::write(out, end, 9, &self.behavior);
+        let end = optional::write(out, end, 8, &self.next_retry_delay);
+        let end = optional::write(out, end, 6, &self.related_command_type);
+        let end = optional::write(out, end, 5, &self.related_command_name);
+        let end = optional::write(out, end, 4, &self.related_command_index);
+        let end = plain::write(out, end, 3, &self.stacktrace);
+        let end = plain::write(out, end, 2, &self.message);
+        plain::write(out, end, 1, &self.code)
     }
 
     ghost equality = { Prim.search equality_rules depth 28 };

@@ -16,9 +16,9 @@ use shared_core_parts::restate_message::{
 };
 use shared_core_record::error::EncodingError;
 use shared_core_record::occurrence::Occurrence;
+use shared_core_record::plain;
 use shared_core_record::record::WireRecord;
 use shared_core_record::size::Size;
-use shared_core_record::write::{write_bytes, write_u32};
 use shared_core_wire::error::WireError;
 use std::alloc::Global;
 
@@ -46,21 +46,21 @@ impl WireRecord for GetStateEphemeralCommandMessage {
 
     fn merge_field(&mut self, field: &Occurrence<'_>) -> Result<(), WireError> {
         match field.number {
-            1 => self.key = field.bytes()?,
-            2 => self.completion_id = field.u32()?,
+            1 => plain::merge(&mut self.key, field)?,
+            2 => plain::merge(&mut self.completion_id, field)?,
             _ => {}
         }
         Ok(())
     }
 
     fn measure(&self, size: &mut Size) {
-        size.bytes(1, &self.key);
-        size.u32(2, self.completion_id);
+        plain::measure(size, 1, &self.key);
+        plain::measure(size, 2, &self.completion_id);
     }
 
     fn encode_back(&self, out: &mut [u8], end: usize) -> usize {
-        let end = write_u32(out, end, 2, self.completion_id);
-        write_bytes(out, end, 1, &self.key)
+        let end = plain::write(out, end, 2, &self.completion_id);
+        plain::write(out, end, 1, &self.key)
     }
 
     ghost equality = { Prim.search equality_rules depth 16 };

@@ -18,11 +18,12 @@ use shared_core_parts::restate_message::{
 use shared_core_parts::value::Value;
 use shared_core_parts::void::Void;
 use shared_core_record::error::EncodingError;
+use shared_core_record::kind::FieldKind;
 use shared_core_record::occurrence::Occurrence;
 use shared_core_record::oneof::OneOf;
 use shared_core_record::record::WireRecord;
 use shared_core_record::size::Size;
-use shared_core_record::write::{write_message_value, write_oneof, write_u32};
+use shared_core_record::{oneof, plain};
 use shared_core_wire::error::WireError;
 use std::alloc::Global;
 use std::result;
@@ -52,12 +53,12 @@ impl OneOf for Result {
     ) -> result::Result<(), WireError> {
         match field.number {
             4 => match oneof {
-                Some(Result::Void(void)) => field.merge_message(void)?,
-                _ => *oneof = Some(Result::Void(field.message()?)),
+                Some(Result::Void(void)) => void.merge_value(field)?,
+                _ => *oneof = Some(Result::Void(FieldKind::read_value(field)?)),
             },
             5 => match oneof {
-                Some(Result::Value(value)) => field.merge_message(value)?,
-                _ => *oneof = Some(Result::Value(field.message()?)),
+                Some(Result::Value(value)) => value.merge_value(field)?,
+                _ => *oneof = Some(Result::Value(FieldKind::read_value(field)?)),
             },
             _ => unreachable!(),
         }
@@ -66,15 +67,15 @@ impl OneOf for Result {
 
     fn measure(&self, size: &mut Size) {
         match self {
-            Result::Void(void) => size.message_value(4, void),
-            Result::Value(value) => size.message_value(5, value),
+            Result::Void(void) => void.measure_value(size, 4),
+            Result::Value(value) => value.measure_value(size, 5),
         }
     }
 
     fn encode_back(&self, out: &mut [u8], end: usize) -> usize {
         match self {
-            Result::Void(void) => write_message_value(out, end, 4, void),
-            Result::Value(value) => write_message_value(out, end, 5, value),
+            Result::Void(void) => void.write_value(out, end, 4),
+            Result::Value(value) => value.write_value(out, end, 5),
         }
     }
 
@@ -113,21 +114,21 @@ impl WireRecord for GetStateEphemeralNotificationMessage {
 
     fn merge_field(&mut self, field: &Occurrence<'_>) -> result::Result<(), WireError> {
         match field.number {
-            1 => self.completion_id = field.u32()?,
-            4 | 5 => OneOf::merge_member(&mut self.result, field)?,
+            1 => plain::merge(&mut self.completion_id, field)?,
+            4 | 5 => oneof::merge(&mut self.result, field)?,
             _ => {}
         }
         Ok(())
     }
 
     fn measure(&self, size: &mut Size) {
-        size.u32(1, self.completion_id);
-        size.oneof(&self.result);
+        plain::measure(size, 1, &self.completion_id);
+        oneof::measure(size, &self.result);
     }
 
     fn encode_back(&self, out: &mut [u8], end: usize) -> usize {
-        let end = write_oneof(out, end, &self.result);
-        write_u32(out, end, 1, self.completion_id)
+        let end = oneof::write(out, end, &self.result);
+        plain::write(out, end, 1, &self.completion_id)
     }
 
     ghost use Rattle.shared_core_runtime.specs.contracts.get_state_ephemeral_notification_message.ResultOneOf.TheImpl.Laws.{equality-law as result_equality, present-law as result_present};

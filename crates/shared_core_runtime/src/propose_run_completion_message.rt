@@ -13,11 +13,12 @@ use bytes::Bytes;
 use shared_core_base::header::MessageType;
 use shared_core_parts::failure::Failure;
 use shared_core_parts::restate_message::RestateMessage;
+use shared_core_record::kind::FieldKind;
 use shared_core_record::occurrence::Occurrence;
 use shared_core_record::oneof::OneOf;
 use shared_core_record::record::WireRecord;
 use shared_core_record::size::Size;
-use shared_core_record::write::{write_bytes_value, write_message_value, write_oneof, write_u32};
+use shared_core_record::{oneof, plain};
 use shared_core_wire::error::WireError;
 use std::alloc::Global;
 use std::result;
@@ -46,10 +47,10 @@ impl OneOf for Result {
         field: &Occurrence<'_>,
     ) -> result::Result<(), WireError> {
         match field.number {
-            14 => *oneof = Some(Result::Value(field.bytes()?)),
+            14 => *oneof = Some(Result::Value(FieldKind::read_value(field)?)),
             15 => match oneof {
-                Some(Result::Failure(failure)) => field.merge_message(failure)?,
-                _ => *oneof = Some(Result::Failure(field.message()?)),
+                Some(Result::Failure(failure)) => failure.merge_value(field)?,
+                _ => *oneof = Some(Result::Failure(FieldKind::read_value(field)?)),
             },
             _ => unreachable!(),
         }
@@ -58,15 +59,15 @@ impl OneOf for Result {
 
     fn measure(&self, size: &mut Size) {
         match self {
-            Result::Value(value) => size.bytes_value(14, value),
-            Result::Failure(failure) => size.message_value(15, failure),
+            Result::Value(value) => value.measure_value(size, 14),
+            Result::Failure(failure) => failure.measure_value(size, 15),
         }
     }
 
     fn encode_back(&self, out: &mut [u8], end: usize) -> usize {
         match self {
-            Result::Value(value) => write_bytes_value(out, end, 14, value),
-            Result::Failure(failure) => write_message_value(out, end, 15, failure),
+            Result::Value(value) => value.write_value(out, end, 14),
+            Result::Failure(failure) => failure.write_value(out, end, 15),
         }
     }
 
@@ -104,21 +105,21 @@ impl WireRecord for ProposeRunCompletionMessage {
 
     fn merge_field(&mut self, field: &Occurrence<'_>) -> result::Result<(), WireError> {
         match field.number {
-            1 => self.result_completion_id = field.u32()?,
-            14 | 15 => OneOf::merge_member(&mut self.result, field)?,
+            1 => plain::merge(&mut self.result_completion_id, field)?,
+            14 | 15 => oneof::merge(&mut self.result, field)?,
             _ => {}
         }
         Ok(())
     }
 
     fn measure(&self, size: &mut Size) {
-        size.u32(1, self.result_completion_id);
-        size.oneof(&self.result);
+        plain::measure(size, 1, &self.result_completion_id);
+        oneof::measure(size, &self.result);
     }
 
     fn encode_back(&self, out: &mut [u8], end: usize) -> usize {
-        let end = write_oneof(out, end, &self.result);
-        write_u32(out, end, 1, self.result_completion_id)
+        let end = oneof::write(out, end, &self.result);
+        plain::write(out, end, 1, &self.result_completion_id)
     }
 
     ghost use Rattle.shared_core_runtime.specs.contracts.propose_run_completion_message.ResultOneOf.TheImpl.Laws.{equality-law as result_equality, present-law as result_present};

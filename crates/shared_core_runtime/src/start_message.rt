@@ -20,10 +20,7 @@ use shared_core_record::error::EncodingError;
 use shared_core_record::occurrence::Occurrence;
 use shared_core_record::record::WireRecord;
 use shared_core_record::size::Size;
-use shared_core_record::write::{
-    write_boolean, write_bytes, write_messages, write_optional_text, write_text, write_u32,
-    write_u64,
-};
+use shared_core_record::{optional, plain, repeated};
 use shared_core_wire::error::WireError;
 use std::alloc::Global;
 
@@ -91,51 +88,51 @@ impl WireRecord for StartMessage {
 
     fn merge_field(&mut self, field: &Occurrence<'_>) -> Result<(), WireError> {
         match field.number {
-            1 => self.id = field.bytes()?,
-            2 => field.read_text(&mut self.debug_id)?,
-            3 => self.known_entries = field.u32()?,
-            4 => field.extend_messages(&mut self.state_map)?,
-            5 => self.partial_state = field.boolean()?,
-            6 => field.read_text(&mut self.key)?,
-            7 => self.retry_count_since_last_stored_entry = field.u32()?,
-            8 => self.duration_since_last_stored_entry = field.u64()?,
-            9 => self.random_seed = field.u64()?,
-            10 => field.read_optional_text(&mut self.scope)?,
-            11 => field.read_optional_text(&mut self.limit_key)?,
-            12 => field.read_optional_text(&mut self.idempotency_key)?,
+            1 => plain::merge(&mut self.id, field)?,
+            2 => plain::merge(&mut self.debug_id, field)?,
+            3 => plain::merge(&mut self.known_entries, field)?,
+            4 => repeated::merge(&mut self.state_map, field)?,
+            5 => plain::merge(&mut self.partial_state, field)?,
+            6 => plain::merge(&mut self.key, field)?,
+            7 => plain::merge(&mut self.retry_count_since_last_stored_entry, field)?,
+            8 => plain::merge(&mut self.duration_since_last_stored_entry, field)?,
+            9 => plain::merge(&mut self.random_seed, field)?,
+            10 => optional::merge(&mut self.scope, field)?,
+            11 => optional::merge(&mut self.limit_key, field)?,
+            12 => optional::merge(&mut self.idempotency_key, field)?,
             _ => {}
         }
         Ok(())
     }
 
     fn measure(&self, size: &mut Size) {
-        size.bytes(1, &self.id);
-        size.text(2, &self.debug_id);
-        size.u32(3, self.known_entries);
-        size.messages(4, &self.state_map);
-        size.boolean(5, self.partial_state);
-        size.text(6, &self.key);
-        size.u32(7, self.retry_count_since_last_stored_entry);
-        size.u64(8, self.duration_since_last_stored_entry);
-        size.u64(9, self.random_seed);
-        size.optional_text(10, &self.scope);
-        size.optional_text(11, &self.limit_key);
-        size.optional_text(12, &self.idempotency_key);
+        plain::measure(size, 1, &self.id);
+        plain::measure(size, 2, &self.debug_id);
+        plain::measure(size, 3, &self.known_entries);
+        repeated::measure(size, 4, &self.state_map);
+        plain::measure(size, 5, &self.partial_state);
+        plain::measure(size, 6, &self.key);
+        plain::measure(size, 7, &self.retry_count_since_last_stored_entry);
+        plain::measure(size, 8, &self.duration_since_last_stored_entry);
+        plain::measure(size, 9, &self.random_seed);
+        optional::measure(size, 10, &self.scope);
+        optional::measure(size, 11, &self.limit_key);
+        optional::measure(size, 12, &self.idempotency_key);
     }
 
     fn encode_back(&self, out: &mut [u8], end: usize) -> usize {
-        let end = write_optional_text(out, end, 12, &self.idempotency_key);
-        let end = write_optional_text(out, end, 11, &self.limit_key);
-        let end = write_optional_text(out, end, 10, &self.scope);
-        let end = write_u64(out, end, 9, self.random_seed);
-        let end = write_u64(out, end, 8, self.duration_since_last_stored_entry);
-        let end = write_u32(out, end, 7, self.retry_count_since_last_stored_entry);
-        let end = write_text(out, end, 6, &self.key);
-        let end = write_boolean(out, end, 5, self.partial_state);
-        let end = write_messages(out, end, 4, &self.state_map);
-        let end = write_u32(out, end, 3, self.known_entries);
-        let end = write_text(out, end, 2, &self.debug_id);
-        write_bytes(out, end, 1, &self.id)
+        let end = optional::write(out, end, 12, &self.idempotency_key);
+        let end = optional::write(out, end, 11, &self.limit_key);
+        let end = optional::write(out, end, 10, &self.scope);
+        let end = plain::write(out, end, 9, &self.random_seed);
+        let end = plain::write(out, end, 8, &self.duration_since_last_stored_entry);
+        let end = plain::write(out, end, 7, &self.retry_count_since_last_stored_entry);
+        let end = plain::write(out, end, 6, &self.key);
+        let end = plain::write(out, end, 5, &self.partial_state);
+        let end = repeated::write(out, end, 4, &self.state_map);
+        let end = plain::write(out, end, 3, &self.known_entries);
+        let end = plain::write(out, end, 2, &self.debug_id);
+        plain::write(out, end, 1, &self.id)
     }
 
     ghost use Rattle.shared_core_parts.specs.contracts.state_entry.StateEntryWireRecord.TheImpl.Laws.{equality-law as state_entry_equality};

@@ -12,9 +12,9 @@ use shared_core_base::header::MessageType;
 use shared_core_parts::future::Future;
 use shared_core_parts::restate_message::RestateMessage;
 use shared_core_record::occurrence::Occurrence;
+use shared_core_record::optional;
 use shared_core_record::record::WireRecord;
 use shared_core_record::size::Size;
-use shared_core_record::write::write_optional_message;
 use shared_core_wire::error::WireError;
 use std::alloc::Global;
 
@@ -36,18 +36,18 @@ impl WireRecord for SuspensionMessage {
 
     fn merge_field(&mut self, field: &Occurrence<'_>) -> Result<(), WireError> {
         match field.number {
-            4 => field.merge_optional_message(&mut self.awaiting_on)?,
+            4 => optional::merge(&mut self.awaiting_on, field)?,
             _ => {}
         }
         Ok(())
     }
 
     fn measure(&self, size: &mut Size) {
-        size.optional_message(4, &self.awaiting_on);
+        optional::measure(size, 4, &self.awaiting_on);
     }
 
     fn encode_back(&self, out: &mut [u8], end: usize) -> usize {
-        write_optional_message(out, end, 4, &self.awaiting_on)
+        optional::write(out, end, 4, &self.awaiting_on)
     }
 
     ghost use Rattle.shared_core_parts.specs.contracts.future.FutureWireRecord.TheImpl.Laws.{equality-law as future_equality};

@@ -13,7 +13,7 @@ use shared_core_parts::restate_message::RestateMessage;
 use shared_core_record::occurrence::Occurrence;
 use shared_core_record::record::WireRecord;
 use shared_core_record::size::Size;
-use shared_core_record::write::{write_texts, write_u32s};
+use shared_core_record::{packed, repeated};
 use shared_core_wire::error::WireError;
 use std::alloc::Global;
 
@@ -45,24 +45,24 @@ impl WireRecord for SuspensionMessageV6 {
 
     fn merge_field(&mut self, field: &Occurrence<'_>) -> Result<(), WireError> {
         match field.number {
-            1 => field.extend_u32s(&mut self.waiting_completions)?,
-            2 => field.extend_u32s(&mut self.waiting_signals)?,
-            3 => field.extend_texts(&mut self.waiting_named_signals)?,
+            1 => packed::merge(&mut self.waiting_completions, field)?,
+            2 => packed::merge(&mut self.waiting_signals, field)?,
+            3 => repeated::merge(&mut self.waiting_named_signals, field)?,
             _ => {}
         }
         Ok(())
     }
 
     fn measure(&self, size: &mut Size) {
-        size.u32s(1, &self.waiting_completions);
-        size.u32s(2, &self.waiting_signals);
-        size.texts(3, &self.waiting_named_signals);
+        packed::measure(size, 1, &self.waiting_completions);
+        packed::measure(size, 2, &self.waiting_signals);
+        repeated::measure(size, 3, &self.waiting_named_signals);
     }
 
     fn encode_back(&self, out: &mut [u8], end: usize) -> usize {
-        let end = write_texts(out, end, 3, &self.waiting_named_signals);
-        let end = write_u32s(out, end, 2, &self.waiting_signals);
-        write_u32s(out, end, 1, &self.waiting_completions)
+        let end = repeated::write(out, end, 3, &self.waiting_named_signals);
+        let end = packed::write(out, end, 2, &self.waiting_signals);
+        packed::write(out, end, 1, &self.waiting_completions)
     }
 
     ghost equality = { Prim.search equality_rules depth 18 };

@@ -16,9 +16,9 @@ use shared_core_parts::restate_message::{
 };
 use shared_core_record::error::EncodingError;
 use shared_core_record::occurrence::Occurrence;
+use shared_core_record::plain;
 use shared_core_record::record::WireRecord;
 use shared_core_record::size::Size;
-use shared_core_record::write::write_text;
 use shared_core_wire::error::WireError;
 use std::alloc::Global;
 
@@ -42,18 +42,18 @@ impl WireRecord for ClearAllStateCommandMessage {
 
     fn merge_field(&mut self, field: &Occurrence<'_>) -> Result<(), WireError> {
         match field.number {
-            12 => field.read_text(&mut self.name)?,
+            12 => plain::merge(&mut self.name, field)?,
             _ => {}
         }
         Ok(())
     }
 
     fn measure(&self, size: &mut Size) {
-        size.text(12, &self.name);
+        plain::measure(size, 12, &self.name);
     }
 
     fn encode_back(&self, out: &mut [u8], end: usize) -> usize {
-        write_text(out, end, 12, &self.name)
+        plain::write(out, end, 12, &self.name)
     }
 
     ghost equality = { Prim.search equality_rules depth 14 };

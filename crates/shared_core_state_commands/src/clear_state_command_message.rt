@@ -17,9 +17,9 @@ use shared_core_parts::restate_message::{
 };
 use shared_core_record::error::EncodingError;
 use shared_core_record::occurrence::Occurrence;
+use shared_core_record::plain;
 use shared_core_record::record::WireRecord;
 use shared_core_record::size::Size;
-use shared_core_record::write::{write_bytes, write_text};
 use shared_core_wire::error::WireError;
 use std::alloc::Global;
 
@@ -47,21 +47,21 @@ impl WireRecord for ClearStateCommandMessage {
 
     fn merge_field(&mut self, field: &Occurrence<'_>) -> Result<(), WireError> {
         match field.number {
-            1 => self.key = field.bytes()?,
-            12 => field.read_text(&mut self.name)?,
+            1 => plain::merge(&mut self.key, field)?,
+            12 => plain::merge(&mut self.name, field)?,
             _ => {}
         }
         Ok(())
     }
 
     fn measure(&self, size: &mut Size) {
-        size.bytes(1, &self.key);
-        size.text(12, &self.name);
+        plain::measure(size, 1, &self.key);
+        plain::measure(size, 12, &self.name);
     }
 
     fn encode_back(&self, out: &mut [u8], end: usize) -> usize {
-        let end = write_text(out, end, 12, &self.name);
-        write_bytes(out, end, 1, &self.key)
+        let end = plain::write(out, end, 12, &self.name);
+        plain::write(out, end, 1, &self.key)
     }
 
     ghost equality = { Prim.search equality_rules depth 16 };

@@ -19,11 +19,12 @@ use shared_core_parts::restate_message::{
 use shared_core_parts::value::Value;
 use shared_core_parts::void::Void;
 use shared_core_record::error::EncodingError;
+use shared_core_record::kind::FieldKind;
 use shared_core_record::occurrence::Occurrence;
 use shared_core_record::oneof::OneOf;
 use shared_core_record::record::WireRecord;
 use shared_core_record::size::Size;
-use shared_core_record::write::{write_bytes, write_message_value, write_oneof, write_text};
+use shared_core_record::{oneof, plain};
 use shared_core_wire::error::WireError;
 use std::alloc::Global;
 use std::result;
@@ -53,12 +54,12 @@ impl OneOf for Result {
     ) -> result::Result<(), WireError> {
         match field.number {
             13 => match oneof {
-                Some(Result::Void(void)) => field.merge_message(void)?,
-                _ => *oneof = Some(Result::Void(field.message()?)),
+                Some(Result::Void(void)) => void.merge_value(field)?,
+                _ => *oneof = Some(Result::Void(FieldKind::read_value(field)?)),
             },
             14 => match oneof {
-                Some(Result::Value(value)) => field.merge_message(value)?,
-                _ => *oneof = Some(Result::Value(field.message()?)),
+                Some(Result::Value(value)) => value.merge_value(field)?,
+                _ => *oneof = Some(Result::Value(FieldKind::read_value(field)?)),
             },
             _ => unreachable!(),
         }
@@ -67,15 +68,15 @@ impl OneOf for Result {
 
     fn measure(&self, size: &mut Size) {
         match self {
-            Result::Void(void) => size.message_value(13, void),
-            Result::Value(value) => size.message_value(14, value),
+            Result::Void(void) => void.measure_value(size, 13),
+            Result::Value(value) => value.measure_value(size, 14),
         }
     }
 
     fn encode_back(&self, out: &mut [u8], end: usize) -> usize {
         match self {
-            Result::Void(void) => write_message_value(out, end, 13, void),
-            Result::Value(value) => write_message_value(out, end, 14, value),
+            Result::Void(void) => void.write_value(out, end, 13),
+            Result::Value(value) => value.write_value(out, end, 14),
         }
     }
 
@@ -118,24 +119,24 @@ impl WireRecord for GetEagerStateCommandMessage {
 
     fn merge_field(&mut self, field: &Occurrence<'_>) -> result::Result<(), WireError> {
         match field.number {
-            1 => self.key = field.bytes()?,
-            12 => field.read_text(&mut self.name)?,
-            13 | 14 => OneOf::merge_member(&mut self.result, field)?,
+            1 => plain::merge(&mut self.key, field)?,
+            12 => plain::merge(&mut self.name, field)?,
+            13 | 14 => oneof::merge(&mut self.result, field)?,
             _ => {}
         }
         Ok(())
     }
 
     fn measure(&self, size: &mut Size) {
-        size.bytes(1, &self.key);
-        size.text(12, &self.name);
-        size.oneof(&self.result);
+        plain::measure(size, 1, &self.key);
+        plain::measure(size, 12, &self.name);
+        oneof::measure(size, &self.result);
     }
 
     fn encode_back(&self, out: &mut [u8], end: usize) -> usize {
-        let end = write_oneof(out, end, &self.result);
-        let end = write_text(out, end, 12, &self.name);
-        write_bytes(out, end, 1, &self.key)
+        let end = oneof::write(out, end, &self.result);
+        let end = plain::write(out, end, 12, &self.name);
+        plain::write(out, end, 1, &self.key)
     }
 
     ghost use Rattle.shared_core_state_commands.specs.contracts.get_eager_state_command_message.ResultOneOf.TheImpl.Laws.{equality-law as result_equality, present-law as result_present};

@@ -19,7 +19,7 @@ use shared_core_record::error::EncodingError;
 use shared_core_record::occurrence::Occurrence;
 use shared_core_record::record::WireRecord;
 use shared_core_record::size::Size;
-use shared_core_record::write::{write_optional_message, write_text};
+use shared_core_record::{optional, plain};
 use shared_core_wire::error::WireError;
 use std::alloc::Global;
 
@@ -47,21 +47,21 @@ impl WireRecord for GetEagerStateKeysCommandMessage {
 
     fn merge_field(&mut self, field: &Occurrence<'_>) -> Result<(), WireError> {
         match field.number {
-            12 => field.read_text(&mut self.name)?,
-            14 => field.merge_optional_message(&mut self.value)?,
+            12 => plain::merge(&mut self.name, field)?,
+            14 => optional::merge(&mut self.value, field)?,
             _ => {}
         }
         Ok(())
     }
 
     fn measure(&self, size: &mut Size) {
-        size.text(12, &self.name);
-        size.optional_message(14, &self.value);
+        plain::measure(size, 12, &self.name);
+        optional::measure(size, 14, &self.value);
     }
 
     fn encode_back(&self, out: &mut [u8], end: usize) -> usize {
-        let end = write_optional_message(out, end, 14, &self.value);
-        write_text(out, end, 12, &self.name)
+        let end = optional::write(out, end, 14, &self.value);
+        plain::write(out, end, 12, &self.name)
     }
 
     ghost use Rattle.shared_core_parts.specs.contracts.state_keys.StateKeysWireRecord.TheImpl.Laws.{equality-law as state_keys_equality};

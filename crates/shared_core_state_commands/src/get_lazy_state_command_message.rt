@@ -17,9 +17,9 @@ use shared_core_parts::restate_message::{
 };
 use shared_core_record::error::EncodingError;
 use shared_core_record::occurrence::Occurrence;
+use shared_core_record::plain;
 use shared_core_record::record::WireRecord;
 use shared_core_record::size::Size;
-use shared_core_record::write::{write_bytes, write_text, write_u32};
 use shared_core_wire::error::WireError;
 use std::alloc::Global;
 
@@ -51,24 +51,24 @@ impl WireRecord for GetLazyStateCommandMessage {
 
     fn merge_field(&mut self, field: &Occurrence<'_>) -> Result<(), WireError> {
         match field.number {
-            1 => self.key = field.bytes()?,
-            11 => self.result_completion_id = field.u32()?,
-            12 => field.read_text(&mut self.name)?,
+            1 => plain::merge(&mut self.key, field)?,
+            11 => plain::merge(&mut self.result_completion_id, field)?,
+            12 => plain::merge(&mut self.name, field)?,
             _ => {}
         }
         Ok(())
     }
 
     fn measure(&self, size: &mut Size) {
-        size.bytes(1, &self.key);
-        size.u32(11, self.result_completion_id);
-        size.text(12, &self.name);
+        plain::measure(size, 1, &self.key);
+        plain::measure(size, 11, &self.result_completion_id);
+        plain::measure(size, 12, &self.name);
     }
 
     fn encode_back(&self, out: &mut [u8], end: usize) -> usize {
-        let end = write_text(out, end, 12, &self.name);
-        let end = write_u32(out, end, 11, self.result_completion_id);
-        write_bytes(out, end, 1, &self.key)
+        let end = plain::write(out, end, 12, &self.name);
+        let end = plain::write(out, end, 11, &self.result_completion_id);
+        plain::write(out, end, 1, &self.key)
     }
 
     ghost equality = { Prim.search equality_rules depth 18 };

@@ -20,7 +20,7 @@ use shared_core_record::error::EncodingError;
 use shared_core_record::occurrence::Occurrence;
 use shared_core_record::record::WireRecord;
 use shared_core_record::size::Size;
-use shared_core_record::write::{write_messages, write_optional_message, write_text};
+use shared_core_record::{optional, plain, repeated};
 use shared_core_wire::error::WireError;
 use std::alloc::Global;
 
@@ -52,24 +52,24 @@ impl WireRecord for InputCommandMessage {
 
     fn merge_field(&mut self, field: &Occurrence<'_>) -> Result<(), WireError> {
         match field.number {
-            1 => field.extend_messages(&mut self.headers)?,
-            12 => field.read_text(&mut self.name)?,
-            14 => field.merge_optional_message(&mut self.value)?,
+            1 => repeated::merge(&mut self.headers, field)?,
+            12 => plain::merge(&mut self.name, field)?,
+            14 => optional::merge(&mut self.value, field)?,
             _ => {}
         }
         Ok(())
     }
 
     fn measure(&self, size: &mut Size) {
-        size.messages(1, &self.headers);
-        size.text(12, &self.name);
-        size.optional_message(14, &self.value);
+        repeated::measure(size, 1, &self.headers);
+        plain::measure(size, 12, &self.name);
+        optional::measure(size, 14, &self.value);
     }
 
     fn encode_back(&self, out: &mut [u8], end: usize) -> usize {
-        let end = write_optional_message(out, end, 14, &self.value);
-        let end = write_text(out, end, 12, &self.name);
-        write_messages(out, end, 1, &self.headers)
+        let end = optional::write(out, end, 14, &self.value);
+        let end = plain::write(out, end, 12, &self.name);
+        repeated::write(out, end, 1, &self.headers)
     }
 
     ghost use Rattle.shared_core_parts.specs.contracts.header.HeaderWireRecord.TheImpl.Laws.{equality-law as header_equality};

@@ -20,7 +20,7 @@ use shared_core_record::error::EncodingError;
 use shared_core_record::occurrence::Occurrence;
 use shared_core_record::record::WireRecord;
 use shared_core_record::size::Size;
-use shared_core_record::write::{write_bytes, write_optional_message, write_text};
+use shared_core_record::{optional, plain};
 use shared_core_wire::error::WireError;
 use std::alloc::Global;
 
@@ -52,24 +52,24 @@ impl WireRecord for SetStateCommandMessage {
 
     fn merge_field(&mut self, field: &Occurrence<'_>) -> Result<(), WireError> {
         match field.number {
-            1 => self.key = field.bytes()?,
-            3 => field.merge_optional_message(&mut self.value)?,
-            12 => field.read_text(&mut self.name)?,
+            1 => plain::merge(&mut self.key, field)?,
+            3 => optional::merge(&mut self.value, field)?,
+            12 => plain::merge(&mut self.name, field)?,
             _ => {}
         }
         Ok(())
     }
 
     fn measure(&self, size: &mut Size) {
-        size.bytes(1, &self.key);
-        size.optional_message(3, &self.value);
-        size.text(12, &self.name);
+        plain::measure(size, 1, &self.key);
+        optional::measure(size, 3, &self.value);
+        plain::measure(size, 12, &self.name);
     }
 
     fn encode_back(&self, out: &mut [u8], end: usize) -> usize {
-        let end = write_text(out, end, 12, &self.name);
-        let end = write_optional_message(out, end, 3, &self.value);
-        write_bytes(out, end, 1, &self.key)
+        let end = plain::write(out, end, 12, &self.name);
+        let end = optional::write(out, end, 3, &self.value);
+        plain::write(out, end, 1, &self.key)
     }
 
     ghost use Rattle.shared_core_parts.specs.contracts.value.ValueWireRecord.TheImpl.Laws.{equality-law as value_equality};

@@ -9,16 +9,13 @@ use Rattle.shared_core_parts.specs.Futures.{future_parts}
 use Rattle.shared_core_parts.proofs.future.+merge_future.Given as goal
 
 abbrev pub decreases-merge_future : goal.decreases-merge_future
-decreases-merge_future l = 4 * l.message.now.left + 3
+decreases-merge_future l = 3 * l.message.now.left + 2
 
 abbrev pub decreases-merge_future_field : goal.decreases-merge_future_field
-decreases-merge_future_field l = 4 * l.field.now.left + 2
+decreases-merge_future_field l = 3 * l.field.now.left + 1
 
 abbrev pub decreases-extend_futures : goal.decreases-extend_futures
-decreases-extend_futures l = 4 * l.field.now.left + 1
-
-abbrev pub decreases-read_future : goal.decreases-read_future
-decreases-read_future l = 4 * l.field.now.left
+decreases-extend_futures l = 3 * l.field.now.left
 
 abbrev pub invariant-merge_future-loop-item : goal.invariant-merge_future-loop-item
 invariant-merge_future-loop-item l = record {
