@@ -1,9 +1,8 @@
 """Writes the records of proto/journal.proto as Rattle source, as prost-build does for Rust: scripts/records.py [--check] [CRATE..]
 
 One file a message, in the crates below, laid out as `rt fmt` does; a file whose text stays is not touched. With --check nothing is
-written; the status is 1 where a file is not up to date. The records of shared_core_parts are written by hand: they are few, and
-Future, which leads back to itself, has a form of its own. How commands are compared is written by scripts/commands.py, for the crate
-shared_core_compare.
+written; the status is 1 where a file is not up to date. Future alone is written by hand, since it leads back to itself and so has a
+form of its own. How commands are compared is written by scripts/commands.py, for the crate shared_core_compare.
 """
 import pathlib
 import subprocess
@@ -16,8 +15,26 @@ from journal import OneOf, camel, messages, snake
 
 ROOT = pathlib.Path(__file__).resolve().parent.parent / "crates"
 
+# The crate of the messages that stand in others, which are no messages of a type. Its lib.rt is written by hand.
+PARTS_CRATE = "shared_core_parts"
+
 # The crates, each with a line on what it holds and its messages.
 CRATES = {
+    PARTS_CRATE: (
+        "The messages that stand in other messages, and the template of notifications.",
+        [
+            "Void",
+            "Value",
+            "Failure",
+            "FailureMetadata",
+            "Header",
+            "StateKeys",
+            "StateEntry",
+            "WorkflowTarget",
+            "IdempotentRequestTarget",
+            "NotificationTemplate",
+        ],
+    ),
     "shared_core_runtime": (
         "The records of the protocol's core: how an invocation starts, suspends, fails and ends.",
         [
@@ -124,6 +141,9 @@ SHARED = {
 TYPE_OF = {"SuspensionMessageV6": "Suspension"}
 NOT_WRITTEN_AS_THEY_STAND = {"SuspensionMessageV6", "SuspensionMessage", "ProposeRunCompletionMessage"}
 
+# What the enums of oneofs derive beside Debug, PartialEq and Drop, by message and oneof.
+DERIVED = {("NotificationTemplate", "id"): ["Eq", "Hash"]}
+
 # Modules that are written by hand.
 BY_HAND = {"shared_core_runtime": ["versions"]}
 
@@ -216,7 +236,8 @@ class Source:
         ghosts.append(f"Rattle.shared_core_record.specs.EqualityRules.{{{', '.join(sorted(self.rules))}}}")
         uses = set(self.uses)
         for message in self.parts:
-            uses.add(f"shared_core_parts::{snake(message)}::{message}")
+            home = "crate" if self.crate == PARTS_CRATE else PARTS_CRATE
+            uses.add(f"{home}::{snake(message)}::{message}")
         if self.presences:
             shown = ", ".join(sorted(self.presences))
             uses.add(f"shared_core_record::{{{shown}}}" if len(self.presences) > 1 else f"shared_core_record::{shown}")
@@ -244,10 +265,10 @@ def laws(crate, module, name, trait, short):
 
 
 def part_laws(message):
-    return laws("shared_core_parts", snake(message), message, "WireRecord", snake(message))
+    return laws(PARTS_CRATE, snake(message), message, "WireRecord", snake(message))
 
 
-def write_oneof(source, module, name, oneof, about):
+def write_oneof(source, module, name, oneof, about, derived=()):
     """The enum of a oneof and its impl."""
     source.uses |= {
         "shared_core_record::kind::FieldKind",
@@ -303,7 +324,7 @@ def write_oneof(source, module, name, oneof, about):
         )
     source.body.append(
         comment(about)
-        + f"#[derive(Debug, PartialEq, Drop)]\npub enum {name} {{\n{declared}}}\n\n"
+        + f"#[derive({', '.join(['Debug', 'PartialEq', *derived, 'Drop'])})]\npub enum {name} {{\n{declared}}}\n\n"
         + f"impl OneOf for {name} {{\n"
         + f"    ghost use Rattle.{source.crate}.specs.declared.{module}.{name}.TheVariants as {variants};\n\n"
         + f"    ghost members = {{ {' ∷ '.join(members)} ∷ [] }};\n\n"
@@ -509,15 +530,18 @@ def write_crate(crate, folder):
                 home, enum = shared[row.name]
                 shows += f"pub use crate::{home}::{enum} as {camel(row.name)};\n"
             else:
-                write_oneof(source, module, camel(row.name), row, row.comment)
+                write_oneof(source, module, camel(row.name), row, row.comment, DERIVED.get((name, row.name), ()))
         write_record(source, crate, message, shared)
-        write_message(source, name)
+        if crate != PARTS_CRATE:
+            write_message(source, name)
         text = source.text()
         if shows:
             head, rest = text.split("\n\nuse ", 1)
             text = f"{head}\n\n{shows}\nuse {rest}"
         (folder / f"{module}.rt").write_text(text)
         modules.append(module)
+    if crate == PARTS_CRATE:
+        return
     modules += BY_HAND.get(crate, [])
     lib = f"//! {about}\n#![tactic(auto)]\n\n" + "".join(f"pub mod {module};\n" for module in sorted(modules))
     lib += "\n" + "".join(f"pub use crate::{snake(name)}::{name};\n" for name in sorted(names, key=snake))

@@ -6,7 +6,8 @@ ghost use Rattle.shared_core_compare.specs.Differences.{member_text, message_tex
 
 use shared_core_parts::failure::Failure;
 use shared_core_parts::idempotent_request_target::IdempotentRequestTarget;
-use shared_core_parts::state_keys::{StateKeys, StateKeysText};
+use shared_core_parts::state_keys::StateKeys;
+use shared_core_parts::texts::StateKeysText;
 use shared_core_parts::value::Value;
 use shared_core_parts::void::Void;
 use shared_core_parts::workflow_target::WorkflowTarget;

@@ -1,6 +1,6 @@
-//! An entry of the metadata of a failure.
+//! The record `FailureMetadata`.
 
-ghost use Rattle.shared_core_wire.specs.Value.{nil, cons};
+ghost use Rattle.shared_core_wire.specs.Value.{cons, nil};
 ghost use Rattle.shared_core_record.specs.Table as tables;
 ghost use Rattle.shared_core_record.specs.FieldParts.{text_part};
 ghost use Rattle.shared_core_record.specs.EqualityRules.{equality_rules};
@@ -12,20 +12,20 @@ use shared_core_record::size::Size;
 use shared_core_wire::error::WireError;
 use std::alloc::Global;
 
-/// An entry of the metadata of a failure.
+/// One pair of a failure's metadata.
 #[derive(Debug, PartialEq, Drop)]
 pub struct FailureMetadata {
-    /// The key.
+    /// The name.
     pub key: String,
-    /// The value.
+    /// The text.
     pub value: String,
 }
 
 impl WireRecord for FailureMetadata {
     ghost schema = { tables.failure_metadata };
 
-    ghost parts = { λ m. cons (text_part m.key)
-        (cons (text_part m.value) nil) };
+    ghost parts = { λ message. cons (text_part message.key)
+        (cons (text_part message.value) nil) };
 
     fn empty(alloc: Global) -> FailureMetadata {
         FailureMetadata {
@@ -53,5 +53,5 @@ impl WireRecord for FailureMetadata {
         plain::write(out, end, 1, &self.key)
     }
 
-    ghost equality = { Prim.search equality_rules };
+    ghost equality = { Prim.search equality_rules depth 16 };
 }

@@ -1,8 +1,8 @@
-//! A request with an idempotency key, as a target.
+//! The record `IdempotentRequestTarget`.
 
-ghost use Rattle.shared_core_wire.specs.Value.{nil, cons};
+ghost use Rattle.shared_core_wire.specs.Value.{cons, nil};
 ghost use Rattle.shared_core_record.specs.Table as tables;
-ghost use Rattle.shared_core_record.specs.FieldParts.{text_part, option_part};
+ghost use Rattle.shared_core_record.specs.FieldParts.{option_part, text_part};
 ghost use Rattle.shared_core_record.specs.EqualityRules.{equality_rules};
 
 use shared_core_record::occurrence::Occurrence;
@@ -12,29 +12,29 @@ use shared_core_record::{optional, plain};
 use shared_core_wire::error::WireError;
 use std::alloc::Global;
 
-/// A request with an idempotency key, as a target.
+/// An invocation, as an idempotent request.
 #[derive(Debug, PartialEq, Drop)]
 pub struct IdempotentRequestTarget {
     /// The name of the service.
     pub service_name: String,
-    /// The key of the object or workflow, where the service has keys.
+    /// The key of the object, where the service has keys.
     pub service_key: Option<String>,
     /// The name of the handler.
     pub handler_name: String,
-    /// The idempotency key.
+    /// The key by which the request is known again.
     pub idempotency_key: String,
-    /// The scope, where there is one.
+    /// The scope of the request, where there is one.
     pub scope: Option<String>,
 }
 
 impl WireRecord for IdempotentRequestTarget {
     ghost schema = { tables.idempotent_request_target };
 
-    ghost parts = { λ m. cons (text_part m.service_name)
-        (cons (option_part text_part m.service_key)
-        (cons (text_part m.handler_name)
-        (cons (text_part m.idempotency_key)
-        (cons (option_part text_part m.scope) nil)))) };
+    ghost parts = { λ message. cons (text_part message.service_name)
+        (cons (option_part text_part message.service_key)
+        (cons (text_part message.handler_name)
+        (cons (text_part message.idempotency_key)
+        (cons (option_part text_part message.scope) nil)))) };
 
     fn empty(alloc: Global) -> IdempotentRequestTarget {
         IdempotentRequestTarget {

@@ -1,6 +1,14 @@
 //! Notifications, whatever their type: what they are for, and what came of it.
 
+ghost use Rattle.std.specs.Prelude.{IfOk, IsOk, IsTrue, ◌↔◌};
+ghost use Rattle.shared_core_parts.specs.Conversions.{IsValueOf, TakesNoMemory};
+ghost use Rattle.shared_core_parts.specs.Notifications.{IsFailure};
+
 pub use crate::notification_template::{Id as NotificationId, Result as NotificationResult};
+use crate::texts::texts_of_keys;
+use shared_core_base::error::OutOfMemory;
+use shared_core_base::values;
+use std::alloc::Global;
 
 /// The id of a command that awaits a completion.
 pub type CompletionId = u32;
@@ -15,4 +23,30 @@ pub struct Notification {
     pub id: NotificationId,
     /// What came of it.
     pub result: NotificationResult,
+}
+
+impl NotificationResult {
+    /// Whether it is a failure.
+    pub fn is_failure(&self) -> bool
+        ensures { IsTrue result ↔ IsFailure self.now }
+    {
+        matches!(self, Self::Failure(_))
+    }
+
+    /// The value that it brings: a failure as `Failure::into_terminal` has it, the keys of a state as text, with U+FFFD for each piece that is
+    /// not UTF-8, and all else as it is. `OutOfMemory` comes of failures and of keys alone.
+    pub fn into_value(self, alloc: Global) -> Result<values::Value, OutOfMemory>
+        ensures ok { IfOk result (IsValueOf self) }
+        ensures succeeds { TakesNoMemory self → IsOk result }
+    {
+        Ok(match self {
+            Self::Void(_) => values::Value::Void,
+            Self::Value(value) => values::Value::Success(value.content),
+            Self::Failure(failure) => values::Value::Failure(failure.into_terminal(alloc)?),
+            Self::InvocationId(invocation_id) => values::Value::InvocationId(invocation_id),
+            Self::StateKeys(state_keys) => {
+                values::Value::StateKeys(texts_of_keys(alloc, &state_keys.keys)?)
+            }
+        })
+    }
 }

@@ -1,18 +1,16 @@
-//! What all notifications have in common: an id and a result.
+//! The record `NotificationTemplate`.
 
-ghost use Rattle.std.specs.Prelude.{[], ◌∷◌, refl};
+ghost use Rattle.std.specs.Prelude.{[], refl, ◌∷◌};
 ghost use Rattle.shared_core_wire.specs.Schema.{Message, Text, U32};
-ghost use Rattle.shared_core_wire.specs.Value.{Number, Member, nil, cons};
+ghost use Rattle.shared_core_wire.specs.Value.{Member, Number, cons, nil};
 ghost use Rattle.shared_core_record.specs.Table as tables;
-ghost use Rattle.shared_core_record.specs.FieldParts.{text_part, option_part, message_part};
-ghost use Rattle.shared_core_record.specs.EqualityRules.{equality_rules, different_members};
+ghost use Rattle.shared_core_record.specs.FieldParts.{message_part, option_part, text_part};
+ghost use Rattle.shared_core_record.specs.EqualityRules.{different_members, equality_rules};
 
 use crate::failure::Failure;
-use crate::state_keys::{StateKeys, texts_of_keys};
+use crate::state_keys::StateKeys;
 use crate::value::Value;
 use crate::void::Void;
-use shared_core_base::error::OutOfMemory;
-use shared_core_base::values;
 use shared_core_record::kind::FieldKind;
 use shared_core_record::occurrence::Occurrence;
 use shared_core_record::oneof;
@@ -23,61 +21,14 @@ use shared_core_wire::error::WireError;
 use std::alloc::Global;
 use std::result;
 
-/// What all notifications have in common: an id and a result. A payload of any notification may be read as one.
-#[derive(Debug, PartialEq, Drop)]
-pub struct NotificationTemplate {
-    /// What the notification is for.
-    pub id: Option<Id>,
-    /// What came of it.
-    pub result: Option<Result>,
-}
-
-impl WireRecord for NotificationTemplate {
-    ghost schema = { tables.notification_template };
-
-    ghost parts = { λ m. cons (option_part ⟦<Id as OneOf>⟧.part m.id)
-        (cons (option_part ⟦<Result as OneOf>⟧.part m.result) nil) };
-
-    fn empty(_alloc: Global) -> NotificationTemplate {
-        NotificationTemplate {
-            id: None,
-            result: None,
-        }
-    }
-
-    fn merge_field(&mut self, field: &Occurrence<'_>) -> result::Result<(), WireError> {
-        match field.number {
-            1 | 2 | 3 => oneof::merge(&mut self.id, field)?,
-            4 | 5 | 6 | 16 | 17 => oneof::merge(&mut self.result, field)?,
-            _ => {}
-        }
-        Ok(())
-    }
-
-    fn measure(&self, size: &mut Size) {
-        oneof::measure(size, &self.id);
-        oneof::measure(size, &self.result);
-    }
-
-    fn encode_back(&self, out: &mut [u8], end: usize) -> usize {
-        let end = oneof::write(out, end, &self.result);
-        oneof::write(out, end, &self.id)
-    }
-
-    ghost use Rattle.shared_core_parts.specs.contracts.notification_template.IdOneOf.TheImpl.Laws.{equality-law as id_equality, present-law as id_present};
-    ghost use Rattle.shared_core_parts.specs.contracts.notification_template.ResultOneOf.TheImpl.Laws.{equality-law as result_equality, present-law as result_present};
-
-    ghost equality = { Prim.search (equality_rules, id_equality, id_present, result_equality, result_present) depth 16 };
-}
-
-/// What a notification is for.
+/// What it belongs to.
 #[derive(Debug, PartialEq, Eq, Hash, Drop)]
 pub enum Id {
-    /// A command that is completed, by its completion id.
+    /// The id of the command that it answers.
     CompletionId(u32),
-    /// A signal, by its number.
+    /// The id of a signal.
     SignalId(u32),
-    /// A signal, by its name.
+    /// The name of a signal.
     SignalName(String),
 }
 
@@ -133,7 +84,7 @@ impl OneOf for Id {
     ] };
 }
 
-/// What came of it.
+/// The result.
 #[derive(Debug, PartialEq, Drop)]
 pub enum Result {
     /// Nothing.
@@ -144,40 +95,8 @@ pub enum Result {
     Failure(Failure),
     /// The id of an invocation.
     InvocationId(String),
-    /// The keys of a state.
+    /// The keys.
     StateKeys(StateKeys),
-}
-
-impl Result {
-    ghost use Rattle.std.specs.Prelude.{IsTrue, ◌↔◌};
-    ghost use Rattle.shared_core_parts.specs.Notifications.{IsFailure};
-
-    /// Whether it is a failure.
-    pub fn is_failure(&self) -> bool
-        ensures { IsTrue result ↔ IsFailure self.now }
-    {
-        matches!(self, Result::Failure(_))
-    }
-
-    ghost use Rattle.std.specs.Prelude.{IfOk, IsOk};
-    ghost use Rattle.shared_core_parts.specs.Conversions.{IsValueOf, TakesNoMemory};
-
-    /// The value that it brings: a failure as `Failure::into_terminal` has it, the keys of a state as text, with U+FFFD for each piece that is
-    /// not UTF-8, and all else as it is. `OutOfMemory` comes of failures and of keys alone.
-    pub fn into_value(self, alloc: Global) -> result::Result<values::Value, OutOfMemory>
-        ensures ok { IfOk result (IsValueOf self) }
-        ensures succeeds { TakesNoMemory self → IsOk result }
-    {
-        Ok(match self {
-            Result::Void(_) => values::Value::Void,
-            Result::Value(value) => values::Value::Success(value.content),
-            Result::Failure(failure) => values::Value::Failure(failure.into_terminal(alloc)?),
-            Result::InvocationId(invocation_id) => values::Value::InvocationId(invocation_id),
-            Result::StateKeys(state_keys) => {
-                values::Value::StateKeys(texts_of_keys(alloc, &state_keys.keys)?)
-            }
-        })
-    }
 }
 
 impl OneOf for Result {
@@ -257,4 +176,51 @@ impl OneOf for Result {
       | result_is.InvocationId x ↦ elim [ result_is.InvocationId y ↦ Prim.search equality_rules | _ ↦ different_members _ _ _ _ refl ]
       | result_is.StateKeys x ↦ elim [ result_is.StateKeys y ↦ Prim.search (equality_rules, state_keys_equality) | _ ↦ different_members _ _ _ _ refl ]
     ] };
+}
+
+/// What all notifications have in common: reads each of them without knowing its type.
+#[derive(Debug, PartialEq, Drop)]
+pub struct NotificationTemplate {
+    /// What it belongs to.
+    pub id: Option<Id>,
+    /// The result.
+    pub result: Option<Result>,
+}
+
+impl WireRecord for NotificationTemplate {
+    ghost schema = { tables.notification_template };
+
+    ghost parts = { λ message. cons (option_part ⟦<Id as OneOf>⟧.part message.id)
+        (cons (option_part ⟦<Result as OneOf>⟧.part message.result) nil) };
+
+    fn empty(_alloc: Global) -> NotificationTemplate {
+        NotificationTemplate {
+            id: None,
+            result: None,
+        }
+    }
+
+    fn merge_field(&mut self, field: &Occurrence<'_>) -> result::Result<(), WireError> {
+        match field.number {
+            1 | 2 | 3 => oneof::merge(&mut self.id, field)?,
+            4 | 5 | 6 | 16 | 17 => oneof::merge(&mut self.result, field)?,
+            _ => {}
+        }
+        Ok(())
+    }
+
+    fn measure(&self, size: &mut Size) {
+        oneof::measure(size, &self.id);
+        oneof::measure(size, &self.result);
+    }
+
+    fn encode_back(&self, out: &mut [u8], end: usize) -> usize {
+        let end = oneof::write(out, end, &self.result);
+        oneof::write(out, end, &self.id)
+    }
+
+    ghost use Rattle.shared_core_parts.specs.contracts.notification_template.IdOneOf.TheImpl.Laws.{equality-law as id_equality, present-law as id_present};
+    ghost use Rattle.shared_core_parts.specs.contracts.notification_template.ResultOneOf.TheImpl.Laws.{equality-law as result_equality, present-law as result_present};
+
+    ghost equality = { Prim.search (equality_rules, id_equality, id_present, result_equality, result_present) depth 16 };
 }

@@ -1,6 +1,6 @@
-//! An entry of a state.
+//! The record `StateEntry`.
 
-ghost use Rattle.shared_core_wire.specs.Value.{Bytes as Content, nil, cons};
+ghost use Rattle.shared_core_wire.specs.Value.{Bytes as Content, cons, nil};
 ghost use Rattle.shared_core_record.specs.Table as tables;
 ghost use Rattle.shared_core_record.specs.EqualityRules.{equality_rules};
 
@@ -12,20 +12,20 @@ use shared_core_record::size::Size;
 use shared_core_wire::error::WireError;
 use std::alloc::Global;
 
-/// An entry of a state.
+/// A key of a state and its value.
 #[derive(Debug, PartialEq, Drop)]
 pub struct StateEntry {
-    /// The key; it need not be a text.
+    /// The key, as bytes.
     pub key: Bytes,
-    /// The value.
+    /// Its value, as bytes.
     pub value: Bytes,
 }
 
 impl WireRecord for StateEntry {
     ghost schema = { tables.state_entry };
 
-    ghost parts = { λ m. cons (Content m.key)
-        (cons (Content m.value) nil) };
+    ghost parts = { λ message. cons (Content message.key)
+        (cons (Content message.value) nil) };
 
     fn empty(_alloc: Global) -> StateEntry {
         StateEntry {
@@ -53,5 +53,5 @@ impl WireRecord for StateEntry {
         plain::write(out, end, 1, &self.key)
     }
 
-    ghost equality = { Prim.search equality_rules };
+    ghost equality = { Prim.search equality_rules depth 16 };
 }

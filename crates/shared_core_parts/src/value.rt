@@ -1,33 +1,28 @@
-//! A value of the service.
+//! The record `Value`.
 
-ghost use Rattle.std.specs.Prelude.{◌≡◌, Some};
-ghost use Rattle.shared_core_wire.specs.Value.{Bytes as Content, nil, cons};
+ghost use Rattle.shared_core_wire.specs.Value.{Bytes as Content, cons, nil};
 ghost use Rattle.shared_core_record.specs.Table as tables;
 ghost use Rattle.shared_core_record.specs.EqualityRules.{equality_rules};
-ghost use Rattle.shared_core_parts.specs.Texts.{value_text};
 
-use crate::escape::write_escaped;
 use bytes::Bytes;
-use shared_core_base::fmt::as_utf8;
 use shared_core_record::occurrence::Occurrence;
 use shared_core_record::plain;
 use shared_core_record::record::WireRecord;
 use shared_core_record::size::Size;
 use shared_core_wire::error::WireError;
 use std::alloc::Global;
-use std::fmt;
 
-/// A value of the service.
+/// A value, as bytes that the service reads.
 #[derive(Debug, PartialEq, Drop)]
 pub struct Value {
-    /// Its bytes, which the protocol does not look into.
+    /// The bytes.
     pub content: Bytes,
 }
 
 impl WireRecord for Value {
     ghost schema = { tables.value };
 
-    ghost parts = { λ m. cons (Content m.content) nil };
+    ghost parts = { λ message. cons (Content message.content) nil };
 
     fn empty(_alloc: Global) -> Value {
         Value {
@@ -51,30 +46,5 @@ impl WireRecord for Value {
         plain::write(out, end, 1, &self.content)
     }
 
-    ghost equality = { Prim.search equality_rules };
-}
-
-/// The value with these bytes.
-impl From<Bytes> for Value {
-    ghost from_gives = { λ bytes value. value ≡ record { content = bytes } };
-
-    fn from(bytes: Bytes) -> Value {
-        Value { content: bytes }
-    }
-}
-
-/// Prints `'text'` where the content is UTF-8, else `b".."` with escapes.
-impl fmt::Display for Value {
-    ghost output = { λ value. Some (value_text value.content) };
-
-    fn fmt<W: fmt::Write>(&self, f: &mut fmt::Formatter<W>) -> fmt::Result {
-        match as_utf8(&self.content) {
-            Some(text) => write!(f, "'{text}'"),
-            None => {
-                f.write_str("b\"")?;
-                write_escaped(f, &self.content)?;
-                f.write_str("\"")
-            }
-        }
-    }
+    ghost equality = { Prim.search equality_rules depth 14 };
 }

@@ -1,4 +1,4 @@
-//! A result without content.
+//! The record `Void`.
 
 ghost use Rattle.shared_core_wire.specs.Value.{nil};
 ghost use Rattle.shared_core_record.specs.Table as tables;
@@ -10,7 +10,7 @@ use shared_core_record::size::Size;
 use shared_core_wire::error::WireError;
 use std::alloc::Global;
 
-/// A result without content.
+/// Nothing: the result that there is no value.
 #[derive(Debug, PartialEq, Drop)]
 pub struct Void {}
 

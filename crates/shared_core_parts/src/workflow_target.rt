@@ -1,8 +1,8 @@
-//! A run of a workflow, as a target.
+//! The record `WorkflowTarget`.
 
-ghost use Rattle.shared_core_wire.specs.Value.{nil, cons};
+ghost use Rattle.shared_core_wire.specs.Value.{cons, nil};
 ghost use Rattle.shared_core_record.specs.Table as tables;
-ghost use Rattle.shared_core_record.specs.FieldParts.{text_part, option_part};
+ghost use Rattle.shared_core_record.specs.FieldParts.{option_part, text_part};
 ghost use Rattle.shared_core_record.specs.EqualityRules.{equality_rules};
 
 use shared_core_record::occurrence::Occurrence;
@@ -12,23 +12,23 @@ use shared_core_record::{optional, plain};
 use shared_core_wire::error::WireError;
 use std::alloc::Global;
 
-/// A run of a workflow, as a target.
+/// An invocation, as the run of a workflow.
 #[derive(Debug, PartialEq, Drop)]
 pub struct WorkflowTarget {
     /// The name of the workflow.
     pub workflow_name: String,
-    /// The key of the run.
+    /// The key of its run.
     pub workflow_key: String,
-    /// The scope, where there is one.
+    /// The scope of the request, where there is one.
     pub scope: Option<String>,
 }
 
 impl WireRecord for WorkflowTarget {
     ghost schema = { tables.workflow_target };
 
-    ghost parts = { λ m. cons (text_part m.workflow_name)
-        (cons (text_part m.workflow_key)
-        (cons (option_part text_part m.scope) nil)) };
+    ghost parts = { λ message. cons (text_part message.workflow_name)
+        (cons (text_part message.workflow_key)
+        (cons (option_part text_part message.scope) nil)) };
 
     fn empty(alloc: Global) -> WorkflowTarget {
         WorkflowTarget {

@@ -26,7 +26,7 @@ extend_futures-returns-clause-ok t c =
     let same = (c.push_mut.follows.holds merged ready).0 in
     let now = (c.push_mut.follows.lender merged).items in
     let becomes = message_becomes below left future bytes start (future_parts merged) result c.in-Some.ensures.left
-        (computed_accepted below future _ bytes start result c.merge_future.ensures) (computed_merged below future (future_parts merged) bytes start result c.merge_future.ensures) in
+    (computed_accepted below future _ bytes start result c.merge_future.ensures) (computed_merged below future (future_parts merged) bytes start result c.merge_future.ensures) in
     grown _ result c.args.futures.now.items now (all_elements table (message_overlay table left) (Message future) (value_in c.args.field.now ∷ []))
     (element_appended result future_part c.args.futures.now.items now pushed merged (Message future) (message_overlay table left) (accepts_message table left) (value_in c.args.field.now) refl
     (ap Nested (ap future_parts c.in-Ok.ensures.value ∙ c.empty_future.ensures)) same (rw c.in-Some.ensures.bytes becomes))

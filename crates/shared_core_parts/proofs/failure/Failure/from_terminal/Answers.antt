@@ -1,5 +1,5 @@
 use Rattle.std.proofs.Common.{◌≡◌, map, rules}
-use Rattle.shared_core_parts.proofs.Conversions.{entry_of_pair, entries_are_pairs}
+use Rattle.shared_core_parts.proofs.MetadataLists.{entry_of_pair, entries_are_pairs}
 use Rattle.shared_core_parts.proofs.failure.Failure.from_terminal.Goals as goal
 
 pub returns : goal.returns

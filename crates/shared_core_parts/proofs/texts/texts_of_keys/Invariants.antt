@@ -1,7 +1,7 @@
 use Rattle.std.proofs.Common.{◌≡◌, map, take}
 use Rattle.std.specs.String.{string_bytes}
 use Rattle.shared_core_parts.specs.Texts.{lossy_text}
-use Rattle.shared_core_parts.proofs.state_keys.texts_of_keys.Given as goal
+use Rattle.shared_core_parts.proofs.texts.texts_of_keys.Given as goal
 
 -- the keys so far stand as texts
 abbrev pub invariant-loop-key : goal.invariant-loop-key

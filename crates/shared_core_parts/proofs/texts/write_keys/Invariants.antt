@@ -2,7 +2,7 @@ use Rattle.std.proofs.Common.{◌++◌, take}
 use Rattle.std.specs.Fmt.{HasWritten, IsPlainFormatter, comma_space}
 use Rattle.std.specs.List.{flat_map}
 use Rattle.shared_core_parts.specs.Texts.{state_key_text}
-use Rattle.shared_core_parts.proofs.state_keys.write_keys.Given as goal
+use Rattle.shared_core_parts.proofs.texts.write_keys.Given as goal
 
 -- the keys so far stand written, each behind `, `
 abbrev pub invariant-loop-key : goal.invariant-loop-key

@@ -1,0 +1,98 @@
+//! What messages and the values of the layer above become in each other.
+
+ghost use Rattle.std.specs.Prelude.{◌≡◌, IfOk, IsOk};
+ghost use Rattle.std.specs.Cow.{IsOwnedStr};
+ghost use Rattle.shared_core_parts.specs.Conversions.{failure_contents, terminal_contents, terminal_contents_of, root_header_of, IsOwnedTextOf, IsHeaderOf, OwnsTexts};
+
+use crate::failure::Failure;
+use crate::failure_metadata::FailureMetadata;
+use crate::header::Header;
+use crate::value::Value;
+use bytes::Bytes;
+use shared_core_base::error::OutOfMemory;
+use shared_core_base::values;
+use shared_core_base::values::TerminalFailure;
+use std::alloc::Global;
+use std::borrow::CowStr;
+
+impl Failure {
+    /// The failure with the code, the message and the metadata of a terminal one. Texts are moved. `OutOfMemory` where there is none for the
+    /// list of the metadata.
+    pub fn from_terminal(alloc: Global, terminal: TerminalFailure) -> Result<Failure, OutOfMemory>
+        ensures { IfOk result (λ failure. failure_contents failure ≡ terminal_contents terminal) }
+    {
+        let metadata = terminal
+            .metadata
+            .into_iter()
+            .map(|(key, value)| FailureMetadata { key, value })
+            .collect(alloc)?;
+        Ok(Failure {
+            code: u32::from(terminal.code),
+            message: terminal.message,
+            metadata,
+        })
+    }
+
+    /// The terminal failure with the low 16 bits of the code, the message and the metadata. Texts are moved. `OutOfMemory` where there is none
+    /// for the list of the metadata.
+    pub fn into_terminal(self, alloc: Global) -> Result<TerminalFailure, OutOfMemory>
+        ensures { IfOk result (λ terminal. terminal_contents terminal ≡ terminal_contents_of self) }
+    {
+        let metadata = self
+            .metadata
+            .into_iter()
+            .map(|entry| (entry.key, entry.value))
+            .collect(alloc)?;
+        Ok(TerminalFailure {
+            code: (self.code & 0xFFFF) as u16,
+            message: self.message,
+            metadata,
+        })
+    }
+}
+
+impl Header {
+    /// The header with the key and the value of one of the layer above. A text that is owned is moved, and one that is borrowed is copied.
+    /// `OutOfMemory` where there is none for a copy.
+    pub fn from_root(alloc: Global, root: values::Header) -> Result<Header, OutOfMemory>
+        ensures ok { IfOk result (IsHeaderOf root) }
+        ensures succeeds { OwnsTexts root → IsOk result }
+    {
+        Ok(Header {
+            key: owned_text(alloc, root.key)?,
+            value: owned_text(alloc, root.value)?,
+        })
+    }
+}
+
+/// The text itself where it is owned, else a copy.
+fn owned_text(alloc: Global, text: CowStr<'static>) -> Result<String, OutOfMemory>
+    ensures ok { IfOk result (IsOwnedTextOf text.entry) }
+    ensures succeeds { IsOwnedStr text.entry → IsOk result }
+{
+    match text {
+        CowStr::Owned(owned) => Ok(owned),
+        CowStr::Borrowed(borrowed) => Ok(String::from_str(alloc, borrowed)?),
+    }
+}
+
+/// The same key and value, moved.
+impl From<Header> for values::Header {
+    ghost from_gives = { λ header root. root ≡ root_header_of header };
+
+    fn from(header: Header) -> values::Header {
+        values::Header {
+            key: CowStr::Owned(header.key),
+            value: CowStr::Owned(header.value),
+        }
+    }
+}
+
+/// The value with these bytes.
+impl From<Bytes> for Value {
+    ghost from_gives = { λ bytes value. value ≡ record { content = bytes } };
+
+    fn from(bytes: Bytes) -> Value {
+        Value { content: bytes }
+    }
+}
