@@ -2,14 +2,14 @@
 
 ghost use Rattle.std.specs.Prelude.{◌≡◌, ◌+◌, ◌≤◌, ◌++◌, length, drop, OnOk, false};
 ghost use Rattle.std.specs.Result.{IsErrOf};
-ghost use Rattle.shared_core_wire.specs.Items.{record_items};
+ghost use Rattle.shared_core_wire.specs.ReadRecords.{read_records};
 ghost use Rattle.shared_core_wire.specs.Schema.{Message, Repeated};
 ghost use Rattle.shared_core_wire.specs.Value.{empty_value};
 ghost use Rattle.shared_core_record.specs.Table.{table};
 ghost use Rattle.shared_core_record.specs.Table as tables;
 ghost use Rattle.shared_core_record.specs.FieldParts.{message_part};
 ghost use Rattle.shared_core_record.specs.Computed.{IsComputed};
-ghost use Rattle.shared_core_record.specs.Folding.{fold_items};
+ghost use Rattle.shared_core_record.specs.Folding.{fold_read};
 ghost use Rattle.shared_core_record.specs.Occurrences.{schema_accepts, RecordMerges, repeated_accepts, FieldExtends, merged_with};
 ghost use Rattle.shared_core_record.specs.RowSpelling.{capped, value_bytes, measured_row, measured_rows, before_row, before_rows, row_size, rows_size};
 ghost use Rattle.shared_core_record.specs.RowFitting.{ValueFits, FieldFits, FieldsFit};
@@ -101,7 +101,7 @@ fn empty_future(alloc: Global) -> Future
 /// Merges the records of a message into a future.
 #[cycle(merge_future)]
 fn merge_future(future: &mut Future, message: &MessageBytes<'_>) -> Result<(), WireError>
-    ensures { IsComputed (λ _. future_parts future.new) result (fold_items (merged_with message.now.left tables.future) (future_parts future.old) (record_items message.now.left message.now.bytes.now)) }
+    ensures { IsComputed (λ _. future_parts future.new) result (fold_read (merged_with message.now.left tables.future) (future_parts future.old) (read_records message.now.left message.now.bytes.now)) }
 {
     for item in Records::within(message.bytes, message.left) {
         let found = item?;
@@ -110,7 +110,7 @@ fn merge_future(future: &mut Future, message: &MessageBytes<'_>) -> Result<(), W
     Ok(())
 }
 
-/// Takes one occurrence into its field.
+/// Merges one occurrence into its field.
 #[cycle(merge_future)]
 fn merge_future_field(future: &mut Future, field: &Occurrence<'_>) -> Result<(), WireError>
     ensures ok { OnOk result (RecordMerges tables.future field.now (future_parts future.old) (future_parts future.new)) }

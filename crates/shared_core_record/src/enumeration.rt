@@ -53,8 +53,7 @@ impl Scalar for i32 {
     #[inline(always)]
     #[tactic(auto, using(crate::proofs::FittingRows::fit_enum, crate::proofs::FittingRows::enum_is_default))]
     fn is_default(&self) -> bool {
-        let value = *self;
-        value == 0
+        *self == 0
     }
 }
 

@@ -3,13 +3,13 @@
 ghost use Rattle.std.specs.Prelude.{◌≡◌, ◌≤◌, ◌<◌, ◌^◌, ◌++◌, ◌+◌, ℕ, drop, IfOk, OnOk, OnErr, vec_len, vec_capacity, MatchOption, Err, false, length};
 ghost use Rattle.std.specs.List.{All, concat};
 ghost use Rattle.std.specs.Result.{IsErrOf};
-ghost use Rattle.shared_core_wire.specs.Items.{record_items};
+ghost use Rattle.shared_core_wire.specs.ReadRecords.{read_records};
 ghost use Rattle.shared_core_wire.specs.Value.{Parts, empty_value};
 ghost use Rattle.shared_core_wire.specs.Canonical.{canonical_payload, size};
 ghost use Rattle.shared_core_wire.specs.Fitting.{Fits};
 ghost use Rattle.shared_core_record.specs.Table.{table};
 ghost use Rattle.shared_core_record.specs.Computed.{IsComputed};
-ghost use Rattle.shared_core_record.specs.Folding.{fold_items};
+ghost use Rattle.shared_core_record.specs.Folding.{fold_read};
 ghost use Rattle.shared_core_record.specs.Occurrences.{schema_accepts, RecordMerges, merged_with};
 ghost use Rattle.shared_core_record.specs.Payloads.{IsAccepted, merged_payload, payload_meaning, IsReadBack};
 ghost use Rattle.shared_core_record.specs.RowSpelling.{measured_rows, before_rows, rows_size};
@@ -42,7 +42,8 @@ pub trait WireRecord: Sized + Drop + PartialEq {
     fn empty(alloc: Global) -> Self
         ensures { parts result ≡ empty_value (table schema) };
 
-    /// Takes one occurrence into its field; one of no field is skipped. On an error some fields may have changed. (For the code of records.)
+    /// Merges one occurrence into the field of its number; where the schema has no such field, nothing changes. On an error some fields may
+    /// have changed. (For the code of records.)
     fn merge_field(&mut self, field: &Occurrence<'_>) -> Result<(), WireError>
         ensures ok { OnOk result (RecordMerges schema field.now (parts self.old) (parts self.new)) }
         ensures malformed { IsErrOf result error.Malformed → schema_accepts schema field.now ≡ false };
@@ -145,12 +146,12 @@ pub trait WireRecord: Sized + Drop + PartialEq {
     }
 }
 
-/// Merges bytes that stand as a message into a record, one record of them after the other. On an error some fields may have changed.
-pub(crate) fn merge_records<M: WireRecord>(
+/// Merges bytes that stand as a message into a record, one occurrence after the other. On an error some fields may have changed.
+pub(crate) fn merge_occurrences<M: WireRecord>(
     target: &mut M,
     message: &MessageBytes<'_>,
 ) -> Result<(), WireError>
-    ensures { IsComputed (λ _. M.parts target.new) result (fold_items (merged_with message.now.left M.schema) (M.parts target.old) (record_items message.now.left message.now.bytes.now)) }
+    ensures { IsComputed (λ _. M.parts target.new) result (fold_read (merged_with message.now.left M.schema) (M.parts target.old) (read_records message.now.left message.now.bytes.now)) }
 {
     for item in Records::within(message.bytes, message.left) {
         let found = item?;
@@ -170,7 +171,7 @@ fn merge_payload<M: WireRecord>(
     ensures merged { OnOk result (M.parts target.new ≡ merged_payload M.schema (M.parts target.old) payload.now) }
     ensures malformed { IsErrOf result error.Malformed → ¬ (IsAccepted M.schema payload.now) }
 {
-    merge_records(target, &MessageBytes::whole(alloc, payload))
+    merge_occurrences(target, &MessageBytes::whole(alloc, payload))
 }
 
 /// Reads a payload that its owner keeps: what `decode` does, without a count of one more owner.

@@ -5,7 +5,7 @@ use Rattle.shared_core_wire.specs.declared.error.WireError.{WireError}
 use Rattle.shared_core_wire.specs.Grammar.{IsVarint, IsRecordWithin, IsRecordListWithin, IsGroupContent, IsSequence, FieldRecord}
 use Rattle.shared_core_wire.specs.Reader.{varint_at, record_at}
 use Rattle.shared_core_wire.proofs.Readers.{some_is, varint_again, record_long}
-use Rattle.shared_core_wire.proofs.Items.{read_again, items_only}
+use Rattle.shared_core_wire.proofs.ReadRecords.{read_again, read_only}
 
 -- one reader reads two spellings again
 same_front : {A : Type 0} (f : List ℕ → Option (A × List ℕ)) (a b x y : List ℕ) (m n : A) → f (a ++ x) ≡ Some (m, x) → f (b ++ y) ≡ Some (n, y) → a ++ x ≡ b ++ y → (a ≡ b) × (m ≡ n)
@@ -30,7 +30,7 @@ same_oks (r ∷ rs) (s ∷ ss) e =
     let others = same_oks rs ss tail in cc
 
 pub one_list : (left : ℕ) (payload : List ℕ) (rs ss : List FieldRecord) → IsRecordListWithin left payload rs → IsRecordListWithin left payload ss → rs ≡ ss
-one_list left payload rs ss p q = same_oks rs ss (sym (items_only left rs 0 payload p) ∙ items_only left ss 0 payload q)
+one_list left payload rs ss p q = same_oks rs ss (sym (read_only left rs 0 payload p) ∙ read_only left ss 0 payload q)
 
 pub joined_lists : {A : Type 0} (R : List ℕ → A → Type 0) (a b : List ℕ) (rs ss : List A) → IsSequence R a rs → IsSequence R b ss → IsSequence R (a ++ b) (rs ++ ss)
 joined_lists R a b [] ss p q = rw p q

@@ -1,7 +1,7 @@
 pub mod Readers
 pub mod Groups
 pub mod GroupLoop
-pub mod Items
+pub mod ReadRecords
 pub mod Places
 pub mod GrammarLaws
 pub mod Sequences

@@ -4,10 +4,10 @@ use Rattle.std.proofs.lemmas.List.{length-append, take_at, drop_at, take-append-
 use Rattle.shared_core_wire.specs.Grammar.{IsFieldRecord, IsRecordBody, IsGroupContent, IsRecordWithin, FieldRecord, RecordValue, Varint, Fixed64, Length, Group, Fixed32}
 use Rattle.shared_core_wire.specs.Reader.{record_at}
 use Rattle.std.specs.List.{slice_range}
-use Rattle.shared_core_wire.specs.Items.{items_past, IsSliceWithin, IsValueWithin, AreItems}
+use Rattle.shared_core_wire.specs.ReadRecords.{records_past, IsSliceWithin, IsValueWithin, AreRecordsFrom}
 use Rattle.shared_core_wire.specs.Places.{EndsAt, LiesBefore, EachLies}
 use Rattle.shared_core_wire.proofs.Readers.{none_some, record_long}
-use Rattle.shared_core_wire.proofs.Items.{cases_option, items_nil, items_stop, items_more, read_again, read_spelled}
+use Rattle.shared_core_wire.proofs.ReadRecords.{cases_option, read_nil, read_stop, read_more, read_again, read_spelled}
 
 middle : (a b c : List ℕ) (to : ℕ) → to ≡ length a + length b → EndsAt (a ++ (b ++ c)) to b
 middle a b c to e =
@@ -39,20 +39,20 @@ record_lies C payload front bytes text rest r to h p b e =
     let whole : payload ≡ front ++ ((h.key ++ h.body) ++ rest) = p ∙ ap (λ (w : List ℕ). front ++ w) (b ∙ ap (λ (w : List ℕ). w ++ rest) h.parts) in
     subst (λ (w : List ℕ). LiesBefore w to r.value) (sym whole) (body_lies C front h.key h.body rest r.number r.value to h.valued (omega arith))
 
-pub items_lie : (left most : ℕ) (payload front bytes : List ℕ) → length bytes ≤ most → payload ≡ front ++ bytes → EachLies payload (items_past (record_at left) (length payload) 0 bytes)
-items_lie left most payload front [] le e = rw items_nil tt
-items_lie left zero payload front (b ∷ bs) le e = absurd (omega arith)
-items_lie left (suc most) payload front (b ∷ bs) le e =
+pub read_lie : (left most : ℕ) (payload front bytes : List ℕ) → length bytes ≤ most → payload ≡ front ++ bytes → EachLies payload (records_past (record_at left) (length payload) 0 bytes)
+read_lie left most payload front [] le e = rw read_nil tt
+read_lie left zero payload front (b ∷ bs) le e = absurd (omega arith)
+read_lie left (suc most) payload front (b ∷ bs) le e =
     elim (cases_option (record_at left (b ∷ bs))) [
-      | inl none ↦ subst (EachLies payload) (sym (items_stop (record_at left) (length payload) (b ∷ bs) (omega arith) none)) tt
+      | inl none ↦ subst (EachLies payload) (sym (read_stop (record_at left) (length payload) (b ∷ bs) (omega arith) none)) tt
       | inr w ↦
           let f = read_spelled left (b ∷ bs) w.0 w.1 in
           let long = record_long (IsGroupContent left) f.text w.0.0 f.is in
           let len : length (b ∷ bs) ≡ length f.text + length w.0.1 = ap length f.parts ∙ length-append f.text w.0.1 in
           let whole : length payload ≡ length front + length (b ∷ bs) = ap length e ∙ length-append front (b ∷ bs) in
           let next : payload ≡ (front ++ f.text) ++ w.0.1 = e ∙ ap (λ (w : List ℕ). front ++ w) f.parts ∙ sym (append_assoc front f.text w.0.1) in
-          subst (EachLies payload) (sym (items_more (record_at left) (length payload) (b ∷ bs) f.text w.0.1 w.0.0 w.1 f.parts (omega arith)))
-          (record_lies (IsGroupContent left) payload front (b ∷ bs) f.text w.0.1 w.0.0 (length payload - length w.0.1) f.is e f.parts (omega arith), items_lie left most payload (front ++ f.text) w.0.1 (omega arith) next)
+          subst (EachLies payload) (sym (read_more (record_at left) (length payload) (b ∷ bs) f.text w.0.1 w.0.0 w.1 f.parts (omega arith)))
+          (record_lies (IsGroupContent left) payload front (b ∷ bs) f.text w.0.1 w.0.0 (length payload - length w.0.1) f.is e f.parts (omega arith), read_lie left most payload (front ++ f.text) w.0.1 (omega arith) next)
     ]
 
 -- ---- the items of a payload
@@ -93,14 +93,14 @@ record_within C payload front text rest r from to h e f t =
     let len = ap length h.parts ∙ length-append h.key h.body in
     body_within C payload front h.key h.body rest r.number r.value from to h.valued (e ∙ ap (λ (w : List ℕ). front ++ (w ++ rest)) h.parts) f (omega (arith, t))
 
-pub items_are : (left most : ℕ) (payload front bytes : List ℕ) → length bytes ≤ most → payload ≡ front ++ bytes → AreItems (IsRecordWithin left) payload (length front) (items_past (record_at left) (length payload) 0 bytes)
-items_are left most payload front [] le e = rw items_nil (omega (arith, ap length e, length-append front []))
-items_are left zero payload front (b ∷ bs) le e = absurd (omega arith)
-items_are left (suc most) payload front (b ∷ bs) le e =
+pub read_are : (left most : ℕ) (payload front bytes : List ℕ) → length bytes ≤ most → payload ≡ front ++ bytes → AreRecordsFrom (IsRecordWithin left) payload (length front) (records_past (record_at left) (length payload) 0 bytes)
+read_are left most payload front [] le e = rw read_nil (omega (arith, ap length e, length-append front []))
+read_are left zero payload front (b ∷ bs) le e = absurd (omega arith)
+read_are left (suc most) payload front (b ∷ bs) le e =
     let whole : length payload ≡ length front + length (b ∷ bs) = ap length e ∙ length-append front (b ∷ bs) in
     elim (cases_option (record_at left (b ∷ bs))) [
       | inl none ↦
-          subst (AreItems (IsRecordWithin left) payload (length front)) (sym (items_stop (record_at left) (length payload) (b ∷ bs) (omega arith) none)) (
+          subst (AreRecordsFrom (IsRecordWithin left) payload (length front)) (sym (read_stop (record_at left) (length payload) (b ∷ bs) (omega arith) none)) (
             refl,
             refl,
             omega arith,
@@ -120,13 +120,13 @@ items_are left (suc most) payload front (b ∷ bs) le e =
           let split : payload ≡ front ++ (f.text ++ w.0.1) = e ∙ ap (λ (w : List ℕ). front ++ w) f.parts in
           let slice : slice_range payload from to ≡ f.text = ap (λ (x : List ℕ). slice_range x from to) split ∙ slice_at front f.text w.0.1 from to at_from at_to in
           let next : length (front ++ f.text) ≡ to = length-append front f.text ∙ sym at_to in
-          let others = items_are left most payload (front ++ f.text) w.0.1 (omega arith) (split ∙ sym (append_assoc front f.text w.0.1)) in
-          subst (AreItems (IsRecordWithin left) payload (length front)) (sym (items_more (record_at left) (length payload) (b ∷ bs) f.text w.0.1 w.0.0 w.1 f.parts (omega arith))) (
+          let others = read_are left most payload (front ++ f.text) w.0.1 (omega arith) (split ∙ sym (append_assoc front f.text w.0.1)) in
+          subst (AreRecordsFrom (IsRecordWithin left) payload (length front)) (sym (read_more (record_at left) (length payload) (b ∷ bs) f.text w.0.1 w.0.0 w.1 f.parts (omega arith))) (
             at_from,
             omega arith,
             omega arith,
             subst (λ (x : List ℕ). IsRecordWithin left x w.0.0) (sym slice) f.is,
             record_within (IsGroupContent left) payload front f.text w.0.1 w.0.0 from to f.is split at_from at_to,
-            subst (λ (n : ℕ). AreItems (IsRecordWithin left) payload n (items_past (record_at left) (length payload) 0 w.0.1)) next others,
+            subst (λ (n : ℕ). AreRecordsFrom (IsRecordWithin left) payload n (records_past (record_at left) (length payload) 0 w.0.1)) next others,
           )
     ]

@@ -4,7 +4,7 @@ use Rattle.std.specs.Prelude.{◌↔◌}
 use Rattle.shared_core_wire.specs.Grammar.{FieldRecord, IsGroupContent, IsRecordWithin, IsRecordListWithin}
 use Rattle.shared_core_wire.specs.Reader.{record_at, record_list}
 use Rattle.shared_core_wire.proofs.Readers.{record_long}
-use Rattle.shared_core_wire.proofs.Items.{read_again, read_spelled}
+use Rattle.shared_core_wire.proofs.ReadRecords.{read_again, read_spelled}
 use Rattle.shared_core_wire.proofs.GrammarLaws.{joined_lists}
 use Rattle.shared_core_wire.proofs.Sequences.{IsReader, all_again, all_reads}
 

@@ -1,8 +1,8 @@
 pub mod Grammar
 pub mod Reader
 pub mod View
-pub mod Items
-pub mod ItemsLeft
+pub mod ReadRecords
+pub mod RecordsLeft
 pub mod Places
 pub mod Spelling
 pub mod Schema

@@ -3,7 +3,7 @@ use Rattle.std.specs.Prelude.{◌≡◌, ℕ, ◌-◌, ◌≤◌, List, [], ◌�
 use Rattle.std.specs.List.{slice_range}
 use Rattle.shared_core_wire.specs.declared.error.WireError.{WireError}
 use Rattle.shared_core_wire.specs.Grammar.{RecordValue, content}
-use Rattle.shared_core_wire.specs.Items.{PlacedRecord}
+use Rattle.shared_core_wire.specs.ReadRecords.{PlacedRecord}
 
 -- These are the bytes of the payload right before a place.
 abbrev pub EndsAt : List ℕ → ℕ → List ℕ → Type 0

@@ -8,7 +8,7 @@ ghost use Rattle.shared_core_wire.specs.Laws.{AreSchemas, ListedSchemasLaw, Acce
 ghost use Rattle.shared_core_wire.specs.Schema.{Row, Table};
 ghost use Rattle.shared_core_wire.specs.Template.{ViewLaw};
 ghost use Rattle.shared_core_wire.specs.Spelling.{shortest_varint, key_bytes};
-ghost use Rattle.shared_core_wire.specs.ItemsLeft.{placed_of};
+ghost use Rattle.shared_core_wire.specs.RecordsLeft.{placed_of};
 
 use crate::error::WireError;
 use crate::records::Record;

@@ -30,19 +30,19 @@ pub struct Records<'a> {
 
 impl<'a> Records<'a> {
     ghost use Rattle.shared_core_wire.specs.Grammar.{FieldRecord, IsRecord, IsRecordList, IsRecordWithin, IsRecordListWithin};
-    ghost use Rattle.shared_core_wire.specs.Items.{AreItems, record_items, without_place, record_count};
-    ghost use Rattle.shared_core_wire.specs.ItemsLeft.{items_left};
+    ghost use Rattle.shared_core_wire.specs.ReadRecords.{AreRecordsFrom, read_records, without_place, record_count};
+    ghost use Rattle.shared_core_wire.specs.RecordsLeft.{records_left};
     ghost use Rattle.shared_core_wire.specs.Places.{EachLies};
 
     /// The records of a whole payload, which stand at level 0.
     pub fn new(payload: &'a [u8]) -> Records<'a>
         // what comes, where it lies, and where it ends
-        ensures items { AreItems (IsRecord 0) payload.now 0 (items_left result) }
+        ensures items { AreRecordsFrom (IsRecord 0) payload.now 0 (records_left result) }
         // it ends without Malformed exactly where the payload is a record list, whose records came
         ensures complete { (rs : List FieldRecord)
-            → IsRecordList 0 payload.now rs ↔ (map without_place (items_left result) ≡ map Ok rs) }
+            → IsRecordList 0 payload.now rs ↔ (map without_place (records_left result) ≡ map Ok rs) }
         // a record takes two bytes at least
-        ensures few { 2 * record_count (items_left result) ≤ length payload.now }
+        ensures few { 2 * record_count (records_left result) ≤ length payload.now }
     {
         Records::at_level(payload, 0)
     }
@@ -51,10 +51,10 @@ impl<'a> Records<'a> {
     /// field. Level 100 is the last (this project's own).
     pub fn at_level(payload: &'a [u8], level: u32) -> Records<'a>
         requires { level ≤ 100 }
-        ensures items { AreItems (IsRecord level) payload.now 0 (items_left result) }
+        ensures items { AreRecordsFrom (IsRecord level) payload.now 0 (records_left result) }
         ensures complete { (rs : List FieldRecord)
-            → IsRecordList level payload.now rs ↔ (map without_place (items_left result) ≡ map Ok rs) }
-        ensures few { 2 * record_count (items_left result) ≤ length payload.now }
+            → IsRecordList level payload.now rs ↔ (map without_place (records_left result) ≡ map Ok rs) }
+        ensures few { 2 * record_count (records_left result) ≤ length payload.now }
     {
         Records::within(payload, 100 - level)
     }
@@ -62,14 +62,14 @@ impl<'a> Records<'a> {
     /// The records of bytes, where so many levels are left below them.
     pub fn within(payload: &'a [u8], left: u32) -> Records<'a>
         // the same as a function of the payload
-        ensures computed { items_left result ≡ record_items left payload.now }
-        ensures items { AreItems (IsRecordWithin left) payload.now 0 (items_left result) }
+        ensures computed { records_left result ≡ read_records left payload.now }
+        ensures items { AreRecordsFrom (IsRecordWithin left) payload.now 0 (records_left result) }
         ensures complete { (rs : List FieldRecord)
-            → IsRecordListWithin left payload.now rs ↔ (map without_place (items_left result) ≡ map Ok rs) }
-        ensures few { 2 * record_count (items_left result) ≤ length payload.now }
+            → IsRecordListWithin left payload.now rs ↔ (map without_place (records_left result) ≡ map Ok rs) }
+        ensures few { 2 * record_count (records_left result) ≤ length payload.now }
         // with a Malformed
-        ensures bound { 2 * length (items_left result) ≤ length payload.now + 1 }
-        ensures lies { EachLies payload.now (items_left result) }
+        ensures bound { 2 * length (records_left result) ≤ length payload.now + 1 }
+        ensures lies { EachLies payload.now (records_left result) }
     {
         Records {
             rest: payload,
@@ -81,13 +81,13 @@ impl<'a> Records<'a> {
 
 impl<'a> Iterator for Records<'a> {
     ghost use Rattle.std.specs.Iterator.{YieldsFirstBy, item_count};
-    ghost use Rattle.shared_core_wire.specs.ItemsLeft.{items_left, item_of};
+    ghost use Rattle.shared_core_wire.specs.RecordsLeft.{records_left, placed_result};
 
     type Item = Result<Record<'a>, WireError>;
 
-    ghost next_gives = { YieldsFirstBy item_of items_left };
+    ghost next_gives = { YieldsFirstBy placed_result records_left };
 
-    ghost remaining = { item_count items_left };
+    ghost remaining = { item_count records_left };
 
     #[inline(always)]
     fn next(&mut self) -> Option<Result<Record<'a>, WireError>> {

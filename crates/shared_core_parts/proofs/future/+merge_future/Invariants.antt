@@ -1,9 +1,9 @@
 use Rattle.std.proofs.Common.{◌≡◌, ◌+◌, ◌*◌}
-use Rattle.shared_core_wire.specs.Items.{record_items}
-use Rattle.shared_core_wire.specs.ItemsLeft.{items_left}
+use Rattle.shared_core_wire.specs.ReadRecords.{read_records}
+use Rattle.shared_core_wire.specs.RecordsLeft.{records_left}
 use Rattle.shared_core_wire.specs.Places.{EachLies}
 use Rattle.shared_core_record.specs.Table.{future}
-use Rattle.shared_core_record.specs.Folding.{fold_items}
+use Rattle.shared_core_record.specs.Folding.{fold_read}
 use Rattle.shared_core_record.specs.Occurrences.{merged_with}
 use Rattle.shared_core_parts.specs.Futures.{future_parts}
 use Rattle.shared_core_parts.proofs.future.+merge_future.Given as goal
@@ -19,6 +19,6 @@ decreases-extend_futures l = 3 * l.field.now.left
 
 abbrev pub invariant-merge_future-loop-item : goal.invariant-merge_future-loop-item
 invariant-merge_future-loop-item l = record {
-  lies : EachLies l.message.bytes.now (items_left l.item-iterator);
-  rest : fold_items (merged_with l.message.left future) (future_parts l.future) (items_left l.item-iterator) ≡ fold_items (merged_with l.message.left future) (future_parts l.fn.future) (record_items l.message.left l.message.bytes.now);
+  lies : EachLies l.message.bytes.now (records_left l.item-iterator);
+  rest : fold_read (merged_with l.message.left future) (future_parts l.future) (records_left l.item-iterator) ≡ fold_read (merged_with l.message.left future) (future_parts l.fn.future) (read_records l.message.left l.message.bytes.now);
 }

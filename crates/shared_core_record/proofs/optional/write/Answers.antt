@@ -1,7 +1,5 @@
-use Rattle.std.proofs.Common.{arith, drop, ap, ◌+◌, ◌∙◌}
+use Rattle.std.proofs.Common.{arith, drop, ◌∙◌}
 use Rattle.shared_core_record.proofs.Backwards.{present_before, present_size}
-use Rattle.shared_core_record.specs.RowSpelling.{row_size}
-use Rattle.shared_core_wire.specs.Schema.{Optional}
 use Rattle.shared_core_record.proofs.optional.write.Goals as goal
 
 pub write_value-requires-clause-room : goal.write_value-requires-clause-room

@@ -11,13 +11,13 @@ returns-clause-ok g c =
     let bytes = c.in-Some.nested.bytes.now in
     let s = g.M.WireRecord.schema in
     let v = g.M.WireRecord.parts c.args.self.now in
-    let w = g.M.WireRecord.parts c.merge_records.new.target in
-    rw c.in-Some.ensures.bytes (message_becomes below c.args.field.now.left s bytes v w c.merge_records.result c.in-Some.ensures.left
-    (computed_accepted below s _ bytes v c.merge_records.result c.merge_records.ensures) (computed_merged below s w bytes v c.merge_records.result c.merge_records.ensures))
+    let w = g.M.WireRecord.parts c.merge_occurrences.new.target in
+    rw c.in-Some.ensures.bytes (message_becomes below c.args.field.now.left s bytes v w c.merge_occurrences.result c.in-Some.ensures.left
+    (computed_accepted below s _ bytes v c.merge_occurrences.result c.merge_occurrences.ensures) (computed_merged below s w bytes v c.merge_occurrences.result c.merge_occurrences.ensures))
 
 pub returns-clause-malformed : goal.returns-clause-malformed
 returns-clause-malformed g c e =
     let below = c.in-Some.nested.left in
     let bytes = c.in-Some.nested.bytes.now in
     let s = g.M.WireRecord.schema in
-    rw c.in-Some.ensures.bytes (message_refused below c.args.field.now.left s bytes c.in-Some.ensures.left (computed_refused below s _ bytes (g.M.WireRecord.parts c.args.self.now) c.merge_records.result c.merge_records.ensures e))
+    rw c.in-Some.ensures.bytes (message_refused below c.args.field.now.left s bytes c.in-Some.ensures.left (computed_refused below s _ bytes (g.M.WireRecord.parts c.args.self.now) c.merge_occurrences.result c.merge_occurrences.ensures e))

@@ -1,4 +1,4 @@
--- What going over the records of a payload gives.
+-- The records that are read of a payload, one after the other: what reading gives.
 use Rattle.std.specs.Prelude.{◌≡◌, ℕ, zero, suc, ◌+◌, ◌-◌, ◌<◌, ◌≤◌, List, [], ◌∷◌, length, Option, Some, None, Result, Ok, Err}
 use Rattle.std.specs.List.{slice_range}
 use Rattle.shared_core_wire.specs.declared.error.WireError.{WireError}
@@ -26,15 +26,15 @@ IsValueWithin payload from to (Group bytes) = IsSliceWithin payload from to byte
 IsValueWithin payload from to (Fixed32 bytes) = IsSliceWithin payload from to bytes
 
 -- What the bytes of the payload from a place on give, where Spells says which bytes spell a record. Records come in order, the span of
--- each beginning where the one before ended; the slice of its span spells it, and its value's slice is part of that. The items end without
+-- each beginning where the one before ended; the slice of its span spells it, and its value's slice is part of that. They end without
 -- Malformed at the payload's end. Malformed comes where bytes are left that begin with no record, and nothing comes behind it.
-abbrev pub AreItems : (List ℕ → FieldRecord → Type 0) → List ℕ → ℕ → List (Result PlacedRecord WireError) → Type 0
-AreItems Spells payload place [] = place ≡ length payload
-AreItems Spells payload place (Ok r ∷ items) = (r.from ≡ place) × (r.from < r.to) × (r.to ≤ length payload)
+abbrev pub AreRecordsFrom : (List ℕ → FieldRecord → Type 0) → List ℕ → ℕ → List (Result PlacedRecord WireError) → Type 0
+AreRecordsFrom Spells payload place [] = place ≡ length payload
+AreRecordsFrom Spells payload place (Ok r ∷ items) = (r.from ≡ place) × (r.from < r.to) × (r.to ≤ length payload)
     × Spells (slice_range payload r.from r.to) r.field_record
     × IsValueWithin payload r.from r.to r.field_record.value
-    × AreItems Spells payload r.to items
-AreItems Spells payload place (Err e ∷ items) = (e ≡ Malformed) × (items ≡ []) × (place < length payload)
+    × AreRecordsFrom Spells payload r.to items
+AreRecordsFrom Spells payload place (Err e ∷ items) = (e ≡ Malformed) × (items ≡ []) × (place < length payload)
     × ((to : ℕ) (r : FieldRecord) → Spells (slice_range payload place to) r → ⊥)
 
 -- A record without its place.
@@ -42,7 +42,7 @@ abbrev pub without_place : Result PlacedRecord WireError → Result FieldRecord 
 without_place (Ok r) = Ok r.field_record
 without_place (Err e) = Err e
 
--- How many of the items are records.
+-- How many records were read.
 abbrev pub record_count : List (Result PlacedRecord WireError) → ℕ
 record_count [] = 0
 record_count (Ok r ∷ items) = suc (record_count items)
@@ -50,15 +50,15 @@ record_count (Err e ∷ items) = record_count items
 
 -- ---- computed
 
--- The items of some last bytes of a payload of length end, where one reads a record and the next past bytes are passed over first.
-unfoldable pub items_past : (List ℕ → Option (FieldRecord × List ℕ)) → ℕ → ℕ → List ℕ → List (Result PlacedRecord WireError)
-items_past one end past [] = []
-items_past one end (suc past) (b ∷ bs) = items_past one end past bs
-items_past one end zero (b ∷ bs) = elim (one (b ∷ bs)) [
+-- What reading gives of some last bytes of a payload of length end, where one reads a record and the next past bytes are passed over first.
+unfoldable pub records_past : (List ℕ → Option (FieldRecord × List ℕ)) → ℕ → ℕ → List ℕ → List (Result PlacedRecord WireError)
+records_past one end past [] = []
+records_past one end (suc past) (b ∷ bs) = records_past one end past bs
+records_past one end zero (b ∷ bs) = elim (one (b ∷ bs)) [
   | None ↦ Err Malformed ∷ []
-  | Some r ↦ Ok (record { field_record = r.0; from = end - length (b ∷ bs); to = end - length r.1 }) ∷ items_past one end (length bs - length r.1) bs
+  | Some r ↦ Ok (record { field_record = r.0; from = end - length (b ∷ bs); to = end - length r.1 }) ∷ records_past one end (length bs - length r.1) bs
 ]
 
--- The items of a payload, where so many levels are left below its records.
-unfoldable pub record_items : ℕ → List ℕ → List (Result PlacedRecord WireError)
-record_items left payload = items_past (record_at left) (length payload) 0 payload
+-- What reading a payload gives, where so many levels are left below its records.
+unfoldable pub read_records : ℕ → List ℕ → List (Result PlacedRecord WireError)
+read_records left payload = records_past (record_at left) (length payload) 0 payload
