@@ -2,8 +2,8 @@
 use Rattle.std.proofs.Common.{◌≡◌, ℕ, ◌+◌, ◌*◌, List, [], ◌∷◌, ◌++◌, Ok, Err, ap, sym, ◌∙◌, arith}
 use Rattle.std.proofs.Math.Nat.{add-zero, mul-add, mul-zero}
 use Rattle.shared_core_base.specs.declared.version.Version.{Version}
-use Rattle.shared_core.specs.declared.encoding.Item.{Item}
-use Rattle.shared_core.specs.declared.encoding.Item.TheVariants.{Message, Unknown, Skipped}
+use Rattle.shared_core.specs.declared.encoding.item.Item.{Item}
+use Rattle.shared_core.specs.declared.encoding.item.Item.TheVariants.{Message, Unknown, Skipped}
 use Rattle.shared_core.specs.Items.{TakesItem, IsItemsThen}
 use Rattle.shared_core.proofs.Items.{then_takes}
 use Rattle.journal_calls.specs.declared.answer.Refusal.{Refusal}

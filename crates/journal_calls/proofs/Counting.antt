@@ -5,8 +5,8 @@ use Rattle.shared_core_base.specs.declared.version.Version.{Version}
 use Rattle.shared_core_base.specs.declared.header.MessageHeader.{MessageHeader}
 use Rattle.shared_core_base.specs.declared.header.MessageType.{MessageType}
 use Rattle.shared_core_base.specs.MessageHeader.{header_of}
-use Rattle.shared_core.specs.declared.encoding.Item.{Item}
-use Rattle.shared_core.specs.declared.encoding.Item.TheVariants.{Message, Unknown, Skipped}
+use Rattle.shared_core.specs.declared.encoding.item.Item.{Item}
+use Rattle.shared_core.specs.declared.encoding.item.Item.TheVariants.{Message, Unknown, Skipped}
 use Rattle.shared_core.specs.Items.{IsItem, TakesItem, IsItemsThen, body_length, front_word, item_of, skips_unknown}
 use Rattle.shared_core.proofs.Items.{then_takes}
 use Rattle.journal_calls.specs.declared.answer.Refusal.{Refusal}

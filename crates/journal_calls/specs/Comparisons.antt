@@ -8,8 +8,8 @@ use Rattle.shared_core_record.specs.Payloads.{IsAccepted}
 use Rattle.shared_core_parts.specs.Messages.{message_schema}
 use Rattle.shared_core_compare.specs.Commands.{commands}
 use Rattle.shared_core_compare.specs.Erasure.{erased}
-use Rattle.shared_core.specs.declared.encoding.Item.{Item}
-use Rattle.shared_core.specs.declared.encoding.Item.TheVariants.{Message}
+use Rattle.shared_core.specs.declared.encoding.item.Item.{Item}
+use Rattle.shared_core.specs.declared.encoding.item.Item.TheVariants.{Message}
 use Rattle.shared_core.specs.Items.{IsItemsThen, SplitsInto}
 use Rattle.shared_core.specs.Typed.{MeansParts}
 use Rattle.journal_calls.specs.declared.answer.Refusal.{Refusal}

@@ -1,7 +1,7 @@
 -- A stream that comes in pieces.
 use Rattle.std.specs.Prelude.{◌≡◌, ℕ, ◌*◌, ◌-◌, ◌^◌, ◌<◌, List, [], ◌++◌, take, drop, Option, Some, None, ◌==◌, if◌then◌else◌}
 use Rattle.shared_core_base.specs.declared.version.Version.{Version}
-use Rattle.shared_core.specs.declared.encoding.Item.{Item}
+use Rattle.shared_core.specs.declared.encoding.item.Item.{Item}
 use Rattle.shared_core.specs.Items.{NoItemBegins, TakesItem}
 
 -- A stream as contracts see it: its version, the bytes that came and that no answer has taken, those that are still to come, and how many

@@ -4,8 +4,8 @@ use Rattle.std.specs.Fmt.{digits}
 use Rattle.std.specs.Io.KnownBytes.{Consumes, Keeps, IsAtEnd}
 use Rattle.shared_core_base.specs.declared.version.Version.{Version}
 use Rattle.shared_core_base.specs.MessageType.{debug_name_of}
-use Rattle.shared_core.specs.declared.encoding.Item.{Item}
-use Rattle.shared_core.specs.declared.encoding.Item.TheVariants.{Message, Unknown, Skipped}
+use Rattle.shared_core.specs.declared.encoding.item.Item.{Item}
+use Rattle.shared_core.specs.declared.encoding.item.Item.TheVariants.{Message, Unknown, Skipped}
 use Rattle.shared_core.specs.Items.{SplitsInto}
 use Rattle.journal_list.specs.declared.list.ListError.{ListError}
 use Rattle.journal_list.specs.declared.list.ListError.TheVariants.{Input, Output, OutOfMemory}

@@ -5,7 +5,7 @@ ghost use Rattle.std.specs.String.{string_bytes};
 ghost use Rattle.shared_core_base.specs.declared.version.Version.TheVariants.{V8};
 ghost use Rattle.shared_core_base.specs.Version.{version_number};
 ghost use Rattle.shared_core.specs.Items.{SplitsInto};
-ghost use Rattle.shared_core.specs.declared.encoding.Item.{Item as AnyItem};
+ghost use Rattle.shared_core.specs.declared.encoding.item.Item.{Item as AnyItem};
 ghost use Rattle.journal_list.specs.Listing.{ack_text, line_of, rest_line, lines, most_pending, IsListed, IsRead, IsWritten};
 
 use bytes::Bytes;

@@ -2,8 +2,8 @@
 use Rattle.std.proofs.Common.{◌≡◌, ℕ, List, [], ◌∷◌, ◌++◌, Option, Some, None, refl, sym, ap, ◌∙◌, subst, append_assoc, append-nil}
 use Rattle.std.specs.Io.KnownBytes.{Consumes, IsAtEnd, prepend_known}
 use Rattle.shared_core_base.specs.declared.version.Version.{Version}
-use Rattle.shared_core.specs.declared.encoding.Item.{Item}
-use Rattle.shared_core.specs.declared.encoding.RawMessage.{RawMessage}
+use Rattle.shared_core.specs.declared.encoding.item.Item.{Item}
+use Rattle.shared_core.specs.declared.encoding.raw_message.RawMessage.{RawMessage}
 use Rattle.shared_core.specs.Items.{NoItemBegins, TakesItem}
 use Rattle.shared_core.proofs.Items.{takes_more, split_of}
 use Rattle.shared_core.proofs.Splits.{none_is_all_rest, taken_comes_first}

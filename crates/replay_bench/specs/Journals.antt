@@ -3,9 +3,9 @@ use Rattle.std.specs.Prelude.{◌≡◌, ℕ, List, [], ◌∷◌, Option, Some,
 use Rattle.shared_core_base.specs.declared.command_type.CommandType.{CommandType}
 use Rattle.shared_core_base.specs.declared.version.Version.{Version}
 use Rattle.shared_core_base.specs.CommandType.{command_type_of}
-use Rattle.shared_core.specs.declared.encoding.Item.{Item}
-use Rattle.shared_core.specs.declared.encoding.Item.TheVariants.{Message, Unknown, Skipped}
-use Rattle.shared_core.specs.declared.encoding.RawMessage.{RawMessage}
+use Rattle.shared_core.specs.declared.encoding.item.Item.{Item}
+use Rattle.shared_core.specs.declared.encoding.item.Item.TheVariants.{Message, Unknown, Skipped}
+use Rattle.shared_core.specs.declared.encoding.raw_message.RawMessage.{RawMessage}
 use Rattle.shared_core.specs.Items.{SplitsInto}
 
 -- A message of a type that has a command type.

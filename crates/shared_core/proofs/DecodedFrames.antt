@@ -16,11 +16,11 @@ use Rattle.shared_core_parts.specs.Frames.{WireFits, WireForm, plain_form, wire_
 use Rattle.shared_core_runtime.specs.Flattening.{flattened}
 use Rattle.shared_core_runtime.specs.Versions.{is_before_v7, proposal_form, suspension_form}
 use Rattle.shared_core_runtime.proofs.FlattenedFits.{flattened_fits, flattened_levels}
-use Rattle.shared_core.specs.declared.encoding.DecodingError.{DecodingError}
-use Rattle.shared_core.specs.declared.encoding.DecodingError.TheVariants.{UnknownMessageType, SkippedMessage, OutOfMemory}
-use Rattle.shared_core.specs.declared.encoding.Item.{Item}
-use Rattle.shared_core.specs.declared.encoding.Item.TheVariants.{Message, Unknown, Skipped}
-use Rattle.shared_core.specs.declared.encoding.RawMessage.{RawMessage}
+use Rattle.shared_core.specs.declared.encoding.error.DecodingError.{DecodingError}
+use Rattle.shared_core.specs.declared.encoding.error.DecodingError.TheVariants.{UnknownMessageType, SkippedMessage, OutOfMemory}
+use Rattle.shared_core.specs.declared.encoding.item.Item.{Item}
+use Rattle.shared_core.specs.declared.encoding.item.Item.TheVariants.{Message, Unknown, Skipped}
+use Rattle.shared_core.specs.declared.encoding.raw_message.RawMessage.{RawMessage}
 use Rattle.shared_core.specs.Decoded.{AnswersWritten, DecodesTo, FrameSpells, requested_ack_of}
 use Rattle.shared_core.specs.Items.{AnswersNext, IsItem, TakesItem}
 use Rattle.shared_core.specs.Typed.{IsWritten}

@@ -5,11 +5,11 @@ use Rattle.std.proofs.lemmas.Bool.{eqb-true, eq-eqb, and_parts, and_from}
 use Rattle.std.proofs.lemmas.Slice.Eq.{bytes_eq-Decides}
 use Rattle.shared_core_base.proofs.Types.{headers_equal, headers_same}
 use Rattle.shared_core_base.specs.declared.header.MessageHeader.{MessageHeader}
-use Rattle.shared_core.specs.declared.encoding.RawMessage.{RawMessage}
-use Rattle.shared_core.specs.declared.encoding.Item.{Item}
-use Rattle.shared_core.specs.declared.encoding.Item.TheVariants.{Message, Unknown, Skipped}
-use Rattle.shared_core.specs.contracts.encoding.RawMessagePartialEq.TheImpl as messages
-use Rattle.shared_core.specs.contracts.encoding.ItemPartialEq.TheImpl as items
+use Rattle.shared_core.specs.declared.encoding.raw_message.RawMessage.{RawMessage}
+use Rattle.shared_core.specs.declared.encoding.item.Item.{Item}
+use Rattle.shared_core.specs.declared.encoding.item.Item.TheVariants.{Message, Unknown, Skipped}
+use Rattle.shared_core.specs.contracts.encoding.raw_message.RawMessagePartialEq.TheImpl as messages
+use Rattle.shared_core.specs.contracts.encoding.item.ItemPartialEq.TheImpl as items
 
 abbrev message : MessageHeader → List ℕ → RawMessage
 message header payload = record { header = header; payload = payload }

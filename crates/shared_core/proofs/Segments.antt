@@ -7,7 +7,7 @@ use Rattle.std.proofs.lemmas.List.Folds.{concat-append}
 use Rattle.bytes.proofs.Chunks.{concat_push}
 use Rattle.bytes.proofs.Ranges.{take-append_past}
 use Rattle.shared_core_base.specs.declared.version.Version.{Version}
-use Rattle.shared_core.specs.declared.encoding.Item.{Item}
+use Rattle.shared_core.specs.declared.encoding.item.Item.{Item}
 use Rattle.std.proofs.lemmas.List.Elements.{All-push}
 use Rattle.shared_core.specs.Items.{IsItemsThen}
 use Rattle.shared_core.specs.Segments.{AreSegments}

@@ -1,7 +1,7 @@
 -- How the split of a stream begins.
 use Rattle.std.proofs.Common.{ℕ, List, [], ◌∷◌}
 use Rattle.shared_core_base.specs.declared.version.Version.{Version}
-use Rattle.shared_core.specs.declared.encoding.Item.{Item}
+use Rattle.shared_core.specs.declared.encoding.item.Item.{Item}
 use Rattle.shared_core.specs.Items.{TakesItem, NoItemBegins, SplitsInto}
 use Rattle.shared_core.proofs.Items.{then_start, then_one, then_join}
 

@@ -5,9 +5,9 @@ use Rattle.shared_core_base.specs.declared.header.MessageType.{MessageType}
 use Rattle.shared_core_wire.specs.Value.{Parts}
 use Rattle.shared_core_record.specs.Payloads.{IsAccepted, payload_meaning}
 use Rattle.shared_core_record.proofs.PayloadLaws.{canonical_is_read_back}
-use Rattle.shared_core.specs.declared.encoding.RawMessage.{RawMessage}
-use Rattle.shared_core.specs.declared.encoding.DecodingError.{DecodingError}
-use Rattle.shared_core.specs.declared.encoding.DecodingError.TheVariants.{DecodeMessage, OutOfMemory}
+use Rattle.shared_core.specs.declared.encoding.raw_message.RawMessage.{RawMessage}
+use Rattle.shared_core.specs.declared.encoding.error.DecodingError.{DecodingError}
+use Rattle.shared_core.specs.declared.encoding.error.DecodingError.TheVariants.{DecodeMessage, OutOfMemory}
 use Rattle.shared_core.specs.Typed.{IsWritten, RefusesPayload, RefusesTyped}
 
 pub written_means : (schema : ℕ) (v : Parts) (payload : List ℕ) → IsWritten schema v payload → IsAccepted schema payload × (payload_meaning schema payload ≡ v)

@@ -19,9 +19,9 @@ use Rattle.shared_core_record.specs.Payloads.{IsAccepted}
 use Rattle.shared_core_record.proofs.Tables.{are_schemas}
 use Rattle.shared_core_parts.specs.Messages.{message_schema}
 use Rattle.shared_core_parts.specs.declared.notification.Notification.{Notification}
-use Rattle.shared_core.specs.declared.encoding.RawMessage.{RawMessage}
-use Rattle.shared_core.specs.declared.encoding.DecodingError.{DecodingError}
-use Rattle.shared_core.specs.declared.encoding.DecodingError.TheVariants.{DecodeMessage, OutOfMemory}
+use Rattle.shared_core.specs.declared.encoding.raw_message.RawMessage.{RawMessage}
+use Rattle.shared_core.specs.declared.encoding.error.DecodingError.{DecodingError}
+use Rattle.shared_core.specs.declared.encoding.error.DecodingError.TheVariants.{DecodeMessage, OutOfMemory}
 use Rattle.shared_core.specs.Typed.{MeansParts, RefusesPayload}
 use Rattle.shared_core.specs.View.{IsOfNotification, AgreesWithType, AnswersLacking, IsMissing, has_record, id_numbers, lacking_field, result_numbers}
 

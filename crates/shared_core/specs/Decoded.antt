@@ -4,11 +4,11 @@ use Rattle.shared_core_base.specs.declared.header.MessageType.{MessageType}
 use Rattle.shared_core_base.specs.declared.version.Version.{Version}
 use Rattle.shared_core_wire.specs.Value.{Parts}
 use Rattle.shared_core_parts.specs.Frames.{WireForm, wire_frame}
-use Rattle.shared_core.specs.declared.encoding.DecodingError.{DecodingError}
-use Rattle.shared_core.specs.declared.encoding.DecodingError.TheVariants.{OutOfMemory}
-use Rattle.shared_core.specs.declared.encoding.RawMessage.{RawMessage}
-use Rattle.shared_core.specs.declared.encoding.Item.{Item}
-use Rattle.shared_core.specs.declared.encoding.Item.TheVariants.{Message}
+use Rattle.shared_core.specs.declared.encoding.error.DecodingError.{DecodingError}
+use Rattle.shared_core.specs.declared.encoding.error.DecodingError.TheVariants.{OutOfMemory}
+use Rattle.shared_core.specs.declared.encoding.raw_message.RawMessage.{RawMessage}
+use Rattle.shared_core.specs.declared.encoding.item.Item.{Item}
+use Rattle.shared_core.specs.declared.encoding.item.Item.TheVariants.{Message}
 use Rattle.shared_core.specs.Items.{IsItem}
 use Rattle.shared_core.specs.Typed.{IsWritten, MeansParts}
 use Rattle.shared_core.specs.Written.{item_written}

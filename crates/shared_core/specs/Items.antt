@@ -8,13 +8,13 @@ use Rattle.std.specs.Int.{w64, from_be_bytes}
 use Rattle.shared_core_base.specs.declared.version.Version.{Version}
 use Rattle.shared_core_base.specs.MessageHeader.{header_of, word_code, word_length}
 use Rattle.shared_core_base.specs.Version.{version_number}
-use Rattle.shared_core.specs.declared.encoding.Item.{Item}
-use Rattle.shared_core.specs.declared.encoding.Item.TheVariants.{Message, Unknown, Skipped}
-use Rattle.shared_core.specs.declared.encoding.RawMessage.{RawMessage}
-use Rattle.shared_core.specs.declared.encoding.DecodingError.{DecodingError}
-use Rattle.shared_core.specs.declared.encoding.DecodingError.TheVariants.{UnknownMessageType, SkippedMessage, OutOfMemory}
-use Rattle.shared_core.specs.declared.encoding.PushError.{PushError}
-use Rattle.shared_core.specs.declared.encoding.PushError.TheVariants.{OutOfMemory as NoMemory, TooLong}
+use Rattle.shared_core.specs.declared.encoding.item.Item.{Item}
+use Rattle.shared_core.specs.declared.encoding.item.Item.TheVariants.{Message, Unknown, Skipped}
+use Rattle.shared_core.specs.declared.encoding.raw_message.RawMessage.{RawMessage}
+use Rattle.shared_core.specs.declared.encoding.error.DecodingError.{DecodingError}
+use Rattle.shared_core.specs.declared.encoding.error.DecodingError.TheVariants.{UnknownMessageType, SkippedMessage, OutOfMemory}
+use Rattle.shared_core.specs.declared.encoding.error.PushError.{PushError}
+use Rattle.shared_core.specs.declared.encoding.error.PushError.TheVariants.{OutOfMemory as NoMemory, TooLong}
 
 -- The number that the first eight bytes spell, the first byte highest.
 unfoldable pub front_word : List ℕ → ℕ

@@ -8,9 +8,9 @@ use Rattle.shared_core_wire.specs.Laws.{IsWritable}
 use Rattle.shared_core_record.specs.Table.{table}
 use Rattle.shared_core_record.specs.Payloads.{IsAccepted, payload_meaning}
 use Rattle.shared_core_errors.specs.declared.command_type_mismatch.CommandTypeMismatchError.{CommandTypeMismatchError}
-use Rattle.shared_core.specs.declared.encoding.RawMessage.{RawMessage}
-use Rattle.shared_core.specs.declared.encoding.DecodingError.{DecodingError}
-use Rattle.shared_core.specs.declared.encoding.DecodingError.TheVariants.{DecodeMessage, UnexpectedMessageType, OutOfMemory}
+use Rattle.shared_core.specs.declared.encoding.raw_message.RawMessage.{RawMessage}
+use Rattle.shared_core.specs.declared.encoding.error.DecodingError.{DecodingError}
+use Rattle.shared_core.specs.declared.encoding.error.DecodingError.TheVariants.{DecodeMessage, UnexpectedMessageType, OutOfMemory}
 
 -- The mismatch that is answered where a message is not of the type that is expected.
 abbrev pub mismatch_of : MessageType → RawMessage → ℤ → CommandTypeMismatchError

@@ -10,9 +10,9 @@ use Rattle.shared_core_record.specs.Payloads.{IsAccepted, payload_meaning}
 use Rattle.shared_core_parts.specs.declared.notification.Notification.{Notification}
 use Rattle.shared_core_parts.specs.contracts.notification_template.IdOneOf.TheImpl as ids
 use Rattle.shared_core_parts.specs.contracts.notification_template.ResultOneOf.TheImpl as results
-use Rattle.shared_core.specs.declared.encoding.RawMessage.{RawMessage}
-use Rattle.shared_core.specs.declared.encoding.DecodingError.{DecodingError}
-use Rattle.shared_core.specs.declared.encoding.DecodingError.TheVariants.{MissingField, OutOfMemory}
+use Rattle.shared_core.specs.declared.encoding.raw_message.RawMessage.{RawMessage}
+use Rattle.shared_core.specs.declared.encoding.error.DecodingError.{DecodingError}
+use Rattle.shared_core.specs.declared.encoding.error.DecodingError.TheVariants.{MissingField, OutOfMemory}
 use Rattle.shared_core.specs.Typed.{MeansParts, RefusesPayload}
 
 -- The parts of the template that a notification is: its id and its result.

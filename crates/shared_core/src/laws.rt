@@ -18,8 +18,8 @@ ghost use Rattle.shared_core_record.specs.Table as tables;
 ghost use Rattle.shared_core_parts.specs.Frames.{WireForm, wire_size};
 ghost use Rattle.shared_core_runtime.specs.Flattening.{flattened};
 ghost use Rattle.shared_core_runtime.specs.Versions.{is_before_v7, proposal_form, suspension_form};
-ghost use Rattle.shared_core.specs.declared.encoding.Item.{Item as AnyItem};
-ghost use Rattle.shared_core.specs.declared.encoding.Item.TheVariants.{Skipped, Unknown};
+ghost use Rattle.shared_core.specs.declared.encoding.item.Item.{Item as AnyItem};
+ghost use Rattle.shared_core.specs.declared.encoding.item.Item.TheVariants.{Skipped, Unknown};
 
 use crate::encoding::{Item, RawMessage};
 

@@ -25,8 +25,8 @@ impl Encoder {
     ghost use Rattle.shared_core.specs.Items.{AnswersNext, IsItem};
     ghost use Rattle.shared_core.specs.Written.{item_written};
     ghost use Rattle.shared_core.specs.Decoded.{AnswersWritten};
-    ghost use Rattle.shared_core.specs.declared.encoding.RawMessage.{RawMessage};
-    ghost use Rattle.shared_core.specs.declared.encoding.DecodingError.{DecodingError};
+    ghost use Rattle.shared_core.specs.declared.encoding.raw_message.RawMessage.{RawMessage};
+    ghost use Rattle.shared_core.specs.declared.encoding.error.DecodingError.{DecodingError};
 
     /// An encoder of this version, which is at least V5.
     pub fn new(version: Version) -> Encoder

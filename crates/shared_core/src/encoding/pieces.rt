@@ -7,29 +7,7 @@ ghost use Rattle.shared_core.specs.Items.{NoItemBegins, IsItemsThen, SplitsInto,
 use crate::encoding::{Decoder, Item, PiecesError, PushError};
 use bytes::Bytes;
 use shared_core_base::version::Version;
-use std::alloc::{AllocError, AllocFailed, Global};
-
-impl From<AllocError> for PiecesError {
-    ghost use Rattle.std.specs.Prelude.{◌≡◌};
-    ghost use Rattle.shared_core.specs.declared.encoding.PiecesError.TheVariants.{OutOfMemory};
-
-    ghost from_gives = { λ _ error. error ≡ OutOfMemory };
-
-    fn from(_error: AllocError) -> PiecesError {
-        PiecesError::OutOfMemory
-    }
-}
-
-impl<T: Drop> From<AllocFailed<T>> for PiecesError {
-    ghost use Rattle.std.specs.Prelude.{◌≡◌};
-    ghost use Rattle.shared_core.specs.declared.encoding.PiecesError.TheVariants.{OutOfMemory};
-
-    ghost from_gives = { λ _ error. error ≡ OutOfMemory };
-
-    fn from(_error: AllocFailed<T>) -> PiecesError {
-        PiecesError::OutOfMemory
-    }
-}
+use std::alloc::Global;
 
 /// The items of the stream that comes in these pieces, in order, and the decoder that holds what is left: however the
 /// stream is cut, the list is the items of the joined pieces, and the decoder holds the rest, which no item begins.

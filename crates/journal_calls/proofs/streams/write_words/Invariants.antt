@@ -1,5 +1,5 @@
 use Rattle.std.proofs.Common.{◌≡◌, ◌≤◌, List, length, take, map}
-use Rattle.shared_core.specs.declared.encoding.Item.{Item}
+use Rattle.shared_core.specs.declared.encoding.item.Item.{Item}
 use Rattle.shared_core.specs.Items.{IsItemsThen}
 use Rattle.journal_calls.specs.Pieces.{untaken}
 use Rattle.journal_calls.specs.Streams.{item_word}

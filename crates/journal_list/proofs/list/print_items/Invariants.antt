@@ -1,6 +1,6 @@
 use Rattle.std.proofs.Common.{◌≡◌, List, length}
 use Rattle.std.specs.String.{string_bytes}
-use Rattle.shared_core.specs.declared.encoding.Item.{Item}
+use Rattle.shared_core.specs.declared.encoding.item.Item.{Item}
 use Rattle.shared_core.specs.Items.{IsItemsThen}
 use Rattle.journal_list.specs.Listing.{lines}
 use Rattle.journal_list.proofs.list.print_items.Given as goal

@@ -9,7 +9,7 @@ use Rattle.shared_core_wire.specs.Value.{Absent, cons, nil}
 use Rattle.shared_core.specs.Typed.{MeansParts}
 use Rattle.shared_core.specs.View.{notification_parts}
 use Rattle.shared_core.proofs.Views.{lacks_id, lacks_nothing, lacks_result, view_accepts, view_agrees}
-use Rattle.shared_core.proofs.encoding.RawMessage.decode_as_notification.Goals as goal
+use Rattle.shared_core.proofs.encoding.raw_message.RawMessage.decode_as_notification.Goals as goal
 
 pub returns-in_err-id-clause-accepts : goal.returns-in_err-id-clause-accepts
 returns-in_err-id-clause-accepts c s is accepted = view_accepts _ s _ c.requires.first is accepted

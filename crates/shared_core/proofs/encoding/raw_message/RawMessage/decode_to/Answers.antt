@@ -2,7 +2,7 @@ use Rattle.std.proofs.Common.{rules, sym, ◌∙◌}
 use Rattle.std.proofs.lemmas.Bool.{both_ways}
 use Rattle.shared_core_base.proofs.Types.{types_equal, types_same}
 use Rattle.shared_core.proofs.TypedPayloads.{if_ok, if_err}
-use Rattle.shared_core.proofs.encoding.RawMessage.decode_to.Goals as goal
+use Rattle.shared_core.proofs.encoding.raw_message.RawMessage.decode_to.Goals as goal
 
 pub returns-then-eq-clause-typed : goal.returns-then-eq-clause-typed
 returns-then-eq-clause-typed g c =

@@ -2,7 +2,7 @@ use Rattle.std.proofs.Common.{ap, ◌≡◌, ◌++◌}
 use Rattle.std.specs.Prelude.{codes}
 use Rattle.shared_core_base.specs.MessageType.{debug_name_of}
 use Rattle.shared_core.specs.Errors.{decoding_error_text}
-use Rattle.shared_core.proofs.encoding.DecodingErrorDisplay.fmt.Goals as goal
+use Rattle.shared_core.proofs.encoding.error.DecodingErrorDisplay.fmt.Goals as goal
 
 pub returns-in-MissingField-clause-writes : goal.returns-in-MissingField-clause-writes
 returns-in-MissingField-clause-writes g c plain ok =

@@ -1,4 +1,4 @@
-//! Typed messages out of raw ones.
+//! A message as it stands in the stream, and as a record of its type.
 ghost use Rattle.std.specs.Prelude.{◌≡◌, ◌≢◌, ◌≤◌, ◌<◌, ℕ, IfOk, IfErr, MatchResult, Err, Some};
 ghost use Rattle.shared_core_record.specs.Payloads.{IsAccepted};
 ghost use Rattle.shared_core_wire.specs.Value.{Parts};
@@ -6,8 +6,10 @@ ghost use Rattle.shared_core_base.specs.MessageType.{code_of};
 ghost use Rattle.shared_core_record.specs.Table.{notification_template};
 ghost use Rattle.shared_core_parts.specs.Messages.{message_schema};
 
-use crate::encoding::{DecodingError, RawMessage};
+use crate::encoding::DecodingError;
 use crate::errors::CommandTypeMismatchError;
+use bytes::Bytes;
+use shared_core_base::header::{MessageHeader, MessageType};
 use shared_core_parts::notification::Notification;
 use shared_core_parts::notification_template::NotificationTemplate;
 use shared_core_parts::restate_message::RestateMessage;
@@ -15,10 +17,45 @@ use shared_core_record::record::{WireRecord, decode_payload};
 use shared_core_wire::error::WireError;
 use std::alloc::Global;
 
+/// A message as it stands in the stream: its header, and its payload, which is not looked into.
+#[derive(Debug, PartialEq, Drop)]
+pub struct RawMessage {
+    header: MessageHeader,
+    payload: Bytes,
+}
+
 impl RawMessage {
     ghost use Rattle.shared_core.specs.Typed.{MeansParts, IsWritten, RefusesPayload, RefusesTyped, mismatch_of};
     ghost use Rattle.shared_core.specs.View.{notification_parts, lacking_field, AgreesWithType, AnswersLacking, IsMissing, IsOfNotification, RefusesNotification};
-    ghost use Rattle.shared_core.specs.declared.encoding.DecodingError.TheVariants as error;
+    ghost use Rattle.shared_core.specs.declared.encoding.error.DecodingError.TheVariants as error;
+
+    /// The message of a header and the bytes behind it.
+    pub(crate) fn new(header: MessageHeader, payload: Bytes) -> RawMessage
+        ensures { result ≡ record { header = header; payload = payload } }
+    {
+        RawMessage { header, payload }
+    }
+
+    /// The type that the header says.
+    pub fn ty(&self) -> MessageType
+        ensures { result ≡ self.now.header.ty }
+    {
+        self.header.message_type()
+    }
+
+    /// The header.
+    pub fn header(&self) -> MessageHeader
+        ensures { result ≡ self.now.header }
+    {
+        self.header
+    }
+
+    /// The bytes behind the header, as many as it says.
+    pub fn payload(&self) -> &Bytes
+        ensures { result.now ≡ self.now.payload }
+    {
+        &self.payload
+    }
 
     /// The message as a record of its type.
     ///

@@ -3,7 +3,7 @@ use Rattle.std.proofs.lemmas.Nat.{and_mask}
 use Rattle.shared_core.specs.Items.{skips_unknown}
 use Rattle.shared_core.specs.Unread.{Unread}
 use Rattle.shared_core.proofs.Items.{announces_message, announces_skipped, announces_unknown, none_partial, takes_announced}
-use Rattle.shared_core.proofs.encoding.Decoder.consume_next.Goals as goal
+use Rattle.shared_core.proofs.encoding.decoder.Decoder.consume_next.Goals as goal
 
 pub returns-then-not-skips_unknown-clause-next : goal.returns-then-not-skips_unknown-clause-next
 returns-then-not-skips_unknown-clause-next c =
@@ -61,5 +61,5 @@ returns-in_default-taken-clause-next c =
 pub returns-clause-next : goal.returns-clause-next
 returns-clause-next c =
     let taken = rw c.in-Some-taken.is at c.in-Ok-take_payload-2.ensures.taken in
-    rw taken.2 (takes_announced _ _ _ _ _ c.in-Some.ensures.held.1 (sym (ap (λ u. u.bytes) c.self.view_is) ∙ c.in-Some.ensures.held.2) c.from_be_bytes-word.ensures
+    rw (c.new.ensures, taken.2) (takes_announced _ _ _ _ _ c.in-Some.ensures.held.1 (sym (ap (λ u. u.bytes) c.self.view_is) ∙ c.in-Some.ensures.held.2) c.from_be_bytes-word.ensures
     _ _ _ _ (announces_message _ _ _ _ c.in-Ok.ensures c.message_length-length.ensures) taken.0 taken.1 taken.3)

@@ -1,0 +1,203 @@
+//! The decoder of a stream that comes in pieces.
+ghost use Rattle.std.specs.Prelude.{◌≡◌, ◌+◌, ◌<◌, ◌≤◌, ◌++◌, length, drop, take, IfOk, IfSome, IfNone, OnErr, MatchOption, Some, None};
+ghost use Rattle.shared_core.specs.Items.{skips_unknown};
+ghost use Rattle.shared_core.specs.Unread.{held_bytes, held_length};
+
+use crate::encoding::{DecodingError, Item, PushError, RawMessage};
+use crate::pending_bytes::PendingBytes;
+use bytes::Bytes;
+use shared_core_base::header::MessageHeader;
+use shared_core_base::version::Version;
+use std::alloc::{AllocError, Global};
+use std::marker::Model;
+
+/// Takes a stream in pieces, and answers its items in order.
+///
+/// A contract sees a decoder as its version and the bytes that came and that no answer has taken; a header that was read
+/// still counts among them until its message is answered.
+#[derive(Drop)]
+pub struct Decoder {
+    version: Version,
+    head: Option<[u8; 8]>,
+    pending: PendingBytes,
+}
+
+impl Model for Decoder {
+    ghost use Rattle.std.specs.Prelude.{◌≡◌, ◌++◌, ◌<◌, ◌^◌, length};
+    ghost use Rattle.shared_core.specs.Unread.{Unread, held_bytes, held_length};
+
+    ghost Value = { Unread };
+
+    ghost view = { λ decoder. record { version = decoder.version; bytes = held_bytes decoder.head ++ decoder.pending } };
+
+    ghost invariant = { λ decoder. (length (held_bytes decoder.head ++ decoder.pending) < 2 ^ 64)
+        × (length (held_bytes decoder.head) ≡ held_length decoder.head) };
+}
+
+/// The eight bytes that are held as a header. Where none are and eight have come, they are held from now on.
+fn hold_head(head: &mut Option<[u8; 8]>, pending: &mut PendingBytes) -> Option<[u8; 8]>
+    requires { length (held_bytes head.old) ≡ held_length head.old }
+    ensures same { held_bytes head.new ++ pending.new ≡ held_bytes head.old ++ pending.old }
+    ensures held { IfSome result (λ bytes. (head.new ≡ Some bytes) × (length bytes ≡ 8)
+        × (held_bytes head.old ++ pending.old ≡ bytes ++ pending.new)) }
+    ensures short { IfNone result ((head.new ≡ None) × (length pending.new < 8)) }
+{
+    if let Some(bytes) = *head {
+        return Some(bytes);
+    }
+    if pending.len() < 8 {
+        return None;
+    }
+    let bytes = pending.take_head();
+    *head = Some(bytes);
+    Some(bytes)
+}
+
+/// Whether a message of an unknown type is skipped with its payload. Before, only its header is.
+fn skips_unknown(version: Version) -> bool
+    ensures { result ≡ skips_unknown version }
+{
+    version >= Version::V9
+}
+
+/// Takes the held header and `count` bytes behind it, if as many have come. An `Err` takes nothing.
+#[inline(always)]
+fn take_payload(
+    head: &mut Option<[u8; 8]>,
+    pending: &mut PendingBytes,
+    count: usize,
+) -> Result<Option<Bytes>, AllocError>
+    ensures taken { IfOk result (λ found. MatchOption found
+        ((length pending.old < count) × (head.new ≡ head.old) × (pending.new ≡ pending.old))
+        (λ payload. (count ≤ length pending.old) × (payload ≡ take count pending.old)
+        × (head.new ≡ None) × (pending.new ≡ drop count pending.old))) }
+    ensures refused { OnErr result ((count ≤ length pending.old) × (head.new ≡ head.old) × (pending.new ≡ pending.old)) }
+{
+    if pending.len() < count {
+        return Ok(None);
+    }
+    let payload = pending.split_to(count)?;
+    *head = None;
+    Ok(Some(payload))
+}
+
+impl Decoder {
+    ghost use Rattle.std.specs.Prelude.{◌≡◌, ◌+◌, ◌≤◌, ◌++◌, [], length, OnOk, OnErr, IfOk, IfErr, IsOk, MatchOption, None, Ok};
+    ghost use Rattle.shared_core_base.specs.Version.{version_number};
+    ghost use Rattle.shared_core.specs.Items.{AnswersNext, NoItemBegins, RefusesPiece, TakesEight, TakesItem};
+
+    /// A decoder of this version, which is at least V5, before any byte has come. It takes no memory.
+    pub fn new(alloc: Global, version: Version) -> Decoder
+        requires { 5 ≤ version_number version }
+        ensures { result ≡ record { version = version; bytes = [] } }
+    {
+        Decoder {
+            version,
+            head: None,
+            pending: PendingBytes::new(alloc),
+        }
+    }
+
+    /// How many bytes no answer has taken yet.
+    pub fn pending(&self) -> u64
+        ensures { result ≡ length self.now.bytes }
+    {
+        let held = if self.head.is_some() { 8 } else { 0 };
+        held + self.pending.len() as u64
+    }
+
+    /// Puts a piece of the stream, of any length, behind the bytes that came before, without copying it.
+    ///
+    /// An empty piece is not kept and never refused. A refused piece comes back in the error, and nothing has changed:
+    /// `TooLong` only where the pending bytes would be more than 2^64 - 1, else `OutOfMemory`.
+    pub fn push(&mut self, piece: Bytes) -> Result<(), PushError>
+        ensures ok { OnOk result (self.new ≡ record self.old { bytes = self.old.bytes ++ piece }) }
+        ensures err { IfErr result (RefusesPiece self.old.bytes piece) }
+        ensures kept { OnErr result (self.new ≡ self.old) }
+        ensures empty { length piece ≡ 0 → IsOk result }
+    {
+        if piece.is_empty() {
+            return Ok(());
+        }
+        if self.pending().checked_add(piece.len() as u64).is_none() {
+            return Err(PushError::TooLong(piece));
+        }
+        match self.pending.push(piece) {
+            Ok(()) => Ok(()),
+            Err(failed) => Err(PushError::OutOfMemory(failed.value)),
+        }
+    }
+
+    /// The next message, or `None` exactly where the bytes that came hold no further whole item; then at most
+    /// 4,294,967,302 bytes are pending, a header and all but one byte of its payload.
+    ///
+    /// A payload that lies in one piece is cut from it; one that straddles pieces is joined, once. Where the next header's
+    /// code stands for no type, the answer goes by the version: before V9 it is `UnknownMessageType`, which takes exactly
+    /// the eight bytes of the header, and reading goes on behind them; from V9 on it is `SkippedMessage`, which takes the
+    /// header and its payload, once that has come. `OutOfMemory` comes only where a whole payload is to be taken, and takes
+    /// nothing: a later call answers as if this one had not been made.
+    pub fn consume_next(&mut self) -> Result<Option<RawMessage>, DecodingError>
+        ensures next { AnswersNext self.old.version self.old.bytes result self.new.bytes }
+        ensures version { self.new.version ≡ self.old.version }
+        ensures short { result ≡ Ok None → length self.new.bytes ≤ 4294967302 }
+        // what is taken is eight bytes at least, so a loop over the messages ends
+        ensures shorter { TakesEight self.old.bytes result self.new.bytes }
+    {
+        let Some(head) = hold_head(&mut self.head, &mut self.pending) else {
+            return Ok(None);
+        };
+        let word = u64::from_be_bytes(head);
+        let header = match MessageHeader::try_from(word) {
+            Ok(header) => header,
+            Err(unknown) => {
+                if !skips_unknown(self.version) {
+                    self.head = None;
+                    return Err(DecodingError::UnknownMessageType(unknown));
+                }
+                let code = unknown.code();
+                let length = (word & 0xFFFF_FFFF) as usize;
+                let Ok(skipped) = take_payload(&mut self.head, &mut self.pending, length) else {
+                    return Err(DecodingError::OutOfMemory);
+                };
+                let Some(payload) = skipped else {
+                    return Ok(None);
+                };
+                return Err(DecodingError::SkippedMessage(code, payload));
+            }
+        };
+        let length = header.message_length() as usize;
+        let Ok(taken) = take_payload(&mut self.head, &mut self.pending, length) else {
+            return Err(DecodingError::OutOfMemory);
+        };
+        let Some(payload) = taken else {
+            return Ok(None);
+        };
+        Ok(Some(RawMessage::new(header, payload)))
+    }
+
+    /// The next item, of any kind, or `None` exactly where no whole one remains: what `consume_next` answers, for a caller
+    /// to whom an unknown header or a skipped message is an item like any other. Want of memory takes nothing.
+    pub fn next_item(&mut self) -> Result<Option<Item>, AllocError>
+        ensures taken { IfOk result (λ found. MatchOption found
+            (NoItemBegins self.old.version self.old.bytes × (self.new.bytes ≡ self.old.bytes)
+            × (length self.new.bytes ≤ 4294967302))
+            (λ item. TakesItem self.old.version self.old.bytes item self.new.bytes)) }
+        ensures refused { OnErr result (self.new.bytes ≡ self.old.bytes) }
+        ensures shorter { IfOk result (λ found. IfSome found (λ item. length self.new.bytes + 8 ≤ length self.old.bytes)) }
+        ensures version { self.new.version ≡ self.old.version }
+    {
+        match self.consume_next() {
+            Ok(None) => Ok(None),
+            Ok(Some(message)) => Ok(Some(Item::Message(message))),
+            Err(DecodingError::UnknownMessageType(unknown)) => {
+                Ok(Some(Item::Unknown(unknown.code())))
+            }
+            Err(DecodingError::SkippedMessage(code, payload)) => {
+                Ok(Some(Item::Skipped(code, payload)))
+            }
+            Err(DecodingError::OutOfMemory) => Err(AllocError),
+            // The other refusals are those of a message's payload.
+            Err(_) => unreachable!(),
+        }
+    }
+}
