@@ -68,4 +68,11 @@ int64_t journal_merge(uint32_t schema, const uint8_t *first, size_t first_length
 int64_t journal_frame(uint32_t version, uint16_t code, const uint8_t *payload, size_t payload_length, size_t rounds,
                       uint8_t *out, size_t out_length);
 
+/*
+ * As journal_frame, but all rounds append the frame to one buffer, which is cleared before each: only the first, and a suspension before
+ * version 7, asks for memory.
+ */
+int64_t journal_frame_into(uint32_t version, uint16_t code, const uint8_t *payload, size_t payload_length, size_t rounds,
+                           uint8_t *out, size_t out_length);
+
 #endif

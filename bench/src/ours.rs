@@ -90,6 +90,15 @@ mod c {
             out: *mut u8,
             out_length: usize,
         ) -> i64;
+        pub fn journal_frame_into(
+            version: u32,
+            code: u16,
+            payload: *const u8,
+            payload_length: usize,
+            rounds: usize,
+            out: *mut u8,
+            out_length: usize,
+        ) -> i64;
     }
 }
 
@@ -207,14 +216,23 @@ pub fn merge(schema: usize, first: &[u8], second: &[u8]) -> Result<Vec<u8>, Refu
     })
 }
 
-/// The frame of the message that a payload holds, of the last of the rounds.
-pub fn frame(version: u32, code: u16, payload: &[u8], rounds: usize) -> Result<Vec<u8>, Refusal> {
+/// A call that writes a frame into room that is there, and answers its length.
+pub type FrameCall = fn(u32, u16, &[u8], usize, &mut [u8]) -> Result<usize, Refusal>;
+
+/// The frame of the message that a payload holds, of the last of the rounds, by one of the two calls below.
+pub fn frame(
+    call: FrameCall,
+    version: u32,
+    code: u16,
+    payload: &[u8],
+    rounds: usize,
+) -> Result<Vec<u8>, Refusal> {
     written(8 + room(payload.len()), |out| {
-        frame_to(version, code, payload, rounds, out)
+        call(version, code, payload, rounds, out)
     })
 }
 
-/// As `frame`, into room that is there; answers the frame's length.
+/// A frame for which each round has a buffer of its own.
 pub fn frame_to(
     version: u32,
     code: u16,
@@ -225,6 +243,28 @@ pub fn frame_to(
     // SAFETY: the lengths are those of the slices, of which `out` alone is written
     count(unsafe {
         c::journal_frame(
+            version,
+            code,
+            payload.as_ptr(),
+            payload.len(),
+            rounds,
+            out.as_mut_ptr(),
+            out.len(),
+        )
+    })
+}
+
+/// A frame for which all rounds have one buffer, which is cleared before each.
+pub fn frame_into(
+    version: u32,
+    code: u16,
+    payload: &[u8],
+    rounds: usize,
+    out: &mut [u8],
+) -> Result<usize, Refusal> {
+    // SAFETY: the lengths are those of the slices, of which `out` alone is written
+    count(unsafe {
+        c::journal_frame_into(
             version,
             code,
             payload.as_ptr(),

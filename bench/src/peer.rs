@@ -5,7 +5,7 @@
 use std::collections::VecDeque;
 use std::hint::black_box;
 
-use bytes::{Buf, BufMut, Bytes};
+use bytes::{Buf, BufMut, Bytes, BytesMut};
 use prost::{DecodeError, Message};
 
 use crate::records::{Future, SuspensionMessage, SuspensionMessageV6};
@@ -380,45 +380,98 @@ pub fn text(schema: usize, payload: &[u8]) -> Result<String, Refusal> {
 
 /// The frame of the message that a payload holds, which is decoded once and encoded several times.
 pub fn frame(version: u32, code: u16, payload: &[u8], rounds: usize) -> Result<Bytes, Refusal> {
+    let mut last = Bytes::new();
+    frames(version, code, payload, rounds, &mut last)?;
+    Ok(last)
+}
+
+/// The same in one buffer, which is cleared before each round.
+pub fn frame_into(
+    version: u32,
+    code: u16,
+    payload: &[u8],
+    rounds: usize,
+    out: &mut BytesMut,
+) -> Result<(), Refusal> {
+    frames(version, code, payload, rounds, out)
+}
+
+/// Where frames go: the one that is put in takes the place of the one before.
+trait Room {
+    fn put(&mut self, code: u16, acknowledge: bool, message: &impl Message);
+}
+
+/// A buffer of its own for each frame.
+impl Room for Bytes {
+    fn put(&mut self, code: u16, acknowledge: bool, message: &impl Message) {
+        *self = Bytes::new();
+        let length = message.encoded_len();
+        let mut frame = Vec::with_capacity(HEADER + length);
+        append(code, acknowledge, length, message, &mut frame);
+        *self = frame.into();
+    }
+}
+
+/// One buffer for all frames.
+impl Room for BytesMut {
+    fn put(&mut self, code: u16, acknowledge: bool, message: &impl Message) {
+        let length = message.encoded_len();
+        self.clear();
+        self.reserve(HEADER + length);
+        append(code, acknowledge, length, message, self);
+    }
+}
+
+/// Appends a header and the message's payload.
+fn append(
+    code: u16,
+    acknowledge: bool,
+    length: usize,
+    message: &impl Message,
+    out: &mut impl BufMut,
+) {
+    let header = Header {
+        code,
+        acknowledge,
+        length: length as u32,
+    };
+    out.put_u64(header.word());
+    // `encode` would ask for the length once more, to compare it with the room
+    message.encode_raw(out);
+}
+
+/// Puts the frame of the message that a payload holds so many times.
+fn frames(
+    version: u32,
+    code: u16,
+    payload: &[u8],
+    rounds: usize,
+    room: &mut impl Room,
+) -> Result<(), Refusal> {
     let payload = Bytes::copy_from_slice(payload);
     match code {
         SUSPENSION if version < FUTURES => {
             let message = SuspensionMessage::decode(payload)?;
-            Ok(repeat(rounds, || encode(code, false, &flattened(&message))))
+            for _ in 0..rounds.max(1) {
+                room.put(code, false, &flattened(&message));
+                black_box(&mut *room);
+            }
+            Ok(())
         }
         _ => with_message!(
             code,
             Record => {
                 let message = Record::decode(payload)?;
                 let acknowledge = code == PROPOSE_RUN_COMPLETION && version >= FUTURES;
-                Ok(repeat(rounds, || encode(code, acknowledge, &message)))
+                for _ in 0..rounds.max(1) {
+                    room.put(code, acknowledge, &message);
+                    black_box(&mut *room);
+                }
+                Ok(())
             },
             _ => Err(Refusal::Unknown),
         ),
     }
-}
-
-/// What the last of several rounds gives.
-fn repeat(rounds: usize, mut round: impl FnMut() -> Bytes) -> Bytes {
-    for _ in 1..rounds {
-        black_box(round());
-    }
-    round()
-}
-
-/// A header and the message's payload, in a buffer of their length.
-fn encode(code: u16, acknowledge: bool, message: &impl Message) -> Bytes {
-    let length = message.encoded_len();
-    let header = Header {
-        code,
-        acknowledge,
-        length: length as u32,
-    };
-    let mut frame = Vec::with_capacity(HEADER + length);
-    frame.put_u64(header.word());
-    // `encode` would ask for the length once more, to compare it with the room
-    message.encode_raw(&mut frame);
-    frame.into()
 }
 
 /// The suspension as it was sent before futures were trees: all that is awaited, in three lists.

@@ -149,6 +149,42 @@ pub fn large(random: &mut Random) -> Vec<Frame> {
     frames
 }
 
+/// How many futures there are in a suspension below the one that is awaited.
+const FUTURES: u32 = 90;
+
+/// A suspension that waits for futures in one another, each with a completion of its own and every third with a named signal.
+pub fn deep() -> Frame {
+    let innermost = future(FUTURES, Vec::new());
+    suspension(
+        (0..FUTURES)
+            .rev()
+            .fold(innermost, |inner, id| future(id, vec![inner])),
+    )
+}
+
+/// The same futures side by side.
+pub fn wide() -> Frame {
+    suspension(future(
+        0,
+        (1..=FUTURES).map(|id| future(id, Vec::new())).collect(),
+    ))
+}
+
+fn suspension(awaited: Future) -> Frame {
+    let awaiting_on = Some(awaited);
+    Frame::new(0x0001, &SuspensionMessage { awaiting_on })
+}
+
+fn future(id: u32, nested_futures: Vec<Future>) -> Future {
+    let signal = (id % 3 == 0).then(|| format!("approved by {id}"));
+    Future {
+        waiting_completions: vec![100 + id],
+        waiting_named_signals: signal.into_iter().collect(),
+        nested_futures,
+        ..Future::default()
+    }
+}
+
 /// Something as JSON of about a length.
 fn json(random: &mut Random, length: usize) -> bytes::Bytes {
     let text: String = (0..length.saturating_sub(12))

@@ -1,5 +1,5 @@
 //! Measures the library and the peer side by side, and prints a table in Markdown:
-//! speed [--check] [--only WORKLOAD] [--side ours|peer] [--what items|messages|encode|payloads|headers] [--piece N] [--row NAME] [--size N]
+//! speed [--check] [--only WORKLOAD] [--side ours|peer] [--what items|messages|encode|encode_into|payloads|headers] [--piece N] [--row NAME] [--size N]
 //! [--rounds N] [--protocol 5..9]
 //!
 //! With --side nothing is compared or printed: that side alone goes over the workload so many times, for a profiler. Before a table is printed,
@@ -11,6 +11,7 @@ use std::hint::black_box;
 use std::process::ExitCode;
 use std::time::{Duration, Instant};
 
+use bytes::BytesMut;
 use pendratsoa_bench::hostile::{self, Hostile};
 use pendratsoa_bench::random::Random;
 use pendratsoa_bench::schema;
@@ -46,6 +47,14 @@ const ENCODINGS: usize = 64;
 /// Times, at least, that two commands are compared for each time that they are decoded.
 const COMPARISONS: usize = 4096;
 
+/// Suspensions, each at its own version: before the seventh they are written as lists.
+const SUSPENSIONS: [(&str, u32, fn() -> Frame); 4] = [
+    ("deep_v6", 6, streams::deep),
+    ("deep_v8", 8, streams::deep),
+    ("wide_v6", 6, streams::wide),
+    ("wide_v8", 8, streams::wide),
+];
+
 extern "C" {
     fn requests_for_memory() -> u64;
 }
@@ -56,6 +65,8 @@ enum What {
     Items,
     Messages,
     Encode,
+    /// Frames are made in one buffer that is used again.
+    EncodeInto,
     /// Commands are compared, with their payloads.
     Payloads,
     /// Commands are compared, but for their payloads. The peer's derived `==` knows no such thing, and compares all.
@@ -64,7 +75,10 @@ enum What {
 
 impl What {
     /// What is done to a stream of messages.
-    const STREAM: [What; 3] = [What::Items, What::Messages, What::Encode];
+    const STREAM: [What; 4] = [What::Items, What::Messages, What::Encode, What::EncodeInto];
+
+    /// What is done to messages that are only written.
+    const FRAMES: [What; 2] = [What::Encode, What::EncodeInto];
 
     /// What is done to commands.
     const COMMANDS: [What; 2] = [What::Payloads, What::Headers];
@@ -78,7 +92,7 @@ impl What {
     fn least_rounds(self) -> usize {
         match self {
             What::Items | What::Messages => 1,
-            What::Encode => ENCODINGS,
+            What::Encode | What::EncodeInto => ENCODINGS,
             What::Payloads | What::Headers => COMPARISONS,
         }
     }
@@ -88,6 +102,7 @@ impl What {
             What::Items => "items",
             What::Messages => "messages",
             What::Encode => "encode",
+            What::EncodeInto => "encode_into",
             What::Payloads => "payloads",
             What::Headers => "headers",
         }
@@ -126,6 +141,11 @@ impl Workload {
         }
     }
 
+    /// Whether there is a suspension that is written as lists, which have to be made.
+    fn has_lists(&self) -> bool {
+        self.version < 7 && self.frames.iter().any(|frame| frame.code == 0x0001)
+    }
+
     /// How many payloads lie across pieces of a length.
     fn straddling(&self, piece: usize) -> u64 {
         let mut end = 0;
@@ -138,9 +158,9 @@ impl Workload {
         count
     }
 
-    fn all(version: u32) -> [Workload; 4] {
+    fn all(version: u32) -> Vec<Workload> {
         let mut random = Random::new(1, 0);
-        [
+        let mut all = vec![
             Workload::new(
                 version,
                 "replay",
@@ -156,7 +176,11 @@ impl Workload {
                 streams::commands(&mut Random::new(1, 0)),
                 &What::COMMANDS,
             ),
-        ]
+        ];
+        all.extend(SUSPENSIONS.map(|(name, version, frame)| {
+            Workload::new(version, name, vec![frame()], &What::FRAMES)
+        }));
+        all
     }
 }
 
@@ -189,17 +213,20 @@ struct Bench<'a> {
     piece: usize,
     words: Vec<u64>,
     out: Vec<u8>,
+    buffer: BytesMut,
 }
 
 impl<'a> Bench<'a> {
     fn new(workload: &'a Workload, what: What, piece: usize) -> Bench<'a> {
-        let longest = workload.frames.iter().map(|frame| frame.payload.len());
+        let lengths = workload.frames.iter().map(|frame| frame.payload.len());
+        let longest = 8 + lengths.max().unwrap_or(0);
         Bench {
             workload,
             what,
             piece,
             words: vec![0; workload.frames.len()],
-            out: vec![0; 8 + longest.max().unwrap_or(0)],
+            out: vec![0; longest],
+            buffer: BytesMut::with_capacity(longest),
         }
     }
 
@@ -217,7 +244,7 @@ impl<'a> Bench<'a> {
             }
             (What::Messages, Side::Ours) => ours::messages(version, stream, self.piece, rounds)?,
             (What::Messages, Side::Peer) => peer::messages(version, stream, self.piece, rounds)?,
-            (What::Encode, side) => self.encode(side, rounds)?,
+            (What::Encode | What::EncodeInto, side) => self.encode(side, rounds)?,
             (What::Payloads, Side::Ours) => ours::compare(version, stream, false, rounds)?,
             (What::Headers, Side::Ours) => ours::compare(version, stream, true, rounds)?,
             (What::Payloads | What::Headers, Side::Peer) => peer::compare(version, stream, rounds)?,
@@ -241,13 +268,20 @@ impl<'a> Bench<'a> {
     /// Encodes each frame so many times.
     fn encode(&mut self, side: Side, rounds: usize) -> Result<usize, Failed> {
         let version = self.workload.version;
-        for frame in &self.workload.frames {
-            match side {
-                Side::Ours => {
-                    ours::frame_to(version, frame.code, &frame.payload, rounds, &mut self.out)?;
+        for Frame { code, payload } in &self.workload.frames {
+            match (side, self.what) {
+                (Side::Ours, What::EncodeInto) => {
+                    ours::frame_into(version, *code, payload, rounds, &mut self.out)?;
                 }
-                Side::Peer => {
-                    let frame = peer::frame(version, frame.code, &frame.payload, rounds)?;
+                (Side::Ours, _) => {
+                    ours::frame_to(version, *code, payload, rounds, &mut self.out)?;
+                }
+                (Side::Peer, What::EncodeInto) => {
+                    peer::frame_into(version, *code, payload, rounds, &mut self.buffer)?;
+                    self.out[..self.buffer.len()].copy_from_slice(&self.buffer);
+                }
+                (Side::Peer, _) => {
+                    let frame = peer::frame(version, *code, payload, rounds)?;
                     self.out[..frame.len()].copy_from_slice(&frame);
                 }
             }
@@ -444,8 +478,8 @@ fn check_comparisons(workload: &Workload, what: What, side: Side) -> Result<(), 
     }
 }
 
-/// That a side makes the rounds that it is asked for, each with the same requests for memory, and that it takes the stream in the pieces that it
-/// is asked for: each payload that lies across pieces has to be joined.
+/// That a side makes the rounds that it is asked for, each with the same requests for memory, which are none where a buffer is used again; and that
+/// it takes the stream in the pieces that it is asked for: each payload that lies across pieces has to be joined.
 fn check_rounds(workload: &Workload, what: What, side: Side) -> Result<(), Failed> {
     let failed = |why| {
         Failed(format!(
@@ -459,7 +493,8 @@ fn check_rounds(workload: &Workload, what: What, side: Side) -> Result<(), Faile
     let of_a_round = bench.of_a_round(side)?;
     let twice = bench.counted(side, 2)?;
     let more = bench.counted(side, 5)?;
-    if of_a_round == 0 || more.saturating_sub(twice) != 3 * of_a_round {
+    let asks = what != What::EncodeInto || workload.has_lists();
+    if (of_a_round > 0) != asks || more.saturating_sub(twice) != 3 * of_a_round {
         return Err(failed(format!(
             "{of_a_round} requests for memory in a round, {twice} in two and {more} in five"
         )));
@@ -670,7 +705,7 @@ fn measure_hostile(hostile: &[Growing]) -> Result<(), Failed> {
 fn main() -> ExitCode {
     let Some(options) = Options::read(env::args().skip(1)) else {
         eprintln!(
-            "usage: speed [--check] [--only WORKLOAD] [--side ours|peer] [--what items|messages|encode|payloads|headers] [--piece N] [--row NAME] [--size N] [--rounds N] [--protocol 5..9]"
+            "usage: speed [--check] [--only WORKLOAD] [--side ours|peer] [--what items|messages|encode|encode_into|payloads|headers] [--piece N] [--row NAME] [--size N] [--rounds N] [--protocol 5..9]"
         );
         return ExitCode::from(2);
     };

@@ -3,7 +3,7 @@
 ghost use Rattle.std.specs.Prelude.{◌≡◌, ◌≤◌};
 ghost use Rattle.shared_core_base.specs.Version.{version_number};
 ghost use Rattle.shared_core_parts.specs.Messages.{message_schema};
-ghost use Rattle.journal_calls.specs.Payloads.{AnswersFrame, AnswersFrameOf, WritesRecord};
+ghost use Rattle.journal_calls.specs.Payloads.{AnswersFrame, AnswersFrameOf, WritesForm, WritesRecord};
 
 use crate::answer::{Refusal, version_of, write_bytes};
 use crate::rounds::repeated;
@@ -32,13 +32,31 @@ use shared_core::messages::{
 use shared_core::wire::WireError;
 use std::alloc::Global;
 
+/// How often a message is encoded, and where.
+#[derive(Clone, Copy, Debug, PartialEq, Eq)]
+pub struct Rounds {
+    /// How many times over. 0 counts as 1.
+    pub count: usize,
+    /// The buffer of a round.
+    pub buffer: Buffer,
+}
+
+/// The buffer that a round encodes a message into.
+#[derive(Clone, Copy, Debug, PartialEq, Eq)]
+pub enum Buffer {
+    /// One of its own.
+    New,
+    /// That of the round before, cleared.
+    Reused,
+}
+
 /// The frame, at a version, of the message of a named type that a payload spells.
 pub fn frame(
     alloc: Global,
     version: u32,
     code: u16,
     payload: &[u8],
-    rounds: usize,
+    rounds: Rounds,
     out: &mut [u8],
 ) -> Result<usize, Refusal>
     ensures { AnswersFrame version code payload.now out.new result }
@@ -56,7 +74,7 @@ fn write_frame(
     encoder: Encoder,
     ty: MessageType,
     payload: &[u8],
-    rounds: usize,
+    rounds: Rounds,
     out: &mut [u8],
 ) -> Result<usize, Refusal>
     ensures { AnswersFrameOf ty (message_schema ty) encoder.version payload.now out.new result }
@@ -183,12 +201,12 @@ fn write_frame(
     }
 }
 
-/// Decodes a payload to a record, and writes its frame.
+/// Decodes a payload to a record, encodes it round by round, and writes its frame.
 fn write_frame_as<M: RestateEncodableMessage>(
     alloc: Global,
     encoder: Encoder,
     payload: &[u8],
-    rounds: usize,
+    rounds: Rounds,
     out: &mut [u8],
 ) -> Result<usize, Refusal>
     ensures { WritesRecord M.message_type M.schema M.parts (λ message. M.wire_form message encoder.version) payload.now out.new result }
@@ -199,8 +217,46 @@ fn write_frame_as<M: RestateEncodableMessage>(
         Err(WireError::Malformed) => return Err(Refusal::Malformed),
         Err(WireError::OutOfMemory) => return Err(Refusal::OutOfMemory),
     };
-    let frame = repeated(rounds, &mut [], |_words| {
-        Ok(encoder.encode(alloc, &message)?)
-    })?;
+    match rounds.buffer {
+        Buffer::New => write_new(alloc, encoder, &message, rounds.count, out),
+        Buffer::Reused => write_reused(alloc, encoder, &message, rounds.count, out),
+    }
+}
+
+/// Writes the frame of a message, for which each round has a buffer of its own.
+fn write_new<M: RestateEncodableMessage>(
+    alloc: Global,
+    encoder: Encoder,
+    message: &M,
+    rounds: usize,
+    out: &mut [u8],
+) -> Result<usize, Refusal>
+    ensures { WritesForm M.message_type (M.wire_form message.now encoder.version) out.new result }
+{
+    let frame = repeated(
+        rounds,
+        &mut [],
+        |_words| Ok(encoder.encode(alloc, message)?),
+    )?;
+    write_bytes(&frame, out)
+}
+
+/// The same, but all rounds have one buffer, which is cleared before each.
+fn write_reused<M: RestateEncodableMessage>(
+    alloc: Global,
+    encoder: Encoder,
+    message: &M,
+    rounds: usize,
+    out: &mut [u8],
+) -> Result<usize, Refusal>
+    ensures { WritesForm M.message_type (M.wire_form message.now encoder.version) out.new result }
+{
+    let mut frame = Vec::new(alloc);
+    for _round in 1..rounds {
+        frame.clear();
+        encoder.encode_into(message, &mut frame)?;
+    }
+    frame.clear();
+    encoder.encode_into(message, &mut frame)?;
     write_bytes(&frame, out)
 }

@@ -13,6 +13,7 @@ ghost use Rattle.std.specs.Prelude.{[], ◌∷◌};
 mod tests;
 
 use journal_calls::answer::answer_of;
+use journal_calls::frames::{Buffer, Rounds};
 use journal_calls::{canonical, commands, frames, streams};
 use std::alloc::Global;
 
@@ -109,5 +110,29 @@ pub extern "C" fn journal_frame(
 ) -> i64
     ensures { Answers result (AnswersFrame version code payload.now out.new) }
 {
+    let rounds = Rounds {
+        count: rounds,
+        buffer: Buffer::New,
+    };
+    answer_of(frames::frame(alloc, version, code, payload, rounds, out))
+}
+
+/// As `journal_frame`, but all rounds have one buffer, which is cleared before each: only the first, and a suspension before V7, asks for
+/// memory.
+#[unsafe(no_mangle)]
+pub extern "C" fn journal_frame_into(
+    alloc: Global,
+    version: u32,
+    code: u16,
+    payload: &[u8],
+    rounds: usize,
+    out: &mut [u8],
+) -> i64
+    ensures { Answers result (AnswersFrame version code payload.now out.new) }
+{
+    let rounds = Rounds {
+        count: rounds,
+        buffer: Buffer::Reused,
+    };
     answer_of(frames::frame(alloc, version, code, payload, rounds, out))
 }

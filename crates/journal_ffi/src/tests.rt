@@ -1,9 +1,9 @@
-//! The six calls: each on worked examples of the protocol's description and with each refusal, and each schema and each named type through
+//! The seven calls: each on worked examples of the protocol's description and with each refusal, and each schema and each named type through
 //! them, since a body that gives up for want of memory would be proved.
 
 use crate::{
-    journal_canonical, journal_compare, journal_frame, journal_items, journal_merge,
-    journal_messages,
+    journal_canonical, journal_compare, journal_frame, journal_frame_into, journal_items,
+    journal_merge, journal_messages,
 };
 
 /// The code of each named type.
@@ -314,9 +314,11 @@ fn frames(rt: HostRuntime) {
         for rounds in [0, 1, 5] {
             let mut out = [0; 26];
             let answer = journal_frame(rt.alloc(), version, code, payload, rounds, &mut out);
+            let mut same = [0; 26];
+            let again = journal_frame_into(rt.alloc(), version, code, payload, rounds, &mut same);
             assert!(rt;
-                is_answered(answer, &out, expected),
-                "code {code} at {version}, {rounds} rounds: {answer}, {out:?}"
+                is_answered(answer, &out, expected) && is_answered(again, &same, expected),
+                "code {code} at {version}, {rounds} rounds: {answer}, {out:?}, {again}, {same:?}"
             );
         }
     }

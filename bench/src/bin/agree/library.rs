@@ -2,7 +2,7 @@
 
 use pendratsoa_bench::cases::{any, any_piece};
 use pendratsoa_bench::conformance::{hex, Case, Listing, MALFORMED};
-use pendratsoa_bench::ours::{self, Refusal};
+use pendratsoa_bench::ours::{self, FrameCall, Refusal};
 use pendratsoa_bench::peer;
 use pendratsoa_bench::random::Random;
 use pendratsoa_bench::rules::{self, Meaning};
@@ -79,8 +79,10 @@ fn compare_case(tally: &mut Tally, random: &mut Random) {
             payload,
         } => {
             let rounds = random.below(3);
-            let ours = ours::frame(*version, message_type.code, payload, rounds);
-            equal(tally, kind, &case, &written(&ours), &verdict.answer);
+            for call in [ours::frame_to, ours::frame_into] as [FrameCall; 2] {
+                let ours = ours::frame(call, *version, message_type.code, payload, rounds);
+                equal(tally, kind, &case, &written(&ours), &verdict.answer);
+            }
         }
         Case::Stream { version, pieces } => {
             let stream = pieces.concat();
@@ -215,6 +217,10 @@ fn compare_refusals(tally: &mut Tally) {
         (ours::frame_to(8, CUSTOM, &[], 1, &mut out), Err(Unknown)),
         (ours::frame_to(8, END, &[], 1, &mut out[..7]), Err(NoRoom)),
         (ours::frame_to(8, END, &[], 1, &mut out), Ok(8)),
+        (ours::frame_into(10, END, &[], 1, &mut out), Err(Unknown)),
+        (ours::frame_into(8, CUSTOM, &[], 1, &mut out), Err(Unknown)),
+        (ours::frame_into(8, END, &[], 1, &mut out[..7]), Err(NoRoom)),
+        (ours::frame_into(8, END, &[], 1, &mut out), Ok(8)),
     ];
     for (place, (ours, expected)) in answers.into_iter().enumerate() {
         if ours == expected {
