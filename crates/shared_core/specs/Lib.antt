@@ -6,3 +6,4 @@ pub mod Typed
 pub mod Written
 pub mod View
 pub mod Decoded
+pub mod Visiting

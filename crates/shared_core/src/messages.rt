@@ -1,5 +1,9 @@
 //! The records of the protocol: one struct a message, with the enums of its oneofs in a module named as the message.
 
+mod command_visitor;
+mod message_visitor;
+mod record_visitor;
+
 pub use shared_core_base::error::ErrorBehavior;
 pub use shared_core_compare::difference::CommandMessageHeaderDiff;
 pub use shared_core_compare::equality::CommandMessageHeaderEq;
@@ -65,3 +69,8 @@ pub use shared_core_notifications::{
     peek_promise_completion_notification_message, run_completion_notification_message,
     signal_notification_message,
 };
+
+// Code that is generic over the record, for a type that is known at run time.
+pub use command_visitor::{CommandMessage, CommandVisitor, visit_command};
+pub use message_visitor::{MessageVisitor, visit_message};
+pub use record_visitor::{RecordVisitor, visit_record};
