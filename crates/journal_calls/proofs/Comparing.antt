@@ -8,7 +8,8 @@ use Rattle.shared_core.specs.Items.{TakesItem, IsItemsThen}
 use Rattle.shared_core.proofs.Items.{then_takes}
 use Rattle.journal_calls.specs.declared.answer.Refusal.{Refusal}
 use Rattle.journal_calls.specs.declared.answer.Refusal.TheVariants.{Malformed, OutOfMemory, NoRoom, TooLong, Unknown as NoNumber}
-use Rattle.journal_calls.specs.Comparisons.{ComparesItem, ComparesAll, command_schema}
+use Rattle.shared_core.specs.Visiting.{command_schema}
+use Rattle.journal_calls.specs.Comparisons.{ComparesItem, ComparesAll}
 use Rattle.journal_calls.specs.Streams.{Decodes, count_with}
 use Rattle.journal_calls.proofs.Counting.{count_more}
 

@@ -1,30 +1,18 @@
 -- What the call on commands answers.
-use Rattle.std.specs.Prelude.{◌≡◌, ℕ, Bool, ◌*◌, ◌^◌, ◌≤◌, List, Option, Some, None, Result, Ok, Err, nat_eq, if◌then◌else◌}
-use Rattle.std.specs.List.{list_any}
+use Rattle.std.specs.Prelude.{◌≡◌, ℕ, Bool, ◌*◌, ◌^◌, ◌≤◌, List, Option, Some, None, Result, Ok, Err}
 use Rattle.shared_core_base.specs.declared.version.Version.{Version}
-use Rattle.shared_core_base.specs.declared.header.MessageType.{MessageType}
 use Rattle.shared_core_wire.specs.Value.{Parts}
 use Rattle.shared_core_record.specs.Payloads.{IsAccepted}
-use Rattle.shared_core_parts.specs.Messages.{message_schema}
-use Rattle.shared_core_compare.specs.Commands.{commands}
 use Rattle.shared_core_compare.specs.Erasure.{erased}
 use Rattle.shared_core.specs.declared.encoding.item.Item.{Item}
 use Rattle.shared_core.specs.declared.encoding.item.Item.TheVariants.{Message}
 use Rattle.shared_core.specs.Items.{IsItemsThen, SplitsInto}
 use Rattle.shared_core.specs.Typed.{MeansParts}
+use Rattle.shared_core.specs.Visiting.{command_schema}
 use Rattle.journal_calls.specs.declared.answer.Refusal.{Refusal}
 use Rattle.journal_calls.specs.declared.answer.Refusal.TheVariants.{Malformed, OutOfMemory, TooLong}
 use Rattle.journal_calls.specs.Answers.{AtVersion, spoken_version}
 use Rattle.journal_calls.specs.Streams.{AllDecode, HasMalformed, IsAcceptedFor, count_with, one_with}
-
--- A schema, if it is that of a command that is compared.
-abbrev pub if_command : Option ℕ → Option ℕ
-if_command (Some s) = if list_any (λ entry. nat_eq s entry.0) commands then Some s else None
-if_command None = None
-
--- The schema of a type's payloads, if its messages are commands that are compared.
-abbrev pub command_schema : MessageType → Option ℕ
-command_schema ty = if_command (message_schema ty)
 
 -- A record has the parts that a payload means for the schema. Malformed where the payload is not well-formed.
 abbrev pub MeansRecord : {M : Type 0} → ℕ → (M → Parts) → List ℕ → Result M Refusal → Type 0

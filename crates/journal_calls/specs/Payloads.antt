@@ -3,15 +3,14 @@ use Rattle.std.specs.Prelude.{◌≡◌, ℕ, ◌^◌, ◌<◌, ◌≤◌, nat_l
 use Rattle.std.specs.List.{All, concat}
 use Rattle.shared_core_base.specs.declared.version.Version.{Version}
 use Rattle.shared_core_base.specs.declared.header.MessageType.{MessageType}
-use Rattle.shared_core_base.specs.declared.header.MessageType.TheVariants.{Suspension, ProposeRunCompletion}
 use Rattle.shared_core_base.specs.MessageType.{type_of}
 use Rattle.shared_core_wire.specs.Value.{Parts}
 use Rattle.shared_core_wire.specs.Canonical.{canonical_payload, size}
 use Rattle.shared_core_record.specs.Table.{schemas, table}
 use Rattle.shared_core_record.specs.Payloads.{IsAccepted, payload_meaning}
-use Rattle.shared_core_parts.specs.Frames.{WireForm, plain_form, wire_size, wire_frame}
+use Rattle.shared_core_parts.specs.Frames.{WireForm, wire_size, wire_frame}
 use Rattle.shared_core_parts.specs.Messages.{message_schema}
-use Rattle.shared_core_runtime.specs.Versions.{suspension_form, proposal_form}
+use Rattle.shared_core.specs.Visiting.{written_form}
 use Rattle.journal_calls.specs.declared.answer.Refusal.{Refusal}
 use Rattle.journal_calls.specs.declared.answer.Refusal.TheVariants.{Malformed, OutOfMemory, NoRoom, TooLong, Unknown}
 use Rattle.journal_calls.specs.Answers.{AreWritten, AtVersion, spoken_version}
@@ -31,16 +30,21 @@ WritesMeaning s first rest out (Err OutOfMemory) = Unit {0}
 WritesMeaning s first rest out answer =
     IsAccepted s first × All (IsAccepted s) rest × WritesCanonical s (payload_meaning s (first ++ concat rest)) out answer
 
+-- Where each part of a payload is well-formed, the answer is the canonical payload of what the joined parts mean, or that it is too long for a header;
+-- else it is Malformed. Memory may be wanting.
+abbrev pub AnswersMeaning : ℕ → List ℕ → List (List ℕ) → Result (List ℕ) Refusal → Type 0
+AnswersMeaning s first rest (Ok bytes) =
+    IsAccepted s first × All (IsAccepted s) rest × (bytes ≡ canonical_payload table s (payload_meaning s (first ++ concat rest)))
+AnswersMeaning s first rest (Err Malformed) = ¬ (IsAccepted s first × All (IsAccepted s) rest)
+AnswersMeaning s first rest (Err TooLong) =
+    IsAccepted s first × All (IsAccepted s) rest × (2 ^ 32 ≤ size table s (payload_meaning s (first ++ concat rest)))
+AnswersMeaning s first rest (Err OutOfMemory) = Unit {0}
+AnswersMeaning s first rest (Err refusal) = ⊥
+
 -- What journal_canonical and journal_merge answer.
 abbrev pub AnswersCanonical : ℕ → List ℕ → List (List ℕ) → List ℕ → Result ℕ Refusal → Type 0
 AnswersCanonical s first rest out answer =
     MatchBool (nat_lt s (length schemas)) (WritesMeaning s first rest out answer) (answer ≡ Err Unknown)
-
--- What a value of a named type is written as at a version.
-abbrev pub written_form : MessageType → ℕ → Version → Parts → WireForm
-written_form Suspension s version v = suspension_form v version
-written_form ProposeRunCompletion s version v = proposal_form v version
-written_form ty s version v = plain_form s v
 
 -- The frame of a wire form stands at the front of the slice, or it is too long for the slice, or its payload for a header.
 abbrev pub WritesForm : MessageType → WireForm → List ℕ → Result ℕ Refusal → Type 0
@@ -57,12 +61,19 @@ WritesFrame ty s version payload out (Err OutOfMemory) = Unit {0}
 WritesFrame ty s version payload out answer =
     IsAccepted s payload × WritesForm ty (written_form ty s version (payload_meaning s payload)) out answer
 
--- The same where the value is a record with these parts, which is written as this form.
-abbrev pub WritesRecord : {M : Type 0} → MessageType → ℕ → (M → Parts) → (M → WireForm) → List ℕ → List ℕ → Result ℕ Refusal → Type 0
-WritesRecord ty s parts form payload out (Err Malformed) = ¬ (IsAccepted s payload)
-WritesRecord ty s parts form payload out (Err OutOfMemory) = Unit {0}
-WritesRecord {M} ty s parts form payload out answer =
-    IsAccepted s payload × (message : M) × (parts message ≡ payload_meaning s payload) × WritesForm ty (form message) out answer
+-- The answer is the frame of a wire form, or that its payload is too long for a header. Memory may be wanting.
+abbrev pub SpellsForm : MessageType → WireForm → Result (List ℕ) Refusal → Type 0
+SpellsForm ty form (Ok bytes) = bytes ≡ wire_frame ty form
+SpellsForm ty form (Err TooLong) = 2 ^ 32 ≤ wire_size form
+SpellsForm ty form (Err OutOfMemory) = Unit {0}
+SpellsForm ty form (Err refusal) = ⊥
+
+-- Where the payload is well-formed for the schema, the answer is the frame of what it means; else it is Malformed. Memory may be wanting.
+abbrev pub SpellsFrame : MessageType → ℕ → Version → List ℕ → Result (List ℕ) Refusal → Type 0
+SpellsFrame ty s version payload (Err Malformed) = ¬ (IsAccepted s payload)
+SpellsFrame ty s version payload (Err OutOfMemory) = Unit {0}
+SpellsFrame ty s version payload answer =
+    IsAccepted s payload × SpellsForm ty (written_form ty s version (payload_meaning s payload)) answer
 
 -- What is answered for a type with this schema: Unknown where it has none.
 abbrev pub AnswersFrameOf : MessageType → Option ℕ → Version → List ℕ → List ℕ → Result ℕ Refusal → Type 0

@@ -2,22 +2,16 @@
 
 ghost use Rattle.std.specs.Prelude.{◌≡◌, ◌≤◌, Some};
 ghost use Rattle.shared_core_base.specs.Version.{version_number};
-ghost use Rattle.journal_calls.specs.Comparisons.{AreSame, AnswersComparisons, ComparesAll, ComparesItem, ComparesPayload, HoldsInRounds, command_schema};
+ghost use Rattle.shared_core.specs.Visiting.{command_schema};
+ghost use Rattle.journal_calls.specs.Comparisons.{AreSame, AnswersComparisons, ComparesAll, ComparesItem, ComparesPayload, HoldsInRounds};
 
 use crate::answer::{Refusal, version_of};
 use crate::messages::decoded;
 use crate::pieced_stream::PiecedStream;
 use bytes::Bytes;
 use shared_core::encoding::{Item, RawMessage};
-use shared_core::header::MessageType;
 use shared_core::messages::{
-    AttachInvocationCommandMessage, CallCommandMessage, ClearAllStateCommandMessage,
-    ClearStateCommandMessage, CommandMessageHeaderEq, CompleteAwakeableCommandMessage,
-    CompletePromiseCommandMessage, GetEagerStateCommandMessage, GetEagerStateKeysCommandMessage,
-    GetInvocationOutputCommandMessage, GetLazyStateCommandMessage, GetLazyStateKeysCommandMessage,
-    GetPromiseCommandMessage, InputCommandMessage, OneWayCallCommandMessage, OutputCommandMessage,
-    PeekPromiseCommandMessage, RestateMessage, RunCommandMessage, SendSignalCommandMessage,
-    SetStateCommandMessage, SleepCommandMessage,
+    CommandMessage, CommandMessageHeaderEq, CommandVisitor, visit_command,
 };
 use shared_core::version::Version;
 use std::alloc::Global;
@@ -84,144 +78,39 @@ fn compare_message(
 ) -> Result<usize, Refusal>
     ensures { ComparesPayload rounds (command_schema message.now.header.ty) message.now.payload result }
 {
-    match message.ty() {
-        MessageType::InputCommand => compare_as::<InputCommandMessage>(
-            alloc,
-            message,
-            ignore_payloads,
-            rounds,
-        ),
-        MessageType::OutputCommand => compare_as::<OutputCommandMessage>(
-            alloc,
-            message,
-            ignore_payloads,
-            rounds,
-        ),
-        MessageType::GetLazyStateCommand => compare_as::<GetLazyStateCommandMessage>(
-            alloc,
-            message,
-            ignore_payloads,
-            rounds,
-        ),
-        MessageType::SetStateCommand => compare_as::<SetStateCommandMessage>(
-            alloc,
-            message,
-            ignore_payloads,
-            rounds,
-        ),
-        MessageType::ClearStateCommand => compare_as::<ClearStateCommandMessage>(
-            alloc,
-            message,
-            ignore_payloads,
-            rounds,
-        ),
-        MessageType::ClearAllStateCommand => compare_as::<ClearAllStateCommandMessage>(
-            alloc,
-            message,
-            ignore_payloads,
-            rounds,
-        ),
-        MessageType::GetLazyStateKeysCommand => compare_as::<GetLazyStateKeysCommandMessage>(
-            alloc,
-            message,
-            ignore_payloads,
-            rounds,
-        ),
-        MessageType::GetEagerStateCommand => compare_as::<GetEagerStateCommandMessage>(
-            alloc,
-            message,
-            ignore_payloads,
-            rounds,
-        ),
-        MessageType::GetEagerStateKeysCommand => compare_as::<GetEagerStateKeysCommandMessage>(
-            alloc,
-            message,
-            ignore_payloads,
-            rounds,
-        ),
-        MessageType::GetPromiseCommand => compare_as::<GetPromiseCommandMessage>(
-            alloc,
-            message,
-            ignore_payloads,
-            rounds,
-        ),
-        MessageType::PeekPromiseCommand => compare_as::<PeekPromiseCommandMessage>(
-            alloc,
-            message,
-            ignore_payloads,
-            rounds,
-        ),
-        MessageType::CompletePromiseCommand => compare_as::<CompletePromiseCommandMessage>(
-            alloc,
-            message,
-            ignore_payloads,
-            rounds,
-        ),
-        MessageType::SleepCommand => compare_as::<SleepCommandMessage>(
-            alloc,
-            message,
-            ignore_payloads,
-            rounds,
-        ),
-        MessageType::CallCommand => compare_as::<CallCommandMessage>(
-            alloc,
-            message,
-            ignore_payloads,
-            rounds,
-        ),
-        MessageType::OneWayCallCommand => compare_as::<OneWayCallCommandMessage>(
-            alloc,
-            message,
-            ignore_payloads,
-            rounds,
-        ),
-        MessageType::SendSignalCommand => compare_as::<SendSignalCommandMessage>(
-            alloc,
-            message,
-            ignore_payloads,
-            rounds,
-        ),
-        MessageType::RunCommand => compare_as::<RunCommandMessage>(
-            alloc,
-            message,
-            ignore_payloads,
-            rounds,
-        ),
-        MessageType::AttachInvocationCommand => compare_as::<AttachInvocationCommandMessage>(
-            alloc,
-            message,
-            ignore_payloads,
-            rounds,
-        ),
-        MessageType::GetInvocationOutputCommand => compare_as::<GetInvocationOutputCommandMessage>(
-            alloc,
-            message,
-            ignore_payloads,
-            rounds,
-        ),
-        MessageType::CompleteAwakeableCommand => compare_as::<CompleteAwakeableCommandMessage>(
-            alloc,
-            message,
-            ignore_payloads,
-            rounds,
-        ),
-        _ => Ok(0),
+    let comparing = Comparing {
+        alloc,
+        message,
+        ignore_payloads,
+        rounds,
+    };
+    match visit_command(message.ty(), comparing) {
+        Some(answer) => answer,
+        None => Ok(0),
     }
 }
 
 /// Decodes a command twice, and answers how many of so many comparisons of the two hold.
-fn compare_as<M: RestateMessage + CommandMessageHeaderEq>(
+#[derive(Drop)]
+struct Comparing<'a> {
     alloc: Global,
-    message: &RawMessage,
+    message: &'a RawMessage,
     ignore_payloads: bool,
     rounds: usize,
-) -> Result<usize, Refusal>
-    requires { message.now.header.ty ≡ M.message_type }
-    ensures { ComparesPayload rounds (Some M.schema) message.now.payload result }
-{
-    let first = decoded::<M>(alloc, message)?;
-    let second = decoded::<M>(alloc, message)?;
-    Ok(count_same(&first, &second, ignore_payloads, rounds))
+}
+
+impl<'a> CommandVisitor for Comparing<'a> {
+    type Output = Result<usize, Refusal>;
+
+    ghost may_visit = { λ self ty. self.message.now.header.ty ≡ ty };
+
+    ghost answers = { λ self ty schema answer. ComparesPayload self.rounds (Some schema) self.message.now.payload answer };
+
+    fn visit<M: CommandMessage>(self) -> Result<usize, Refusal> {
+        let first = decoded::<M>(self.alloc, self.message)?;
+        let second = decoded::<M>(self.alloc, self.message)?;
+        Ok(count_same(&first, &second, self.ignore_payloads, self.rounds))
+    }
 }
 
 /// How many of so many comparisons of two commands hold.

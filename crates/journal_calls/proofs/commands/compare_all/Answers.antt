@@ -1,7 +1,7 @@
 use Rattle.std.proofs.Common.{◌∙◌, ◌++◌, ◌∷◌, [], arith}
 use Rattle.std.proofs.lemmas.Result.{err_from_is_err_and}
 use Rattle.shared_core.proofs.Items.{then_takes}
-use Rattle.journal_calls.specs.Comparisons.{command_schema}
+use Rattle.shared_core.specs.Visiting.{command_schema}
 use Rattle.journal_calls.specs.Pieces.{untaken}
 use Rattle.journal_calls.proofs.Comparing.{comparisons_more, item_compared, item_refused}
 use Rattle.journal_calls.proofs.Counting.{all_decode_more}

@@ -1,7 +1,7 @@
 use Rattle.std.proofs.Common.{◌≡◌, ◌*◌, List, length}
 use Rattle.shared_core.specs.declared.encoding.item.Item.{Item}
 use Rattle.shared_core.specs.Items.{IsItemsThen}
-use Rattle.journal_calls.specs.Comparisons.{command_schema}
+use Rattle.shared_core.specs.Visiting.{command_schema}
 use Rattle.journal_calls.specs.Pieces.{untaken}
 use Rattle.journal_calls.specs.Streams.{AllDecode, count_with}
 use Rattle.journal_calls.proofs.commands.compare_all.Given as goal
