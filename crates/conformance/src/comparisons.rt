@@ -1,87 +1,43 @@
 //! Commands compared, by the names of their types.
 
+use crate::message_types::type_of_name;
 use crate::payloads::decoded;
 use crate::verdict::{Failed, Verdict, spelled};
 use bytes::Bytes;
 use shared_core::fmt::DiffFormatter;
 use shared_core::messages::{
-    AttachInvocationCommandMessage, CallCommandMessage, ClearAllStateCommandMessage,
-    ClearStateCommandMessage, CommandMessageHeaderDiff, CommandMessageHeaderEq,
-    CompleteAwakeableCommandMessage, CompletePromiseCommandMessage, GetEagerStateCommandMessage,
-    GetEagerStateKeysCommandMessage, GetInvocationOutputCommandMessage, GetLazyStateCommandMessage,
-    GetLazyStateKeysCommandMessage, GetPromiseCommandMessage, InputCommandMessage,
-    OneWayCallCommandMessage, OutputCommandMessage, PeekPromiseCommandMessage, RunCommandMessage,
-    SendSignalCommandMessage, SetStateCommandMessage, SleepCommandMessage,
+    CommandMessage, CommandMessageHeaderDiff, CommandVisitor, visit_command,
 };
-use shared_core::wire::WireRecord;
 use std::fmt;
-
-/// The names of the types of commands.
-const COMMANDS: [&str; 20] = [
-    "InputCommand",
-    "OutputCommand",
-    "GetLazyStateCommand",
-    "SetStateCommand",
-    "ClearStateCommand",
-    "ClearAllStateCommand",
-    "GetLazyStateKeysCommand",
-    "GetEagerStateCommand",
-    "GetEagerStateKeysCommand",
-    "GetPromiseCommand",
-    "PeekPromiseCommand",
-    "CompletePromiseCommand",
-    "SleepCommand",
-    "CallCommand",
-    "OneWayCallCommand",
-    "SendSignalCommand",
-    "RunCommand",
-    "AttachInvocationCommand",
-    "GetInvocationOutputCommand",
-    "CompleteAwakeableCommand",
-];
 
 /// Checks how two commands of the type of a name compare: the recorded one, and the one that the code makes now.
 pub fn check_comparison(
-    ty: &str,
+    name: &str,
     actual: &Bytes,
     expected: &Bytes,
     verdict: &mut Verdict<'_>,
 ) -> Result<(), Failed> {
-    let Some(place) = COMMANDS.iter().position(|name| *name == ty) else {
-        return Err(Failed::Unreadable);
+    let check = Comparison {
+        actual,
+        expected,
+        verdict,
     };
-    check_place(place, actual, expected, verdict)
+    visit_command(type_of_name(name)?, check).unwrap_or(Err(Failed::Unreadable))
 }
 
-/// Checks how two commands of the type at a place among the names compare.
-fn check_place(
-    place: usize,
-    actual: &Bytes,
-    expected: &Bytes,
-    verdict: &mut Verdict<'_>,
-) -> Result<(), Failed> {
-    match place {
-        0 => check_as::<InputCommandMessage>(actual, expected, verdict),
-        1 => check_as::<OutputCommandMessage>(actual, expected, verdict),
-        2 => check_as::<GetLazyStateCommandMessage>(actual, expected, verdict),
-        3 => check_as::<SetStateCommandMessage>(actual, expected, verdict),
-        4 => check_as::<ClearStateCommandMessage>(actual, expected, verdict),
-        5 => check_as::<ClearAllStateCommandMessage>(actual, expected, verdict),
-        6 => check_as::<GetLazyStateKeysCommandMessage>(actual, expected, verdict),
-        7 => check_as::<GetEagerStateCommandMessage>(actual, expected, verdict),
-        8 => check_as::<GetEagerStateKeysCommandMessage>(actual, expected, verdict),
-        9 => check_as::<GetPromiseCommandMessage>(actual, expected, verdict),
-        10 => check_as::<PeekPromiseCommandMessage>(actual, expected, verdict),
-        11 => check_as::<CompletePromiseCommandMessage>(actual, expected, verdict),
-        12 => check_as::<SleepCommandMessage>(actual, expected, verdict),
-        13 => check_as::<CallCommandMessage>(actual, expected, verdict),
-        14 => check_as::<OneWayCallCommandMessage>(actual, expected, verdict),
-        15 => check_as::<SendSignalCommandMessage>(actual, expected, verdict),
-        16 => check_as::<RunCommandMessage>(actual, expected, verdict),
-        17 => check_as::<AttachInvocationCommandMessage>(actual, expected, verdict),
-        18 => check_as::<GetInvocationOutputCommandMessage>(actual, expected, verdict),
-        19 => check_as::<CompleteAwakeableCommandMessage>(actual, expected, verdict),
-        _ => Err(Failed::Unreadable),
+/// What is asked of two commands of a type.
+#[derive(Drop)]
+struct Comparison<'a, 'b> {
+    actual: &'a Bytes,
+    expected: &'a Bytes,
+    verdict: &'a mut Verdict<'b>,
+}
+
+impl<'a, 'b> CommandVisitor for Comparison<'a, 'b> {
+    type Output = Result<(), Failed>;
+
+    fn visit<M: CommandMessage>(self) -> Result<(), Failed> {
+        check_as::<M>(self.actual, self.expected, self.verdict)
     }
 }
 
@@ -100,7 +56,7 @@ impl<'a, M: CommandMessageHeaderDiff> fmt::Display for Difference<'a, M> {
 }
 
 /// Checks whether two commands are the same, first with their payloads and then where payloads are ignored, and the text of their difference.
-fn check_as<M: WireRecord + CommandMessageHeaderEq + CommandMessageHeaderDiff>(
+fn check_as<M: CommandMessage>(
     actual: &Bytes,
     expected: &Bytes,
     verdict: &mut Verdict<'_>,
