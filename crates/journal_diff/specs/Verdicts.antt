@@ -7,7 +7,6 @@ use Rattle.replay_bench.specs.declared.verdicts.Side.TheVariants.{Recorded, Repl
 use Rattle.replay_bench.specs.declared.verdicts.Verdict.{Verdict}
 use Rattle.replay_bench.specs.declared.verdicts.Verdict.TheVariants.{Same, RecordedEnded, ReplayedEnded, TypeMismatch, HeaderMismatch}
 use Rattle.replay_bench.specs.declared.verdicts.BenchError.TheVariants.{Malformed, TooLong, OutOfMemory}
-use Rattle.replay_bench.specs.declared.verdicts.ReaderError.{ReaderError}
 use Rattle.replay_bench.specs.declared.verdicts.ReaderError.TheVariants.{Read, Bench}
 use Rattle.replay_bench.specs.Verdicts.{ComparesKnown}
 use Rattle.journal_diff.specs.declared.diff.DiffError.{DiffError}

@@ -11,6 +11,7 @@ use shared_core::version::Version;
 use std::alloc::{AllocError, Global};
 use std::fmt;
 use std::io::{Read, Write};
+use text_output::{OutputFailed, write_whole};
 
 /// How many bytes are read at a time.
 const PIECE: usize = 65536;
@@ -150,21 +151,14 @@ fn line_of(alloc: Global, verdict: &Verdict) -> Result<String, AllocError>
     }
 }
 
-/// Writes until all is written, a write fails, or one takes nothing.
+/// Writes a text whole.
 fn write_text<W: Write>(output: &mut W, bytes: &[u8]) -> Result<(), DiffError>
     ensures { (written : List ℕ)
         × Appends (W.contents output.old) (W.contents output.new) written
         × IsWritten result written bytes.now }
 {
-    let mut written = 0;
-    while written < bytes.len() {
-        let Ok(count) = output.write(&bytes[written..]) else {
-            return Err(DiffError::Output);
-        };
-        if count == 0 {
-            return Err(DiffError::Output);
-        }
-        written += count;
+    match write_whole(output, bytes) {
+        Ok(()) => Ok(()),
+        Err(OutputFailed) => Err(DiffError::Output),
     }
-    Ok(())
 }

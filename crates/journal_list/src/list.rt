@@ -13,6 +13,7 @@ use shared_core::encoding::{Decoder, Item, PushError};
 use shared_core::version::Version;
 use std::alloc::{AllocError, Global};
 use std::io::{Read, Write};
+use text_output::{OutputFailed, write_whole};
 
 /// Why a listing ended before the line that counts the rest.
 #[derive(Debug, Drop)]
@@ -169,21 +170,14 @@ fn print_rest(text: &mut String, count: u64) -> Result<(), AllocError>
     writeln!(text, "rest {count}")
 }
 
-/// Writes until all is written, a write fails, or one takes nothing.
+/// Writes a text whole.
 fn write_text<W: Write>(output: &mut W, bytes: &[u8]) -> Result<(), ListError>
     ensures { (written : List ℕ)
         × Appends (W.contents output.old) (W.contents output.new) written
         × IsWritten result written bytes.now }
 {
-    let mut written = 0;
-    while written < bytes.len() {
-        let Ok(count) = output.write(&bytes[written..]) else {
-            return Err(ListError::Output);
-        };
-        if count == 0 {
-            return Err(ListError::Output);
-        }
-        written += count;
+    match write_whole(output, bytes) {
+        Ok(()) => Ok(()),
+        Err(OutputFailed) => Err(ListError::Output),
     }
-    Ok(())
 }

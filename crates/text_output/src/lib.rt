@@ -1,0 +1,31 @@
+//! Bytes written whole, or a beginning of them.
+#![tactic(auto)]
+
+ghost use Rattle.std.specs.Prelude.{ℕ, List};
+ghost use Rattle.std.specs.Io.KnownBytes.{Appends};
+ghost use Rattle.text_output.specs.Written.{IsWritten};
+
+use std::io::Write;
+
+/// A write failed, or took no byte.
+#[derive(Debug, Clone, Copy)]
+pub struct OutputFailed;
+
+/// Writes until all bytes are written, a write fails, or one takes nothing. A beginning of the bytes stands then.
+pub fn write_whole<W: Write>(output: &mut W, bytes: &[u8]) -> Result<(), OutputFailed>
+    ensures { (written : List ℕ)
+        × Appends (W.contents output.old) (W.contents output.new) written
+        × IsWritten result written bytes.now }
+{
+    let mut written = 0;
+    while written < bytes.len() {
+        let Ok(count) = output.write(&bytes[written..]) else {
+            return Err(OutputFailed);
+        };
+        if count == 0 {
+            return Err(OutputFailed);
+        }
+        written += count;
+    }
+    Ok(())
+}
