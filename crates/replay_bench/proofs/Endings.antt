@@ -1,28 +1,24 @@
 -- How a comparison goes on, and how it ends.
-use Rattle.std.proofs.Common.{◌≡◌, ℕ, ◌+◌, Bool, true, false, List, [], ◌∷◌, Option, Some, None, Result, Ok, Err, refl, inl, inr, arith}
+use Rattle.std.proofs.Common.{◌≡◌, ℕ, ◌+◌, Bool, true, false, List, [], ◌∷◌, Option, Some, None, Ok, Err, refl, inl, inr}
 use Rattle.std.specs.Prelude.{MatchOption, is_some}
 use Rattle.shared_core_base.specs.declared.version.Version.{Version}
 use Rattle.shared_core.specs.declared.encoding.raw_message.RawMessage.{RawMessage}
-use Rattle.replay_bench.specs.declared.verdicts.Side.{Side}
-use Rattle.replay_bench.specs.declared.verdicts.Side.TheVariants.{Recorded, Replayed}
 use Rattle.replay_bench.specs.declared.verdicts.Verdict.{Verdict}
-use Rattle.replay_bench.specs.declared.verdicts.Verdict.TheVariants.{Same, RecordedEnded, ReplayedEnded, TypeMismatch, HeaderMismatch}
 use Rattle.replay_bench.specs.declared.verdicts.BenchError.{BenchError}
 use Rattle.replay_bench.specs.declared.verdicts.BenchError.TheVariants.{Malformed, TooLong, OutOfMemory}
-use Rattle.replay_bench.specs.declared.verdicts.ReaderError.{ReaderError}
-use Rattle.replay_bench.specs.declared.verdicts.ReaderError.TheVariants.{Read, Bench}
-use Rattle.replay_bench.specs.Journals.{IsJournal, with_first}
-use Rattle.replay_bench.specs.Taking.{HasNoCommand, IsTooLong, KeepsLength, MayRefuse, TakesFirst, known_length}
-use Rattle.replay_bench.specs.Verdicts.{AnswersPair, AreAlike, ComparesKnown, HasVerdict, IsFound, IsVerdict, MayFailOn}
+use Rattle.replay_bench.specs.declared.verdicts.ReaderError.TheVariants.{Bench}
+use Rattle.replay_bench.specs.Journals.{IsJournal}
+use Rattle.replay_bench.specs.Taking.{HasNoCommand, TakesFirst}
+use Rattle.replay_bench.specs.Answers.{Answer, SameCommands, RecordedEnds, ReplayedEnds, NotWellFormed, answer_of}
+use Rattle.replay_bench.specs.Verdicts.{AnswersPair, AreAlike, ComparesKnown, HasAnswer, IsAnswer, IsFound}
 use Rattle.replay_bench.proofs.Fronts.{journal_of}
-use Rattle.replay_bench.proofs.Lengths.{too_long_before}
 
 module _ (version : Version) (ignore : Bool) where
-  -- Whatever is the verdict, from this index on, on what is left of two journals is the verdict on the whole ones.
+  -- Whatever is the answer, from this index on, of what is left of two journals is the answer of the whole ones.
   pub record Decides (recorded replayed : List ℕ) (index : ℕ) (left others : List ℕ) : Type 0 where
-    pub decides : (actual expected : List RawMessage) (answer : Result Verdict BenchError)
-        → IsJournal version left actual → IsJournal version others expected → IsVerdict ignore index actual expected answer
-        → HasVerdict version ignore recorded replayed answer
+    pub decides : (actual expected : List RawMessage) (answer : Answer)
+        → IsJournal version left actual → IsJournal version others expected → IsAnswer ignore index actual expected answer
+        → HasAnswer version ignore recorded replayed answer
 
   -- The same of journals whose bytes are known.
   abbrev pub GoesOn : Option (List ℕ) → Option (List ℕ) → ℕ → Option (List ℕ) → Option (List ℕ) → Type 0
@@ -30,10 +26,10 @@ module _ (version : Version) (ignore : Bool) where
   GoesOn (Some recorded) (Some replayed) index left others = ⊥
   GoesOn recorded replayed index left others = Unit {0}
 
-  -- Two journals whose bytes are known have this verdict.
-  abbrev pub IsKnownVerdict : Option (List ℕ) → Option (List ℕ) → Result Verdict BenchError → Type 0
-  IsKnownVerdict (Some recorded) (Some replayed) answer = HasVerdict version ignore recorded replayed answer
-  IsKnownVerdict recorded replayed answer = Unit {0}
+  -- Two journals whose bytes are known have this answer.
+  abbrev pub IsKnownAnswer : Option (List ℕ) → Option (List ℕ) → Answer → Type 0
+  IsKnownAnswer (Some recorded) (Some replayed) answer = HasAnswer version ignore recorded replayed answer
+  IsKnownAnswer recorded replayed answer = Unit {0}
 
   -- at first all is left
   pub all_left : (recorded replayed : Option (List ℕ)) → GoesOn recorded replayed 0 recorded replayed
@@ -41,7 +37,7 @@ module _ (version : Version) (ignore : Bool) where
   all_left (Some recorded) None = tt
   all_left (Some recorded) (Some replayed) = record {
     decides = λ actual expected answer is other verdict.
-        record { actual = actual; expected = expected; is_recorded = is; is_replayed = other; is_verdict = verdict };
+        record { actual = actual; expected = expected; is_recorded = is; is_replayed = other; is_answer = verdict };
   }
 
   -- ---- one command of each is taken
@@ -49,6 +45,10 @@ module _ (version : Version) (ignore : Bool) where
   pub are_alike : (index : ℕ) (actual expected : RawMessage) → AnswersPair ignore index actual expected (Ok None) → AreAlike ignore actual expected
   unfolding AnswersPair
   are_alike index actual expected is = is
+
+  pub is_found : (index : ℕ) (actual expected : RawMessage) (verdict : Verdict) → AnswersPair ignore index actual expected (Ok (Some verdict)) → IsFound ignore index actual expected (answer_of verdict)
+  unfolding AnswersPair
+  is_found index actual expected verdict is = is
 
   module _ (index : ℕ) (actual expected : RawMessage) where
     -- they are alike
@@ -67,9 +67,9 @@ module _ (version : Version) (ignore : Bool) where
     }
 
     -- they are not
-    pub ends_found : (recorded replayed left others now then : Option (List ℕ)) (answer : Result Verdict BenchError) → GoesOn recorded replayed index left others
+    pub ends_found : (recorded replayed left others now then : Option (List ℕ)) (answer : Answer) → GoesOn recorded replayed index left others
         → TakesFirst version left (Some actual) now → TakesFirst version others (Some expected) then → IsFound ignore index actual expected answer
-        → IsKnownVerdict recorded replayed answer
+        → IsKnownAnswer recorded replayed answer
     ends_found None replayed left others now then answer goes one other found = tt
     ends_found (Some recorded) None left others now then answer goes one other found = tt
     ends_found (Some recorded) (Some replayed) None others now then answer goes one other found = absurd goes
@@ -84,16 +84,16 @@ module _ (version : Version) (ignore : Bool) where
   -- ---- a journal has ended
 
   pub ends_both : (index : ℕ) (recorded replayed left others : Option (List ℕ)) → GoesOn recorded replayed index left others
-      → HasNoCommand version left → HasNoCommand version others → IsKnownVerdict recorded replayed (Ok (Same index))
+      → HasNoCommand version left → HasNoCommand version others → IsKnownAnswer recorded replayed (SameCommands index)
   ends_both index None replayed left others goes none neither = tt
   ends_both index (Some recorded) None left others goes none neither = tt
   ends_both index (Some recorded) (Some replayed) None others goes none neither = absurd goes
   ends_both index (Some recorded) (Some replayed) (Some left) None goes none neither = absurd goes
   ends_both index (Some recorded) (Some replayed) (Some left) (Some others) goes none neither =
-      goes.decides [] [] (Ok (Same index)) none neither refl
+      goes.decides [] [] (SameCommands index) none neither refl
 
   pub ends_recorded : (index : ℕ) (expected : RawMessage) (recorded replayed left others then : Option (List ℕ)) → GoesOn recorded replayed index left others
-      → HasNoCommand version left → TakesFirst version others (Some expected) then → IsKnownVerdict recorded replayed (Ok (RecordedEnded index))
+      → HasNoCommand version left → TakesFirst version others (Some expected) then → IsKnownAnswer recorded replayed (RecordedEnds index)
   ends_recorded index expected None replayed left others then goes none other = tt
   ends_recorded index expected (Some recorded) None left others then goes none other = tt
   ends_recorded index expected (Some recorded) (Some replayed) None others then goes none other = absurd goes
@@ -101,10 +101,10 @@ module _ (version : Version) (ignore : Bool) where
   ends_recorded index expected (Some recorded) (Some replayed) (Some left) (Some others) None goes none other = absurd other
   ends_recorded index expected (Some recorded) (Some replayed) (Some left) (Some others) (Some then) goes none other =
       let (more, is_other) = journal_of version then in
-      goes.decides [] (expected ∷ more) (Ok (RecordedEnded index)) none (other more is_other) refl
+      goes.decides [] (expected ∷ more) (RecordedEnds index) none (other more is_other) refl
 
   pub ends_replayed : (index : ℕ) (actual : RawMessage) (recorded replayed left others now : Option (List ℕ)) → GoesOn recorded replayed index left others
-      → TakesFirst version left (Some actual) now → HasNoCommand version others → IsKnownVerdict recorded replayed (Ok (ReplayedEnded index))
+      → TakesFirst version left (Some actual) now → HasNoCommand version others → IsKnownAnswer recorded replayed (ReplayedEnds index)
   ends_replayed index actual None replayed left others now goes one none = tt
   ends_replayed index actual (Some recorded) None left others now goes one none = tt
   ends_replayed index actual (Some recorded) (Some replayed) None others now goes one none = absurd goes
@@ -112,7 +112,7 @@ module _ (version : Version) (ignore : Bool) where
   ends_replayed index actual (Some recorded) (Some replayed) (Some left) (Some others) None goes one none = absurd one
   ends_replayed index actual (Some recorded) (Some replayed) (Some left) (Some others) (Some now) goes one none =
       let (rest, is) = journal_of version now in
-      goes.decides (actual ∷ rest) [] (Ok (ReplayedEnded index)) (one rest is) none refl
+      goes.decides (actual ∷ rest) [] (ReplayedEnds index) (one rest is) none refl
 
   -- What the next command of a journal is, or that there is none.
   abbrev pub IsNext : Version → Option (List ℕ) → Option RawMessage → Option (List ℕ) → Type 0
@@ -120,7 +120,7 @@ module _ (version : Version) (ignore : Bool) where
 
   -- the recorded journal has ended, and the replayed one has not, or has
   pub ends_first : (index : ℕ) (found : Option RawMessage) (recorded replayed left others then : Option (List ℕ)) → GoesOn recorded replayed index left others
-      → HasNoCommand version left → is_some found ≡ true → IsNext version others found then → IsKnownVerdict recorded replayed (Ok (RecordedEnded index))
+      → HasNoCommand version left → is_some found ≡ true → IsNext version others found then → IsKnownAnswer recorded replayed (RecordedEnds index)
   ends_first index None recorded replayed left others then goes none some next = absurd (not_some some)
     where
       not_some : is_some {T = RawMessage} None ≡ true → ⊥
@@ -128,7 +128,7 @@ module _ (version : Version) (ignore : Bool) where
   ends_first index (Some expected) recorded replayed left others then goes none some next = ends_recorded index expected recorded replayed left others then goes none next
 
   pub ends_together : (index : ℕ) (found : Option RawMessage) (recorded replayed left others then : Option (List ℕ)) → GoesOn recorded replayed index left others
-      → HasNoCommand version left → is_some found ≡ false → IsNext version others found then → IsKnownVerdict recorded replayed (Ok (Same index))
+      → HasNoCommand version left → is_some found ≡ false → IsNext version others found then → IsKnownAnswer recorded replayed (SameCommands index)
   ends_together index None recorded replayed left others then goes none ended next = ends_both index recorded replayed left others goes none next
   ends_together index (Some expected) recorded replayed left others then goes none ended next = absurd (some ended)
     where
@@ -137,7 +137,7 @@ module _ (version : Version) (ignore : Bool) where
 
   -- ---- what is answered then
 
-  pub answers_verdict : (recorded replayed : Option (List ℕ)) (verdict : Verdict) → IsKnownVerdict recorded replayed (Ok verdict) → ComparesKnown version ignore recorded replayed (Ok verdict)
+  pub answers_verdict : (recorded replayed : Option (List ℕ)) (verdict : Verdict) → IsKnownAnswer recorded replayed (answer_of verdict) → ComparesKnown version ignore recorded replayed (Ok verdict)
   answers_verdict None replayed verdict has = tt
   answers_verdict (Some recorded) None verdict has = tt
   answers_verdict (Some recorded) (Some replayed) verdict has = has
@@ -147,39 +147,6 @@ module _ (version : Version) (ignore : Bool) where
   answers_memory (Some recorded) None = tt
   answers_memory (Some recorded) (Some replayed) = tt
 
-  answers_failed : (recorded replayed : Option (List ℕ)) (side : Side) → ComparesKnown version ignore recorded replayed (Err (Read side))
-  answers_failed None replayed side = tt
-  answers_failed (Some recorded) None side = tt
-  answers_failed (Some recorded) (Some replayed) side = tt
-
-  long_recorded : (recorded replayed : Option (List ℕ)) → IsTooLong (known_length 0 recorded) → ComparesKnown version ignore recorded replayed (Err (Bench TooLong))
-  long_recorded None replayed long = tt
-  long_recorded (Some recorded) None long = tt
-  long_recorded (Some recorded) (Some replayed) long = inl (omega (arith, long))
-
-  long_replayed : (recorded replayed : Option (List ℕ)) → IsTooLong (known_length 0 replayed) → ComparesKnown version ignore recorded replayed (Err (Bench TooLong))
-  long_replayed None replayed long = tt
-  long_replayed (Some recorded) None long = tt
-  long_replayed (Some recorded) (Some replayed) long = inr (omega (arith, long))
-
-  -- the recorded journal gives no next command
-  pub answers_recorded : (recorded replayed known : Option (List ℕ)) (taken : ℕ) (may_fail : Bool) (refusal : ReaderError)
-      → KeepsLength (known_length 0 recorded) (known_length taken known) → MayRefuse Recorded may_fail (known_length taken known) refusal
-      → ComparesKnown version ignore recorded replayed (Err refusal)
-  answers_recorded recorded replayed known taken may_fail (Read side) keeps refused = answers_failed recorded replayed side
-  answers_recorded recorded replayed known taken may_fail (Bench TooLong) keeps refused = long_recorded recorded replayed (too_long_before _ _ keeps refused)
-  answers_recorded recorded replayed known taken may_fail (Bench OutOfMemory) keeps refused = answers_memory recorded replayed
-  answers_recorded recorded replayed known taken may_fail (Bench (Malformed side at)) keeps refused = absurd refused
-
-  -- the replayed journal gives none
-  pub answers_replayed : (recorded replayed known : Option (List ℕ)) (taken : ℕ) (may_fail : Bool) (refusal : ReaderError)
-      → KeepsLength (known_length 0 replayed) (known_length taken known) → MayRefuse Replayed may_fail (known_length taken known) refusal
-      → ComparesKnown version ignore recorded replayed (Err refusal)
-  answers_replayed recorded replayed known taken may_fail (Read side) keeps refused = answers_failed recorded replayed side
-  answers_replayed recorded replayed known taken may_fail (Bench TooLong) keeps refused = long_replayed recorded replayed (too_long_before _ _ keeps refused)
-  answers_replayed recorded replayed known taken may_fail (Bench OutOfMemory) keeps refused = answers_memory recorded replayed
-  answers_replayed recorded replayed known taken may_fail (Bench (Malformed side at)) keeps refused = absurd refused
-
   -- two commands are refused
   pub answers_refusal : (index : ℕ) (actual expected : RawMessage) (recorded replayed left others now then : Option (List ℕ)) (refusal : BenchError)
       → GoesOn recorded replayed index left others
@@ -187,28 +154,11 @@ module _ (version : Version) (ignore : Bool) where
       → ComparesKnown version ignore recorded replayed (Err (Bench refusal))
   unfolding AnswersPair
   answers_refusal index actual expected recorded replayed left others now then OutOfMemory goes one other refused = answers_memory recorded replayed
-  answers_refusal index actual expected recorded replayed left others now then TooLong goes one other refused = absurd refused.1
+  answers_refusal index actual expected recorded replayed left others now then TooLong goes one other refused = absurd refused
   answers_refusal index actual expected recorded replayed left others now then (Malformed side at) goes one other refused =
-      answers_malformed recorded replayed (ends_found index actual expected recorded replayed left others now then (Err (Malformed side at)) goes one other refused)
+      answers_malformed recorded replayed (ends_found index actual expected recorded replayed left others now then (NotWellFormed side at) goes one other refused)
     where
-      answers_malformed : (recorded replayed : Option (List ℕ)) → IsKnownVerdict recorded replayed (Err (Malformed side at)) → ComparesKnown version ignore recorded replayed (Err (Bench (Malformed side at)))
+      answers_malformed : (recorded replayed : Option (List ℕ)) → IsKnownAnswer recorded replayed (NotWellFormed side at) → ComparesKnown version ignore recorded replayed (Err (Bench (Malformed side at)))
       answers_malformed None replayed has = tt
       answers_malformed (Some recorded) None has = tt
       answers_malformed (Some recorded) (Some replayed) has = has
-
--- a read fails where it may
-pub fails_recorded : (known : Option ℕ) (may_fail other : Bool) (refusal : ReaderError) → MayRefuse Recorded may_fail known refusal → MayFailOn may_fail other (Err refusal)
-fails_recorded known may_fail other (Read Recorded) refused = refused.1
-fails_recorded known may_fail other (Read Replayed) refused = absurd (others refused.0)
-  where
-    others : Replayed ≡ Recorded → ⊥
-    others is = cc
-fails_recorded known may_fail other (Bench refusal) refused = tt
-
-pub fails_replayed : (known : Option ℕ) (may_fail other : Bool) (refusal : ReaderError) → MayRefuse Replayed may_fail known refusal → MayFailOn other may_fail (Err refusal)
-fails_replayed known may_fail other (Read Recorded) refused = absurd (others refused.0)
-  where
-    others : Recorded ≡ Replayed → ⊥
-    others is = cc
-fails_replayed known may_fail other (Read Replayed) refused = refused.1
-fails_replayed known may_fail other (Bench refusal) refused = tt

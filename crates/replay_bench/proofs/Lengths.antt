@@ -1,6 +1,5 @@
 -- How long a journal is.
-use Rattle.std.proofs.Common.{◌≡◌, ℕ, ◌+◌, ◌^◌, ◌≤◌, List, ◌++◌, length, Option, Some, None, refl, sym, ap, ◌∙◌, arith, length-append}
-use Rattle.std.specs.Io.KnownBytes.{Consumes}
+use Rattle.std.proofs.Common.{◌≡◌, ℕ, ◌+◌, ◌^◌, ◌≤◌, List, length, Option, Some, None, refl, ap, ◌∙◌, arith, length-append}
 use Rattle.replay_bench.specs.Taking.{GivesPiece, IsTooLong, KeepsLength, known_length}
 
 pub keeps_itself : (known : Option ℕ) → KeepsLength known known

@@ -1,5 +1,5 @@
 -- What two commands answer.
-use Rattle.std.proofs.Common.{Global, ◌≡◌, ◌≢◌, ℕ, ℤ, pos, Bool, List, Option, Some, None, Result, Ok, Err, refl, sym, ap, ◌∙◌, subst, ⊎_elim}
+use Rattle.std.proofs.Common.{Global, ◌≡◌, ◌≢◌, ℕ, pos, Bool, Some, None, Ok, Err, refl, sym, ap, ◌∙◌, subst, ⊎_elim}
 use Rattle.std.specs.Prelude.{codes, IsSome, String}
 use Rattle.std.specs.Option.{IsSomeAnd}
 use Rattle.std.specs.String.{string_bytes}
@@ -7,7 +7,7 @@ use Rattle.shared_core_base.specs.declared.header.MessageType.{MessageType}
 use Rattle.shared_core_base.specs.declared.header.MessageType.TheVariants.{Suspension}
 use Rattle.shared_core_base.specs.CommandType.{command_type_of}
 use Rattle.shared_core_wire.specs.Value.{Parts}
-use Rattle.shared_core_record.specs.Payloads.{IsAccepted, payload_meaning}
+use Rattle.shared_core_record.specs.Payloads.{payload_meaning}
 use Rattle.shared_core_parts.specs.Messages.{IsSchemaOf, message_schema}
 use Rattle.shared_core_compare.specs.Differences.{difference}
 use Rattle.shared_core_compare.specs.Erasure.{AreSame, erased}
@@ -16,7 +16,6 @@ use Rattle.shared_core.specs.declared.encoding.raw_message.RawMessage.{RawMessag
 use Rattle.shared_core.specs.Errors.{command_mismatch_text}
 use Rattle.shared_core.specs.Typed.{MeansParts}
 use Rattle.replay_bench.specs.declared.verdicts.Side.TheVariants.{Recorded, Replayed}
-use Rattle.replay_bench.specs.declared.verdicts.Verdict.{Verdict}
 use Rattle.replay_bench.specs.declared.verdicts.Verdict.TheVariants.{TypeMismatch, HeaderMismatch}
 use Rattle.replay_bench.specs.declared.verdicts.BenchError.{BenchError}
 use Rattle.replay_bench.specs.declared.verdicts.BenchError.TheVariants.{Malformed, TooLong, OutOfMemory}
@@ -65,7 +64,7 @@ module _ (ignore : Bool) (index : ℕ) (actual expected : RawMessage) where
     pair_recorded parts OutOfMemory refused = tt
     pair_recorded parts TooLong refused = absurd refused
     pair_recorded parts (Malformed side at) refused =
-        (typed.one_type, (refused.1, of_schema (IsMalformedOn side actual.payload expected.payload) (subst (λ on. IsMalformedOn on actual.payload expected.payload s) (sym refused.0) refused.2)))
+        (typed.one_type, refused.1, of_schema (IsMalformedOn side actual.payload expected.payload) (subst (λ on. IsMalformedOn on actual.payload expected.payload s) (sym refused.0) refused.2))
 
     -- the replayed one is not
     pub pair_replayed : {M : Type 0} (parts : M → Parts) (one : Parts) (refusal : BenchError) → MeansParts s actual.payload one → AnswersDecoding s parts Replayed index expected.payload (Err refusal) → AnswersPair ignore index actual expected (Err refusal)
@@ -73,7 +72,7 @@ module _ (ignore : Bool) (index : ℕ) (actual expected : RawMessage) where
     pair_replayed parts one OutOfMemory means refused = tt
     pair_replayed parts one TooLong means refused = absurd refused
     pair_replayed parts one (Malformed side at) means refused =
-        (typed.one_type, (refused.1, of_schema (IsMalformedOn side actual.payload expected.payload) (subst (λ on. IsMalformedOn on actual.payload expected.payload s) (sym refused.0) (means.0, refused.2))))
+        (typed.one_type, refused.1, of_schema (IsMalformedOn side actual.payload expected.payload) (subst (λ on. IsMalformedOn on actual.payload expected.payload s) (sym refused.0) (means.0, refused.2)))
 
     module _ (one other : Parts) (means : MeansParts s actual.payload one) (means_other : MeansParts s expected.payload other) where
       -- both mean the same
@@ -92,4 +91,4 @@ module _ (ignore : Bool) (index : ℕ) (actual expected : RawMessage) where
           ∙ ap (λ v. command_mismatch_text actual.header.ty (pos index) (difference s (codes "   ") (payload_meaning s actual.payload) v)) means_other.1 in
           let not_same : ¬ (AreSame s ignore (payload_meaning s actual.payload) (payload_meaning s expected.payload)) =
           λ same. differ (ap (erased s ignore) means.1 ∙ same ∙ ap (erased s ignore) (sym means_other.1)) in
-          (typed.one_type, (refl, of_schema (MeanOthers ignore index actual.header.ty actual.payload expected.payload (string_bytes text)) (means.0, means_other.0, not_same, as_read)))
+          (typed.one_type, refl, of_schema (MeanOthers ignore index actual.header.ty actual.payload expected.payload (string_bytes text)) (means.0, means_other.0, not_same, as_read))

@@ -1,3 +1,4 @@
+pub mod Answers
 pub mod Journals
 pub mod Taking
 pub mod Verdicts

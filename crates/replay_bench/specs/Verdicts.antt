@@ -1,7 +1,6 @@
--- What a comparison of two journals answers.
+-- What the commands of two journals answer, and their comparison.
 use Rattle.std.specs.Prelude.{◌≡◌, ◌≢◌, ◌⊎◌, ℕ, ◌+◌, ◌^◌, ◌≤◌, pos, Bool, true, List, [], ◌∷◌, length, codes, Option, Some, None, Result, Ok, Err}
 use Rattle.std.specs.Option.{IsSomeAnd}
-use Rattle.std.specs.String.{string_bytes}
 use Rattle.shared_core_base.specs.declared.header.MessageType.{MessageType}
 use Rattle.shared_core_base.specs.declared.version.Version.{Version}
 use Rattle.shared_core_wire.specs.Value.{Parts}
@@ -16,11 +15,11 @@ use Rattle.shared_core.specs.Typed.{MeansParts}
 use Rattle.replay_bench.specs.declared.verdicts.Side.{Side}
 use Rattle.replay_bench.specs.declared.verdicts.Side.TheVariants.{Recorded, Replayed}
 use Rattle.replay_bench.specs.declared.verdicts.Verdict.{Verdict}
-use Rattle.replay_bench.specs.declared.verdicts.Verdict.TheVariants.{Same, RecordedEnded, ReplayedEnded, TypeMismatch, HeaderMismatch}
 use Rattle.replay_bench.specs.declared.verdicts.BenchError.{BenchError}
 use Rattle.replay_bench.specs.declared.verdicts.BenchError.TheVariants.{Malformed, TooLong, OutOfMemory}
 use Rattle.replay_bench.specs.declared.verdicts.ReaderError.{ReaderError}
 use Rattle.replay_bench.specs.declared.verdicts.ReaderError.TheVariants.{Read, Bench}
+use Rattle.replay_bench.specs.Answers.{Answer, SameCommands, RecordedEnds, ReplayedEnds, OtherType, OtherCommand, NotWellFormed, answer_of}
 use Rattle.replay_bench.specs.Journals.{IsJournal}
 
 -- ---- what two commands at an index answer
@@ -42,31 +41,32 @@ abbrev pub IsMalformedOn : Side → List ℕ → List ℕ → ℕ → Type 0
 IsMalformedOn Recorded actual expected s = ¬ (IsAccepted s actual)
 IsMalformedOn Replayed actual expected s = IsAccepted s actual × ¬ (IsAccepted s expected)
 
--- What two payloads of a type with this schema answer at an index: none where they mean the same; memory may be wanting.
-abbrev pub AnswersPayloads : Bool → ℕ → MessageType → Option ℕ → List ℕ → List ℕ → Result (Option Verdict) BenchError → Type 0
-AnswersPayloads ignore index ty schema actual expected (Ok None) = IsSomeAnd schema (MeanTheSame ignore actual expected)
-AnswersPayloads ignore index ty schema actual expected (Ok (Some (HeaderMismatch found text))) =
-    (found ≡ index) × IsSomeAnd schema (MeanOthers ignore index ty actual expected (string_bytes text))
-AnswersPayloads ignore index ty schema actual expected (Ok (Some verdict)) = ⊥
-AnswersPayloads ignore index ty schema actual expected (Err (Malformed side found)) =
-    (found ≡ index) × IsSomeAnd schema (IsMalformedOn side actual expected)
-AnswersPayloads ignore index ty schema actual expected (Err OutOfMemory) = Unit {0}
-AnswersPayloads ignore index ty schema actual expected (Err TooLong) = ⊥
+-- Two commands at the same index are alike: of one type, both well-formed, and the same but for what is not compared.
+abbrev pub AreAlike : Bool → RawMessage → RawMessage → Type 0
+AreAlike ignore actual expected =
+    (actual.header.ty ≡ expected.header.ty) × IsSomeAnd (message_schema actual.header.ty) (MeanTheSame ignore actual.payload expected.payload)
 
--- Two commands are of one type, and their payloads answer this.
-abbrev pub AnswersTyped : Bool → ℕ → RawMessage → RawMessage → Result (Option Verdict) BenchError → Type 0
-AnswersTyped ignore index actual expected answer =
-    (actual.header.ty ≡ expected.header.ty)
-    × AnswersPayloads ignore index actual.header.ty (message_schema actual.header.ty) actual.payload expected.payload answer
-
--- What two commands answer at an index, the recorded one as the actual and the replayed one as the expected: first that their types differ, else
--- what their payloads do, and none where they are alike.
-unfoldable pub AnswersPair : Bool → ℕ → RawMessage → RawMessage → Result (Option Verdict) BenchError → Type 0
-AnswersPair ignore index actual expected (Ok (Some (TypeMismatch found text))) =
+-- Two commands at an index are not alike, the recorded one as the actual and the replayed one as the expected, and this is the answer: that their
+-- types differ; or they are of one type, and a payload is not well-formed, or they do not mean the same.
+abbrev pub IsFound : Bool → ℕ → RawMessage → RawMessage → Answer → Type 0
+IsFound ignore index actual expected (OtherType found text) =
     (found ≡ index) × (actual.header.ty ≢ expected.header.ty)
-    × (string_bytes text ≡ command_type_mismatch_text (pos index) actual.header.ty expected.header.ty)
+    × (text ≡ command_type_mismatch_text (pos index) actual.header.ty expected.header.ty)
+IsFound ignore index actual expected (OtherCommand found text) =
+    (actual.header.ty ≡ expected.header.ty) × (found ≡ index)
+    × IsSomeAnd (message_schema actual.header.ty) (MeanOthers ignore index actual.header.ty actual.payload expected.payload text)
+IsFound ignore index actual expected (NotWellFormed side found) =
+    (actual.header.ty ≡ expected.header.ty) × (found ≡ index)
+    × IsSomeAnd (message_schema actual.header.ty) (IsMalformedOn side actual.payload expected.payload)
+IsFound ignore index actual expected answer = ⊥
+
+-- What two commands at an index answer: nothing where they are alike, else what is found; memory may be wanting.
+unfoldable pub AnswersPair : Bool → ℕ → RawMessage → RawMessage → Result (Option Verdict) BenchError → Type 0
+AnswersPair ignore index actual expected (Ok None) = AreAlike ignore actual expected
+AnswersPair ignore index actual expected (Ok (Some verdict)) = IsFound ignore index actual expected (answer_of verdict)
+AnswersPair ignore index actual expected (Err (Malformed side found)) = IsFound ignore index actual expected (NotWellFormed side found)
 AnswersPair ignore index actual expected (Err OutOfMemory) = Unit {0}
-AnswersPair ignore index actual expected answer = AnswersTyped ignore index actual expected answer
+AnswersPair ignore index actual expected (Err TooLong) = ⊥
 
 -- A payload decodes to a record of the schema, or it is not well-formed, which is answered with its place; memory may be wanting.
 abbrev pub AnswersDecoding : {M : Type 0} → ℕ → (M → Parts) → Side → ℕ → List ℕ → Result M BenchError → Type 0
@@ -77,49 +77,40 @@ AnswersDecoding s parts side index payload (Err TooLong) = ⊥
 
 -- ---- what two journals answer
 
--- Two commands at the same index are alike: of one type, both well-formed, and the same but for what is not compared.
-abbrev pub AreAlike : Bool → RawMessage → RawMessage → Type 0
-AreAlike ignore actual expected =
-    (actual.header.ty ≡ expected.header.ty) × IsSomeAnd (message_schema actual.header.ty) (MeanTheSame ignore actual.payload expected.payload)
-
--- Two commands at this index are not alike, and this is the answer. Want of memory is none.
-abbrev pub IsFound : Bool → ℕ → RawMessage → RawMessage → Result Verdict BenchError → Type 0
-IsFound ignore index actual expected (Ok verdict) = AnswersPair ignore index actual expected (Ok (Some verdict))
-IsFound ignore index actual expected (Err OutOfMemory) = ⊥
-IsFound ignore index actual expected (Err refusal) = AnswersPair ignore index actual expected (Err refusal)
-
--- The verdict on commands from this index on: who has ended, or what the first two answer, or, where they are alike, the verdict on the others.
-abbrev pub IsVerdict : Bool → ℕ → List RawMessage → List RawMessage → Result Verdict BenchError → Type 0
-IsVerdict ignore index [] [] answer = answer ≡ Ok (Same index)
-IsVerdict ignore index [] (expected ∷ replayed) answer = answer ≡ Ok (RecordedEnded index)
-IsVerdict ignore index (actual ∷ recorded) [] answer = answer ≡ Ok (ReplayedEnded index)
-IsVerdict ignore index (actual ∷ recorded) (expected ∷ replayed) answer =
-    (AreAlike ignore actual expected × IsVerdict ignore (index + 1) recorded replayed answer)
+-- The answer of commands from this index on: who has ended, or what is found of the first two, or, where they are alike, the answer of the others.
+abbrev pub IsAnswer : Bool → ℕ → List RawMessage → List RawMessage → Answer → Type 0
+IsAnswer ignore index [] [] answer = answer ≡ SameCommands index
+IsAnswer ignore index [] (expected ∷ replayed) answer = answer ≡ RecordedEnds index
+IsAnswer ignore index (actual ∷ recorded) [] answer = answer ≡ ReplayedEnds index
+IsAnswer ignore index (actual ∷ recorded) (expected ∷ replayed) answer =
+    (AreAlike ignore actual expected × IsAnswer ignore (index + 1) recorded replayed answer)
     ⊎ IsFound ignore index actual expected answer
 
--- The verdict on two journals is that on their commands, from index 0 on.
-pub record HasVerdict (version : Version) (ignore : Bool) (recorded replayed : List ℕ) (answer : Result Verdict BenchError) : Type 0 where
+-- The answer of two journals is that of their commands, from index 0 on.
+pub record HasAnswer (version : Version) (ignore : Bool) (recorded replayed : List ℕ) (answer : Answer) : Type 0 where
   pub actual : List RawMessage
   pub expected : List RawMessage
   pub is_recorded : IsJournal version recorded actual
   pub is_replayed : IsJournal version replayed expected
-  pub is_verdict : IsVerdict ignore 0 actual expected answer
+  pub is_answer : IsAnswer ignore 0 actual expected answer
 
--- What a comparison of two journals answers: their verdict; that one of them is too long, where it is; or that memory was refused.
+-- What a comparison of two journals answers: their verdict; whose command is not well-formed; that one of them is too long, where it is; or that
+-- memory was refused.
 abbrev pub Compares : Version → Bool → List ℕ → List ℕ → Result Verdict BenchError → Type 0
+Compares version ignore recorded replayed (Ok verdict) = HasAnswer version ignore recorded replayed (answer_of verdict)
+Compares version ignore recorded replayed (Err (Malformed side index)) = HasAnswer version ignore recorded replayed (NotWellFormed side index)
 Compares version ignore recorded replayed (Err TooLong) = (2 ^ 64 ≤ length recorded) ⊎ (2 ^ 64 ≤ length replayed)
 Compares version ignore recorded replayed (Err OutOfMemory) = Unit {0}
-Compares version ignore recorded replayed answer = HasVerdict version ignore recorded replayed answer
 
--- ---- what two readers answer
+-- ---- what two sources answer
 
--- What a comparison of two readers' journals answers: the same, or that a read failed.
+-- What a comparison of the journals of two sources answers: the same, or that one of them could not be read.
 abbrev pub ComparesRead : Version → Bool → List ℕ → List ℕ → Result Verdict ReaderError → Type 0
 ComparesRead version ignore recorded replayed (Ok verdict) = Compares version ignore recorded replayed (Ok verdict)
 ComparesRead version ignore recorded replayed (Err (Bench refusal)) = Compares version ignore recorded replayed (Err refusal)
 ComparesRead version ignore recorded replayed (Err (Read side)) = Unit {0}
 
--- The same of the bytes that two journals will give, where both are known.
+-- The same of the bytes that two sources will give, where both are known.
 abbrev pub ComparesKnown : Version → Bool → Option (List ℕ) → Option (List ℕ) → Result Verdict ReaderError → Type 0
 ComparesKnown version ignore (Some recorded) (Some replayed) answer = ComparesRead version ignore recorded replayed answer
 ComparesKnown version ignore recorded replayed answer = Unit {0}

@@ -33,9 +33,9 @@ pub fn compare_journals(
     requires { 5 ≤ version_number version }
     ensures { Compares version ignore_payload_equality (concat recorded.now) (concat replayed.now) result }
 {
-    let recorded = SlicePieces { pieces: recorded };
-    let replayed = SlicePieces { pieces: replayed };
-    match compare(alloc, version, recorded, replayed, ignore_payload_equality) {
+    let recorded = SlicePieces::new(recorded);
+    let replayed = SlicePieces::new(replayed);
+    match compare_sources(alloc, version, recorded, replayed, ignore_payload_equality) {
         Ok(verdict) => Ok(verdict),
         Err(ReaderError::Bench(error)) => Err(error),
         // a slice does not fail
@@ -62,11 +62,13 @@ pub fn compare_readers<A: Read + Drop, B: Read + Drop>(
 {
     let recorded = ReaderPieces::new(alloc, recorded, piece)?;
     let replayed = ReaderPieces::new(alloc, replayed, piece)?;
-    compare(alloc, version, recorded, replayed, ignore_payload_equality)
+    compare_sources(alloc, version, recorded, replayed, ignore_payload_equality)
 }
 
-/// Compares the commands of two sources.
-fn compare<A: Source, B: Source>(
+/// Compares two journals of any sources, as `compare_journals` does: one may lie in pieces, and a reader give the other.
+///
+/// A source is asked for pieces only as far as the answer needs. `Read` names a side only where its source may fail, which a slice does not.
+pub fn compare_sources<A: Source, B: Source>(
     alloc: Global,
     version: Version,
     recorded: A,

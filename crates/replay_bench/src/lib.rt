@@ -4,10 +4,13 @@
 
 mod commands;
 mod comparison;
+pub mod laws;
 mod mismatches;
 mod reader_pieces;
 mod sources;
 mod verdicts;
 
-pub use crate::comparison::{compare_journals, compare_readers};
+pub use crate::comparison::{compare_journals, compare_readers, compare_sources};
+pub use crate::reader_pieces::ReaderPieces;
+pub use crate::sources::{SlicePieces, Source, SourceError};
 pub use crate::verdicts::{BenchError, ReaderError, Side, Verdict};

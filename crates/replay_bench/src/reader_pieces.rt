@@ -9,7 +9,7 @@ use std::io::Read;
 
 /// What a reader gives, each read a piece.
 #[derive(Drop)]
-pub(crate) struct ReaderPieces<R> {
+pub struct ReaderPieces<R> {
     alloc: Global,
     reader: R,
     buffer: Vec<u8>,
@@ -22,7 +22,7 @@ impl<R: Read + Drop> ReaderPieces<R> {
     ghost use Rattle.std.specs.Prelude.{◌≡◌, ◌≤◌, IfOk};
 
     /// The pieces that a reader gives, each of at most so many bytes, which is 1 at least.
-    pub(crate) fn new(alloc: Global, reader: R, piece: usize) -> Result<ReaderPieces<R>, AllocError>
+    pub fn new(alloc: Global, reader: R, piece: usize) -> Result<ReaderPieces<R>, AllocError>
         requires { 1 ≤ piece }
         ensures { IfOk result (λ source. source.reader ≡ reader) }
     {

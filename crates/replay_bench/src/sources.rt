@@ -9,7 +9,7 @@ use std::alloc::AllocError;
 
 /// Why a source gave no piece. It is not asked again.
 #[derive(Clone, Copy, Debug, PartialEq, Eq)]
-pub(crate) enum SourceError {
+pub enum SourceError {
     /// It could not be read.
     Failed,
     /// A request for memory was refused.
@@ -28,7 +28,7 @@ impl From<AllocError> for SourceError {
 }
 
 /// Gives the bytes of a journal in pieces of any length.
-pub(crate) trait Source: Drop {
+pub trait Source: Drop {
     // the bytes that are still to come, where these are known
     ghost coming: { Self → Option (List ℕ) };
     // at most so many pieces are still to come
@@ -43,10 +43,19 @@ pub(crate) trait Source: Drop {
         ensures failed { IsErrOf result SourceError.Failed → may_fail ≡ true };
 }
 
-/// The pieces of a slice.
+/// The pieces of a slice, which do not fail.
 #[derive(Drop)]
-pub(crate) struct SlicePieces<'a> {
-    pub(crate) pieces: &'a [Bytes],
+pub struct SlicePieces<'a> {
+    pieces: &'a [Bytes],
+}
+
+impl<'a> SlicePieces<'a> {
+    /// The journal that lies in these pieces.
+    pub fn new(pieces: &'a [Bytes]) -> SlicePieces<'a>
+        ensures { result.pieces.now ≡ pieces.now }
+    {
+        SlicePieces { pieces }
+    }
 }
 
 impl<'a> Source for SlicePieces<'a> {

@@ -5,7 +5,6 @@ ghost use Rattle.std.specs.Prelude.{◌≤◌};
 use bytes::Bytes;
 use replay_bench::{BenchError, ReaderError, Verdict};
 use std::alloc::{AllocError, Global};
-use std::test::Fail;
 
 /// Commands: inputs of two values; reads of the state at two keys, of one under two names, one that is not well-formed and one whose state is
 /// at hand; writes of the state of two values; and two whose payloads are not well-formed.
@@ -50,10 +49,13 @@ pub const HEAD: &str =
     "Found a mismatch between the code paths taken during the previous execution and the paths taken during this execution.\nThis typically happens when some parts of the code are non-deterministic.\n";
 
 /// The bytes of a journal with these frames.
-pub fn journal(alloc: Global, frames: &[&str]) -> Result<Vec<u8>, Fail> {
+pub fn journal(alloc: Global, frames: &[&str]) -> Result<Vec<u8>, AllocError> {
     let mut stream = Vec::new(alloc);
     for frame in frames {
-        let bytes = hex::decode(alloc, *frame)?;
+        // the frames are digits in pairs, so nothing but memory can be wanting
+        let Ok(bytes) = hex::decode(alloc, *frame) else {
+            return Err(AllocError);
+        };
         stream.extend_from_slice(bytes.as_slice())?;
     }
     Ok(stream)
@@ -70,7 +72,7 @@ pub fn cut(alloc: Global, stream: &[u8], size: usize) -> Result<Vec<Bytes>, Allo
     Ok(pieces)
 }
 
-/// An answer in a line: what it is, the index or the count, and a mismatch's text.
+/// An answer in a line: what it is, the index or the count, and a mismatch's text. Want of memory is no answer.
 pub fn line(alloc: Global, answer: Result<Verdict, BenchError>) -> Result<String, AllocError> {
     match answer {
         Ok(Verdict::Same(count)) => format!(in alloc; "same {count}"),
@@ -78,6 +80,7 @@ pub fn line(alloc: Global, answer: Result<Verdict, BenchError>) -> Result<String
         Ok(Verdict::ReplayedEnded(index)) => format!(in alloc; "replayed ended {index}"),
         Ok(Verdict::TypeMismatch { index, text }) => format!(in alloc; "types {index} {text}"),
         Ok(Verdict::HeaderMismatch { index, text }) => format!(in alloc; "header {index} {text}"),
+        Err(BenchError::OutOfMemory) => Err(AllocError),
         Err(error) => format!(in alloc; "{error:?}"),
     }
 }

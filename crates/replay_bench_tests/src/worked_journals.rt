@@ -1,4 +1,4 @@
-//! Worked journals, whole and cut, compared as slices and from readers.
+//! Worked journals, whole and cut, compared as slices, from readers, and a slice with a reader.
 ghost use Rattle.std.specs.Prelude.{◌≤◌};
 
 use crate::frames::{
@@ -6,9 +6,11 @@ use crate::frames::{
     GET_MALFORMED, HEAD, INPUT_X, INPUT_Y, NOTIFICATION, RUN_MALFORMED, SET_X, SET_Y,
     SLEEP_MALFORMED, UNKNOWN, cut, journal, line, reader_line,
 };
-use replay_bench::{compare_journals, compare_readers};
+use replay_bench::{
+    ReaderPieces, SlicePieces, compare_journals, compare_readers, compare_sources,
+};
 use shared_core::Version;
-use std::alloc::Global;
+use std::alloc::{AllocError, Global};
 use std::test::Fail;
 
 /// Two journals, and what their comparison answers: how its line begins, and what stands in it behind the head of a mismatch's text.
@@ -132,26 +134,38 @@ fn worked_journals_in_any_cut(rt: HostRuntime) -> Result<(), Fail> {
     ];
     for (at, row) in rows.iter().enumerate() {
         for size in [1usize, 3, 4096] {
-            let answered = answers(rt.alloc(), row, size)?;
+            // at most one request of a run is refused
+            let answered = match answers(rt.alloc(), row, size) {
+                Err(AllocError) => answers(rt.alloc(), row, size)?,
+                Ok(answered) => answered,
+            };
             assert!(rt; answered, "row {at}, pieces of {size}");
         }
     }
     Ok(())
 }
 
-/// Whether both comparisons give the answer of a row, in pieces of this size.
-fn answers(alloc: Global, row: &Row<'_>, size: usize) -> Result<bool, Fail>
+/// Whether each comparison gives the answer of a row, in pieces of this size.
+fn answers(alloc: Global, row: &Row<'_>, size: usize) -> Result<bool, AllocError>
     requires { 1 ≤ size }
 {
     let head = if row.text.is_empty() { "" } else { HEAD };
     let want = format!(in alloc; "{}{head}{}", row.answer, row.text)?;
     let recorded = journal(alloc, row.recorded)?;
     let replayed = journal(alloc, row.replayed)?;
+    let pieces = cut(alloc, recorded.as_slice(), size)?;
     let of_pieces = compare_journals(
         alloc,
         Version::V8,
-        cut(alloc, recorded.as_slice(), size)?.as_slice(),
+        pieces.as_slice(),
         cut(alloc, replayed.as_slice(), size)?.as_slice(),
+        row.ignore_payload_equality,
+    );
+    let of_both = compare_sources(
+        alloc,
+        Version::V8,
+        SlicePieces::new(pieces.as_slice()),
+        ReaderPieces::new(alloc, replayed.as_slice(), size)?,
         row.ignore_payload_equality,
     );
     let of_readers = compare_readers(
@@ -162,5 +176,7 @@ fn answers(alloc: Global, row: &Row<'_>, size: usize) -> Result<bool, Fail>
         size,
         row.ignore_payload_equality,
     );
-    Ok(line(alloc, of_pieces)? == want && reader_line(alloc, of_readers)? == want)
+    Ok(line(alloc, of_pieces)? == want
+        && reader_line(alloc, of_both)? == want
+        && reader_line(alloc, of_readers)? == want)
 }

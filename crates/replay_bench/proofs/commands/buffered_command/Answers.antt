@@ -1,4 +1,4 @@
-use Rattle.std.proofs.Common.{◌≡◌, ◌∙◌, ◌≤◌, ◌+◌, length, arith, sym, Some, None}
+use Rattle.std.proofs.Common.{◌∙◌, arith, sym}
 use Rattle.replay_bench.proofs.Fronts.{leads_on}
 use Rattle.replay_bench.proofs.commands.buffered_command.Goals as goal
 

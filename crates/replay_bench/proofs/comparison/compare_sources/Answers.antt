@@ -1,12 +1,13 @@
-use Rattle.std.proofs.Common.{◌≡◌, ◌+◌, ◌*◌, ◌≤◌, ◌∙◌, Ok, Err, Some, None, arith, sym, subst}
+use Rattle.std.proofs.Common.{◌∙◌, Some, arith, sym, subst}
 use Rattle.std.specs.Io.KnownBytes.{prepend_known}
 use Rattle.std.proofs.lemmas.Result.{err_from_is_err_and}
 use Rattle.shared_core_base.specs.declared.version.Version.{Version}
 use Rattle.replay_bench.specs.declared.verdicts.Verdict.TheVariants.{Same, RecordedEnded, ReplayedEnded}
+use Rattle.replay_bench.specs.Answers.{answer_of}
 use Rattle.replay_bench.specs.Taking.{HasNoCommand, TakesFirst}
-use Rattle.replay_bench.proofs.Endings.{IsNext, answers_refusal, answers_verdict, are_alike, ends_first, ends_found, ends_replayed, ends_together, goes_behind}
+use Rattle.replay_bench.proofs.Endings.{IsNext, answers_refusal, answers_verdict, are_alike, ends_first, ends_found, ends_replayed, ends_together, goes_behind, is_found}
 use Rattle.replay_bench.proofs.Lengths.{keeps_on}
-use Rattle.replay_bench.proofs.comparison.compare.Goals as goal
+use Rattle.replay_bench.proofs.comparison.compare_sources.Goals as goal
 
 pub returns-then-is_some-clause-compared : goal.returns-then-is_some-clause-compared
 returns-then-is_some-clause-compared g c =
@@ -99,7 +100,7 @@ returns-in-Some-found-clause-compared g c =
     let other = subst (λ (ver : Version). TakesFirst ver others (Some expected) then) inv.other_version (rw c.in-Some-expected.is at c.in_ok-expected.ensures.taken) in
     let verdict = c.in-Some-found.verdict in
     let found = rw c.in-Some-found.is at c.in_ok-found.ensures in
-    answers_verdict v ignore first second verdict (ends_found v ignore index actual expected first second left others now then (Ok verdict) inv.goes_on one other found)
+    answers_verdict v ignore first second verdict (ends_found v ignore index actual expected first second left others now then (answer_of verdict) inv.goes_on one other (is_found v ignore index actual expected verdict found))
 
 pub overflow_add-index : goal.overflow_add-index
 overflow_add-index g c =

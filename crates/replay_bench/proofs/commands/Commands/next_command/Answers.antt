@@ -1,4 +1,4 @@
-use Rattle.std.proofs.Common.{◌≡◌, ◌+◌, ◌≤◌, List, ℕ, ◌++◌, ◌∙◌, None, length, length-append, ap, arith, subst, sym}
+use Rattle.std.proofs.Common.{◌≡◌, ◌+◌, List, ℕ, ◌++◌, ◌∙◌, None, length, length-append, ap, arith, subst, sym}
 use Rattle.std.specs.Io.KnownBytes.{prepend_known}
 use Rattle.replay_bench.specs.Taking.{TakesFirst}
 use Rattle.replay_bench.proofs.Fronts.{nothing_behind, nothing_left, takes_behind, takes_held, takes_piece}
