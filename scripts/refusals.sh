@@ -1,15 +1,17 @@
 #!/bin/sh
-# Each request for memory refused in turn. Each test of crates/shared_core_refusal_tests, and the program journal_list, run once for each request
-# for memory that they make, with that one refused, and at last with none refused. A test has to pass. journal_list has to write its listing, or
-# whole lines at the beginning of it and that memory was refused, for which there is no excuse where none is.
+# Each request for memory refused in turn. Each test of crates/shared_core_refusal_tests and of crates/replay_bench_tests, and the programs journal_list
+# and journal_diff, run once for each request for memory that they make, with that one refused, and at last with none refused. A test has to pass.
+# journal_list has to write its listing, or whole lines at the beginning of it and that memory was refused, and journal_diff its verdict, or nothing and
+# that memory was refused, for which there is no excuse where none is.
 #
-# It takes the tests and the program that rt ci has proved and built, and scripts/refuse.c, which counts their requests and refuses one. Two runs go
+# It takes the tests and the programs that rt ci has proved and built, and scripts/refuse.c, which counts their requests and refuses one. Two runs go
 # at a time. The last line is 'N passed, M failed', where each refused request counts as one.
 set -u
 cd "$(dirname "$0")/.." || exit 1
 
-tests=crates/shared_core_refusal_tests/out/shared_core_refusal_tests_tests
+test_crates='shared_core_refusal_tests replay_bench_tests'
 journal_list=crates/journal_list/out/journal_list
+journal_diff=crates/journal_diff/out/journal_diff
 
 passed=0
 failed=0
@@ -47,6 +49,16 @@ is_right_listing() {
     '1:journal_list: out of memory')
       [ "$refused" = yes ] && head -n "$(wc -l < "$room/out")" "$stream.stdout" | cmp -s - "$room/out"
       ;;
+    *) false ;;
+  esac
+}
+
+is_right_verdict() {
+  complaint=''
+  read -r complaint < "$room/err"
+  case $status:$complaint in
+    "$verdict_status:") cmp -s "$room/out" "$work/verdict" ;;
+    '2:journal_diff: out of memory') [ "$refused" = yes ] && [ ! -s "$room/out" ] ;;
     *) false ;;
   esac
 }
@@ -103,14 +115,17 @@ refuse_each() {
   fi
 }
 
-if [ -x "$tests" ]; then
-  "$tests" --list > "$work/list"
-  for test in $(sed -n 's/: test$//p' "$work/list"); do
-    refuse_each "$test" is_right_test /dev/null "$tests" "$test"
-  done
-else
-  echo "refusals.sh: the tests: not run, since there is no $tests"
-fi
+for crate in $test_crates; do
+  tests=crates/$crate/out/${crate}_tests
+  if [ -x "$tests" ]; then
+    "$tests" --list > "$work/list"
+    for test in $(sed -n 's/: test$//p' "$work/list"); do
+      refuse_each "$test" is_right_test /dev/null "$tests" "$test"
+    done
+  else
+    echo "refusals.sh: the tests of $crate: not run, since there is no $tests"
+  fi
+done
 
 if [ -x "$journal_list" ]; then
   for stream in examples/replay examples/unknown_type examples/cut_short; do
@@ -120,5 +135,21 @@ if [ -x "$journal_list" ]; then
   done
 else
   echo "refusals.sh: journal_list: not run, since there is no $journal_list"
+fi
+
+# refuse_verdict STATUS LINES WORD..: runs journal_diff, which is to end with this status and to write these lines
+refuse_verdict() {
+  verdict_status=$1
+  printf '%s\n' "$2" > "$work/verdict"
+  shift 2
+  refuse_each "journal_diff $*" is_right_verdict examples/recorded "$journal_diff" "$@"
+}
+
+if [ -x "$journal_diff" ]; then
+  verdict=$(cat crates/journal_diff/stdout)
+  refuse_verdict 1 "$verdict" crates/journal_diff/data/recorded crates/journal_diff/data/replayed
+  refuse_verdict 0 'same, 4 commands' --ignore-payloads --protocol 9 - examples/replayed_other_payload
+else
+  echo "refusals.sh: journal_diff: not run, since there is no $journal_diff"
 fi
 finish

@@ -4,6 +4,7 @@
 pub mod cases;
 pub mod conformance;
 pub mod hostile;
+pub mod journals;
 #[cfg(feature = "library")]
 pub mod ours;
 pub mod peer;

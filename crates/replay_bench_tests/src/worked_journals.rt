@@ -6,9 +6,7 @@ use crate::frames::{
     GET_MALFORMED, HEAD, INPUT_X, INPUT_Y, NOTIFICATION, RUN_MALFORMED, SET_X, SET_Y,
     SLEEP_MALFORMED, UNKNOWN, cut, journal, line, reader_line,
 };
-use replay_bench::{
-    ReaderPieces, SlicePieces, compare_journals, compare_readers, compare_sources,
-};
+use replay_bench::{ReaderPieces, SlicePieces, compare_journals, compare_readers, compare_sources};
 use shared_core::Version;
 use std::alloc::{AllocError, Global};
 use std::test::Fail;
@@ -176,7 +174,9 @@ fn answers(alloc: Global, row: &Row<'_>, size: usize) -> Result<bool, AllocError
         size,
         row.ignore_payload_equality,
     );
-    Ok(line(alloc, of_pieces)? == want
-        && reader_line(alloc, of_both)? == want
-        && reader_line(alloc, of_readers)? == want)
+    Ok(
+        line(alloc, of_pieces)? == want
+            && reader_line(alloc, of_both)? == want
+            && reader_line(alloc, of_readers)? == want,
+    )
 }

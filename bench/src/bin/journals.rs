@@ -1,0 +1,160 @@
+//! Measures the program journal_diff beside the peer's comparison, on two journals that are the same, and prints a table in Markdown:
+//! journals PROGRAM FOLDER [LENGTH ..]
+//!
+//! PROGRAM is journal_diff, FOLDER is where the journals are written, and each LENGTH is how many bytes one has at least, of which there are three if
+//! none is said. Both sides run as programs of their own, in turn. `journals --peer RECORDED REPLAYED` is the peer's.
+
+use std::env;
+use std::fs::File;
+use std::io::{self, BufWriter, Write};
+use std::path::{Path, PathBuf};
+use std::process::{Command, ExitCode, Stdio};
+use std::time::Duration;
+
+use pendratsoa_bench::journals::{self, Verdict};
+
+/// The version of the protocol, as journal_diff has it if none is said.
+const VERSION: u32 = 8;
+
+/// The lengths of a journal, in bytes.
+const LENGTHS: [usize; 3] = [1_000_000, 10_000_000, 100_000_000];
+
+/// How often each side is measured; the best counts.
+const MEASUREMENTS: usize = 9;
+
+/// What came of a run: the line that it wrote, how long processors worked for it, and how many KiB of memory were resident at most, where Linux counts no less than
+/// this program has itself when it starts the other.
+struct Run {
+    line: String,
+    time: Duration,
+    resident: i64,
+}
+
+mod c {
+    /// What Linux on x86-64 tells of a process that has ended.
+    #[repr(C)]
+    #[derive(Default)]
+    pub struct Usage {
+        /// Seconds and microseconds of the program, and those of the system for it.
+        pub times: [i64; 4],
+        pub most_resident: i64,
+        pub others: [i64; 13],
+    }
+
+    extern "C" {
+        pub fn wait4(process: i32, status: *mut i32, options: i32, usage: *mut Usage) -> i32;
+    }
+}
+
+/// Runs a program, which has to end well.
+fn run(command: &mut Command) -> io::Result<Run> {
+    let mut child = command.stdout(Stdio::piped()).spawn()?;
+    let line = io::read_to_string(child.stdout.take().ok_or(io::ErrorKind::BrokenPipe)?)?;
+    let (mut status, mut usage) = (0, c::Usage::default());
+    // SAFETY: both are there to be written, and nothing else waits for this process
+    let waited = unsafe { c::wait4(child.id() as i32, &mut status, 0, &mut usage) };
+    if waited < 0 || status != 0 {
+        return Err(io::Error::new(
+            io::ErrorKind::Other,
+            format!("{command:?} ended with {status}: {line}"),
+        ));
+    }
+    let [seconds, micros, system_seconds, system_micros] = usage.times;
+    let worked = (seconds + system_seconds) * 1_000_000 + micros + system_micros;
+    Ok(Run {
+        line,
+        time: Duration::from_micros(worked as u64),
+        resident: usage.most_resident,
+    })
+}
+
+/// Writes a journal of at least so many bytes, and says how many it has.
+fn write(length: usize, path: &Path) -> io::Result<u64> {
+    let mut file = BufWriter::new(File::create(path)?);
+    journals::write(length, &mut file)?;
+    file.flush()?;
+    Ok(file.get_ref().metadata()?.len())
+}
+
+/// A row of the table.
+fn row(program: &str, folder: &Path, length: usize) -> io::Result<()> {
+    let paths: [PathBuf; 2] = ["recorded", "replayed"].map(|name| folder.join(name));
+    let mut bytes = 0;
+    for path in &paths {
+        bytes = write(length, path)?;
+    }
+    let mut ours = Command::new(program);
+    ours.args(&paths);
+    let mut peer = Command::new(env::current_exe()?);
+    peer.arg("--peer").args(&paths);
+    let (mut best, mut best_peer) = (run(&mut ours)?, run(&mut peer)?);
+    if best.line != best_peer.line {
+        return Err(io::Error::new(
+            io::ErrorKind::Other,
+            format!("two answers: {}{}", best.line, best_peer.line),
+        ));
+    }
+    for _ in 1..MEASUREMENTS {
+        best.time = best.time.min(run(&mut ours)?.time);
+        best_peer.time = best_peer.time.min(run(&mut peer)?.time);
+    }
+    let rate = |time: Duration| 2.0 * bytes as f64 / 1e6 / time.as_secs_f64();
+    println!(
+        "| {:.1} MB | {} | {:.0} MB | {:.0} MB | {:.2} | {} KiB | {} KiB |",
+        bytes as f64 / 1e6,
+        best.line.trim().trim_start_matches("same, "),
+        rate(best.time),
+        rate(best_peer.time),
+        best_peer.time.as_secs_f64() / best.time.as_secs_f64(),
+        best.resident,
+        best_peer.resident,
+    );
+    Ok(())
+}
+
+fn measure(program: &str, folder: &Path, lengths: &[usize]) -> io::Result<()> {
+    println!("| each journal | commands | ours a second | peer a second | ours / peer | most resident, ours | peer |");
+    println!("|---|---|---|---|---|---|---|");
+    lengths
+        .iter()
+        .try_for_each(|&length| row(program, folder, length))
+}
+
+/// The peer's comparison of two files, whose line is that of journal_diff.
+fn peer(recorded: &str, replayed: &str) -> ExitCode {
+    let compared = File::open(recorded)
+        .and_then(|recorded| Ok((recorded, File::open(replayed)?)))
+        .map_err(journals::Refusal::from)
+        .and_then(|(recorded, replayed)| journals::compare(VERSION, recorded, replayed));
+    match compared {
+        Ok(Verdict::Same(count)) => println!("same, {count} commands"),
+        other => {
+            println!("{other:?}");
+            return ExitCode::FAILURE;
+        }
+    }
+    ExitCode::SUCCESS
+}
+
+fn main() -> ExitCode {
+    let words: Vec<String> = env::args().skip(1).collect();
+    let words: Vec<&str> = words.iter().map(String::as_str).collect();
+    if let ["--peer", recorded, replayed] = words[..] {
+        return peer(recorded, replayed);
+    }
+    let lengths: Option<Vec<usize>> = words.iter().skip(2).map(|word| word.parse().ok()).collect();
+    let (&[program, folder, ..], Some(mut lengths)) = (&words[..], lengths) else {
+        eprintln!("usage: journals PROGRAM FOLDER [LENGTH ..]");
+        return ExitCode::from(2);
+    };
+    if lengths.is_empty() {
+        lengths.extend(LENGTHS);
+    }
+    match measure(program, Path::new(folder), &lengths) {
+        Ok(()) => ExitCode::SUCCESS,
+        Err(error) => {
+            println!("failed: {error}");
+            ExitCode::FAILURE
+        }
+    }
+}

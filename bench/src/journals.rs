@@ -1,0 +1,119 @@
+//! Journals that are compared: long ones, and their comparison as one writes it in ordinary Rust over prost.
+
+use std::io::{self, Read, Write};
+
+use bytes::Bytes;
+use prost::{DecodeError, Message};
+
+use crate::peer::{is_command, Decoder, Header, Item};
+use crate::random::Random;
+use crate::streams;
+use crate::table::with_message;
+
+/// How many bytes are read at a time, as journal_diff reads.
+const PIECE: usize = 65536;
+
+/// Writes a journal of at least so many bytes, the same each time: what a handler did, again and again.
+pub fn write(length: usize, output: &mut impl Write) -> io::Result<()> {
+    let mut random = Random::new(2, 0);
+    let mut written = 0;
+    while written < length {
+        let replayed = streams::stream(&streams::replay(&mut random));
+        output.write_all(&replayed)?;
+        written += replayed.len();
+    }
+    Ok(())
+}
+
+/// How two journals compare.
+#[derive(Clone, Copy, Debug, PartialEq, Eq)]
+pub enum Verdict {
+    /// Both have so many commands, and each is the same as the other's at its index.
+    Same(u64),
+    /// They differ at this index, or one of them ends there.
+    DifferAt(u64),
+}
+
+/// Why two journals have no verdict.
+#[derive(Debug)]
+pub enum Refusal {
+    Read(io::Error),
+    Malformed(DecodeError),
+}
+
+impl From<io::Error> for Refusal {
+    fn from(error: io::Error) -> Refusal {
+        Refusal::Read(error)
+    }
+}
+
+impl From<DecodeError> for Refusal {
+    fn from(error: DecodeError) -> Refusal {
+        Refusal::Malformed(error)
+    }
+}
+
+/// Compares two journals of a version, command by command: their types, and then their records, by the derived `==`.
+pub fn compare(version: u32, recorded: impl Read, replayed: impl Read) -> Result<Verdict, Refusal> {
+    let mut recorded = Commands::new(version, recorded);
+    let mut replayed = Commands::new(version, replayed);
+    let mut index = 0;
+    loop {
+        let same = match (recorded.next_command()?, replayed.next_command()?) {
+            (None, None) => return Ok(Verdict::Same(index)),
+            (Some((actual, payload)), Some((expected, other))) => {
+                actual.code == expected.code && are_same(actual.code, payload, other)?
+            }
+            _ => false,
+        };
+        if !same {
+            return Ok(Verdict::DifferAt(index));
+        }
+        index += 1;
+    }
+}
+
+/// Whether two payloads of a type mean the same.
+fn are_same(code: u16, actual: Bytes, expected: Bytes) -> Result<bool, DecodeError> {
+    with_message!(
+        code,
+        Record => Ok(Record::decode(actual)? == Record::decode(expected)?),
+        _ => Ok(true),
+    )
+}
+
+/// The commands of a journal, one after the other.
+struct Commands<R> {
+    decoder: Decoder,
+    reader: R,
+    buffer: Vec<u8>,
+}
+
+impl<R: Read> Commands<R> {
+    fn new(version: u32, reader: R) -> Commands<R> {
+        Commands {
+            decoder: Decoder::new(version),
+            reader,
+            buffer: vec![0; PIECE],
+        }
+    }
+
+    fn next_command(&mut self) -> io::Result<Option<(Header, Bytes)>> {
+        loop {
+            while let Some(item) = self.decoder.next_item() {
+                match item {
+                    Item::Message(header, payload) if is_command(header.code) => {
+                        return Ok(Some((header, payload)));
+                    }
+                    _ => {}
+                }
+            }
+            let count = self.reader.read(&mut self.buffer)?;
+            if count == 0 {
+                return Ok(None);
+            }
+            self.decoder
+                .push(Bytes::copy_from_slice(&self.buffer[..count]));
+        }
+    }
+}
