@@ -151,32 +151,65 @@ fn answers(alloc: Global, row: &Row<'_>, size: usize) -> Result<bool, AllocError
     let want = format!(in alloc; "{}{head}{}", row.answer, row.text)?;
     let recorded = journal(alloc, row.recorded)?;
     let replayed = journal(alloc, row.replayed)?;
-    let pieces = cut(alloc, recorded.as_slice(), size)?;
-    let of_pieces = compare_journals(
-        alloc,
-        Version::V8,
-        pieces.as_slice(),
-        cut(alloc, replayed.as_slice(), size)?.as_slice(),
-        row.ignore_payload_equality,
-    );
-    let of_both = compare_sources(
-        alloc,
-        Version::V8,
-        SlicePieces::new(pieces.as_slice()),
-        ReaderPieces::new(alloc, replayed.as_slice(), size)?,
-        row.ignore_payload_equality,
-    );
-    let of_readers = compare_readers(
-        alloc,
-        Version::V8,
-        recorded.as_slice(),
-        replayed.as_slice(),
-        size,
-        row.ignore_payload_equality,
-    );
+    let (recorded, replayed) = (recorded.as_slice(), replayed.as_slice());
+    let ignore = row.ignore_payload_equality;
     Ok(
-        line(alloc, of_pieces)? == want
-            && reader_line(alloc, of_both)? == want
-            && reader_line(alloc, of_readers)? == want,
+        of_pieces(alloc, recorded, replayed, ignore, size)? == want
+            && of_readers(alloc, recorded, replayed, ignore, size)? == want
+            && of_both(alloc, recorded, replayed, ignore, size)? == want,
+    )
+}
+
+/// What a comparison of pieces of this size answers.
+fn of_pieces(
+    alloc: Global,
+    recorded: &[u8],
+    replayed: &[u8],
+    ignore: bool,
+    size: usize,
+) -> Result<String, AllocError>
+    requires { 1 ≤ size }
+{
+    let recorded = cut(alloc, recorded, size)?;
+    let replayed = cut(alloc, replayed, size)?;
+    let (recorded, replayed) = (recorded.as_slice(), replayed.as_slice());
+    line(
+        alloc,
+        compare_journals(alloc, Version::V8, recorded, replayed, ignore),
+    )
+}
+
+/// What a comparison of readers answers, of which each read is at most of this size.
+fn of_readers(
+    alloc: Global,
+    recorded: &[u8],
+    replayed: &[u8],
+    ignore: bool,
+    size: usize,
+) -> Result<String, AllocError>
+    requires { 1 ≤ size }
+{
+    reader_line(
+        alloc,
+        compare_readers(alloc, Version::V8, recorded, replayed, size, ignore),
+    )
+}
+
+/// What a comparison of pieces with a reader answers.
+fn of_both(
+    alloc: Global,
+    recorded: &[u8],
+    replayed: &[u8],
+    ignore: bool,
+    size: usize,
+) -> Result<String, AllocError>
+    requires { 1 ≤ size }
+{
+    let recorded = cut(alloc, recorded, size)?;
+    let recorded = SlicePieces::new(recorded.as_slice());
+    let replayed = ReaderPieces::new(alloc, replayed, size)?;
+    reader_line(
+        alloc,
+        compare_sources(alloc, Version::V8, recorded, replayed, ignore),
     )
 }
