@@ -36,10 +36,10 @@ pub trait MessageVisitor: Sized + Drop {
     /// What is answered.
     type Output;
 
-    /// Whether it may be asked for a type.
+    /// Whether it may be asked for a type: for every type, unless an impl says otherwise.
     ghost may_visit: { Self → AnyType → Type 0 } = { λ visitor ty. Unit {0} };
 
-    /// What it answers for a type whose payloads have this schema.
+    /// What it answers for a type whose payloads have this schema: anything, unless an impl says otherwise.
     ghost answers: { Self → AnyType → ℕ → Self.Output → Type 0 } = { λ visitor ty schema answer. Unit {0} };
 
     /// Answers for the type of this record.

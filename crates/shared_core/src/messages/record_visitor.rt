@@ -31,7 +31,7 @@ pub trait RecordVisitor: Sized + Drop {
     /// What is answered.
     type Output;
 
-    /// What it answers for a schema.
+    /// What it answers for a schema: anything, unless an impl says otherwise.
     ghost answers: { Self → ℕ → Self.Output → Type 0 } = { λ visitor schema answer. Unit {0} };
 
     /// Answers for the schema of this record.
