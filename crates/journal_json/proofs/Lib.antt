@@ -1,2 +1,5 @@
 pub mod Listed
 pub mod Walk
+pub mod Lookup
+pub mod Members
+pub mod Payloads
