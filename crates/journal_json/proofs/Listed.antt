@@ -1,9 +1,9 @@
 -- The fields of the program's table are those of the schemas.
-use Rattle.std.proofs.Common.{◌≡◌, ℕ, zero, suc, ◌+◌, ◌<◌, ◌≤◌, List, [], ◌∷◌, ◌++◌, map, length, drop, get_or, Option, Some, None, refl, sym, ap, ◌∙◌, arith, eqb, cond, Bool, true, false}
+use Rattle.std.proofs.Common.{◌≡◌, ℕ, zero, suc, ◌<◌, ◌≤◌, List, [], ◌∷◌, map, length, get_or, refl, sym, ap, ◌∙◌, arith}
 use Rattle.shared_core_wire.specs.Schema.{Row, table_of}
 use Rattle.shared_core_record.specs.Table.{schemas}
 use Rattle.journal_json.specs.Names.{names}
-use Rattle.journal_json.specs.Fields.{NamedField, names_at, fields_of_rows, fields_of_each, all_fields, schema_fields, field_numbered}
+use Rattle.journal_json.specs.Fields.{NamedField, names_at, fields_of_rows, fields_of_each, all_fields, schema_fields}
 
 -- the list at a place, or none
 pub at : List (List NamedField) → ℕ → List NamedField

@@ -1,12 +1,11 @@
 -- What is written for the records of a value is its JSON.
-use Rattle.std.proofs.Common.{◌≡◌, ℕ, zero, suc, ◌+◌, ◌-◌, ◌%◌, ◌^◌, ◌<◌, ◌≤◌, List, [], ◌∷◌, ◌++◌, map, length, Bool, true, false, cond, not, ◌&&◌, ◌||◌, Option, Some, None, Result, Ok, Err, refl, sym, ap, subst, ◌∙◌, append_assoc, append-nil, arith, eqb, ltb, eq-eqb}
+use Rattle.std.proofs.Common.{◌≡◌, ℕ, zero, suc, ◌+◌, ◌-◌, ◌%◌, ◌^◌, ◌<◌, ◌≤◌, List, [], ◌∷◌, ◌++◌, map, length, Bool, true, false, cond, not, Option, Some, None, Result, Ok, Err, refl, sym, ap, ◌∙◌, append_assoc, arith, eqb, ltb, eq-eqb}
 use Rattle.std.proofs.lemmas.Bool.{eqb-true, ltb-true, lt-ltb}
 use Rattle.std.proofs.Math.Dec.{eqb-suc-zero}
 use Rattle.std.specs.Prelude.{flat_map, decimal}
 use Rattle.std.specs.List.{list_all}
-use Rattle.std.specs.Str.{is_utf8}
 use Rattle.std.proofs.lemmas.List.Folds.{list_all-append}
-use Rattle.json.specs.Token.{Token, begin_object, end_object, begin_array, end_array, key, string, number}
+use Rattle.json.specs.Token.{Token, end_object, begin_array, end_array, key, number}
 use Rattle.json.specs.Json.{Json, Members, member, array}
 use Rattle.json.specs.Tree.{json_tokens, members_tokens}
 use Rattle.json.specs.Tree as tree
@@ -24,9 +23,9 @@ use Rattle.shared_core_wire.specs.Spelling.{shortest_varint}
 use Rattle.shared_core_wire.proofs.ReadBack.{or_split, includes-append, distinct_back, distinct_other}
 use Rattle.shared_core_wire.proofs.Runs.{and_split, and_join}
 use Rattle.shared_core_record.specs.Table.{table}
-use Rattle.journal_json.specs.Fields.{NamedField, names_of, name_of, stands_alone, field_numbered}
-use Rattle.journal_json.specs.Form.{number_json, is_present, member_if, part_json, items_json, members_json, value_json, enum_digits}
-use Rattle.journal_json.specs.Written.{low, number_token, numbers_past, run_tokens, text_token, value_tokens, end_tokens, lead_tokens, record_tokens, next_begun, items_tokens}
+use Rattle.journal_json.specs.Fields.{NamedField, name_of, field_numbered}
+use Rattle.journal_json.specs.Form.{is_present, member_if, part_json, items_json, members_json, value_json, enum_digits}
+use Rattle.journal_json.specs.Written.{low, number_token, numbers_past, run_tokens, value_tokens, end_tokens, record_tokens, next_begun, items_tokens}
 use Rattle.journal_json.proofs.Lookup.{own_field, Knows, knows_row, knows_rest}
 
 -- ---- the walk over a record list
@@ -185,8 +184,9 @@ module _ (nested : ℕ → List ℕ → List Token) (left : ℕ)
   elements_tokens nil k rest h l s = refl
   elements_tokens (cons p ps) k rest h l s =
       let x = single p k h.0 h.1 (omega arith) in
+      let low_rest : levels ps ≤ left = omega arith in
       let e = and_split _ _ (ap (λ (ws : List RecordValue). list_all spellable_value (ws ++ element_values table ps k)) (sym x.is) ∙ s) in
-      let later = elements_tokens ps k rest h.2 (omega arith) e.1 in
+      let later = elements_tokens ps k rest h.2 low_rest e.1 in
       ap (λ (ws : List RecordValue). flat_map (value_tokens nested k) (ws ++ element_values table ps k) ++ (end_array ∷ rest)) x.is
       ∙ append_assoc (value_tokens nested k x.w) (flat_map (value_tokens nested k) (element_values table ps k)) (end_array ∷ rest)
       ∙ ap (λ (ts : List Token). value_tokens nested k x.w ++ ts) later
@@ -333,9 +333,11 @@ module _ (nested : ℕ → List ℕ → List Token) (left : ℕ)
     members_written names nil (row ∷ rows) begun d k b z h l s = absurd h
     members_written names (cons p ps) [] begun d k b z h l s = absurd h
     members_written names (cons p ps) (row ∷ rows) begun d k b z h l s =
+        let low_row : part_levels p ≤ left = omega arith in
+        let low_rest : levels ps ≤ left = omega arith in
         let e = and_split _ _ (sym (list_all-append spellable (row_records row p (part_values table p (kind_of row p))) (message_records table ps rows)) ∙ s) in
         let before = or_split (includes (numbers row) begun) _ (sym (includes-append (numbers row) (all_numbers rows) begun) ∙ b) in
         let zero_of = or_split (includes (numbers row) 0) _ (sym (includes-append (numbers row) (all_numbers rows) 0) ∙ z) in
-        let later = λ (n : ℕ) (g : includes (all_numbers rows) n ≡ false). members_written names ps rows n (distinct_back (numbers row) (all_numbers rows) d) (knows_rest fields names row rows d k) g zero_of.1 h.2 (omega arith) e.1 in
-        row_written (message_records table ps rows) (members_json names ps rows) begun names row p (knows_row fields names row rows k) before.0 zero_of.0 h.0 h.1 (omega arith) e.0
+        let later = λ (n : ℕ) (g : includes (all_numbers rows) n ≡ false). members_written names ps rows n (distinct_back (numbers row) (all_numbers rows) d) (knows_rest fields names row rows d k) g zero_of.1 h.2 low_rest e.1 in
+        row_written (message_records table ps rows) (members_json names ps rows) begun names row p (knows_row fields names row rows k) before.0 zero_of.0 h.0 h.1 low_row e.0
         (later begun before.1) (later 0 zero_of.1) (λ n g. later n (distinct_other (numbers row) (all_numbers rows) n d g))

@@ -1,5 +1,5 @@
 -- What is written for a canonical payload is the JSON of its value, at all levels.
-use Rattle.std.proofs.Common.{◌≡◌, ℕ, zero, suc, ◌^◌, ◌<◌, ◌≤◌, List, [], ◌∷◌, ◌++◌, length, map, Bool, true, false, ◌&&◌, ◌||◌, Ok, Some, refl, sym, ap, ◌∙◌, arith, eqb, ltb}
+use Rattle.std.proofs.Common.{◌≡◌, ℕ, zero, suc, ◌^◌, ◌<◌, ◌≤◌, List, [], ◌∷◌, ◌++◌, length, map, Bool, true, false, ◌||◌, Ok, Some, refl, ap, subst, ◌∙◌, arith, eqb}
 use Rattle.std.proofs.lemmas.Bool.{ltb-true, eqb-true}
 use Rattle.std.specs.List.{list_all}
 use Rattle.json.specs.Token.{Token, begin_object, end_object}
@@ -9,7 +9,7 @@ use Rattle.shared_core_wire.specs.Reader.{record_list}
 use Rattle.shared_core_wire.specs.Items.{record_items, without_place}
 use Rattle.shared_core_wire.specs.Spelling.{record_bytes, record_list_bytes, is_field_number}
 use Rattle.shared_core_wire.specs.Schema.{includes, all_numbers}
-use Rattle.shared_core_wire.specs.Value.{Parts, empty_value}
+use Rattle.shared_core_wire.specs.Value.{Parts}
 use Rattle.shared_core_wire.specs.Acceptance.{accepts_message}
 use Rattle.shared_core_wire.specs.Overlay.{message_overlay}
 use Rattle.shared_core_wire.specs.Canonical.{message_records, canonical_payload, levels}
@@ -21,11 +21,14 @@ use Rattle.shared_core_wire.proofs.RecordLists.{records_empty, records_append, r
 use Rattle.shared_core_wire.proofs.Runs.{and_split}
 use Rattle.shared_core_wire.proofs.SpellingLaws.{spellable, record_spelled}
 use Rattle.shared_core_record.specs.Table.{table}
+use Rattle.shared_core_record.specs.Payloads.{payload_meaning}
 use Rattle.shared_core_record.proofs.Tables.{are_schemas}
 use Rattle.journal_json.specs.Fields.{schema_fields, names_of}
-use Rattle.journal_json.specs.Form.{value_json, members_json}
-use Rattle.journal_json.specs.Written.{items_tokens, payload_tokens}
-use Rattle.journal_json.proofs.Members.{walk, walk_items, members_written}
+use Rattle.journal_json.specs.Form.{value_json}
+use Rattle.journal_json.specs.Payloads.{IsSpelling, WritesJson}
+use Rattle.journal_json.specs.Written.{payload_tokens}
+use Rattle.journal_json.proofs.Levels.{meaning_levels}
+use Rattle.journal_json.proofs.Members.{walk_items, members_written}
 
 no_zero : (ns : List ℕ) → list_all is_field_number ns ≡ true → includes ns 0 ≡ false
 no_zero [] h = refl
@@ -68,3 +71,16 @@ pub canonical_written : (left s : ℕ) (v : Parts) → Fits table v (table s) �
     → payload_tokens (suc left) s (canonical_payload table s v) ≡ json_tokens (value_json s v)
 canonical_written zero s v h l z = level_written zero s v h l z (λ t ps f k c. absurd (omega arith))
 canonical_written (suc left) s v h l z = level_written (suc left) s v h l z (λ t ps f k c. canonical_written left t ps f (omega arith) c)
+
+pub spelling_written : (s : ℕ) (bytes : List ℕ) (old new : List Token) → length bytes < 2 ^ 64 → new ≡ old ++ payload_tokens 102 s bytes → WritesJson s bytes old new
+spelling_written s bytes old new len w v spelling =
+    w ∙ ap (λ (bs : List ℕ). old ++ payload_tokens 102 s bs) spelling.canonical
+    ∙ ap (λ (ts : List Token). old ++ ts) (canonical_written 101 s v spelling.fits spelling.low (subst (λ (bs : List ℕ). length bs < 2 ^ 64) spelling.canonical len))
+
+-- the canonical payload of what a payload means
+pub decoded_spelling : (s : ℕ) (payload bytes : List ℕ) (v : Parts) → v ≡ payload_meaning s payload → Fits table v (table s) → bytes ≡ canonical_payload table s v → IsSpelling s (payload_meaning s payload) bytes
+decoded_spelling s payload bytes v e f c = record {
+  fits = subst (λ (x : Parts). Fits table x (table s)) e f;
+  low = meaning_levels table 100 s payload;
+  canonical = c ∙ ap (canonical_payload table s) e;
+}

@@ -1,7 +1,7 @@
 -- What is written on going over the numbers of a packed run, and over the records of a payload.
-use Rattle.std.proofs.Common.{◌≡◌, ℕ, zero, suc, ◌+◌, ◌-◌, ◌<◌, List, [], ◌∷◌, ◌++◌, length, drop, map, Option, Some, None, Result, Ok, Err, true, false, append_assoc, refl, sym, ap, ◌∙◌, arith}
+use Rattle.std.proofs.Common.{◌≡◌, ℕ, zero, suc, ◌-◌, ◌<◌, List, [], ◌∷◌, ◌++◌, length, drop, Some, None, Result, Ok, Err, true, false, append_assoc, refl, sym, ap, ◌∙◌, arith}
 use Rattle.std.proofs.lemmas.List.{length-append}
-use Rattle.json.specs.Token.{Token, begin_object, end_object, begin_array, end_array, string, null}
+use Rattle.json.specs.Token.{Token, begin_object, end_object, string, null}
 use Rattle.shared_core_wire.proofs.Groups.{behind}
 use Rattle.shared_core_wire.proofs.Readers.{varint_pos, varint_reads}
 use Rattle.shared_core_wire.specs.Reader.{varint_at}
@@ -10,7 +10,7 @@ use Rattle.shared_core_wire.specs.declared.error.WireError.{WireError}
 use Rattle.std.specs.Prelude.{OnOk}
 use Rattle.std.specs.Str.{is_utf8}
 use Rattle.journal_json.specs.Fields.{NamedField, schema_fields, field_numbered}
-use Rattle.journal_json.specs.Written.{number_token, text_token, numbers_past, run_tokens, end_tokens, record_tokens, next_begun, items_tokens, payload_tokens}
+use Rattle.journal_json.specs.Written.{text_token, numbers_past, end_tokens, record_tokens, next_begun, items_tokens, payload_tokens}
 
 numbers_over : (past : ℕ) (bytes : List ℕ) → numbers_past past bytes ≡ numbers_past 0 (drop past bytes)
 unfolding numbers_past

@@ -1,10 +1,10 @@
 -- The tokens that are written for the records of a payload, one after the other.
-use Rattle.std.specs.Prelude.{ℕ, zero, suc, ◌-◌, ◌%◌, Bool, true, false, not, List, [], ◌∷◌, ◌++◌, map, length, decimal, nat_eq, ◌==◌, if◌then◌else◌, Option, Some, None, Result, Ok, Err}
+use Rattle.std.specs.Prelude.{ℕ, zero, suc, ◌-◌, ◌%◌, not, List, [], ◌∷◌, ◌++◌, map, length, decimal, nat_eq, ◌==◌, if◌then◌else◌, Option, Some, None, Result, Ok, Err}
 use Rattle.std.specs.Str.{is_utf8}
 use Rattle.base64.specs.GeneralPurpose.{encode_of}
 use Rattle.base64.specs.Engines.{standard}
 use Rattle.json.specs.Token.{Token, begin_object, end_object, begin_array, end_array, key, string, number, boolean, null}
-use Rattle.shared_core_wire.specs.Grammar.{RecordValue, Varint, Fixed64, Length, Group, Fixed32, FieldRecord}
+use Rattle.shared_core_wire.specs.Grammar.{RecordValue, Varint, Fixed64, Length, Group, Fixed32}
 use Rattle.shared_core_wire.specs.Reader.{varint_at}
 use Rattle.shared_core_wire.specs.Items.{PlacedRecord, record_items}
 use Rattle.shared_core_wire.specs.Schema.{Kind, U32, U64, Boolean, Enumeration, Text, ByteString, Message}

@@ -1,5 +1,14 @@
-//! The proto3 JSON form of the protocol's messages.
+//! The JSON of the protocol's messages: proto3's JSON form, by the names of proto/journal.proto.
+//!
+//! A payload is decoded and written canonically (`canonical`), and the canonical payload is written as JSON (`write_message`), which goes
+//! over its records once, by one table of fields for all messages.
 #![tactic(auto)]
 
-pub mod fields;
-pub mod write;
+mod canonical;
+mod error;
+mod fields;
+mod write;
+
+pub use canonical::{json_of, write_canonical};
+pub use error::JsonError;
+pub use write::write_message;

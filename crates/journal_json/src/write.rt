@@ -8,6 +8,7 @@ ghost use Rattle.base64.specs.Engines.{standard};
 ghost use Rattle.shared_core_wire.specs.View.{value_of};
 ghost use Rattle.journal_json.specs.Form.{enum_digits};
 ghost use Rattle.journal_json.specs.Fields.{kind_view, field_view, schema_fields, field_numbered};
+ghost use Rattle.journal_json.specs.Payloads.{WritesJson};
 ghost use Rattle.journal_json.specs.Written.{low, varint_token, run_tokens, text_token, length_tokens, value_tokens, end_tokens, lead_tokens, record_tokens, next_begun, payload_tokens};
 
 use crate::fields::{Field, Kind, find_field};
@@ -18,9 +19,26 @@ use shared_core_wire::records::{Record, Records};
 use shared_core_wire::varint::read_varint;
 use std::alloc::AllocError;
 
+/// Levels, of which a message takes one.
+const LEVELS: u32 = 102;
+
+/// Writes the JSON of the value of a schema of which this is the canonical payload (other payloads are written somehow). `base64` is used in
+/// between, and what it holds does not matter. Where a request for memory is refused, some tokens may be written.
+pub fn write_message(
+    out: &mut Writer,
+    base64: &mut String,
+    schema: u32,
+    canonical: &[u8],
+) -> Result<(), AllocError>
+    ensures tokens { OnOk result (WritesJson schema canonical.now out.old.tokens out.new.tokens) }
+    ensures before { out.new.before ≡ out.old.before }
+{
+    write_payload(out, base64, schema, canonical, LEVELS)
+}
+
 /// Writes a payload as an object, where so many levels are left, its own among them.
 #[cycle(payload)]
-pub fn write_payload(
+fn write_payload(
     out: &mut Writer,
     base64: &mut String,
     schema: u32,

@@ -1,6 +1,5 @@
-use Rattle.std.proofs.Common.{◌≡◌, List, length, map, refl, ap, ◌∙◌, Bor, arith}
+use Rattle.std.proofs.Common.{map, ◌∙◌, arith}
 use Rattle.journal_json.specs.Fields.{fields_view}
-use Rattle.journal_json.specs.declared.fields.Field.{Field}
 use Rattle.journal_json.proofs.Listed.{at_index, listed, past, map_len}
 use Rattle.journal_json.proofs.fields.fields_of.Goals as goal
 

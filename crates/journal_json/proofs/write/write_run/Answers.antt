@@ -1,6 +1,6 @@
-use Rattle.std.proofs.Common.{◌≡◌, [], ◌∷◌, ◌++◌, ◌%◌, map, sym, refl, ap, ◌∙◌, append-nil, rules, List, ℕ}
-use Rattle.json.specs.Token.{Token, begin_array, end_array}
-use Rattle.journal_json.specs.Written.{number_token, numbers_past}
+use Rattle.std.proofs.Common.{[], ◌∷◌, ◌++◌, map, sym, refl, ap, ◌∙◌, append-nil, rules, List, ℕ}
+use Rattle.json.specs.Token.{begin_array, end_array}
+use Rattle.journal_json.specs.Written.{number_token}
 use Rattle.journal_json.proofs.Walk.{numbers_turn, numbers_stop, step_on, on_ok, enclosed}
 use Rattle.journal_json.proofs.write.write_run.Goals as goal
 

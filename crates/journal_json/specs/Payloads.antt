@@ -1,0 +1,20 @@
+-- Canonical payloads, and what is written for them.
+use Rattle.std.specs.Prelude.{◌≡◌, ℕ, ◌≤◌, ◌++◌, List}
+use Rattle.json.specs.Token.{Token}
+use Rattle.json.specs.Tree.{json_tokens}
+use Rattle.shared_core_wire.specs.Value.{Parts}
+use Rattle.shared_core_wire.specs.Canonical.{canonical_payload, levels}
+use Rattle.shared_core_wire.specs.Fitting.{Fits}
+use Rattle.shared_core_record.specs.Table.{table}
+use Rattle.journal_json.specs.Form.{value_json}
+
+-- The bytes are the canonical payload of a value of the schema s, which has at most one hundred and one levels. (No payload that is accepted
+-- means one of more than one hundred.)
+pub record IsSpelling (s : ℕ) (v : Parts) (bytes : List ℕ) : Type 0 where
+  pub fits : Fits table v (table s)
+  pub low : levels v ≤ 101
+  pub canonical : bytes ≡ canonical_payload table s v
+
+-- Where the bytes spell a value canonically, its JSON stands behind the tokens that stood there.
+abbrev pub WritesJson : ℕ → List ℕ → List Token → List Token → Type 0
+WritesJson s bytes old new = (v : Parts) → IsSpelling s v bytes → new ≡ old ++ json_tokens (value_json s v)

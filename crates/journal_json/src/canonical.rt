@@ -1,0 +1,70 @@
+//! Payloads of one message: made canonical, and written as JSON.
+
+ghost use Rattle.std.specs.Prelude.{◌≡◌, IfOk, OnOk};
+ghost use Rattle.std.specs.Result.{IsErrOf};
+ghost use Rattle.std.specs.Str.{IsUtf8};
+ghost use Rattle.shared_core_wire.specs.Canonical.{canonical_payload};
+ghost use Rattle.shared_core_wire.specs.Fitting.{Fits};
+ghost use Rattle.shared_core_record.specs.Table.{table};
+ghost use Rattle.shared_core_record.specs.Payloads.{IsAccepted, payload_meaning};
+ghost use Rattle.journal_json.specs.Form.{json_text};
+ghost use Rattle.journal_json.specs.Payloads.{IsSpelling};
+ghost use Rattle.journal_json.specs.declared.error.JsonError.TheVariants.{Malformed};
+
+use crate::error::JsonError;
+use crate::write::write_message;
+use bytes::Bytes;
+use json::Writer;
+use shared_core_record::record::{WireRecord, decode_payload};
+use std::alloc::Global;
+
+/// Writes the canonical payload of what a payload means over what the buffer holds. `Malformed` where the payload is not well-formed for the
+/// message; `TooLong` where the canonical payload has more than 4,294,967,295 bytes; `OutOfMemory` where a request for memory was refused.
+pub fn write_canonical<M: WireRecord>(
+    alloc: Global,
+    payload: &Bytes,
+    canonical: &mut Vec<u8>,
+) -> Result<(), JsonError>
+    ensures accepted { OnOk result (IsAccepted M.schema payload.now) }
+    ensures spelled { OnOk result (IsSpelling M.schema (payload_meaning M.schema payload.now) canonical.new.items) }
+    ensures malformed { IsErrOf result Malformed → ¬ (IsAccepted M.schema payload.now) }
+{
+    let message: M = decode_payload(alloc, payload)?;
+    encode_over(&message, canonical)
+}
+
+/// Writes the canonical payload of a record over what the buffer holds: what `encode_payload_into` does, whose contract does not say that
+/// the value fits its schema.
+fn encode_over<M: WireRecord>(message: &M, canonical: &mut Vec<u8>) -> Result<(), JsonError>
+    ensures written { OnOk result (canonical.new.items ≡ canonical_payload table M.schema (M.parts message.now)) }
+    ensures fit { Fits table (M.parts message.now) (table M.schema) }
+    ensures not_malformed { IsErrOf result Malformed → ⊥ }
+{
+    let Some(len) = message.encoded_len() else {
+        return Err(JsonError::TooLong);
+    };
+    canonical.clear();
+    canonical.resize(len as usize, 0)?;
+    message.fill_payload(&mut canonical[..]);
+    Ok(())
+}
+
+/// The JSON of a payload of the message whose schema stands at this place of the table. The errors are those of `write_canonical`.
+pub fn json_of<M: WireRecord>(
+    alloc: Global,
+    schema: u32,
+    payload: &Bytes,
+) -> Result<Vec<u8>, JsonError>
+    requires { M.schema ≡ schema }
+    ensures accepted { IfOk result (λ text. IsAccepted M.schema payload.now) }
+    ensures text { IfOk result (λ text. text.items ≡ json_text M.schema (payload_meaning M.schema payload.now)) }
+    ensures utf8 { IfOk result (λ text. IsUtf8 text.items) }
+    ensures malformed { IsErrOf result Malformed → ¬ (IsAccepted M.schema payload.now) }
+{
+    let mut canonical = Vec::new(alloc);
+    write_canonical::<M>(alloc, payload, &mut canonical)?;
+    let mut out = Writer::new(Vec::new(alloc));
+    let mut base64 = String::new(alloc);
+    write_message(&mut out, &mut base64, schema, canonical.as_slice())?;
+    Ok(out.into_inner())
+}
