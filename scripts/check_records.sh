@@ -1,6 +1,6 @@
 #!/bin/sh
-# Shows that the written files are up to date: the records and how commands are compared, which scripts/records.py writes, the records
-# of the peer, which bench/records.py writes, the lines on comparisons, which scripts/compare.py writes, and the payloads from protoc,
+# Shows that the written files are up to date: the records and how commands are compared, which scripts/records.py writes, the names in
+# JSON, which scripts/json_names.py writes, the records of the peer, which bench/records.py writes, the lines on comparisons, which scripts/compare.py writes, and the payloads from protoc,
 # which scripts/vectors.py writes. It takes seconds. Needs python3, and for the last protoc, and says 'not run' where there is none. The
 # last line is 'N passed, M failed', of these programs.
 set -u
@@ -27,6 +27,7 @@ check() {
   grep -v '^[0-9]* passed, [0-9]* failed$' "$said"
 }
 check scripts/records.py
+check scripts/json_names.py
 check bench/records.py
 check scripts/compare.py
 if command -v protoc > /dev/null; then

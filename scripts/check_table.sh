@@ -1,6 +1,6 @@
 #!/bin/sh
-# Shows that proto/journal.proto, the schemas that contracts cite and the code of the records say the same of every field: message,
-# name, number, kind, presence and oneof; and that conformance/ has lines of every message, message type and command, among them each message
+# Shows that proto/journal.proto, the schemas and the names in JSON that contracts cite and the code of the records say the same of every
+# field: message, name, number, kind, presence and oneof; and that conformance/ has lines of every message, message type and command, among them each message
 # with every field present, with each member of its oneofs, and its frames. It reads the code as it stands: whether the files that programs
 # write are up to date is for check_records.sh. The last line is 'N passed, M failed'; what differs is shown above it.
 set -u
@@ -164,6 +164,27 @@ same() {
 }
 same "proto/journal.proto and the schemas of shared_core_record" "$work/proto_rows" "$work/schemas"
 same "proto/journal.proto and the code of the records" "$work/proto" "$work/code"
+
+# The names that JSON has for the fields: those of the file in lower camel case.
+awk '
+  NF > 1 {
+    name = ""
+    count = split($6, words, "_")
+    for (i = 1; i <= count; i++) name = name (i == 1 ? words[i] : toupper(substr(words[i], 1, 1)) substr(words[i], 2))
+    print $1, $2, name
+  }
+' "$work/proto" | sort > "$work/names"
+awk '
+  /^    -- / { message = $2; next }
+  {
+    line = $0
+    while (match(line, /\([0-9]+, codes "[A-Za-z0-9]+"\)/)) {
+      split(substr(line, RSTART, RLENGTH), parts, /[(,"]/); line = substr(line, RSTART + RLENGTH)
+      print message, parts[2], parts[4]
+    }
+  }
+' crates/journal_json/specs/Names.antt | sort > "$work/lines"
+same "proto/journal.proto and the names of journal_json" "$work/names" "$work/lines"
 
 # Each message has conformance lines of its own, and each message type frames: a type is named as its message without 'Message'.
 awk '$1 == "message" { print $2 }' proto/journal.proto | sort > "$work/messages"

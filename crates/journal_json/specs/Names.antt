@@ -2,7 +2,7 @@
 -- scripts/json_names.py.
 use Rattle.std.specs.Prelude.{ℕ, List, [], ◌∷◌, codes}
 
--- The fields' numbers and names, for each schema of the table in its order.
+-- The numbers and names of the fields of each schema, in the order of the table.
 abbrev pub names : List (List (ℕ × List ℕ))
 names =
     -- Void

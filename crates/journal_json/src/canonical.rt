@@ -7,7 +7,9 @@ ghost use Rattle.shared_core_wire.specs.Canonical.{canonical_payload};
 ghost use Rattle.shared_core_wire.specs.Fitting.{Fits};
 ghost use Rattle.shared_core_record.specs.Table.{table};
 ghost use Rattle.shared_core_record.specs.Payloads.{IsAccepted, payload_meaning};
-ghost use Rattle.journal_json.specs.Form.{json_text};
+ghost use Rattle.json.specs.Lex.{tokens};
+ghost use Rattle.json.specs.Tree.{json_tokens};
+ghost use Rattle.journal_json.specs.Form.{json_text, value_json};
 ghost use Rattle.journal_json.specs.Payloads.{IsSpelling};
 ghost use Rattle.journal_json.specs.declared.error.JsonError.TheVariants.{Malformed};
 
@@ -59,6 +61,8 @@ pub fn json_of<M: WireRecord>(
     ensures accepted { IfOk result (λ text. IsAccepted M.schema payload.now) }
     ensures text { IfOk result (λ text. text.items ≡ json_text M.schema (payload_meaning M.schema payload.now)) }
     ensures utf8 { IfOk result (λ text. IsUtf8 text.items) }
+    // read as JSON, it is these tokens again
+    ensures reads_back { IfOk result (λ text. tokens text.items ≡ json_tokens (value_json M.schema (payload_meaning M.schema payload.now))) }
     ensures malformed { IsErrOf result Malformed → ¬ (IsAccepted M.schema payload.now) }
 {
     let mut canonical = Vec::new(alloc);

@@ -7,6 +7,7 @@
 mod canonical;
 mod error;
 mod fields;
+mod schemas;
 mod write;
 
 pub use canonical::{json_of, write_canonical};
