@@ -1,5 +1,5 @@
 -- What the commands of two journals answer, and their comparison.
-use Rattle.std.specs.Prelude.{◌≡◌, ◌≢◌, ◌⊎◌, ℕ, ◌+◌, ◌^◌, ◌≤◌, pos, Bool, true, List, [], ◌∷◌, length, codes, Option, Some, None, Result, Ok, Err}
+use Rattle.std.specs.Prelude.{◌≡◌, ◌≢◌, ◌⊎◌, ℕ, ◌+◌, ◌^◌, ◌<◌, ◌≤◌, pos, Bool, true, List, [], ◌∷◌, length, codes, Option, Some, None, Result, Ok, Err}
 use Rattle.std.specs.Option.{IsSomeAnd}
 use Rattle.shared_core_base.specs.declared.header.MessageType.{MessageType}
 use Rattle.shared_core_base.specs.declared.version.Version.{Version}
@@ -20,7 +20,7 @@ use Rattle.replay_bench.specs.declared.verdicts.BenchError.TheVariants.{Malforme
 use Rattle.replay_bench.specs.declared.verdicts.ReaderError.{ReaderError}
 use Rattle.replay_bench.specs.declared.verdicts.ReaderError.TheVariants.{Read, Bench}
 use Rattle.replay_bench.specs.Answers.{Answer, SameCommands, RecordedEnds, ReplayedEnds, OtherType, OtherCommand, NotWellFormed, answer_of}
-use Rattle.replay_bench.specs.Journals.{IsJournal}
+use Rattle.replay_bench.specs.Journals.{IsCommand, IsJournal}
 
 -- ---- what two commands at an index answer
 
@@ -67,6 +67,13 @@ AnswersPair ignore index actual expected (Ok (Some verdict)) = IsFound ignore in
 AnswersPair ignore index actual expected (Err (Malformed side found)) = IsFound ignore index actual expected (NotWellFormed side found)
 AnswersPair ignore index actual expected (Err OutOfMemory) = Unit {0}
 AnswersPair ignore index actual expected (Err TooLong) = ⊥
+
+-- Two commands of this type stand at an index.
+pub record IsPair (index : ℕ) (actual expected : RawMessage) (ty : MessageType) : Type 0 where
+  pub below : index < 2 ^ 63
+  pub command : IsCommand actual
+  pub typed : actual.header.ty ≡ expected.header.ty
+  pub is : actual.header.ty ≡ ty
 
 -- A payload decodes to a record of the schema, or it is not well-formed, which is answered with its place; memory may be wanting.
 abbrev pub AnswersDecoding : {M : Type 0} → ℕ → (M → Parts) → Side → ℕ → List ℕ → Result M BenchError → Type 0

@@ -2,20 +2,14 @@
 
 ghost use Rattle.std.specs.Prelude.{◌≡◌, ◌<◌, ◌^◌};
 ghost use Rattle.replay_bench.specs.Journals.{IsCommand};
-ghost use Rattle.replay_bench.specs.Verdicts.{AnswersDecoding, AnswersPair};
+ghost use Rattle.replay_bench.specs.Verdicts.{AnswersDecoding, AnswersPair, IsPair};
 
 use crate::verdicts::{BenchError, Side, Verdict};
 use shared_core::encoding::{DecodingError, RawMessage};
 use shared_core::errors::{CommandMismatchError, CommandTypeMismatchError};
-use shared_core::header::MessageType;
 use shared_core::messages::{
-    AttachInvocationCommandMessage, CallCommandMessage, ClearAllStateCommandMessage,
-    ClearStateCommandMessage, CommandMessageHeaderDiff, CommandMessageHeaderEq,
-    CompleteAwakeableCommandMessage, CompletePromiseCommandMessage, GetEagerStateCommandMessage,
-    GetEagerStateKeysCommandMessage, GetInvocationOutputCommandMessage, GetLazyStateCommandMessage,
-    GetLazyStateKeysCommandMessage, GetPromiseCommandMessage, InputCommandMessage,
-    OneWayCallCommandMessage, OutputCommandMessage, PeekPromiseCommandMessage, RestateMessage,
-    RunCommandMessage, SendSignalCommandMessage, SetStateCommandMessage, SleepCommandMessage,
+    CommandMessage, CommandMessageHeaderDiff, CommandMessageHeaderEq, CommandVisitor,
+    RestateMessage, visit_command,
 };
 use std::alloc::Global;
 
@@ -54,69 +48,45 @@ fn compare_typed(
     requires typed { recorded.now.header.ty ≡ replayed.now.header.ty }
     ensures { AnswersPair ignore index recorded.now replayed.now result }
 {
-    match recorded.ty() {
-        MessageType::InputCommand => compare_as::<InputCommandMessage>(
-            alloc, index, recorded, replayed, ignore,
-        ),
-        MessageType::OutputCommand => compare_as::<OutputCommandMessage>(
-            alloc, index, recorded, replayed, ignore,
-        ),
-        MessageType::GetLazyStateCommand => compare_as::<GetLazyStateCommandMessage>(
-            alloc, index, recorded, replayed, ignore,
-        ),
-        MessageType::SetStateCommand => compare_as::<SetStateCommandMessage>(
-            alloc, index, recorded, replayed, ignore,
-        ),
-        MessageType::ClearStateCommand => compare_as::<ClearStateCommandMessage>(
-            alloc, index, recorded, replayed, ignore,
-        ),
-        MessageType::ClearAllStateCommand => compare_as::<ClearAllStateCommandMessage>(
-            alloc, index, recorded, replayed, ignore,
-        ),
-        MessageType::GetLazyStateKeysCommand => compare_as::<GetLazyStateKeysCommandMessage>(
-            alloc, index, recorded, replayed, ignore,
-        ),
-        MessageType::GetEagerStateCommand => compare_as::<GetEagerStateCommandMessage>(
-            alloc, index, recorded, replayed, ignore,
-        ),
-        MessageType::GetEagerStateKeysCommand => compare_as::<GetEagerStateKeysCommandMessage>(
-            alloc, index, recorded, replayed, ignore,
-        ),
-        MessageType::GetPromiseCommand => compare_as::<GetPromiseCommandMessage>(
-            alloc, index, recorded, replayed, ignore,
-        ),
-        MessageType::PeekPromiseCommand => compare_as::<PeekPromiseCommandMessage>(
-            alloc, index, recorded, replayed, ignore,
-        ),
-        MessageType::CompletePromiseCommand => compare_as::<CompletePromiseCommandMessage>(
-            alloc, index, recorded, replayed, ignore,
-        ),
-        MessageType::SleepCommand => compare_as::<SleepCommandMessage>(
-            alloc, index, recorded, replayed, ignore,
-        ),
-        MessageType::CallCommand => compare_as::<CallCommandMessage>(
-            alloc, index, recorded, replayed, ignore,
-        ),
-        MessageType::OneWayCallCommand => compare_as::<OneWayCallCommandMessage>(
-            alloc, index, recorded, replayed, ignore,
-        ),
-        MessageType::SendSignalCommand => compare_as::<SendSignalCommandMessage>(
-            alloc, index, recorded, replayed, ignore,
-        ),
-        MessageType::RunCommand => compare_as::<RunCommandMessage>(
-            alloc, index, recorded, replayed, ignore,
-        ),
-        MessageType::AttachInvocationCommand => compare_as::<AttachInvocationCommandMessage>(
-            alloc, index, recorded, replayed, ignore,
-        ),
-        MessageType::GetInvocationOutputCommand => compare_as::<GetInvocationOutputCommandMessage>(
-            alloc, index, recorded, replayed, ignore,
-        ),
-        MessageType::CompleteAwakeableCommand => compare_as::<CompleteAwakeableCommandMessage>(
-            alloc, index, recorded, replayed, ignore,
-        ),
+    let pair = Pair {
+        alloc,
+        index,
+        recorded,
+        replayed,
+        ignore,
+    };
+    match visit_command(recorded.ty(), pair) {
+        Some(answer) => answer,
         // the type is a command's
-        _ => unreachable!(),
+        None => unreachable!(),
+    }
+}
+
+/// Two commands of one type, at an index.
+#[derive(Drop)]
+struct Pair<'a> {
+    alloc: Global,
+    index: u64,
+    recorded: &'a RawMessage,
+    replayed: &'a RawMessage,
+    ignore: bool,
+}
+
+impl<'a> CommandVisitor for Pair<'a> {
+    type Output = Result<Option<Verdict>, BenchError>;
+
+    ghost may_visit = { λ self ty. IsPair self.index self.recorded.now self.replayed.now ty };
+
+    ghost answers = { λ self ty schema answer. AnswersPair self.ignore self.index self.recorded.now self.replayed.now answer };
+
+    fn visit<M: CommandMessage>(self) -> Result<Option<Verdict>, BenchError> {
+        compare_as::<M>(
+            self.alloc,
+            self.index,
+            self.recorded,
+            self.replayed,
+            self.ignore,
+        )
     }
 }
 
