@@ -134,5 +134,8 @@ fn encode_reused<M: RestateEncodableMessage>(
     }
     frame.clear();
     encoder.encode_into(message, &mut frame)?;
-    Ok(Bytes::from_vec(frame)?)
+    let Ok(frame) = Bytes::from_vec(frame) else {
+        return Err(Refusal::OutOfMemory);
+    };
+    Ok(frame)
 }
