@@ -10,7 +10,7 @@ use Rattle.json.specs.Json.{Json, Members, member, array}
 use Rattle.json.specs.Tree.{json_tokens, members_tokens}
 use Rattle.json.specs.Tree as tree
 use Rattle.shared_core_wire.specs.Grammar.{RecordValue, Varint, Length, FieldRecord}
-use Rattle.shared_core_wire.specs.Items.{PlacedRecord, without_place}
+use Rattle.shared_core_wire.specs.ReadRecords.{PlacedRecord, without_place}
 use Rattle.shared_core_wire.specs.declared.error.WireError.{WireError}
 use Rattle.shared_core_wire.specs.Schema.{Kind, Row, U32, U64, Boolean, Enumeration, Text, ByteString, Message, Plain, Optional, Repeated, OneOf, numbers, includes, member_kind, are_distinct, all_numbers}
 use Rattle.shared_core_wire.specs.Value.{Part, Parts, Absent, Number, Bytes, Nested, Elements, Member, nil, cons}

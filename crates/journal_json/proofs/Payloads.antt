@@ -6,7 +6,7 @@ use Rattle.json.specs.Token.{Token, begin_object, end_object}
 use Rattle.json.specs.Tree.{json_tokens}
 use Rattle.shared_core_wire.specs.Grammar.{FieldRecord}
 use Rattle.shared_core_wire.specs.Reader.{record_list}
-use Rattle.shared_core_wire.specs.Items.{record_items, without_place}
+use Rattle.shared_core_wire.specs.ReadRecords.{read_records, without_place}
 use Rattle.shared_core_wire.specs.Spelling.{record_bytes, record_list_bytes, is_field_number}
 use Rattle.shared_core_wire.specs.Schema.{includes, all_numbers}
 use Rattle.shared_core_wire.specs.Value.{Parts}
@@ -14,7 +14,7 @@ use Rattle.shared_core_wire.specs.Acceptance.{accepts_message}
 use Rattle.shared_core_wire.specs.Overlay.{message_overlay}
 use Rattle.shared_core_wire.specs.Canonical.{message_records, canonical_payload, levels}
 use Rattle.shared_core_wire.specs.Fitting.{Fits}
-use Rattle.shared_core_wire.proofs.Items.{items_only}
+use Rattle.shared_core_wire.proofs.ReadRecords.{read_only}
 use Rattle.shared_core_wire.proofs.ReadBack.{level_back}
 use Rattle.shared_core_wire.proofs.ReadBackLevels.{canonical_back}
 use Rattle.shared_core_wire.proofs.RecordLists.{records_empty, records_append, records_reads}
@@ -51,9 +51,9 @@ spells zero s v h l z =
 spells (suc left) s v h l z =
     (level_back table (message_overlay table (suc left)) (accepts_message table (suc left)) (suc left) (λ t ps f k c. canonical_back table are_schemas left t ps f (omega arith) (ltb-true _ _ c)) v (table s) (are_schemas s) h l z).spells
 
-canonical_items : (left : ℕ) (rs : List FieldRecord) → list_all spellable rs ≡ true → map without_place (record_items left (record_list_bytes rs)) ≡ map Ok rs
-unfolding record_items
-canonical_items left rs h = items_only left rs (length (record_list_bytes rs)) (record_list_bytes rs) (records_reads left (record_list_bytes rs) rs (records_spelled left rs h))
+canonical_items : (left : ℕ) (rs : List FieldRecord) → list_all spellable rs ≡ true → map without_place (read_records left (record_list_bytes rs)) ≡ map Ok rs
+unfolding read_records
+canonical_items left rs h = read_only left rs (length (record_list_bytes rs)) (record_list_bytes rs) (records_reads left (record_list_bytes rs) rs (records_spelled left rs h))
 
 level_written : (left s : ℕ) (v : Parts) → Fits table v (table s) → levels v ≤ left → length (canonical_payload table s v) < 2 ^ 64
     → ((t : ℕ) (ps : Parts) → Fits table ps (table t) → suc (levels ps) ≤ left → length (canonical_payload table t ps) < 2 ^ 64 → payload_tokens left t (canonical_payload table t ps) ≡ json_tokens (value_json t ps))
@@ -64,7 +64,7 @@ level_written left s v h l z back =
     let schema = and_split _ _ (are_schemas s) in
     let zero_of = no_zero (all_numbers (table s)) schema.0 in
     let rs = message_records table v (table s) in
-    ap (λ (ts : List Token). begin_object ∷ (ts ++ (end_object ∷ []))) (walk_items (payload_tokens left) (schema_fields s) (record_items left (canonical_payload table s v)) rs 0 (canonical_items left rs p))
+    ap (λ (ts : List Token). begin_object ∷ (ts ++ (end_object ∷ []))) (walk_items (payload_tokens left) (schema_fields s) (read_records left (canonical_payload table s v)) rs 0 (canonical_items left rs p))
     ∙ ap (λ (ts : List Token). begin_object ∷ ts) (members_written (payload_tokens left) left back (schema_fields s) (names_of s) v (table s) 0 schema.1 (λ n g. refl) zero_of zero_of h l p)
 
 pub canonical_written : (left s : ℕ) (v : Parts) → Fits table v (table s) → levels v ≤ left → length (canonical_payload table s v) < 2 ^ 64

@@ -5,7 +5,7 @@ use Rattle.json.specs.Token.{Token, begin_object, end_object, string, null}
 use Rattle.shared_core_wire.proofs.Groups.{behind}
 use Rattle.shared_core_wire.proofs.Readers.{varint_pos, varint_reads}
 use Rattle.shared_core_wire.specs.Reader.{varint_at}
-use Rattle.shared_core_wire.specs.Items.{PlacedRecord, record_items}
+use Rattle.shared_core_wire.specs.ReadRecords.{PlacedRecord, read_records}
 use Rattle.shared_core_wire.specs.declared.error.WireError.{WireError}
 use Rattle.std.specs.Prelude.{OnOk}
 use Rattle.std.specs.Str.{is_utf8}
@@ -50,7 +50,7 @@ unfolding payload_tokens
 payload_none levels s bytes e = rw e refl
 
 pub payload_whole : (levels s : ℕ) (bytes : List ℕ) → 0 < levels
-    → payload_tokens levels s bytes ≡ begin_object ∷ (items_tokens (payload_tokens (levels - 1)) (schema_fields s) 0 (record_items (levels - 1) bytes) ++ end_object ∷ [])
+    → payload_tokens levels s bytes ≡ begin_object ∷ (items_tokens (payload_tokens (levels - 1)) (schema_fields s) 0 (read_records (levels - 1) bytes) ++ end_object ∷ [])
 unfolding payload_tokens
 payload_whole zero s bytes h = absurd (omega arith)
 payload_whole (suc left) s bytes h = rw (suc_less left) refl

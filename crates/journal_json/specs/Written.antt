@@ -6,7 +6,7 @@ use Rattle.base64.specs.Engines.{standard}
 use Rattle.json.specs.Token.{Token, begin_object, end_object, begin_array, end_array, key, string, number, boolean, null}
 use Rattle.shared_core_wire.specs.Grammar.{RecordValue, Varint, Fixed64, Length, Group, Fixed32}
 use Rattle.shared_core_wire.specs.Reader.{varint_at}
-use Rattle.shared_core_wire.specs.Items.{PlacedRecord, record_items}
+use Rattle.shared_core_wire.specs.ReadRecords.{PlacedRecord, read_records}
 use Rattle.shared_core_wire.specs.Schema.{Kind, U32, U64, Boolean, Enumeration, Text, ByteString, Message}
 use Rattle.shared_core_wire.specs.declared.error.WireError.{WireError}
 use Rattle.journal_json.specs.Fields.{NamedField, schema_fields, field_numbered}
@@ -99,4 +99,4 @@ items_tokens nested fields begun (Err e ∷ items) = items_tokens nested fields 
 unfoldable pub payload_tokens : ℕ → ℕ → List ℕ → List Token
 payload_tokens zero s bytes = null ∷ []
 payload_tokens (suc left) s bytes =
-    begin_object ∷ (items_tokens (payload_tokens left) (schema_fields s) 0 (record_items left bytes) ++ end_object ∷ [])
+    begin_object ∷ (items_tokens (payload_tokens left) (schema_fields s) 0 (read_records left bytes) ++ end_object ∷ [])

@@ -1,6 +1,6 @@
 use Rattle.std.proofs.Common.{◌∷◌, ◌++◌, ◌-◌, refl, sym, ap, ◌∙◌, rules, arith, List}
 use Rattle.json.specs.Token.{Token, begin_object, end_object}
-use Rattle.shared_core_wire.specs.ItemsLeft.{placed_of, item_of, items_left}
+use Rattle.shared_core_wire.specs.RecordsLeft.{placed_of, placed_result, records_left}
 use Rattle.journal_json.specs.Fields.{schema_fields}
 use Rattle.journal_json.specs.Written.{payload_tokens}
 use Rattle.journal_json.proofs.Walk.{on_ok, enclosed, record_turn, error_turn, items_end, payload_none, payload_whole}
@@ -13,14 +13,14 @@ write_payload-returns-then-levels-eq0-clause-tokens t c =
 pub write_payload-loop-item-preserved-in-Ok : goal.write_payload-loop-item-preserved-in-Ok
 write_payload-loop-item-preserved-in-Ok t c = record {
   tokens = record_turn (payload_tokens (c.args.levels - 1)) (schema_fields c.args.schema) c.loop-item.begun _ c.loop-item.out.tokens _ _ (placed_of c.in-Ok.found) _ _
-      c.in_ok-begun.ensures.tokens c.in_ok-begun.ensures.begun (c.in-Some.ensures.steps ∙ ap (λ x. item_of x ∷ items_left c.next.new.self) c.in-Ok.is) c.loop-item.invariant.tokens;
+      c.in_ok-begun.ensures.tokens c.in_ok-begun.ensures.begun (c.in-Some.ensures.steps ∙ ap (λ x. placed_result x ∷ records_left c.next.new.self) c.in-Ok.is) c.loop-item.invariant.tokens;
   before = search rules;
 }
 
 pub write_payload-loop-item-preserved : goal.write_payload-loop-item-preserved
 write_payload-loop-item-preserved t c = record {
   tokens = error_turn (payload_tokens (c.args.levels - 1)) (schema_fields c.args.schema) c.loop-item.begun c.loop-item.out.tokens _ c.in_default.field-0 _ _
-      (c.in-Some.ensures.steps ∙ ap (λ x. item_of x ∷ items_left c.next.new.self) c.in_default.is) c.loop-item.invariant.tokens;
+      (c.in-Some.ensures.steps ∙ ap (λ x. placed_result x ∷ records_left c.next.new.self) c.in_default.is) c.loop-item.invariant.tokens;
   before = search rules;
 }
 
