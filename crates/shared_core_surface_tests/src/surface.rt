@@ -71,8 +71,10 @@ use shared_core::messages::CallCompletionNotificationMessage;
 use shared_core::messages::CallInvocationIdCompletionNotificationMessage;
 use shared_core::messages::ClearAllStateCommandMessage;
 use shared_core::messages::ClearStateCommandMessage;
+use shared_core::messages::CommandMessage;
 use shared_core::messages::CommandMessageHeaderDiff;
 use shared_core::messages::CommandMessageHeaderEq;
+use shared_core::messages::CommandVisitor;
 use shared_core::messages::CompleteAwakeableCommandMessage;
 use shared_core::messages::CompletePromiseCommandMessage;
 use shared_core::messages::CompletePromiseCompletionNotificationMessage;
@@ -98,6 +100,7 @@ use shared_core::messages::GetStateEphemeralCommandMessage;
 use shared_core::messages::GetStateEphemeralNotificationMessage;
 use shared_core::messages::IdempotentRequestTarget;
 use shared_core::messages::InputCommandMessage;
+use shared_core::messages::MessageVisitor;
 use shared_core::messages::NamedCommandMessage;
 use shared_core::messages::Notification;
 use shared_core::messages::NotificationId;
@@ -109,6 +112,7 @@ use shared_core::messages::PeekPromiseCommandMessage;
 use shared_core::messages::PeekPromiseCompletionNotificationMessage;
 use shared_core::messages::ProposeRunCompletionAckMessage;
 use shared_core::messages::ProposeRunCompletionMessage;
+use shared_core::messages::RecordVisitor;
 use shared_core::messages::RestateEncodableMessage;
 use shared_core::messages::RestateMessage;
 use shared_core::messages::RunCommandMessage;
@@ -144,6 +148,9 @@ use shared_core::messages::propose_run_completion_message;
 use shared_core::messages::run_completion_notification_message;
 use shared_core::messages::send_signal_command_message;
 use shared_core::messages::signal_notification_message;
+use shared_core::messages::visit_command;
+use shared_core::messages::visit_message;
+use shared_core::messages::visit_record;
 use shared_core::version;
 use shared_core::version::ContentTypeError;
 use shared_core::wire::Record;
@@ -198,6 +205,7 @@ fn command<
         + NamedCommandMessage
         + CommandMessageHeaderEq
         + CommandMessageHeaderDiff
+        + CommandMessage
         + Debug
         + PartialEq,
 >() {}
@@ -356,6 +364,19 @@ fn any_command<
     let _: Result<String, OutOfMemory> = M::name(actual, alloc);
     let _: bool = M::header_eq(actual, expected, ignore_payload_equality);
     let _: fmt::Result = M::write_diff(actual, expected, f);
+}
+
+fn found_at_run_time<A: MessageVisitor, B: CommandVisitor, C: RecordVisitor>(
+    ty: MessageType,
+    schema: u32,
+    message: A,
+    command: B,
+    record: C,
+) {
+    return;
+    let _: Option<A::Output> = visit_message(ty, message);
+    let _: Option<B::Output> = visit_command(ty, command);
+    let _: Option<C::Output> = visit_record(schema, record);
 }
 
 fn records() {
