@@ -1,0 +1,35 @@
+-- The tokens of an object's members, one after the other.
+use Rattle.std.proofs.Common.{◌≡◌, ℕ, List, [], ◌∷◌, ◌++◌, Bool, true, false, Option, Some, None, refl, sym, ap, ◌∙◌, append_assoc}
+use Rattle.std.specs.Prelude.{codes}
+use Rattle.json.specs.Token.{Token}
+use Rattle.json.specs.Json.{Members, member, no_members, boolean}
+use Rattle.json.specs.Tree.{members_tokens}
+use Rattle.shared_core_wire.specs.Acceptance.{accepts_payload}
+use Rattle.shared_core_record.specs.Table.{table}
+use Rattle.shared_core_record.specs.Payloads.{IsAccepted, payload_meaning}
+use Rattle.journal_json.specs.Form.{value_json}
+use Rattle.journal_dump.specs.Lines.{ack_tokens, ack_members, bytes_json, payload_members}
+
+pub then_tokens : (old new front rest : List Token) → new ≡ old ++ front → new ++ rest ≡ old ++ (front ++ rest)
+then_tokens old new front rest e = ap (λ (ts : List Token). ts ++ rest) e ∙ append_assoc old front rest
+
+pub then_ack : (old new : List Token) (flag : Option Bool) (others : Members) → new ≡ old ++ ack_tokens flag → new ++ members_tokens others ≡ old ++ members_tokens (ack_members flag others)
+then_ack old new None others e = then_tokens old new [] (members_tokens others) e
+then_ack old new (Some flag) others e = then_tokens old new (ack_tokens (Some flag)) (members_tokens others) e
+
+pub shown_message : (schema : Option ℕ) (s : ℕ) (payload : List ℕ) → schema ≡ Some s → IsAccepted s payload → payload_members schema payload ≡ member (codes "message") (value_json s (payload_meaning s payload)) no_members
+shown_message schema s payload e a = rw (e, a) refl
+
+not_accepted : (b : Bool) → ¬ (b ≡ true) → b ≡ false
+not_accepted true h = absurd (h refl)
+not_accepted false h = refl
+
+pub shown_malformed : (schema : Option ℕ) (s : ℕ) (payload : List ℕ) → schema ≡ Some s → ¬ (IsAccepted s payload) → payload_members schema payload ≡ member (codes "malformed") (boolean true) (member (codes "bytes") (bytes_json payload) no_members)
+shown_malformed schema s payload e a = rw (e, not_accepted (accepts_payload table 100 s payload) a) refl
+
+-- the head of a message, and what stands behind it
+pub head_then : (old a b c d x y z : List Token) (flag : Option Bool) (others : Members) → a ≡ old ++ x → b ≡ a ++ y → c ≡ b ++ z → d ≡ c ++ ack_tokens flag
+    → d ++ members_tokens others ≡ old ++ (x ++ (y ++ (z ++ members_tokens (ack_members flag others))))
+head_then old a b c d x y z flag others e f g h =
+    then_ack c d flag others h ∙ then_tokens b c z (members_tokens (ack_members flag others)) g
+    ∙ then_tokens a b y (z ++ members_tokens (ack_members flag others)) f ∙ then_tokens old a x (y ++ (z ++ members_tokens (ack_members flag others))) e

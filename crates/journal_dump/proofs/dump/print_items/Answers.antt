@@ -1,0 +1,30 @@
+use Rattle.std.proofs.Common.{◌≡◌, ℕ, ◌-◌, ◌+◌, List, length, ◌++◌, ap, ◌∙◌, arith, length-append}
+use Rattle.shared_core.proofs.Items.{then_takes}
+use Rattle.journal_dump.specs.Lines.{line_of, lines, items_size}
+use Rattle.journal_dump.proofs.Progress.{lines_next, then_long}
+use Rattle.journal_dump.proofs.dump.print_items.Goals as goal
+
+pub loop-text-preserved : goal.loop-text-preserved
+loop-text-preserved c =
+    let (version, short, place, items, front, printed) = c.loop-text.invariant in
+    let taken = rw (c.in-Some.is, version) at c.in_ok-item.ensures.taken in
+    let item = c.in-Some.item in
+    let options = c.args.options.now in
+    let first = c.args.total - length c.args.decoder.now.bytes in
+    let long = then_long c.args.decoder.now.version c.args.decoder.now.bytes c.loop-text.decoder.bytes items front in
+    let at : c.loop-text.offset ≡ first + items_size items = omega (arith, long, place, c.requires.came, short) in
+    let left : length c.loop-text.decoder.bytes ≡ length taken.0 + length c.next_item.new.self.bytes = ap length taken.2 ∙ length-append taken.0 c.next_item.new.self.bytes in (
+      c.in_ok-item.ensures.version ∙ version,
+      omega (arith, left, short),
+      ap (λ (n : ℕ). c.args.total - n) c.pending-in-Some.ensures,
+      _,
+      then_takes c.args.decoder.now.version _ _ _ items _ front taken,
+      c.in_ok-text.ensures.line ∙ ap (λ (t : List ℕ). t ++ line_of options c.loop-text.offset item) printed
+          ∙ ap (λ (n : ℕ). lines options first items ++ line_of options n item) at ∙ lines_next options first items item,
+    )
+
+pub returns-clause-printed : goal.returns-clause-printed
+returns-clause-printed c =
+    let (version, short, place, items, front, printed) = c.loop-text.invariant in
+    let none = rw (c.in_default.is, version) at c.in_ok-item.ensures.taken in
+    (items, record { items_then = rw none.1 front; no_more = rw none.1 none.0 }, printed)

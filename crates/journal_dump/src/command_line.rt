@@ -1,0 +1,112 @@
+//! The program's words.
+
+ghost use Rattle.std.specs.Prelude.{◌≤◌, IfOk, IfSome};
+ghost use Rattle.shared_core_base.specs.Version.{version_number};
+
+use clap::error::ErrorKind;
+use clap::{Arg, ArgAction, Command, Error};
+use shared_core::header::MessageType;
+use shared_core::version::Version;
+use std::alloc::{AllocError, Global};
+
+/// What the words ask for.
+#[derive(Drop)]
+pub struct CommandLine<'a> {
+    /// The path of the stream; none for the standard input.
+    pub path: Option<&'a str>,
+    /// The version of the protocol.
+    pub version: Version,
+    /// The codes of the types that are asked for; none for all.
+    pub codes: Vec<u16>,
+    /// Whether payloads are shown.
+    pub payloads: bool,
+}
+
+/// The versions that can be asked for, by their words.
+const VERSIONS: [&str; 5] = ["5", "6", "7", "8", "9"];
+
+/// The version of a word, of those that can be asked for.
+fn version_of(word: &str) -> Option<Version>
+    ensures { IfSome result (λ version. 5 ≤ version_number version) }
+{
+    match word {
+        "5" => Some(Version::V5),
+        "6" => Some(Version::V6),
+        "7" => Some(Version::V7),
+        "8" => Some(Version::V8),
+        "9" => Some(Version::V9),
+        _ => None,
+    }
+}
+
+/// The code of the type that has this name in a dump, of all codes that there are.
+fn code_of(alloc: Global, name: &str) -> Result<Option<u16>, AllocError> {
+    let mut text = String::new(alloc);
+    for code in 0..u16::MAX {
+        if let Ok(ty) = MessageType::try_from(code) {
+            text.clear();
+            write!(text, "{}", ty.debug_name())?;
+            if text.as_str() == name {
+                return Ok(Some(code));
+            }
+        }
+    }
+    Ok(None)
+}
+
+/// The program as its words see it.
+fn command<'a>(alloc: Global) -> Result<Command<'a>, AllocError> {
+    let protocol = Arg::new(alloc, "protocol")
+        .long("protocol")
+        .value_name("VERSION")
+        .value_parser(VERSIONS.as_slice())
+        .default_value("8")
+        .help("The version of the protocol of the stream");
+    let types = Arg::new(alloc, "type")
+        .long("type")
+        .value_name("NAME")
+        .action(ArgAction::Append)
+        .help("Shows messages of this type alone, or of several such types");
+    let no_payload = Arg::new(alloc, "no-payload")
+        .long("no-payload")
+        .action(ArgAction::SetTrue)
+        .help("Leaves out what is in messages");
+    let path = Arg::new(alloc, "file")
+        .value_name("FILE")
+        .help("The stream; without it the standard input");
+    Command::new(alloc, "journal_dump")
+        .version("0.1.0")
+        .about("Prints a stream of the protocol as JSON, one object a line for each of its items.")
+        .arg(no_payload)?
+        .arg(protocol)?
+        .arg(types)?
+        .arg(path)
+}
+
+/// What the words behind the program's name ask for. An error is one of these words, or asks for the help or the version.
+pub fn read_command_line<'a>(alloc: Global, words: &'a [String]) -> Result<CommandLine<'a>, Error>
+    ensures { IfOk result (λ line. 5 ≤ version_number line.version) }
+{
+    let mut command = command(alloc)?;
+    let matches = command.try_get_matches_from_mut(words)?;
+    let Some(version) = matches.get_str("protocol").and_then(version_of) else {
+        return Err(command.error(ErrorKind::InvalidValue, "a version is from 5 to 9")?);
+    };
+    let mut codes = Vec::new(alloc);
+    if let Some(names) = matches.get_strs("type") {
+        for name in names {
+            let Some(code) = code_of(alloc, name)? else {
+                return Err(command.error(ErrorKind::InvalidValue, "there is no such type")?);
+            };
+            let Ok(()) = codes.push(code) else {
+                return Err(Error::from(AllocError));
+            };
+        }
+    }
+    Ok(CommandLine {
+        path: matches.get_str("file"),
+        version,
+        codes,
+        payloads: !matches.get_flag("no-payload"),
+    })
+}

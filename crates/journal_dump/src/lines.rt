@@ -1,0 +1,238 @@
+//! The lines of a dump.
+
+ghost use Rattle.std.specs.Prelude.{◌≡◌, ◌∷◌, ◌++◌, [], Bool, codes, decimal, OnOk, IfOk, IfErr};
+ghost use Rattle.base64.specs.GeneralPurpose.{encode_of};
+ghost use Rattle.base64.specs.Engines.{standard};
+ghost use Rattle.json.specs.Token.{key, number, boolean, end_object};
+ghost use Rattle.json.specs.Token as token;
+ghost use Rattle.json.specs.Print.{print};
+ghost use Rattle.json.specs.Tree.{json_tokens, members_tokens};
+ghost use Rattle.shared_core.specs.declared.encoding.Item.TheVariants as variant;
+ghost use Rattle.shared_core_base.specs.MessageType.{debug_name_of};
+ghost use Rattle.journal_dump.specs.Dump.{IsLack};
+ghost use Rattle.journal_dump.specs.Lines.{schema_at, payload_members, ack_tokens, item_members, item_json, item_code as code_of_item, is_asked_for, line_of, rest_line};
+
+use crate::dump::DumpError;
+use crate::messages::canonical_of;
+use crate::options::Options;
+use base64::engine::general_purpose::STANDARD;
+use bytes::Bytes;
+use journal_json::{JsonError, write_message};
+use json::Writer;
+use shared_core::encoding::{Item, RawMessage};
+use shared_core::header::MessageType;
+use shared_core::version::Version;
+use std::alloc::{AllocError, Global};
+
+/// Memory that lines are made in, one after the other.
+#[derive(Drop)]
+pub struct Scratch {
+    canonical: Vec<u8>,
+    text: String,
+}
+
+impl Scratch {
+    pub fn new(alloc: Global) -> Scratch {
+        Scratch {
+            canonical: Vec::new(alloc),
+            text: String::new(alloc),
+        }
+    }
+}
+
+/// Appends the line of an item that begins at a place of the stream, where it is asked for.
+pub fn print_item(
+    alloc: Global,
+    options: &Options<'_>,
+    offset: u64,
+    item: &Item,
+    scratch: &mut Scratch,
+    lines: Vec<u8>,
+) -> Result<Vec<u8>, DumpError>
+    ensures line { IfOk result (λ now. now.items ≡ lines.items ++ line_of options.now offset item.now) }
+    ensures lack { IfErr result IsLack }
+{
+    if !is_asked_for(options.codes, item_code(item)) {
+        return Ok(lines);
+    }
+    let mut out = Writer::new(lines);
+    write_item(alloc, options, offset, item, scratch, &mut out)?;
+    end_line(out)
+}
+
+/// Appends the last line.
+pub fn print_rest(offset: u64, count: u64, lines: Vec<u8>) -> Result<Vec<u8>, DumpError>
+    ensures line { IfOk result (λ now. now.items ≡ lines.items ++ rest_line offset count) }
+    ensures lack { IfErr result IsLack }
+{
+    let mut out = Writer::new(lines);
+    out.begin_object()?;
+    write_number(&mut out, "offset", offset)?;
+    write_number(&mut out, "rest", count)?;
+    out.end_object()?;
+    end_line(out)
+}
+
+/// Ends a line.
+fn end_line(out: Writer) -> Result<Vec<u8>, DumpError>
+    ensures line { IfOk result (λ now. now.items ≡ out.before ++ (print out.tokens ++ codes "\n")) }
+    ensures lack { IfErr result IsLack }
+{
+    let mut lines = out.into_inner();
+    lines.extend_from_slice(b"\n")?;
+    Ok(lines)
+}
+
+/// The code of an item.
+fn item_code(item: &Item) -> u16
+    ensures { result ≡ code_of_item item.now }
+{
+    match item {
+        Item::Message(message) => u16::from(message.ty()),
+        Item::Unknown(code) => *code,
+        Item::Skipped(code, _) => *code,
+    }
+}
+
+/// Whether items of a code are asked for.
+fn is_asked_for(codes: &[u16], code: u16) -> bool
+    ensures { result ≡ is_asked_for codes.now code }
+{
+    codes.is_empty() || codes.contains(&code)
+}
+
+/// Writes the object of an item.
+fn write_item(
+    alloc: Global,
+    options: &Options<'_>,
+    offset: u64,
+    item: &Item,
+    scratch: &mut Scratch,
+    out: &mut Writer,
+) -> Result<(), DumpError>
+    ensures tokens { OnOk result (out.new.tokens ≡ out.old.tokens ++ json_tokens (item_json options.now offset item.now)) }
+    ensures before { out.new.before ≡ out.old.before }
+    ensures lack { IfErr result IsLack }
+{
+    out.begin_object()?;
+    write_number(out, "offset", offset)?;
+    match item {
+        Item::Message(message) => write_message_members(alloc, options, message, scratch, out)?,
+        Item::Unknown(code) => {
+            write_flag(out, "unknown", true)?;
+            write_number(out, "code", *code as u64)?;
+        }
+        Item::Skipped(code, payload) => {
+            write_flag(out, "skipped", true)?;
+            write_number(out, "code", *code as u64)?;
+            write_number(out, "length", payload.len() as u64)?;
+            if options.payloads {
+                write_bytes(out, payload, &mut scratch.text)?;
+            }
+        }
+    }
+    Ok(out.end_object()?)
+}
+
+/// Writes the members of a message behind its place.
+fn write_message_members(
+    alloc: Global,
+    options: &Options<'_>,
+    message: &RawMessage,
+    scratch: &mut Scratch,
+    out: &mut Writer,
+) -> Result<(), DumpError>
+    ensures tokens { OnOk result (out.new.tokens ++ end_object ∷ [] ≡ out.old.tokens ++ members_tokens (item_members options.now (variant.Message message.now))) }
+    ensures before { out.new.before ≡ out.old.before }
+    ensures lack { IfErr result IsLack }
+{
+    let ty = message.ty();
+    write_type(out, ty, &mut scratch.text)?;
+    write_number(out, "code", u16::from(ty) as u64)?;
+    write_number(out, "length", message.payload().len() as u64)?;
+    write_ack(out, message.header().requested_ack())?;
+    if options.payloads {
+        write_payload(alloc, options.version, ty, message.payload(), scratch, out)?;
+    }
+    Ok(())
+}
+
+/// Writes the members of a message's payload.
+fn write_payload(
+    alloc: Global,
+    version: Version,
+    ty: MessageType,
+    payload: &Bytes,
+    scratch: &mut Scratch,
+    out: &mut Writer,
+) -> Result<(), DumpError>
+    ensures tokens { OnOk result (out.new.tokens ++ end_object ∷ [] ≡ out.old.tokens ++ members_tokens (payload_members (schema_at version ty) payload.now)) }
+    ensures before { out.new.before ≡ out.old.before }
+    ensures lack { IfErr result IsLack }
+{
+    match canonical_of(alloc, version, ty, payload, &mut scratch.canonical) {
+        Ok(Some(schema)) => {
+            out.key("message")?;
+            write_message(out, &mut scratch.text, schema, scratch.canonical.as_slice())?;
+        }
+        Ok(None) => write_bytes(out, payload, &mut scratch.text)?,
+        Err(JsonError::Malformed) => {
+            write_flag(out, "malformed", true)?;
+            write_bytes(out, payload, &mut scratch.text)?;
+        }
+        Err(JsonError::TooLong) => return Err(DumpError::TooLong),
+        Err(JsonError::OutOfMemory) => return Err(DumpError::OutOfMemory),
+    }
+    Ok(())
+}
+
+/// Writes a type by its debug name.
+fn write_type(out: &mut Writer, ty: MessageType, text: &mut String) -> Result<(), AllocError>
+    ensures tokens { OnOk result (out.new.tokens ≡ out.old.tokens ++ (key (codes "type") ∷ token.string (debug_name_of ty) ∷ [])) }
+    ensures before { out.new.before ≡ out.old.before }
+{
+    text.clear();
+    write!(text, "{}", ty.debug_name())?;
+    out.key("type")?;
+    out.string(text.as_str())
+}
+
+/// Writes a number as a member.
+fn write_number(out: &mut Writer, name: &str, number: u64) -> Result<(), AllocError>
+    ensures tokens { OnOk result (out.new.tokens ≡ out.old.tokens ++ (key name.now ∷ token.number (decimal number) ∷ [])) }
+    ensures before { out.new.before ≡ out.old.before }
+{
+    out.key(name)?;
+    out.u64(number)
+}
+
+/// Writes a flag as a member.
+fn write_flag(out: &mut Writer, name: &str, flag: bool) -> Result<(), AllocError>
+    ensures tokens { OnOk result (out.new.tokens ≡ out.old.tokens ++ (key name.now ∷ boolean flag ∷ [])) }
+    ensures before { out.new.before ≡ out.old.before }
+{
+    out.key(name)?;
+    out.boolean(flag)
+}
+
+/// Writes whether an acknowledgement is asked for, of a type that has that flag.
+fn write_ack(out: &mut Writer, flag: Option<bool>) -> Result<(), AllocError>
+    ensures tokens { OnOk result (out.new.tokens ≡ out.old.tokens ++ ack_tokens flag) }
+    ensures before { out.new.before ≡ out.old.before }
+{
+    match flag {
+        Some(flag) => write_flag(out, "requestedAck", flag),
+        None => Ok(()),
+    }
+}
+
+/// Writes bytes in base64 as the member `bytes`.
+fn write_bytes(out: &mut Writer, bytes: &[u8], text: &mut String) -> Result<(), AllocError>
+    ensures tokens { OnOk result (out.new.tokens ≡ out.old.tokens ++ (key (codes "bytes") ∷ token.string (encode_of standard bytes.now) ∷ [])) }
+    ensures before { out.new.before ≡ out.old.before }
+{
+    text.clear();
+    STANDARD.encode_string(bytes, text)?;
+    out.key("bytes")?;
+    out.string(text.as_str())
+}
