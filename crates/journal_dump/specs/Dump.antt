@@ -1,7 +1,7 @@
 -- What stands written when a dump ends.
 use Rattle.std.specs.Prelude.{◌≡◌, ◌⊎◌, ℕ, List, [], ◌++◌, length, Result, Ok, Err, Option, Some}
 use Rattle.std.specs.Io.KnownBytes.{Consumes, Keeps, IsAtEnd}
-use Rattle.shared_core.specs.declared.encoding.Item.{Item}
+use Rattle.shared_core.specs.declared.encoding.item.Item.{Item}
 use Rattle.shared_core.specs.Items.{SplitsInto}
 use Rattle.journal_dump.specs.declared.dump.DumpError.{DumpError}
 use Rattle.journal_dump.specs.declared.dump.DumpError.TheVariants.{Input, Output, OutOfMemory, TooLong}

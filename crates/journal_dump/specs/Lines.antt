@@ -16,8 +16,8 @@ use Rattle.shared_core_wire.specs.Acceptance.{accepts_payload}
 use Rattle.shared_core_record.specs.Table as schema
 use Rattle.shared_core_record.specs.Payloads.{payload_meaning}
 use Rattle.shared_core_parts.specs.Messages.{message_schema}
-use Rattle.shared_core.specs.declared.encoding.Item.{Item}
-use Rattle.shared_core.specs.declared.encoding.Item.TheVariants.{Message, Unknown, Skipped}
+use Rattle.shared_core.specs.declared.encoding.item.Item.{Item}
+use Rattle.shared_core.specs.declared.encoding.item.Item.TheVariants.{Message, Unknown, Skipped}
 use Rattle.journal_json.specs.Form.{value_json}
 use Rattle.journal_dump.specs.declared.options.Options.{Options}
 

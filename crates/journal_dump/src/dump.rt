@@ -3,7 +3,7 @@ ghost use Rattle.std.specs.Prelude.{◌≡◌, ◌<◌, ◌≤◌, ◌+◌, ◌-
 ghost use Rattle.std.specs.Io.KnownBytes.{Appends, Consumes};
 ghost use Rattle.shared_core_base.specs.Version.{version_number};
 ghost use Rattle.shared_core.specs.Items.{SplitsInto};
-ghost use Rattle.shared_core.specs.declared.encoding.Item.{Item as AnyItem};
+ghost use Rattle.shared_core.specs.declared.encoding.item.Item.{Item as AnyItem};
 ghost use Rattle.journal_dump.specs.Dump.{most_pending, IsDumped, IsLack, IsRead, IsWritten};
 ghost use Rattle.journal_dump.specs.Lines.{line_of, lines};
 

@@ -7,7 +7,7 @@ ghost use Rattle.json.specs.Token.{key, number, boolean, end_object};
 ghost use Rattle.json.specs.Token as token;
 ghost use Rattle.json.specs.Print.{print};
 ghost use Rattle.json.specs.Tree.{json_tokens, members_tokens};
-ghost use Rattle.shared_core.specs.declared.encoding.Item.TheVariants as variant;
+ghost use Rattle.shared_core.specs.declared.encoding.item.Item.TheVariants as variant;
 ghost use Rattle.shared_core_base.specs.MessageType.{debug_name_of};
 ghost use Rattle.journal_dump.specs.Dump.{IsLack};
 ghost use Rattle.journal_dump.specs.Lines.{schema_at, payload_members, ack_tokens, item_members, item_json, item_code as code_of_item, is_asked_for, line_of, rest_line};
