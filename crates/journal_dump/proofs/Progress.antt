@@ -1,5 +1,5 @@
 -- How a dump goes on, and what stands written when it ends.
-use Rattle.std.proofs.Common.{ℕ, ◌+◌, ◌-◌, suc, zero, drop, Some, None, Bool, true, false, cond, length-append, length-drop, ◌≡◌, List, [], ◌∷◌, ◌++◌, length, ap, sym, subst, ◌∙◌, append_assoc, append-nil, arith, Result, Ok, Err, Option, inl, inr, refl}
+use Rattle.std.proofs.Common.{ℕ, ◌+◌, ◌-◌, drop, Some, None, Bool, true, false, cond, length-append, length-drop, ◌≡◌, List, [], ◌∷◌, ◌++◌, length, ap, sym, subst, ◌∙◌, append_assoc, append-nil, arith, Result, Ok, Err, Option, inl, inr, refl}
 use Rattle.std.specs.Io.KnownBytes.{Appends, Consumes, IsAtEnd}
 use Rattle.std.proofs.KnownBytes.{Appends-nil, Appends-trans, Consumes-nil, Consumes-trans, Consumes-kept}
 use Rattle.shared_core_base.specs.declared.version.Version.{Version}

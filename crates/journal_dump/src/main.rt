@@ -16,6 +16,7 @@ use crate::options::Options;
 use clap::Error;
 use clap::error::ErrorKind;
 use std::fmt::Display;
+use std::fs::File;
 use std::io::Read;
 use std::process::ExitCode;
 use std::{env, fs, io};
@@ -64,6 +65,11 @@ fn dump_input<R: Read>(rt: &HostRuntime, options: &Options<'_>, input: &mut R) -
     }
 }
 
+/// Whether what was opened is a folder, which cannot be read.
+fn is_folder(file: &File) -> bool {
+    file.metadata().is_ok_and(|metadata| metadata.is_dir())
+}
+
 fn main(rt: HostRuntime) -> ExitCode {
     let words = match words(&rt) {
         Ok(words) => words,
@@ -86,6 +92,7 @@ fn main(rt: HostRuntime) -> ExitCode {
         return dump_input(&rt, &options, &mut rt.stdin());
     };
     match fs::open(&rt, path) {
+        Ok(file) if is_folder(&file) => trouble(&rt, format_args!("{path}: is a folder"), 2),
         Ok(mut file) => dump_input(&rt, &options, &mut file),
         Err(_) => trouble(&rt, format_args!("{path}: cannot be opened"), 2),
     }

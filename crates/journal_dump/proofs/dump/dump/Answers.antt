@@ -6,7 +6,7 @@ use Rattle.std.proofs.KnownBytes.{Consumes-nil}
 use Rattle.journal_dump.specs.declared.dump.DumpError.TheVariants.{OutOfMemory}
 use Rattle.journal_dump.specs.Dump.{IsWritten}
 use Rattle.journal_dump.specs.Lines.{items_size, lines, rest_line}
-use Rattle.journal_dump.proofs.Progress.{starts, place, goes_on, ended_input, ended_lack, ended_read, ended_output, ended_rest, still_there, begins_at}
+use Rattle.journal_dump.proofs.Progress.{starts, place, goes_on, ended_lack, ended_read, ended_output, ended_rest, still_there, begins_at}
 use Rattle.journal_dump.proofs.dump.dump.Goals as goal
 
 pub returns-in_err-buffer : goal.returns-in_err-buffer

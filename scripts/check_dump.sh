@@ -1,0 +1,248 @@
+#!/bin/sh
+# Runs the proved journal_dump, which rt ci leaves in out/, on the streams of examples/, on words that it refuses, where an input, the output or
+# memory fail, and with each request for memory refused in turn, and compares standard output, the whole of standard error and the status; and holds
+# its lines against others: jq and Python's json read each line of the dumps of hostile streams, and protobuf prints the same JSON for random
+# payloads of each message type. Where jq, a C compiler, protoc or Python's protobuf are absent it says 'not run'. The last line is 'N passed, M
+# failed'; it is '0 passed, 0 failed' where the program is not there, or is older than a source.
+set -u
+cd "$(dirname "$0")/.." || exit 1
+
+# not_run WHY: says so and ends
+not_run() {
+  echo "check_dump.sh: not run, since $1"
+  echo '0 passed, 0 failed'
+  exit 0
+}
+
+program=$PWD/crates/journal_dump/out/journal_dump
+[ -x "$program" ] || not_run 'there is no crates/journal_dump/out/journal_dump'
+[ -z "$(find crates/*/src -name '*.rt' -newer "$program")" ] || not_run 'crates/journal_dump/out/journal_dump is older than a source'
+top=$PWD
+run=$PWD/crates/journal_dump
+work=$(mktemp -d) || exit 1
+trap 'rm -rf "$work"' EXIT
+cd examples || exit 1
+passed=0
+failed=0
+
+# outcome NAME STATUS: counts a case, which passed where the status is 0, and else shows how the program ended
+outcome() {
+  if [ "$2" -eq 0 ]; then
+    passed=$((passed + 1))
+  else
+    failed=$((failed + 1))
+    echo "failed: $1: status $status, standard output and standard error:"
+    cut -c1-300 "$work/out" | head -n 5
+    cat "$work/err"
+  fi
+}
+
+# ended NAME STATUS LINES [LINE]: the run ended with this status, wrote these lines or nothing, and said this line or nothing
+ended() {
+  wrote=$(cat "$work/out")
+  said=$(cat "$work/err")
+  [ "$status" -eq "$2" ] && [ "$wrote" = "$3" ] && [ "$said" = "${4-}" ]
+  outcome "$1" $?
+}
+
+# dump STATUS LINES LINE WORD..: dumps what the words say, or else the stream replay, and looks at how it ended
+dump() {
+  wanted=$1
+  lines=$2
+  line=$3
+  shift 3
+  "$program" "$@" < replay > "$work/out" 2> "$work/err"
+  status=$?
+  ended "journal_dump $*" "$wanted" "$lines" "$line"
+}
+
+start='{"offset":0,"type":"Start","code":0,"length":19,"message":{"id":"a2V5","debugId":"key","knownEntries":1,"partialState":true,"key":"key"}}'
+input='{"offset":27,"type":"InputCommand","code":1024,"length":9,"message":{"value":{"content":"aW5wdXQ="}}}'
+state='{"offset":44,"type":"GetLazyStateCompletionNotification","code":32770,"length":4,"message":{"completionId":1,"void":{}}}'
+rest='{"offset":56,"rest":0}'
+whole="$start
+$input
+$state
+$rest"
+usage='usage: journal_dump [--protocol 5..9] [--type NAME].. [--no-payload] [FILE]'
+
+dump 0 "$whole" ''
+dump 0 "$whole" '' replay
+dump 0 "$whole" '' --protocol 5 replay
+dump 0 '{"offset":0,"type":"Start","code":0,"length":19}
+{"offset":27,"type":"InputCommand","code":1024,"length":9}
+{"offset":44,"type":"GetLazyStateCompletionNotification","code":32770,"length":4}
+{"offset":56,"rest":0}' '' --no-payload replay
+dump 0 "$input
+$rest" '' --type InputCommand
+dump 0 "$start
+$state
+$rest" '' --type GetLazyStateCompletionNotification --type Start replay
+dump 0 "$rest" '' --type End replay
+dump 0 '{"offset":0,"unknown":true,"code":8}
+{"offset":8,"type":"End","code":3,"length":0,"message":{}}
+{"offset":16,"rest":0}' '' unknown_type
+dump 0 '{"offset":0,"skipped":true,"code":8,"length":8,"bytes":"AAMAAAAAAAA="}
+{"offset":16,"rest":0}' '' --protocol 9 unknown_type
+dump 0 '{"offset":0,"skipped":true,"code":8,"length":8}
+{"offset":16,"rest":0}' '' --protocol 9 --no-payload unknown_type
+dump 0 '{"offset":13,"type":"CustomEntry(64513)","code":64513,"length":0,"bytes":""}
+{"offset":21,"rest":8}' '' --type 'CustomEntry(64513)' cut_short
+
+# A suspension has another schema before V7; a malformed payload ends nothing.
+printf '\000\001\000\000\000\000\000\026\n\003\001\256\002\022\003\003\260\002\032\004t\303\2515\032\004t\303\2516\000\003\000\000\000\000\000\001\n' > "$work/v6"
+old='{"offset":0,"type":"Suspension","code":1,"length":22,"message":{"waitingCompletions":[1,302],"waitingSignals":[3,304],"waitingNamedSignals":["té5","té6"]}}'
+end='{"offset":30,"type":"End","code":3,"length":1,"malformed":true,"bytes":"Cg=="}
+{"offset":39,"rest":0}'
+dump 0 "$old
+$end" '' --protocol 6 "$work/v6"
+dump 0 "{\"offset\":0,\"type\":\"Suspension\",\"code\":1,\"length\":22,\"message\":{}}
+$end" '' --protocol 7 "$work/v6"
+
+dump 2 '' "$usage" --protocol 4 replay
+dump 2 '' "$usage" --type Nothing replay
+dump 2 '' "$usage" --type
+dump 2 '' "$usage" replay replay
+dump 2 '' "$usage" --payload
+dump 0 'journal_dump 0.1.0' '' --version
+dump 2 '' 'journal_dump: nothing: cannot be opened' nothing
+dump 2 '' 'journal_dump: .: is a folder' .
+dump 2 '' 'journal_dump: the words cannot be fetched' "$(printf '\377')"
+"$program" --help > "$work/out" 2> "$work/err"
+status=$?
+[ "$status" -eq 0 ] && grep -q '^Usage: journal_dump' "$work/out" && [ ! -s "$work/err" ]
+outcome 'journal_dump --help' $?
+
+"$program" < . > "$work/out" 2> "$work/err"
+status=$?
+ended 'a folder on the standard input' 1 '' 'journal_dump: input failed'
+: > "$work/out"
+"$program" replay 2> "$work/err" >&-
+status=$?
+ended 'a closed output' 1 '' 'journal_dump: output failed'
+if [ -c /dev/full ]; then
+  "$program" replay > /dev/full 2> "$work/err"
+  status=$?
+  ended 'a full output' 1 '' 'journal_dump: output failed'
+else
+  echo 'check_dump.sh: a full output: not run, since there is no /dev/full'
+fi
+
+# A reader that goes away after one line of many.
+i=0
+while [ $i -lt 2000 ]; do
+  cat replay
+  i=$((i + 1))
+done > "$work/many"
+{
+  "$program" "$work/many" 2> "$work/err"
+  echo $? > "$work/status"
+} | head -n 1 > "$work/out"
+status=$(cat "$work/status")
+ended 'journal_dump | head -n 1' 1 "$start" 'journal_dump: output failed'
+
+# A message of 4 GiB begins, and 128 MiB of address space do not hold the 192 MiB of it that come.
+if (ulimit -v 131072) 2> "$work/shell"; then
+  status=$(
+    {
+      cat replay
+      printf '\004\000\000\000\377\377\377\377'
+      dd if=/dev/zero bs=65536 count=3072 2> "$work/dd"
+    } | (
+      ulimit -v 131072
+      "$program" > "$work/out" 2> "$work/err"
+      echo $?
+    )
+  )
+  ended 'no memory' 1 "$start
+$input
+$state" 'journal_dump: out of memory'
+else
+  echo 'check_dump.sh: no memory: not run, since memory cannot be bounded here'
+fi
+
+# Each request for memory refused in turn, in a stream that needs some: whole lines stand, and one line says why, or all stands.
+if command -v cc > /dev/null && cc -O2 -shared -fPIC -o "$work/refuse.so" "$top/scripts/refuse.c" -ldl; then
+  request=0
+  requests=0
+  wrong=0
+  # at last none is refused, since fewer are made
+  while [ "$request" -le "$requests" ] && [ "$wrong" -lt 5 ]; do
+    request=$((request + 1))
+    REFUSE=$request LD_PRELOAD=$work/refuse.so "$program" < cut_short > "$work/out" 2> "$work/err" 3> "$work/requests"
+    status=$?
+    read -r requests < "$work/requests"
+    complaint=$(cat "$work/err")
+    case $status:$complaint in
+      0:) "$program" < cut_short | cmp -s - "$work/out" ;;
+      '1:journal_dump: out of memory') "$program" < cut_short 2> "$work/said" | head -n "$(wc -l < "$work/out")" | cmp -s - "$work/out" ;;
+      *) false ;;
+    esac
+    is_right=$?
+    [ "$is_right" -eq 0 ] || wrong=$((wrong + 1))
+    outcome "request $request refused" "$is_right"
+  done
+else
+  echo 'check_dump.sh: refused requests for memory: not run, since there is no cc'
+fi
+
+# The stored run, and hostile streams, of which others read each line.
+cd "$top" || exit 1
+"$program" < "$run/stdin" > "$work/out" 2> "$work/err"
+status=$?
+[ "$status" -eq 0 ] && cmp -s "$run/stdout" "$work/out" && [ ! -s "$work/err" ]
+outcome 'the stored run' $?
+for kind in random mixed skipped; do
+  LC_ALL=C awk -v kind=$kind -v size=200000 -v seed=7 -f scripts/write_stream.awk scripts/types.txt > "$work/$kind"
+  version=8
+  [ $kind != skipped ] || version=9
+  "$program" --protocol $version "$work/$kind" > "$work/$kind.lines" 2> "$work/err"
+  status=$?
+  cp "$work/$kind.lines" "$work/out"
+  if command -v jq > /dev/null; then
+    [ "$status" -eq 0 ] && [ "$(jq -c 'type' "$work/out" | grep -c '^"object"$')" -eq "$(wc -l < "$work/out")" ] &&
+      [ "$(tail -n 1 "$work/out" | jq '.offset + .rest')" -eq "$(wc -c < "$work/$kind")" ]
+    outcome "jq on a $kind stream" $?
+  else
+    echo "check_dump.sh: jq on a $kind stream: not run, since there is no jq"
+  fi
+  if command -v python3 > /dev/null; then
+    [ "$status" -eq 0 ] && python3 -c 'import json, sys; [json.loads(line) for line in open(sys.argv[1], newline="\n")]' "$work/out" 2> "$work/err"
+    outcome "Python on a $kind stream" $?
+  else
+    echo "check_dump.sh: Python on a $kind stream: not run, since there is no python3"
+  fi
+done
+
+# Protobuf as the judge of all message types.
+judge=
+for python in python3 /usr/bin/python3; do
+  if command -v "$python" > /dev/null && "$python" -c 'import google.protobuf' 2> "$work/err"; then
+    judge=$python
+  fi
+done
+if [ -n "$judge" ] && command -v protoc > /dev/null; then
+  for words in --check "--random 1 300 $program"; do
+    # the words are split
+    PYTHONDONTWRITEBYTECODE=1 $judge scripts/dump_lines.py $words > "$work/log" 2>&1
+    counts=$(tail -n 1 "$work/log")
+    case $counts in
+      [0-9]*' passed, '[0-9]*' failed')
+        passed=$((passed + ${counts%% *}))
+        more=${counts##*, }
+        failed=$((failed + ${more%% *}))
+        [ "${more%% *}" -eq 0 ] || cat "$work/log"
+        ;;
+      *)
+        failed=$((failed + 1))
+        echo "failed: dump_lines.py $words"
+        cat "$work/log"
+        ;;
+    esac
+  done
+else
+  echo "check_dump.sh: protobuf's own printer: not run, since there is no protoc or no protobuf for python3"
+fi
+
+echo "$passed passed, $failed failed"
+[ "$failed" -eq 0 ]

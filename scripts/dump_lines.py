@@ -1,0 +1,218 @@
+"""Streams and their dumps, with protobuf's own JSON printer as the judge:
+
+    dump_lines.py --write            writes the stored run of journal_dump, crates/journal_dump/stdin and stdout
+    dump_lines.py --check            whether it is up to date
+    dump_lines.py --random SEED COUNT PROGRAM [WORD..]
+                                     COUNT random payloads of each message type in one stream, dumped by the program and printed by protobuf
+
+It needs protoc and python3's protobuf (Debian's protobuf-compiler and python3-protobuf). Nothing of this project's own code takes part: payloads are
+those of conformance/records.txt, which protoc made, and what protobuf makes of random values; a type's code is that of scripts/types.txt. The last
+line of --check and --random is 'N passed, M failed'.
+"""
+import base64
+import json
+import pathlib
+import random
+import subprocess
+import sys
+import tempfile
+
+from google.protobuf import json_format
+from google.protobuf.descriptor import FieldDescriptor
+
+ROOT = pathlib.Path(__file__).resolve().parent.parent
+RUN = ROOT / "crates" / "journal_dump"
+
+
+def load():
+    """The messages of proto/journal.proto by their names."""
+    with tempfile.TemporaryDirectory() as work:
+        subprocess.run(["protoc", f"--python_out={work}", f"-I{ROOT / 'proto'}", "journal.proto"], check=True)
+        sys.path.insert(0, work)
+        import journal_pb2
+
+        return journal_pb2
+
+
+def types():
+    """The names of types and their codes."""
+    found = {}
+    for line in (ROOT / "scripts" / "types.txt").read_text().splitlines():
+        if line and not line.startswith("#"):
+            code, name = line.split()[:2]
+            found[name] = int(code, 16)
+    return found
+
+
+def text_of(value):
+    """A value of JSON without spaces, all but control characters as they are."""
+    return json.dumps(value, separators=(",", ":"), ensure_ascii=False)
+
+
+def printed(kind, payload):
+    """A payload as protobuf prints it, or None where it is malformed."""
+    message = kind()
+    try:
+        message.ParseFromString(payload)
+    except Exception:
+        return None
+    return json_format.MessageToDict(message, use_integers_for_enums=True)
+
+
+def frame(code, payload, flag=0):
+    return code.to_bytes(2, "big") + flag.to_bytes(2, "big") + len(payload).to_bytes(4, "big") + payload
+
+
+class Stream:
+    """A stream, and the lines of its dump."""
+
+    def __init__(self, kinds):
+        self.kinds = kinds
+        self.codes = types()
+        self.bytes = b""
+        self.lines = []
+
+    def put(self, more, **members):
+        self.lines.append(text_of({"offset": len(self.bytes), **members}))
+        self.bytes += more
+
+    def message(self, name, payload, flag=0, kind=None):
+        """A message of a type, which is read as the kind, or else as the message of its name."""
+        code = self.codes[name]
+        value = printed(getattr(self.kinds, kind or name + "Message"), payload)
+        head = {"type": name, "code": code, "length": len(payload)}
+        if name == "ProposeRunCompletion":
+            head["requestedAck"] = flag == 0x8000
+        shown = {"message": value}
+        if value is None:
+            shown = {"malformed": True, "bytes": base64.b64encode(payload).decode()}
+        self.put(frame(code, payload, flag), **head, **shown)
+
+    def end(self, rest):
+        self.put(rest, rest=len(rest))
+        return self.bytes, "".join(line + "\n" for line in self.lines)
+
+
+def future_of(kinds, levels):
+    future = kinds.Future(combinator_type=1)
+    for _ in range(levels):
+        future = kinds.Future(nested_futures=[future])
+    return future
+
+
+def stored(kinds):
+    """The stream of the stored run: each message with every field, with each member of its oneofs, and empty; texts with every escape; ninety
+    levels; a malformed payload between two good ones; items that are no messages; and a rest."""
+    stream = Stream(kinds)
+    for line in (ROOT / "conformance" / "records.txt").read_text().splitlines():
+        words = line.split(" ")
+        if words[0] == "record" and words[1].endswith("Message"):
+            payload = b"" if words[2] == "-" else bytes.fromhex(words[2])
+            stream.message(words[1][: -len("Message")], payload, 0x8000 if payload else 0)
+    text = "".join(map(chr, range(0x20))) + "\"\\/\x7f\u0080\u2028\u2029\ufffd\U0001f600"
+    stream.message("Error", kinds.ErrorMessage(message=text).SerializeToString())
+    stream.message("InputCommand", kinds.InputCommandMessage(headers=[kinds.Header()], name="\0").SerializeToString())
+    stream.message("Start", kinds.StartMessage(random_seed=2**64 - 1, limit_key="").SerializeToString())
+    stream.message("Error", kinds.ErrorMessage(behavior=-(2**31), related_command_index=0, next_retry_delay=0).SerializeToString())
+    stream.message("Suspension", kinds.SuspensionMessage(awaiting_on=future_of(kinds, 90)).SerializeToString())
+    stream.message("Start", b"\x08")
+    stream.message("End", b"")
+    stream.put(frame(0xFC01, b"\xff\x00custom"), type="CustomEntry(64513)", code=0xFC01, length=8, bytes="/wBjdXN0b20=")
+    stream.put(frame(8, b""), unknown=True, code=8)
+    stream.message("End", b"\x0a\x01x")
+    return stream.end(frame(3, b"12345678")[:11])
+
+
+SCALARS = {
+    FieldDescriptor.TYPE_UINT32: lambda r: r.choice([0, 1, 127, 128, 2**32 - 1, r.getrandbits(32)]),
+    FieldDescriptor.TYPE_UINT64: lambda r: r.choice([0, 1, 2**53 + 1, 2**64 - 1, r.getrandbits(64)]),
+    FieldDescriptor.TYPE_BOOL: lambda r: r.random() < 0.5,
+    FieldDescriptor.TYPE_ENUM: lambda r: r.choice([0, 1, -1, 2**31 - 1, -(2**31), r.randrange(-5, 9)]),
+    FieldDescriptor.TYPE_STRING: lambda r: "".join(
+        chr(r.choice([r.randrange(0x20), r.randrange(0x80), 0x22, 0x5C, r.randrange(0xA0, 0x3000), r.randrange(0x1F300, 0x1F700)]))
+        for _ in range(r.choice([0, 1, 5, 40]))
+    ),
+    FieldDescriptor.TYPE_BYTES: lambda r: r.randbytes(r.choice([0, 1, 2, 3, 4, 60])),
+}
+
+
+def fill(r, message, deep):
+    """Sets some fields of a message at random."""
+    for field in message.DESCRIPTOR.fields:
+        if r.random() < 0.4:
+            continue
+        if field.label == FieldDescriptor.LABEL_REPEATED:
+            target = getattr(message, field.name)
+            for _ in range(r.choice([1, 2, 5])):
+                if field.message_type is None:
+                    target.append(SCALARS[field.type](r))
+                elif deep < 4:
+                    fill(r, target.add(), deep + 1)
+        elif field.message_type is None:
+            setattr(message, field.name, SCALARS[field.type](r))
+        else:
+            getattr(message, field.name).SetInParent()
+            if deep < 4:
+                fill(r, getattr(message, field.name), deep + 1)
+
+
+def payload_of(r, kind):
+    """A payload of one to three values, which merge, and sometimes a field that the message does not have."""
+    payload = b""
+    for _ in range(r.choice([1, 1, 2, 3])):
+        message = kind()
+        fill(r, message, 0)
+        payload += message.SerializeToString()
+        if r.random() < 0.1:
+            payload += bytes([0xFA, 0x3F, 0x02, 0xFF, 0xFE])
+    return payload
+
+
+def dump_random(kinds, seed, count, command):
+    r = random.Random(seed)
+    stream = Stream(kinds)
+    for _ in range(count):
+        for name in stream.codes:
+            stream.message(name, payload_of(r, getattr(kinds, name + "Message")))
+    given, wanted = stream.end(b"")
+    run = subprocess.run(command, input=given, capture_output=True, check=False)
+    lines = run.stdout.decode().split("\n")[:-1]
+    passed = failed = 0
+    for number, want in enumerate(wanted.split("\n")[:-1]):
+        line = lines[number] if number < len(lines) else ""
+        if line == want and json.loads(line) == json.loads(want):
+            passed += 1
+        else:
+            failed += 1
+            if failed < 5:
+                print(f"failed: line {number}:\n  is     {line}\n  is not {want}")
+    if run.returncode != 0 or len(lines) != len(stream.lines) or run.stderr:
+        failed += 1
+        print(f"failed: status {run.returncode}, {len(lines)} lines, standard error: {run.stderr.decode()}")
+    print(f"{passed} passed, {failed} failed")
+    return 1 if failed else 0
+
+
+def main():
+    kinds = load()
+    words = sys.argv[1:]
+    if words[:1] == ["--random"] and len(words) >= 4:
+        return dump_random(kinds, int(words[1]), int(words[2]), words[3:])
+    if words not in (["--write"], ["--check"]):
+        sys.exit(__doc__)
+    given, wanted = stored(kinds)
+    files = {RUN / "stdin": given, RUN / "stdout": wanted.encode()}
+    stale = [path for path, data in files.items() if not path.exists() or path.read_bytes() != data]
+    for path in stale:
+        if words == ["--write"]:
+            path.write_bytes(files[path])
+        else:
+            print(f"failed: {path.relative_to(ROOT)} is not what scripts/dump_lines.py writes")
+    if words == ["--check"]:
+        print(f"{len(files) - len(stale)} passed, {len(stale)} failed")
+        return 1 if stale else 0
+    return 0
+
+
+if __name__ == "__main__":
+    sys.exit(main())
