@@ -3,13 +3,14 @@
 #
 #   scripts/run.sh [--proved] list [STREAM [PIECE] [v9]]     the listing of a stream, examples/replay if none is given
 #   scripts/run.sh [--proved] diff [WORD..] RECORDED REPLAYED   where two journals differ; WORD: --ignore-payloads, --protocol 5..9
+#   scripts/run.sh [--proved] dump [WORD..] [STREAM]         a stream as JSON, the standard input if none is given; WORD: --protocol 5..9, --type NAME, --no-payload
 #
 # Without --proved nothing is proved, which takes less than a minute; with it every crate below the program is proved first.
 # The status is the program's.
 set -eu
 
 usage() {
-  sed -n '2,8s/^# \{0,1\}//p' "$0"
+  sed -n '2,9s/^# \{0,1\}//p' "$0"
 }
 
 # run PROGRAM WORD..: builds the program and runs it with these words
@@ -51,14 +52,14 @@ case $command in
     [ -r "$stream" ] || { echo "run.sh: no such file: $stream" >&2; exit 2; }
     run journal_list "$@" < "$stream"
     ;;
-  diff)
+  diff | dump)
     # each word that names a file stands for it from wherever the program runs
     for word in "$@"; do
       shift
       [ ! -e "$word" ] || word=$(place "$word")
       set -- "$@" "$word"
     done
-    run journal_diff "$@"
+    run "journal_$command" "$@"
     ;;
   --help) usage ;;
   *)

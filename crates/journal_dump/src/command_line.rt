@@ -42,7 +42,7 @@ fn version_of(word: &str) -> Option<Version>
 /// The code of the type that has this name in a dump, of all codes that there are.
 fn code_of(alloc: Global, name: &str) -> Result<Option<u16>, AllocError> {
     let mut text = String::new(alloc);
-    for code in 0..u16::MAX {
+    for code in 0..=u16::MAX {
         if let Ok(ty) = MessageType::try_from(code) {
             text.clear();
             write!(text, "{}", ty.debug_name())?;
