@@ -13,6 +13,7 @@ use bytes::Bytes;
 use shared_core::encoding::{Decoder, Item, PushError};
 use std::alloc::{AllocError, Global};
 use std::io::{Read, Write};
+use text_output::{OutputFailed, write_whole};
 
 /// How many bytes are read at a time.
 const PIECE: usize = 65536;
@@ -150,21 +151,14 @@ fn print_next(
     print_item(alloc, options, offset, &item, scratch, text)
 }
 
-/// Writes until all is written, a write fails, or one takes nothing.
+/// Writes a text whole, or a beginning of it.
 fn write_text<W: Write>(output: &mut W, bytes: &[u8]) -> Result<(), DumpError>
     ensures { (written : List ℕ)
         × Appends (W.contents output.old) (W.contents output.new) written
         × IsWritten result written bytes.now }
 {
-    let mut written = 0;
-    while written < bytes.len() {
-        let Ok(count) = output.write(&bytes[written..]) else {
-            return Err(DumpError::Output);
-        };
-        if count == 0 {
-            return Err(DumpError::Output);
-        }
-        written += count;
+    match write_whole(output, bytes) {
+        Ok(()) => Ok(()),
+        Err(OutputFailed) => Err(DumpError::Output),
     }
-    Ok(())
 }
