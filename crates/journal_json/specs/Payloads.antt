@@ -1,11 +1,12 @@
 -- Canonical payloads, and what is written for them.
-use Rattle.std.specs.Prelude.{◌≡◌, ℕ, ◌≤◌, ◌++◌, List}
+use Rattle.std.specs.Prelude.{◌≡◌, ℕ, ◌≤◌, ◌^◌, ◌++◌, List}
 use Rattle.json.specs.Token.{Token}
 use Rattle.json.specs.Tree.{json_tokens}
 use Rattle.shared_core_wire.specs.Value.{Parts}
-use Rattle.shared_core_wire.specs.Canonical.{canonical_payload, levels}
+use Rattle.shared_core_wire.specs.Canonical.{canonical_payload, levels, size}
 use Rattle.shared_core_wire.specs.Fitting.{Fits}
 use Rattle.shared_core_record.specs.Table.{table}
+use Rattle.shared_core_record.specs.Payloads.{IsAccepted, payload_meaning}
 use Rattle.journal_json.specs.Form.{value_json}
 
 -- The bytes are the canonical payload of a value of the schema s, which has at most one hundred and one levels. (No payload that is accepted
@@ -18,3 +19,7 @@ pub record IsSpelling (s : ℕ) (v : Parts) (bytes : List ℕ) : Type 0 where
 -- Where the bytes spell a value canonically, its JSON stands behind the tokens that stood there.
 abbrev pub WritesJson : ℕ → List ℕ → List Token → List Token → Type 0
 WritesJson s bytes old new = (v : Parts) → IsSpelling s v bytes → new ≡ old ++ json_tokens (value_json s v)
+
+-- The payload is well-formed for the schema, and the canonical payload of what it means has more bytes than a length of 32 bits says.
+abbrev pub IsTooLong : ℕ → List ℕ → Type 0
+IsTooLong s payload = IsAccepted s payload × (2 ^ 32 ≤ size table s (payload_meaning s payload))

@@ -1,17 +1,17 @@
 //! Payloads of one message: made canonical, and written as JSON.
 
-ghost use Rattle.std.specs.Prelude.{◌≡◌, IfOk, OnOk};
+ghost use Rattle.std.specs.Prelude.{◌≡◌, ◌≤◌, ◌^◌, IfOk, OnOk};
 ghost use Rattle.std.specs.Result.{IsErrOf};
 ghost use Rattle.std.specs.Str.{IsUtf8};
-ghost use Rattle.shared_core_wire.specs.Canonical.{canonical_payload};
+ghost use Rattle.shared_core_wire.specs.Canonical.{canonical_payload, size};
 ghost use Rattle.shared_core_wire.specs.Fitting.{Fits};
 ghost use Rattle.shared_core_record.specs.Table.{table};
 ghost use Rattle.shared_core_record.specs.Payloads.{IsAccepted, payload_meaning};
 ghost use Rattle.json.specs.Lex.{tokens};
 ghost use Rattle.json.specs.Tree.{json_tokens};
 ghost use Rattle.journal_json.specs.Form.{json_text, value_json};
-ghost use Rattle.journal_json.specs.Payloads.{IsSpelling};
-ghost use Rattle.journal_json.specs.declared.error.JsonError.TheVariants.{Malformed};
+ghost use Rattle.journal_json.specs.Payloads.{IsSpelling, IsTooLong};
+ghost use Rattle.journal_json.specs.declared.error.JsonError.TheVariants.{Malformed, TooLong};
 
 use crate::error::JsonError;
 use crate::write::write_message;
@@ -30,6 +30,7 @@ pub fn write_canonical<M: WireRecord>(
     ensures accepted { OnOk result (IsAccepted M.schema payload.now) }
     ensures spelled { OnOk result (IsSpelling M.schema (payload_meaning M.schema payload.now) canonical.new.items) }
     ensures malformed { IsErrOf result Malformed → ¬ (IsAccepted M.schema payload.now) }
+    ensures too_long { IsErrOf result TooLong → IsTooLong M.schema payload.now }
 {
     let message: M = decode_payload(alloc, payload)?;
     encode_over(&message, canonical)
@@ -41,6 +42,7 @@ fn encode_over<M: WireRecord>(message: &M, canonical: &mut Vec<u8>) -> Result<()
     ensures written { OnOk result (canonical.new.items ≡ canonical_payload table M.schema (M.parts message.now)) }
     ensures fit { Fits table (M.parts message.now) (table M.schema) }
     ensures not_malformed { IsErrOf result Malformed → ⊥ }
+    ensures too_long { IsErrOf result TooLong → 2 ^ 32 ≤ size table M.schema (M.parts message.now) }
 {
     let Some(len) = message.encoded_len() else {
         return Err(JsonError::TooLong);
@@ -64,6 +66,7 @@ pub fn json_of<M: WireRecord>(
     // read as JSON, it is these tokens again
     ensures reads_back { IfOk result (λ text. tokens text.items ≡ json_tokens (value_json M.schema (payload_meaning M.schema payload.now))) }
     ensures malformed { IsErrOf result Malformed → ¬ (IsAccepted M.schema payload.now) }
+    ensures too_long { IsErrOf result TooLong → IsTooLong M.schema payload.now }
 {
     let mut canonical = Vec::new(alloc);
     write_canonical::<M>(alloc, payload, &mut canonical)?;
