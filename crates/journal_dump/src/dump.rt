@@ -73,7 +73,7 @@ pub fn dump<R: Read, W: Write>(
         if bytes.is_empty() {
             text.clear();
             let pending = decoder.pending();
-            let text = print_rest(total - pending, pending, text)?;
+            let text = print_rest(alloc, total - pending, pending, text)?;
             return write_text(output, text.as_slice());
         }
         total += bytes.len() as u64;

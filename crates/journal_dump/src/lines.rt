@@ -5,7 +5,6 @@ ghost use Rattle.base64.specs.GeneralPurpose.{encode_of};
 ghost use Rattle.base64.specs.Engines.{standard};
 ghost use Rattle.json.specs.Token.{key, number, boolean, end_object};
 ghost use Rattle.json.specs.Token as token;
-ghost use Rattle.json.specs.Print.{print};
 ghost use Rattle.json.specs.Tree.{json_tokens, members_tokens};
 ghost use Rattle.shared_core.specs.declared.encoding.item.Item.TheVariants as variant;
 ghost use Rattle.shared_core_base.specs.MessageType.{debug_name_of};
@@ -23,10 +22,13 @@ use shared_core::encoding::{Item, RawMessage};
 use shared_core::header::MessageType;
 use shared_core::version::Version;
 use std::alloc::{AllocError, Global};
+use std::mem;
 
 /// Memory that lines are made in, one after the other.
 #[derive(Drop)]
 pub struct Scratch {
+    /// A line's object. It has memory of its own, since a writer fills its memory ahead.
+    line: Vec<u8>,
     canonical: Vec<u8>,
     text: String,
 }
@@ -34,6 +36,7 @@ pub struct Scratch {
 impl Scratch {
     pub fn new(alloc: Global) -> Scratch {
         Scratch {
+            line: Vec::new(alloc),
             canonical: Vec::new(alloc),
             text: String::new(alloc),
         }
@@ -55,30 +58,39 @@ pub fn print_item(
     if !is_asked_for(options.codes, item_code(item)) {
         return Ok(lines);
     }
-    let mut out = Writer::new(lines);
+    let mut line = mem::replace(&mut scratch.line, Vec::new(alloc));
+    line.clear();
+    let mut out = Writer::new(line);
     write_item(alloc, options, offset, item, scratch, &mut out)?;
-    end_line(out)
+    scratch.line = out.into_inner();
+    append_line(scratch.line.as_slice(), lines)
 }
 
 /// Appends the last line.
-pub fn print_rest(offset: u64, count: u64, lines: Vec<u8>) -> Result<Vec<u8>, DumpError>
+pub fn print_rest(
+    alloc: Global,
+    offset: u64,
+    count: u64,
+    lines: Vec<u8>,
+) -> Result<Vec<u8>, DumpError>
     ensures line { IfOk result (λ now. now.items ≡ lines.items ++ rest_line offset count) }
     ensures lack { IfErr result IsLack }
 {
-    let mut out = Writer::new(lines);
+    let mut out = Writer::new(Vec::new(alloc));
     out.begin_object()?;
     write_number(&mut out, "offset", offset)?;
     write_number(&mut out, "rest", count)?;
     out.end_object()?;
-    end_line(out)
+    append_line(out.into_inner().as_slice(), lines)
 }
 
-/// Ends a line.
-fn end_line(out: Writer) -> Result<Vec<u8>, DumpError>
-    ensures line { IfOk result (λ now. now.items ≡ out.before ++ (print out.tokens ++ codes "\n")) }
+/// Appends a line.
+fn append_line(line: &[u8], lines: Vec<u8>) -> Result<Vec<u8>, DumpError>
+    ensures line { IfOk result (λ now. now.items ≡ lines.items ++ (line.now ++ codes "\n")) }
     ensures lack { IfErr result IsLack }
 {
-    let mut lines = out.into_inner();
+    let mut lines = lines;
+    lines.extend_from_slice(line)?;
     lines.extend_from_slice(b"\n")?;
     Ok(lines)
 }
