@@ -27,7 +27,7 @@ quietly() {
 if command -v python3 > /dev/null; then
   quietly python3 records.py --check || exit 1
 fi
-(cd ../crates/journal_ffi && quietly rt lib) || exit 1
+quietly sh ../scripts/static_library.sh || exit 1
 JOURNAL_FFI=$(folder ../crates/journal_ffi/out/libjournal_ffi.a) || exit 1
 RATTLE_C=$(folder "$(dirname "$(rt doc)")/c/liblibc_c.a") || exit 1
 export JOURNAL_FFI RATTLE_C

@@ -2,6 +2,7 @@
 
 src/records.rs has the records of proto/journal.proto as prost-build would write them, with shared buffers for `bytes`. src/table.rs has what
 tells them apart by number: the fields of each schema, the code of each message type, and macros that lead from a number to the record.
+src/json.rs has how serde writes the records, in proto3's JSON form.
 Schemas are numbered as in the list `schemas` of crates/shared_core_record/specs/Table.antt, and codes are those of
 crates/shared_core_base/specs/MessageType.antt. With --check nothing is written; the status is 1 where a file is not up to date.
 """
@@ -15,6 +16,7 @@ sys.dont_write_bytecode = True
 sys.path.insert(0, str(ROOT / "scripts"))
 
 from journal import PROTO, OneOf, camel, messages, snake  # noqa: E402
+from json_names import json_name  # noqa: E402
 
 SCHEMAS = ROOT / "crates" / "shared_core_record" / "specs" / "Table.antt"
 TYPES = ROOT / "crates" / "shared_core_base" / "specs" / "MessageType.antt"
@@ -28,6 +30,9 @@ SCALARS = {
     "bytes": ('bytes = "bytes"', "::prost::bytes::Bytes"),
 }
 KINDS = {"u32": "U32", "u64": "U64", "bool": "Bool", "enum": "Enum", "text": "Text", "bytes": "Bytes"}
+# For each kind: whether a plain field is more than its default, if that is no 0, and how serde is given a value, if not as it is.
+IS_SET = {"bool": "{0}", "text": "!{0}.is_empty()", "bytes": "!{0}.is_empty()"}
+WRITTEN = {"u64": "&Quoted({0})", "bytes": "&Base64({0})"}
 LABELS = {"plain": "Plain", "optional": "Optional", "message": "Optional", "repeated": "Repeated"}
 
 
@@ -117,6 +122,67 @@ def records(text):
     return "\n".join(parts)
 
 
+def entry(field, written):
+    """What writes a member of an object."""
+    return f'object.serialize_entry("{json_name(field.name)}", {written})'
+
+
+def written_value(field, value):
+    """A value, of which this is a reference, as serde is given it."""
+    return WRITTEN.get(field.kind, "{0}").format(value)
+
+
+def written_field(field):
+    """What writes a field where it is to be seen."""
+    place = f"self.{field.name}"
+    if field.presence == "repeated":
+        condition = f"!{place}.is_empty()"
+        written = f"&Base64List(&{place})" if field.kind == "bytes" else f"&{place}"
+    elif field.presence == "plain":
+        condition = IS_SET.get(field.kind, "{0} != 0").format(place)
+        written = written_value(field, f"&{place}")
+    else:
+        condition = f"let Some(value) = &{place}"
+        written = written_value(field, "value")
+    return f"        if {condition} {{\n            {entry(field, written)}?;\n        }}\n"
+
+
+def written_one_of(message, row):
+    """What writes the member of a oneof that is there."""
+    path = f"{snake(message.name)}::{camel(row.name)}"
+    arms = "".join(
+        f"            Some({path}::{camel(member.name)}(value)) => {entry(member, written_value(member, 'value'))}?,\n"
+        for member in row.members
+    )
+    return f"        match &self.{row.name} {{\n{arms}            None => (),\n        }}\n"
+
+
+def least_number(row):
+    """Where a row stands in a message: at its least number."""
+    return min(member.number for member in row.members) if isinstance(row, OneOf) else row.number
+
+
+def json(text):
+    """The source of src/json.rs."""
+    parts = [
+        "//! How serde writes the records, in proto3's JSON form. Written by records.py.\n",
+        "use serde::ser::{Serialize, SerializeMap, Serializer};\n",
+        "use crate::dump::{Base64, Base64List, Quoted};\nuse crate::records::*;\n",
+    ]
+    for message in messages(text):
+        members = "".join(
+            written_one_of(message, row) if isinstance(row, OneOf) else written_field(row)
+            for row in sorted(message.rows, key=least_number)
+        )
+        mutable = "mut " if members else ""
+        parts.append(
+            f"impl Serialize for {message.name} {{\n"
+            "    fn serialize<S: Serializer>(&self, serializer: S) -> Result<S::Ok, S::Error> {\n"
+            f"        let {mutable}object = serializer.serialize_map(None)?;\n{members}        object.end()\n    }}\n}}\n"
+        )
+    return "\n".join(parts)
+
+
 def schema_names():
     """The names of the schemas, each at the place of its number."""
     rows = SCHEMAS.read_text().split("\nschemas =\n")[1].split("\n\n")[0]
@@ -163,6 +229,15 @@ def choice(name, comment, selector, arms):
     )
 
 
+def names_of(types):
+    """The function that names a code."""
+    arms = "".join(f'        0x{code:04X} => "{name}",\n' for name, code in types)
+    return (
+        "/// The name of the message type that has a code.\npub fn name_of(code: u16) -> Option<&'static str> {\n"
+        f"    Some(match code {{\n{arms}        _ => return None,\n    }})\n}}\n"
+    )
+
+
 def table(text):
     """The source of src/table.rs."""
     by_name = {message.name: message for message in messages(text)}
@@ -180,6 +255,7 @@ def table(text):
         "use crate::schema::{Field, Kind::*, Label::*, MessageType, Schema};\n",
         f"/// The schemas, each at its number.\npub static SCHEMAS: [Schema; {len(names)}] = [\n{schemas}];\n",
         f"/// The message types that have a name.\npub static TYPES: [MessageType; {len(types)}] = [\n{codes}];\n",
+        names_of(types),
         choice(
             "with_schema",
             "Does the body with a name for the record of a schema, or the other where no schema has the number.",
@@ -198,7 +274,7 @@ def table(text):
 
 def main():
     text = PROTO.read_text()
-    sources = {"records.rs": records(text), "table.rs": table(text)}
+    sources = {"records.rs": records(text), "json.rs": json(text), "table.rs": table(text)}
     check = sys.argv[1:] == ["--check"]
     stale = 0
     for name, source in sources.items():

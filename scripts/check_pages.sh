@@ -1,5 +1,5 @@
 #!/bin/sh
-# Shows that the pages lead somewhere: each link, each path of this repository in `code`, each worked line of conformance, and, in a table of
+# Shows that the pages lead somewhere: each link, each path of this repository in `code`, each worked line of conformance, the README's page of code, and, in a table of
 # promises, each name behind a promise in the crates that it is about. The last line is 'N passed, M failed'; what is missing is
 # shown above it.
 set -u
@@ -46,6 +46,11 @@ for page in $pages; do
     if grep -qxF -- "$line" "$work/lines"; then passed=$((passed + 1)); else missing "$page" "no line of conformance/: $line"; fi
   done < "$work/worked"
 done
+
+# the page of code of README.md is the program that the gate proves and runs
+awk '/^```rust$/ { inside = 1; next } /^```$/ { inside = 0 } inside' README.md > "$work/page"
+sed '/^\/\/! /d' crates/first_program/src/main.rt > "$work/program"
+if cmp -s "$work/page" "$work/program"; then passed=$((passed + 1)); else missing README.md 'its page of code is not crates/first_program/src/main.rt'; fi
 
 # names behind promises: each `Name` or `path::name` of a table's last column is a word of the code or the definitions of the crate in the heading, of
 # one that it stands on, or of one that the column names

@@ -455,7 +455,7 @@ def write_message(source, name):
     ty = TYPE_OF.get(name, name.removesuffix("Message"))
     result = source.result()
     source.ghosts.add("Rattle.shared_core_base.specs.declared.header.MessageType.TheVariants as types")
-    source.uses |= {"shared_core_base::header::MessageType", "shared_core_parts::restate_message::RestateMessage"}
+    source.uses |= {"shared_core_base::header::MessageType", "shared_core_message::restate_message::RestateMessage"}
     # a suspension has a second record, of the form before V7
     own_schema = "inr (refl, refl)" if name in TYPE_OF else "inl refl"
     source.prelude.add("refl")
@@ -470,13 +470,14 @@ def write_message(source, name):
     if name in NOT_WRITTEN_AS_THEY_STAND:
         return
     source.prelude.add("false")
-    source.ghosts.add("Rattle.shared_core_parts.specs.Frames.{plain_form}")
+    source.ghosts.add("Rattle.shared_core_message.specs.Frames.{plain_form}")
     source.uses |= {
-        "shared_core_parts::restate_message::{RestateEncodableMessage, RestateMessage, encode_frame_into}",
+        "shared_core_message::frame::encode_frame_into",
+        "shared_core_message::restate_message::{RestateEncodableMessage, RestateMessage}",
         "shared_core_base::version::Version",
         "shared_core_record::error::EncodingError",
     }
-    source.uses.discard("shared_core_parts::restate_message::RestateMessage")
+    source.uses.discard("shared_core_message::restate_message::RestateMessage")
     source.body.append(
         f"\nimpl RestateEncodableMessage for {name} {{\n"
         f"    ghost wire_form = {{ λ message _. plain_form tables.{schema_name(name)} (⟦<{name} as WireRecord>⟧.parts message) }};\n\n"

@@ -3,7 +3,7 @@
 #
 # All tests: the gate (every proof from nothing, the edits that must fail, each test and the stored runs of the programs), then
 # that the table of fields is one everywhere and written files are up to date, the programs on the examples, where they fail and on hostile streams, the JSON of messages beside
-# protobuf, the library on all conformance lines and with each request for memory refused in turn, and prost on the same lines and on random ones. With --quick: what can be
+# protobuf, the library on all conformance lines, also through its calls for C, and with each request for memory refused in turn, and prost on the same lines and on random ones. With --quick: what can be
 # known within minutes, without a proof (scripts/quick.sh). The last line is 'N passed, M failed', of all.
 set -u
 cd "$(dirname "$0")/.." || exit 1
@@ -45,6 +45,7 @@ stage sh scripts/check_diff.sh
 stage sh scripts/check_dump.sh
 # these take the proved programs that rt ci has built
 stage sh scripts/conformance.sh
+stage sh scripts/check_c.sh
 stage sh scripts/refusals.sh
 # 50,000 random cases beside prost, where cargo and its packages are there
 stage sh bench/vectors.sh --no-install 1 50000

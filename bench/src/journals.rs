@@ -5,13 +5,11 @@ use std::io::{self, Read, Write};
 use bytes::Bytes;
 use prost::{DecodeError, Message};
 
-use crate::peer::{is_command, Decoder, Header, Item};
+use crate::peer::{is_command, Header, Item};
 use crate::random::Random;
+use crate::reading::Reading;
 use crate::streams;
 use crate::table::with_message;
-
-/// How many bytes are read at a time, as journal_diff reads.
-const PIECE: usize = 65536;
 
 /// Writes a journal of at least so many bytes, the same each time: what a handler did, again and again.
 pub fn write(length: usize, output: &mut impl Write) -> io::Result<()> {
@@ -55,8 +53,8 @@ impl From<DecodeError> for Refusal {
 
 /// Compares two journals of a version, command by command: their types, and then their records, by the derived `==`.
 pub fn compare(version: u32, recorded: impl Read, replayed: impl Read) -> Result<Verdict, Refusal> {
-    let mut recorded = Commands::new(version, recorded);
-    let mut replayed = Commands::new(version, replayed);
+    let mut recorded = Commands(Reading::new(version, recorded));
+    let mut replayed = Commands(Reading::new(version, replayed));
     let mut index = 0;
     loop {
         let same = match (recorded.next_command()?, replayed.next_command()?) {
@@ -83,24 +81,12 @@ fn are_same(code: u16, actual: Bytes, expected: Bytes) -> Result<bool, DecodeErr
 }
 
 /// The commands of a journal, one after the other.
-struct Commands<R> {
-    decoder: Decoder,
-    reader: R,
-    buffer: Vec<u8>,
-}
+struct Commands<R>(Reading<R>);
 
 impl<R: Read> Commands<R> {
-    fn new(version: u32, reader: R) -> Commands<R> {
-        Commands {
-            decoder: Decoder::new(version),
-            reader,
-            buffer: vec![0; PIECE],
-        }
-    }
-
     fn next_command(&mut self) -> io::Result<Option<(Header, Bytes)>> {
         loop {
-            while let Some(item) = self.decoder.next_item() {
+            while let Some(item) = self.0.next_item() {
                 match item {
                     Item::Message(header, payload) if is_command(header.code) => {
                         return Ok(Some((header, payload)));
@@ -108,12 +94,9 @@ impl<R: Read> Commands<R> {
                     _ => {}
                 }
             }
-            let count = self.reader.read(&mut self.buffer)?;
-            if count == 0 {
+            if !self.0.read_piece()? {
                 return Ok(None);
             }
-            self.decoder
-                .push(Bytes::copy_from_slice(&self.buffer[..count]));
         }
     }
 }

@@ -3,15 +3,23 @@
 
 pub mod cases;
 pub mod conformance;
+#[cfg(feature = "json")]
+pub mod dump;
 pub mod hostile;
 pub mod journals;
+#[cfg(feature = "json")]
+#[rustfmt::skip]
+pub mod json;
+pub mod list;
 #[cfg(feature = "library")]
 pub mod ours;
 pub mod peer;
 pub mod random;
+pub mod reading;
 #[rustfmt::skip]
 pub mod records;
 pub mod rules;
+pub mod runs;
 pub mod schema;
 pub mod streams;
 #[rustfmt::skip]

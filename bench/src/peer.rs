@@ -13,11 +13,11 @@ use crate::table::{with_message, with_schema};
 
 const HEADER: usize = 8;
 const ACKNOWLEDGE: u64 = 1 << 47;
-const SUSPENSION: u16 = 0x0001;
-const PROPOSE_RUN_COMPLETION: u16 = 0x0005;
+pub const SUSPENSION: u16 = 0x0001;
+pub const PROPOSE_RUN_COMPLETION: u16 = 0x0005;
 
 /// The version from which on futures are sent as trees, and the proposal of a run's result asks for an acknowledgement.
-const FUTURES: u32 = 7;
+pub const FUTURES: u32 = 7;
 
 /// The version from which on a message of an unknown type is skipped with its payload.
 const SKIPS: u32 = 9;

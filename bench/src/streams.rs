@@ -73,6 +73,30 @@ pub fn any(random: &mut Random, damaged: bool) -> Vec<u8> {
     out
 }
 
+/// Messages of all types in turn, in any spelling and here and there malformed, and between them custom entries and codes that stand for no type; at
+/// the end a part of a header. The payload of a code that stands for no type is one at version 9 alone.
+pub fn varied(random: &mut Random, version: u32) -> Vec<u8> {
+    let mut out = Vec::new();
+    for _ in 0..60 {
+        for message_type in &TYPES {
+            let style = *random.pick(&[Style::Tidy, Style::Free, Style::Spoilt]);
+            let payload = Payloads::new(random, style).payload(message_type.schema);
+            let ignored = (random.number() & 0xFFFF) << 32;
+            put_frame(
+                u64::from(message_type.code) << 48 | ignored,
+                &payload,
+                &mut out,
+            );
+        }
+        let length = random.below(40);
+        put_frame(0xFC01 << 48, &random.bytes(length), &mut out);
+        let length = if version < 9 { 0 } else { random.below(40) };
+        put_frame(0x0008 << 48, &random.bytes(length), &mut out);
+    }
+    out.extend(random.bytes(5));
+    out
+}
+
 /// A replayed journal: the start, the input, and then what a handler did, each command with its completion.
 pub fn replay(random: &mut Random) -> Vec<Frame> {
     let mut frames = vec![start(random), input(random)];

@@ -665,6 +665,54 @@ pub static TYPES: [MessageType; 41] = [
     },
 ];
 
+/// The name of the message type that has a code.
+pub fn name_of(code: u16) -> Option<&'static str> {
+    Some(match code {
+        0x0000 => "Start",
+        0x0001 => "Suspension",
+        0x0002 => "Error",
+        0x0003 => "End",
+        0x0005 => "ProposeRunCompletion",
+        0x0006 => "AwaitingOn",
+        0x0007 => "ProposeRunCompletionAck",
+        0x0200 => "GetStateEphemeralCommand",
+        0x0300 => "GetStateEphemeralNotification",
+        0x0400 => "InputCommand",
+        0x0401 => "OutputCommand",
+        0x0402 => "GetLazyStateCommand",
+        0x0403 => "SetStateCommand",
+        0x0404 => "ClearStateCommand",
+        0x0405 => "ClearAllStateCommand",
+        0x0406 => "GetLazyStateKeysCommand",
+        0x0407 => "GetEagerStateCommand",
+        0x0408 => "GetEagerStateKeysCommand",
+        0x0409 => "GetPromiseCommand",
+        0x040A => "PeekPromiseCommand",
+        0x040B => "CompletePromiseCommand",
+        0x040C => "SleepCommand",
+        0x040D => "CallCommand",
+        0x040E => "OneWayCallCommand",
+        0x0410 => "SendSignalCommand",
+        0x0411 => "RunCommand",
+        0x0412 => "AttachInvocationCommand",
+        0x0413 => "GetInvocationOutputCommand",
+        0x0414 => "CompleteAwakeableCommand",
+        0x8002 => "GetLazyStateCompletionNotification",
+        0x8006 => "GetLazyStateKeysCompletionNotification",
+        0x8009 => "GetPromiseCompletionNotification",
+        0x800A => "PeekPromiseCompletionNotification",
+        0x800B => "CompletePromiseCompletionNotification",
+        0x800C => "SleepCompletionNotification",
+        0x800D => "CallCompletionNotification",
+        0x800E => "CallInvocationIdCompletionNotification",
+        0x8011 => "RunCompletionNotification",
+        0x8012 => "AttachInvocationCompletionNotification",
+        0x8013 => "GetInvocationOutputCompletionNotification",
+        0xFBFF => "SignalNotification",
+        _ => return None,
+    })
+}
+
 /// Does the body with a name for the record of a schema, or the other where no schema has the number.
 macro_rules! with_schema {
     ($schema:expr, $record:ident => $body:expr, _ => $other:expr $(,)?) => {

@@ -12,6 +12,7 @@ use std::process::{Command, ExitCode, Stdio};
 use std::time::Duration;
 
 use pendratsoa_bench::journals::{self, Verdict};
+use pendratsoa_bench::runs::{self, Cost};
 
 /// The version of the protocol, as journal_diff has it if none is said.
 const VERSION: u32 = 8;
@@ -22,50 +23,19 @@ const LENGTHS: [usize; 3] = [1_000_000, 10_000_000, 100_000_000];
 /// How often each side is measured; the best counts.
 const MEASUREMENTS: usize = 9;
 
-/// What came of a run: the line that it wrote, how long processors worked for it, and how many KiB of memory were resident at most, where Linux counts no less than
-/// this program has itself when it starts the other.
+/// What came of a run: the line that it wrote, and what it cost.
 struct Run {
     line: String,
-    time: Duration,
-    resident: i64,
-}
-
-mod c {
-    /// What Linux on x86-64 tells of a process that has ended.
-    #[repr(C)]
-    #[derive(Default)]
-    pub struct Usage {
-        /// Seconds and microseconds of the program, and those of the system for it.
-        pub times: [i64; 4],
-        pub most_resident: i64,
-        pub others: [i64; 13],
-    }
-
-    extern "C" {
-        pub fn wait4(process: i32, status: *mut i32, options: i32, usage: *mut Usage) -> i32;
-    }
+    cost: Cost,
 }
 
 /// Runs a program, which has to end well.
 fn run(command: &mut Command) -> io::Result<Run> {
     let mut child = command.stdout(Stdio::piped()).spawn()?;
     let line = io::read_to_string(child.stdout.take().ok_or(io::ErrorKind::BrokenPipe)?)?;
-    let (mut status, mut usage) = (0, c::Usage::default());
-    // SAFETY: both are there to be written, and nothing else waits for this process
-    let waited = unsafe { c::wait4(child.id() as i32, &mut status, 0, &mut usage) };
-    if waited < 0 || status != 0 {
-        return Err(io::Error::new(
-            io::ErrorKind::Other,
-            format!("{command:?} ended with {status}: {line}"),
-        ));
-    }
-    let [seconds, micros, system_seconds, system_micros] = usage.times;
-    let worked = (seconds + system_seconds) * 1_000_000 + micros + system_micros;
-    Ok(Run {
-        line,
-        time: Duration::from_micros(worked as u64),
-        resident: usage.most_resident,
-    })
+    let cost = runs::wait(child)
+        .map_err(|error| io::Error::new(error.kind(), format!("{command:?}: {error}: {line}")))?;
+    Ok(Run { line, cost })
 }
 
 /// Writes a journal of at least so many bytes, and says how many it has.
@@ -95,19 +65,19 @@ fn row(program: &str, folder: &Path, length: usize) -> io::Result<()> {
         ));
     }
     for _ in 1..MEASUREMENTS {
-        best.time = best.time.min(run(&mut ours)?.time);
-        best_peer.time = best_peer.time.min(run(&mut peer)?.time);
+        best.cost.time = best.cost.time.min(run(&mut ours)?.cost.time);
+        best_peer.cost.time = best_peer.cost.time.min(run(&mut peer)?.cost.time);
     }
     let rate = |time: Duration| 2.0 * bytes as f64 / 1e6 / time.as_secs_f64();
     println!(
         "| {:.1} MB | {} | {:.0} MB | {:.0} MB | {:.2} | {} KiB | {} KiB |",
         bytes as f64 / 1e6,
         best.line.trim().trim_start_matches("same, "),
-        rate(best.time),
-        rate(best_peer.time),
-        best_peer.time.as_secs_f64() / best.time.as_secs_f64(),
-        best.resident,
-        best_peer.resident,
+        rate(best.cost.time),
+        rate(best_peer.cost.time),
+        best_peer.cost.time.as_secs_f64() / best.cost.time.as_secs_f64(),
+        best.cost.resident,
+        best_peer.cost.resident,
     );
     Ok(())
 }

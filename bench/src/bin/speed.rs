@@ -3,7 +3,8 @@
 //! [--rounds N] [--protocol 5..9]
 //!
 //! With --side nothing is compared or printed: that side alone goes over the workload so many times, for a profiler. Before a table is printed,
-//! and by `speed --check` alone, the requests for memory show that the rounds are made and the pieces used that are asked for.
+//! and by `speed --check` alone, the requests for memory show that the rounds are made and the pieces used that are asked for. The workload `calls`
+//! has no peer: it is what a call from C costs over the same work inside the library.
 
 use std::env;
 use std::fmt;
@@ -40,6 +41,12 @@ const TIMES: [usize; 3] = [1, 4, 16];
 
 /// The name of the workload of hostile messages.
 const HOSTILE: &str = "hostile";
+
+/// The name of the workload of calls from C.
+const CALLS: &str = "calls";
+
+/// Times, at least, that a call is made from C for each measurement of it.
+const CROSSINGS: usize = 65_536;
 
 /// Times, at least, that a frame is encoded for each time that its message is decoded.
 const ENCODINGS: usize = 64;
@@ -451,6 +458,149 @@ impl Growing {
     }
 }
 
+/// What is asked of the library from here, over and over, or of itself inside: what is between the two is what a call from C costs.
+struct Crossing {
+    name: &'static str,
+    work: Work,
+}
+
+enum Work {
+    /// Whether a payload is well-formed for a schema.
+    WellFormed(usize, &'static [u8]),
+    /// The items of a stream, of which there are so many: a call for each from here, and inside a decoder, which hands out each payload.
+    Items(Workload),
+}
+
+impl Crossing {
+    fn all() -> Vec<Crossing> {
+        let crossing = |name, work| Crossing { name, work };
+        // a StateKeys without a key, an InputCommandMessage with the value "input"
+        const INPUT: [u8; 9] = [0x72, 7, 0x0A, 5, b'i', b'n', b'p', b'u', b't'];
+        let replay = streams::replay(&mut Random::new(1, 0));
+        vec![
+            crossing("journal_is_well_formed, no bytes", Work::WellFormed(5, &[])),
+            crossing(
+                "journal_is_well_formed, nine bytes",
+                Work::WellFormed(20, &INPUT),
+            ),
+            crossing(
+                "journal_next, an item of `replay`",
+                Work::Items(Workload::new(VERSION, "replay", replay, &[What::Items])),
+            ),
+        ]
+    }
+
+    /// How many calls a round is.
+    fn calls(&self) -> usize {
+        match &self.work {
+            Work::WellFormed(..) => 1,
+            Work::Items(workload) => workload.frames.len(),
+        }
+    }
+
+    /// Makes the calls of so many rounds.
+    fn outside(&self, rounds: usize) -> Result<(), Failed> {
+        for _round in 0..rounds {
+            let calls = match &self.work {
+                Work::WellFormed(schema, payload) => {
+                    ours::is_well_formed(black_box(*schema), black_box(payload))?
+                }
+                Work::Items(workload) => items_by_next(workload)?,
+            };
+            if calls != self.calls() {
+                return Err(Failed(format!(
+                    "{}: {calls} of {}",
+                    self.name,
+                    self.calls()
+                )));
+            }
+        }
+        Ok(())
+    }
+
+    /// The same inside the library.
+    fn inside(&self, rounds: usize) -> Result<(), Failed> {
+        let calls = match &self.work {
+            Work::WellFormed(schema, payload) => {
+                ours::is_well_formed_in_rounds(*schema, payload, rounds)?
+            }
+            Work::Items(workload) => {
+                let mut words = vec![0; workload.frames.len()];
+                ours::items(workload.version, &workload.stream, 0, rounds, &mut words)?
+            }
+        };
+        if calls != self.calls() {
+            return Err(Failed(format!(
+                "{}: {calls} of {}",
+                self.name,
+                self.calls()
+            )));
+        }
+        Ok(())
+    }
+
+    /// That both ask for the same memory for a payload, and that journal_next asks for none.
+    fn check(&self) -> Result<(), Failed> {
+        let requests = |rounds| -> Result<(u64, u64), Failed> {
+            // SAFETY: count.c reads a counter, here and below
+            let start = unsafe { requests_for_memory() };
+            self.outside(rounds)?;
+            let middle = unsafe { requests_for_memory() };
+            self.inside(rounds)?;
+            Ok((middle - start, unsafe { requests_for_memory() } - middle))
+        };
+        let once = requests(1)?;
+        let more = requests(4)?;
+        let (outside, inside) = (more.0 - once.0, more.1 - once.1);
+        let is_right = match self.work {
+            Work::WellFormed(..) => outside == inside,
+            Work::Items(..) => more.0 == 0,
+        };
+        if is_right {
+            Ok(())
+        } else {
+            Err(Failed(format!(
+                "{}: {outside} requests for memory from here, {inside} inside",
+                self.name
+            )))
+        }
+    }
+
+    /// A row of the table.
+    fn row(&self) -> Result<(), Failed> {
+        let rounds = CROSSINGS / self.calls() + 1;
+        let (mut outside, mut inside) = (Duration::MAX, Duration::MAX);
+        for _ in 0..MEASUREMENTS {
+            let start = Instant::now();
+            self.outside(rounds)?;
+            let middle = Instant::now();
+            self.inside(rounds)?;
+            outside = outside.min(middle - start);
+            inside = inside.min(middle.elapsed());
+        }
+        let each = |time: Duration| time.as_secs_f64() * 1e9 / (rounds * self.calls()) as f64;
+        println!(
+            "| {} | {:.1} | {:.1} | {:.1} |",
+            self.name,
+            each(outside),
+            each(inside),
+            each(outside) - each(inside),
+        );
+        Ok(())
+    }
+}
+
+/// How many items a stream has, by a call for each.
+fn items_by_next(workload: &Workload) -> Result<usize, Failed> {
+    let mut rest = workload.stream.as_slice();
+    let mut count = 0;
+    while let Ok(item) = ours::next(workload.version, rest)? {
+        rest = &rest[item.size..];
+        count += 1;
+    }
+    Ok(count)
+}
+
 /// Numbers with so many places, one behind the other.
 fn joined(numbers: &[f64], places: usize) -> String {
     let words = numbers.iter().map(|number| format!("{number:.places$}"));
@@ -599,7 +749,7 @@ impl Options {
 
     /// The other workloads that are asked for. They are made only where one of them is.
     fn workloads(&self) -> Vec<Workload> {
-        if self.row.is_some() || self.only.as_deref() == Some(HOSTILE) {
+        if self.row.is_some() || matches!(self.only.as_deref(), Some(HOSTILE | CALLS)) {
             return Vec::new();
         }
         Workload::all(self.protocol.unwrap_or(VERSION))
@@ -619,6 +769,15 @@ impl Options {
             .filter(|hostile| self.row.as_ref().map_or(true, |row| row == hostile.name))
             .map(|hostile| Growing::new(hostile, self.size.unwrap_or(SIZE)))
             .collect()
+    }
+
+    /// The calls from C that are asked for. They have no peer, and nothing of theirs can be chosen.
+    fn crossings(&self) -> Vec<Crossing> {
+        let is_chosen = self.side.is_some() || self.what.is_some() || self.row.is_some();
+        if is_chosen || !self.takes(CALLS) {
+            return Vec::new();
+        }
+        Crossing::all()
     }
 }
 
@@ -640,7 +799,8 @@ fn what(word: &str) -> Option<What> {
 fn measure(options: &Options) -> Result<(), Failed> {
     let workloads = options.workloads();
     let hostile = options.hostile();
-    if workloads.is_empty() && hostile.is_empty() {
+    let crossings = options.crossings();
+    if workloads.is_empty() && hostile.is_empty() && crossings.is_empty() {
         return Err(Failed("no workload or row has that name".into()));
     }
     if let Some(side) = options.side {
@@ -660,12 +820,14 @@ fn measure(options: &Options) -> Result<(), Failed> {
         }
     }
     hostile.iter().try_for_each(Growing::check)?;
+    crossings.iter().try_for_each(Crossing::check)?;
     if options.check {
         println!("rounds are made and pieces used");
         return Ok(());
     }
     measure_workloads(options, &workloads)?;
-    measure_hostile(&hostile)
+    measure_hostile(&hostile)?;
+    measure_calls(&crossings)
 }
 
 fn measure_workloads(options: &Options, workloads: &[Workload]) -> Result<(), Failed> {
@@ -700,6 +862,16 @@ fn measure_hostile(hostile: &[Growing]) -> Result<(), Failed> {
     println!("| hostile | ns an element, ours | peer | time, ours / peer | ours grows | peer grows | requests an element, ours | peer |");
     println!("|---|---|---|---|---|---|---|---|");
     hostile.iter().try_for_each(Growing::row)
+}
+
+fn measure_calls(crossings: &[Crossing]) -> Result<(), Failed> {
+    if crossings.is_empty() {
+        return Ok(());
+    }
+    println!();
+    println!("| call | ns from C | ns inside | ns more |");
+    println!("|---|---|---|---|");
+    crossings.iter().try_for_each(Crossing::row)
 }
 
 fn main() -> ExitCode {

@@ -1,11 +1,13 @@
 -- What the calls answer to C.
-use Rattle.std.specs.Prelude.{◌≡◌, ℕ, ℤ, pos, negsuc, ◌^◌, ◌<◌, nat_lt, List, take, length, Option, Some, None, Result, Ok, Err, ◌==◌, if◌then◌else◌}
+use Rattle.std.specs.Prelude.{◌≡◌, ℕ, ℤ, pos, negsuc, ◌^◌, nat_lt, nat_le, List, ◌++◌, drop, length, Option, Some, None, Result, Ok, Err, ◌==◌, if◌then◌else◌}
 use Rattle.shared_core_base.specs.declared.version.Version.{Version}
 use Rattle.shared_core_base.specs.declared.version.Version.TheVariants.{V5, V6, V7, V8, V9}
 use Rattle.shared_core_record.specs.declared.error.EncodingError.{EncodingError}
 use Rattle.shared_core_record.specs.declared.error.EncodingError.TheVariants.{PayloadTooLong, OutOfMemory}
+use Rattle.journal_json.specs.declared.error.JsonError.{JsonError}
+use Rattle.journal_json.specs.declared.error.JsonError.TheVariants as json
 use Rattle.journal_calls.specs.declared.answer.Refusal.{Refusal}
-use Rattle.journal_calls.specs.declared.answer.Refusal.TheVariants.{Malformed, OutOfMemory as NoMemory, NoRoom, TooLong, Unknown}
+use Rattle.journal_calls.specs.declared.answer.Refusal.TheVariants.{Malformed, OutOfMemory as NoMemory, NoRoom, TooLong, Unknown, NoId, NoResult}
 
 -- The number that stands for a refusal.
 abbrev pub refusal_number : Refusal → ℤ
@@ -14,6 +16,8 @@ refusal_number NoMemory = negsuc 1
 refusal_number NoRoom = negsuc 2
 refusal_number TooLong = negsuc 3
 refusal_number Unknown = negsuc 4
+refusal_number NoId = negsuc 5
+refusal_number NoResult = negsuc 6
 
 -- The number that stands for an answer: a count as it is, where it is below 2 ^ 63, or the refusal's number.
 abbrev pub answer_number : Result ℕ Refusal → ℤ
@@ -28,6 +32,12 @@ Answers number holds = (answer : Result ℕ Refusal) × (number ≡ answer_numbe
 abbrev pub encoding_refusal : EncodingError → Refusal
 encoding_refusal PayloadTooLong = TooLong
 encoding_refusal OutOfMemory = NoMemory
+
+-- The refusal that a payload without JSON is.
+abbrev pub json_refusal : JsonError → Refusal
+json_refusal json.Malformed = Malformed
+json_refusal json.TooLong = TooLong
+json_refusal json.OutOfMemory = NoMemory
 
 -- The version that a number stands for: one of those that are spoken.
 abbrev pub spoken_version : ℕ → Option Version
@@ -44,17 +54,16 @@ abbrev pub IsSpoken : ℕ → Result Version Refusal → Type 0
 IsSpoken number (Ok version) = spoken_version number ≡ Some version
 IsSpoken number (Err refusal) = (refusal ≡ Unknown) × (spoken_version number ≡ None)
 
--- The bytes are written at the front of the slice, and the count is theirs.
-abbrev pub AreWritten : List ℕ → ℕ → List ℕ → Type 0
-AreWritten bytes count out = (count ≡ length bytes) × (take count out ≡ bytes)
+-- What stands in a slice whose front is to be these: they, and behind them what stood there; all that stood there where it is too short.
+abbrev pub written_over : {A : Type 0} → List A → List A → List A
+written_over bytes old = if nat_le (length bytes) (length old) then bytes ++ drop (length bytes) old else old
 
--- The bytes are written, or the slice is too short for them.
-abbrev pub WritesBytes : List ℕ → List ℕ → Result ℕ Refusal → Type 0
-WritesBytes bytes out (Ok count) = AreWritten bytes count out
-WritesBytes bytes out (Err NoRoom) = length out < length bytes
-WritesBytes bytes out (Err refusal) = ⊥
+-- The bytes of an answer of which this holds are written over the slice, and the count is theirs; a refusal leaves the slice as it was.
+abbrev pub Writes : (Result (List ℕ) Refusal → Type 0) → List ℕ → List ℕ → Result ℕ Refusal → Type 0
+Writes holds old new (Ok count) = (bytes : List ℕ) × holds (Ok bytes) × (count ≡ length bytes) × (new ≡ written_over bytes old)
+Writes holds old new (Err refusal) = holds (Err refusal) × (new ≡ old)
 
 -- What holds at the version that a number stands for; where it stands for none the answer is Unknown.
-abbrev pub AtVersion : Option Version → Result ℕ Refusal → (Version → Type 0) → Type 0
+abbrev pub AtVersion : {T : Type 0} → Option Version → Result T Refusal → (Version → Type 0) → Type 0
 AtVersion (Some version) answer holds = holds version
 AtVersion None answer holds = answer ≡ Err Unknown

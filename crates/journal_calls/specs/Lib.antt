@@ -1,6 +1,8 @@
 pub mod Answers
-pub mod Pieces
-pub mod Rounds
-pub mod Streams
+pub mod Commands
+pub mod Headers
+pub mod Items
+pub mod Journals
+pub mod Names
+pub mod Notifications
 pub mod Payloads
-pub mod Comparisons

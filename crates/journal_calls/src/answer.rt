@@ -1,8 +1,10 @@
 //! What the calls answer.
 
 ghost use Rattle.std.specs.Prelude.{◌≡◌, MatchOption};
-ghost use Rattle.journal_calls.specs.Answers.{answer_number, spoken_version, IsSpoken, WritesBytes};
+ghost use Rattle.journal_calls.specs.Answers.{answer_number, spoken_version, written_over, IsSpoken, Writes};
 
+use bytes::Bytes;
+use journal_json::JsonError;
 use shared_core::messages::EncodingError;
 use shared_core::version::Version;
 use std::alloc::AllocError;
@@ -14,12 +16,16 @@ pub enum Refusal {
     Malformed,
     /// A request for memory was refused.
     OutOfMemory,
-    /// The slice for the answer is too short.
+    /// The slice for numbers is too short.
     NoRoom,
     /// A payload would have more than 4,294,967,295 bytes.
     TooLong,
     /// The number stands for no version that is spoken, for no schema, or for no named type.
     Unknown,
+    /// A notification has no id.
+    NoId,
+    /// A notification has an id, and no result.
+    NoResult,
 }
 
 impl From<AllocError> for Refusal {
@@ -47,6 +53,21 @@ impl From<EncodingError> for Refusal {
     }
 }
 
+impl From<JsonError> for Refusal {
+    ghost use Rattle.std.specs.Prelude.{◌≡◌};
+    ghost use Rattle.journal_calls.specs.Answers.{json_refusal};
+
+    ghost from_gives = { λ error refusal. refusal ≡ json_refusal error };
+
+    fn from(error: JsonError) -> Refusal {
+        match error {
+            JsonError::Malformed => Refusal::Malformed,
+            JsonError::TooLong => Refusal::TooLong,
+            JsonError::OutOfMemory => Refusal::OutOfMemory,
+        }
+    }
+}
+
 /// A count as it is, and a refusal as its number. A count of 2^63 or more, which no slice holds, is `TooLong`.
 pub fn answer_of(answer: Result<usize, Refusal>) -> i64
     ensures { result ≡ answer_number answer }
@@ -64,6 +85,8 @@ pub fn answer_of(answer: Result<usize, Refusal>) -> i64
         Refusal::NoRoom => -3,
         Refusal::TooLong => -4,
         Refusal::Unknown => -5,
+        Refusal::NoId => -6,
+        Refusal::NoResult => -7,
     }
 }
 
@@ -81,13 +104,20 @@ pub fn version_of(number: u32) -> Result<Version, Refusal>
     }
 }
 
-/// Writes bytes at the front of a slice, and answers how many they are.
-pub fn write_bytes(bytes: &[u8], out: &mut [u8]) -> Result<usize, Refusal>
-    ensures { WritesBytes bytes.now out.new result }
+/// Writes elements at the front of a slice that has room for all of them, and else nothing.
+pub fn write_over<T: Copy>(elements: &[T], out: &mut [T])
+    ensures { out.new ≡ written_over elements.now out.old }
 {
-    if out.len() < bytes.len() {
-        return Err(Refusal::NoRoom);
+    if elements.len() <= out.len() {
+        out[..elements.len()].copy_from_slice(elements);
     }
-    out[..bytes.len()].copy_from_slice(bytes);
+}
+
+/// Writes the bytes of an answer at the front of a slice that has room for all of them, and answers how many they are, also where it has not.
+pub fn write_answer(answer: Result<Bytes, Refusal>, out: &mut [u8]) -> Result<usize, Refusal>
+    ensures { Writes (λ written. written ≡ answer) out.old out.new result }
+{
+    let bytes = answer?;
+    write_over(&bytes, out);
     Ok(bytes.len())
 }

@@ -1,135 +1,154 @@
-//! Commands compared with their second decodings.
+//! Commands compared, by their payloads.
 
-ghost use Rattle.std.specs.Prelude.{◌≡◌, ◌≤◌, Some};
-ghost use Rattle.shared_core_base.specs.Version.{version_number};
-ghost use Rattle.shared_core.specs.Visiting.{command_schema};
-ghost use Rattle.journal_calls.specs.Comparisons.{AreSame, AnswersComparisons, ComparesAll, ComparesItem, ComparesPayload, HoldsInRounds};
+ghost use Rattle.std.specs.Prelude.{Some, codes};
+ghost use Rattle.shared_core_compare.specs.Differences.{difference};
+ghost use Rattle.journal_calls.specs.Answers.{Writes};
+ghost use Rattle.journal_calls.specs.Commands.{AnswersDifference, AnswersSameness, ComparesPayloads, IsDifference, IsOneWhereSame, MeansRecord};
 
-use crate::answer::{Refusal, version_of};
-use crate::messages::decoded;
-use crate::pieced_stream::PiecedStream;
+use crate::answer::{Refusal, write_answer};
 use bytes::Bytes;
-use shared_core::encoding::{Item, RawMessage};
+use shared_core::fmt::DiffFormatter;
+use shared_core::header::MessageType;
 use shared_core::messages::{
-    CommandMessage, CommandMessageHeaderEq, CommandVisitor, visit_command,
+    CommandMessage, CommandMessageHeaderDiff, CommandVisitor, visit_command,
 };
-use shared_core::version::Version;
+use shared_core::wire::{WireError, WireRecord};
 use std::alloc::Global;
+use std::fmt;
 
-/// How many comparisons hold where each command of a stream is decoded twice, and the two are compared so many times.
-pub fn compare(
+/// 1 where the commands that two payloads of a code mean are the same for a replay, and else 0; where payloads are ignored, the content of
+/// user data is not compared.
+///
+/// `Malformed` where one of the two is not well-formed for the type, `Unknown` where the code is that of no command.
+pub fn header_eq(
     alloc: Global,
-    version: u32,
-    stream: &[u8],
+    code: u16,
+    first: &[u8],
+    second: &[u8],
     ignore_payloads: bool,
-    rounds: usize,
 ) -> Result<usize, Refusal>
-    ensures { AnswersComparisons version stream.now rounds result }
+    ensures { AnswersSameness code ignore_payloads first.now second.now result }
 {
-    let version = version_of(version)?;
-    let stream = Bytes::copy_from_slice(alloc, stream)?;
-    compare_all(alloc, version, stream, ignore_payloads, rounds)
-}
-
-/// Compares each command of a stream.
-fn compare_all(
-    alloc: Global,
-    version: Version,
-    whole: Bytes,
-    ignore_payloads: bool,
-    rounds: usize,
-) -> Result<usize, Refusal>
-    requires { 5 ≤ version_number version }
-    ensures { ComparesAll rounds version whole result }
-{
-    let mut stream = PiecedStream::new(alloc, version, whole, 0);
-    let mut count: usize = 0;
-    while let Some(item) = stream.next_item()? {
-        let held = compare_item(alloc, item, ignore_payloads, rounds)?;
-        let Some(sum) = count.checked_add(held) else {
-            return Err(Refusal::TooLong);
-        };
-        count = sum;
-    }
-    Ok(count)
-}
-
-/// Compares an item that is a command.
-fn compare_item(
-    alloc: Global,
-    item: Item,
-    ignore_payloads: bool,
-    rounds: usize,
-) -> Result<usize, Refusal>
-    ensures { ComparesItem rounds item result }
-{
-    match item {
-        Item::Message(message) => compare_message(alloc, &message, ignore_payloads, rounds),
-        Item::Unknown(_) | Item::Skipped(_, _) => Ok(0),
-    }
-}
-
-/// Compares a message that is a command, by the record of its type.
-fn compare_message(
-    alloc: Global,
-    message: &RawMessage,
-    ignore_payloads: bool,
-    rounds: usize,
-) -> Result<usize, Refusal>
-    ensures { ComparesPayload rounds (command_schema message.now.header.ty) message.now.payload result }
-{
+    let Ok(ty) = MessageType::try_from(code) else {
+        return Err(Refusal::Unknown);
+    };
     let comparing = Comparing {
         alloc,
-        message,
+        first,
+        second,
         ignore_payloads,
-        rounds,
     };
-    match visit_command(message.ty(), comparing) {
+    match visit_command(ty, comparing) {
         Some(answer) => answer,
-        None => Ok(0),
+        None => Err(Refusal::Unknown),
     }
 }
 
-/// Decodes a command twice, and answers how many of so many comparisons of the two hold.
+/// Writes a line for each printed field in which the commands that two payloads of a code mean differ: a line feed, three spaces and
+/// `name: first != second`.
+///
+/// `Malformed` where one of the two is not well-formed for the type, `Unknown` where the code is that of no command.
+#[tactic(auto, using(crate::proofs::Writing::writes_answer))]
+pub fn write_difference(
+    alloc: Global,
+    code: u16,
+    first: &[u8],
+    second: &[u8],
+    out: &mut [u8],
+) -> Result<usize, Refusal>
+    ensures { Writes (AnswersDifference code first.now second.now) out.old out.new result }
+{
+    write_answer(difference(alloc, code, first, second), out)
+}
+
+/// The lines of the printed fields in which the commands that two payloads of a code mean differ.
+fn difference(alloc: Global, code: u16, first: &[u8], second: &[u8]) -> Result<Bytes, Refusal>
+    ensures { AnswersDifference code first.now second.now result }
+{
+    let Ok(ty) = MessageType::try_from(code) else {
+        return Err(Refusal::Unknown);
+    };
+    let printing = Printing {
+        alloc,
+        first,
+        second,
+    };
+    match visit_command(ty, printing) {
+        Some(answer) => answer,
+        None => Err(Refusal::Unknown),
+    }
+}
+
+/// Decodes two payloads, and answers 1 where the commands are the same, and else 0.
 #[derive(Drop)]
 struct Comparing<'a> {
     alloc: Global,
-    message: &'a RawMessage,
+    first: &'a [u8],
+    second: &'a [u8],
     ignore_payloads: bool,
-    rounds: usize,
 }
 
 impl<'a> CommandVisitor for Comparing<'a> {
     type Output = Result<usize, Refusal>;
 
-    ghost may_visit = { λ self ty. self.message.now.header.ty ≡ ty };
-
-    ghost answers = { λ self ty schema answer. ComparesPayload self.rounds (Some schema) self.message.now.payload answer };
+    ghost answers = { λ self ty schema answer. ComparesPayloads (IsOneWhereSame schema self.ignore_payloads) schema self.first.now self.second.now answer };
 
     fn visit<M: CommandMessage>(self) -> Result<usize, Refusal> {
-        let first = decoded::<M>(self.alloc, self.message)?;
-        let second = decoded::<M>(self.alloc, self.message)?;
-        Ok(count_same(&first, &second, self.ignore_payloads, self.rounds))
+        let first = decoded::<M>(self.alloc, self.first)?;
+        let second = decoded::<M>(self.alloc, self.second)?;
+        Ok(usize::from(first.header_eq(&second, self.ignore_payloads)))
     }
 }
 
-/// How many of so many comparisons of two commands hold.
-fn count_same<M: CommandMessageHeaderEq>(
-    first: &M,
-    second: &M,
-    ignore_payloads: bool,
-    rounds: usize,
-) -> usize
-    ensures { HoldsInRounds (AreSame M.schema ignore_payloads (M.parts first.now) (M.parts second.now)) rounds result }
-{
-    // they take turns, so that no round can be left out for being the one before it
-    let (mut asked, mut other) = (first, second);
-    let mut count = 0;
-    for _round in 0..rounds {
-        if asked.header_eq(other, ignore_payloads) {
-            count += 1;
-        }
-        (asked, other) = (other, asked);
+/// Decodes two payloads, and answers the lines of the printed fields in which the commands differ.
+#[derive(Drop)]
+struct Printing<'a> {
+    alloc: Global,
+    first: &'a [u8],
+    second: &'a [u8],
+}
+
+impl<'a> CommandVisitor for Printing<'a> {
+    type Output = Result<Bytes, Refusal>;
+
+    ghost answers = { λ self ty schema answer. ComparesPayloads (IsDifference schema) schema self.first.now self.second.now answer };
+
+    fn visit<M: CommandMessage>(self) -> Result<Bytes, Refusal> {
+        let actual = decoded::<M>(self.alloc, self.first)?;
+        let expected = decoded::<M>(self.alloc, self.second)?;
+        let lines = Lines {
+            actual: &actual,
+            expected: &expected,
+        };
+        let text = lines.to_string(self.alloc)?;
+        Ok(Bytes::from_string(text)?)
     }
-    count
+}
+
+/// The command that a payload means, as the record of its type.
+fn decoded<M: WireRecord>(alloc: Global, payload: &[u8]) -> Result<M, Refusal>
+    ensures { MeansRecord M.schema M.parts payload.now result }
+{
+    let payload = Bytes::copy_from_slice(alloc, payload)?;
+    match M::decode(alloc, payload) {
+        Ok(command) => Ok(command),
+        Err(WireError::Malformed) => Err(Refusal::Malformed),
+        Err(WireError::OutOfMemory) => Err(Refusal::OutOfMemory),
+    }
+}
+
+/// The difference of two commands as an error prints it: each line behind a line feed and three spaces.
+#[derive(Clone, Copy)]
+struct Lines<'a, M> {
+    actual: &'a M,
+    expected: &'a M,
+}
+
+impl<'a, M: CommandMessageHeaderDiff> fmt::Display for Lines<'a, M> {
+    ghost output = { λ commands. Some (difference M.schema (codes "   ") (M.parts commands.actual.now) (M.parts commands.expected.now)) };
+
+    fn fmt<W: fmt::Write>(&self, f: &mut fmt::Formatter<W>) -> fmt::Result {
+        self.actual
+            .write_diff(self.expected, DiffFormatter::new(f, "   "))
+    }
 }

@@ -1,12 +1,10 @@
 //! Frames of messages.
 
-ghost use Rattle.std.specs.Prelude.{◌≡◌, ◌≤◌};
-ghost use Rattle.shared_core_base.specs.Version.{version_number};
-ghost use Rattle.shared_core_parts.specs.Messages.{message_schema};
-ghost use Rattle.journal_calls.specs.Payloads.{AnswersFrame, AnswersFrameOf, SpellsForm, SpellsFrame};
+ghost use Rattle.shared_core_message.specs.Messages.{message_schema};
+ghost use Rattle.journal_calls.specs.Answers.{Writes};
+ghost use Rattle.journal_calls.specs.Payloads.{AnswersFrame, AnswersFrameOf, SpellsFrame};
 
-use crate::answer::{Refusal, version_of, write_bytes};
-use crate::rounds::repeated;
+use crate::answer::{Refusal, version_of, write_answer};
 use bytes::Bytes;
 use shared_core::encoding::Encoder;
 use shared_core::header::MessageType;
@@ -15,61 +13,47 @@ use shared_core::wire::WireError;
 use std::alloc::Global;
 use std::fmt::Debug;
 
-/// How often a message is encoded, and where.
-#[derive(Clone, Copy, Debug, PartialEq, Eq)]
-pub struct Rounds {
-    /// How many times over. 0 counts as 1.
-    pub count: usize,
-    /// The buffer of a round.
-    pub buffer: Buffer,
-}
-
-/// The buffer that a round encodes a message into.
-#[derive(Clone, Copy, Debug, PartialEq, Eq)]
-pub enum Buffer {
-    /// One of its own.
-    New,
-    /// That of the round before, cleared.
-    Reused,
-}
-
-/// The frame, at a version, of the message of a named type that a payload spells.
-pub fn frame(
+/// Writes the frame, at a version, of the message of a named type that a payload spells.
+#[tactic(auto, using(crate::proofs::Writing::writes_answer))]
+pub fn write_frame(
     alloc: Global,
     version: u32,
     code: u16,
     payload: &[u8],
-    rounds: Rounds,
     out: &mut [u8],
 ) -> Result<usize, Refusal>
-    ensures { AnswersFrame version code payload.now out.new result }
+    ensures { Writes (AnswersFrame version code payload.now) out.old out.new result }
+{
+    write_answer(frame(alloc, version, code, payload), out)
+}
+
+/// The frame, at a version, of the message of a named type that a payload spells.
+fn frame(alloc: Global, version: u32, code: u16, payload: &[u8]) -> Result<Bytes, Refusal>
+    ensures { AnswersFrame version code payload.now result }
 {
     let encoder = Encoder::new(version_of(version)?);
     let Ok(ty) = MessageType::try_from(code) else {
         return Err(Refusal::Unknown);
     };
-    write_frame(alloc, encoder, ty, payload, rounds, out)
+    frame_of(alloc, encoder, ty, payload)
 }
 
 /// The frame of the message of a type that a payload spells.
-fn write_frame(
+fn frame_of(
     alloc: Global,
     encoder: Encoder,
     ty: MessageType,
     payload: &[u8],
-    rounds: Rounds,
-    out: &mut [u8],
-) -> Result<usize, Refusal>
-    ensures { AnswersFrameOf ty (message_schema ty) encoder.version payload.now out.new result }
+) -> Result<Bytes, Refusal>
+    ensures { AnswersFrameOf ty (message_schema ty) encoder.version payload.now result }
 {
     let framing = Framing {
         alloc,
         encoder,
         payload,
-        rounds,
     };
     match visit_message(ty, framing) {
-        Some(frame) => write_bytes(&frame?, out),
+        Some(answer) => answer,
         None => Err(Refusal::Unknown),
     }
 }
@@ -80,7 +64,6 @@ struct Framing<'a> {
     alloc: Global,
     encoder: Encoder,
     payload: &'a [u8],
-    rounds: Rounds,
 }
 
 impl<'a> MessageVisitor for Framing<'a> {
@@ -95,47 +78,6 @@ impl<'a> MessageVisitor for Framing<'a> {
             Err(WireError::Malformed) => return Err(Refusal::Malformed),
             Err(WireError::OutOfMemory) => return Err(Refusal::OutOfMemory),
         };
-        match self.rounds.buffer {
-            Buffer::New => encode_new(self.alloc, self.encoder, &message, self.rounds.count),
-            Buffer::Reused => encode_reused(self.alloc, self.encoder, &message, self.rounds.count),
-        }
+        Ok(self.encoder.encode(self.alloc, &message)?)
     }
-}
-
-/// The frame of a message, for which each round has a buffer of its own.
-fn encode_new<M: RestateEncodableMessage>(
-    alloc: Global,
-    encoder: Encoder,
-    message: &M,
-    rounds: usize,
-) -> Result<Bytes, Refusal>
-    ensures { SpellsForm M.message_type (M.wire_form message.now encoder.version) result }
-{
-    repeated(
-        rounds,
-        &mut [],
-        |_words| Ok(encoder.encode(alloc, message)?),
-    )
-}
-
-/// The same, but all rounds have one buffer, which is cleared before each.
-fn encode_reused<M: RestateEncodableMessage>(
-    alloc: Global,
-    encoder: Encoder,
-    message: &M,
-    rounds: usize,
-) -> Result<Bytes, Refusal>
-    ensures { SpellsForm M.message_type (M.wire_form message.now encoder.version) result }
-{
-    let mut frame = Vec::new(alloc);
-    for _round in 1..rounds {
-        frame.clear();
-        encoder.encode_into(message, &mut frame)?;
-    }
-    frame.clear();
-    encoder.encode_into(message, &mut frame)?;
-    let Ok(frame) = Bytes::from_vec(frame) else {
-        return Err(Refusal::OutOfMemory);
-    };
-    Ok(frame)
 }

@@ -2,10 +2,11 @@
 #![tactic(auto)]
 
 pub mod answer;
-pub mod canonical;
 pub mod commands;
 pub mod frames;
-mod messages;
-mod pieced_stream;
-mod rounds;
-pub mod streams;
+pub mod headers;
+pub mod items;
+pub mod journals;
+pub mod names;
+pub mod notifications;
+pub mod payloads;

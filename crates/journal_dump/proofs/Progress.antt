@@ -14,7 +14,7 @@ use Rattle.journal_dump.specs.declared.dump.DumpError.{DumpError}
 use Rattle.journal_dump.specs.declared.dump.DumpError.TheVariants.{Input, Output, OutOfMemory, TooLong}
 use Rattle.journal_dump.specs.declared.options.Options.{Options}
 use Rattle.journal_dump.specs.Lines.{line_of, item_size, items_size, rest_line, lines}
-use Rattle.journal_dump.specs.Dump.{Begins, IsDumped, IsLack, IsRead, IsWritten}
+use Rattle.journal_dump.specs.Dump.{Begins, IsDumped, IsLack, IsLong, IsLongIn, IsRead, IsWritten}
 
 pub lines_join : (options : Options) (at : ℕ) (items others : List Item) → lines options at items ++ lines options (at + items_size items) others ≡ lines options at (items ++ others)
 lines_join options at [] others = ap (λ (n : ℕ). lines options n others) (omega arith)
@@ -60,6 +60,13 @@ consumes_none : (first left now : Option (List ℕ)) (read piece : List ℕ) →
 consumes_none first left now read [] came taken none = subst (Consumes first now) (append-nil read) (Consumes-trans first left now read [] came taken)
 consumes_none first left now read (x ∷ piece) came taken none = absurd (omega (arith, none))
 
+-- what is too long is one of the items
+pub lack_in : (version : Version) (bytes rest : List ℕ) (front : List Item) (item : Item) (error : DumpError) → IsItemsThen version bytes (front ++ item ∷ []) rest → IsLack (IsLong version item) error → IsLack (IsLongIn version bytes) error
+lack_in version bytes rest front item Input is lack = absurd lack
+lack_in version bytes rest front item Output is lack = absurd lack
+lack_in version bytes rest front item OutOfMemory is lack = tt
+lack_in version bytes rest front item TooLong is lack = (front, item, rest, is, lack)
+
 -- A dump that goes on: the items of what was read have their lines, and these bytes are pending, which no item begins.
 pub record GoesOn (options : Options) (first start left out : Option (List ℕ)) (total : ℕ) (pending : List ℕ) : Type 0 where
   pub read : List ℕ
@@ -83,15 +90,17 @@ module _ (options : Options) (first start : Option (List ℕ)) where
       let longer = begins_longer written (lines options 0 items) (lines options (0 + items_size items) others) begun in
       record { items = all; rest = behind; split = split; stands = inl (subst (Begins written) (lines_join options 0 items others ∙ ap (lines options 0) (sym is)) longer) }
 
-  dumped_lack : (error : DumpError) (stream rest : List ℕ) (items : List Item) (left : Option (List ℕ)) → IsLack error → IsItemsThen options.version stream items rest → IsDumped options (Err error) stream (lines options 0 items) left
+  dumped_lack : (error : DumpError) (stream rest : List ℕ) (items : List Item) (left : Option (List ℕ)) → IsLack (IsLongIn options.version rest) error → IsItemsThen options.version stream items rest → IsDumped options (Err error) stream (lines options 0 items) left
   dumped_lack Input stream rest items left lack front = absurd lack
   dumped_lack Output stream rest items left lack front = absurd lack
   dumped_lack OutOfMemory stream rest items left lack front =
       let (all, behind, split) = split_of options.version stream in
       record { items = all; rest = behind; split = split; stands = (items, split_begins options.version stream behind all split items rest front, refl) }
-  dumped_lack TooLong stream rest items left lack front =
+  dumped_lack TooLong stream rest items left (more, item, others, then_item, long) front =
       let (all, behind, split) = split_of options.version stream in
-      record { items = all; rest = behind; split = split; stands = (items, split_begins options.version stream behind all split items rest front, refl) }
+      let until = items ++ (more ++ item ∷ []) in
+      let then_long_one = then_join options.version stream rest others items (more ++ item ∷ []) front then_item in
+      record { items = all; rest = behind; split = split; stands = (items, more, item, split_begins options.version stream behind all split until others then_long_one, long, refl) }
 
   pub starts : GoesOn options first start first start 0 []
   starts = record {
@@ -134,7 +143,7 @@ module _ (options : Options) (first start : Option (List ℕ)) where
       then_piece = then_more options.version so_far.read pending piece so_far.items so_far.split.items_then
 
       -- what is to be done with a piece cannot be done
-      pub ended_lack : (error : DumpError) → IsLack error → HasEnded options first start now out (Err error)
+      pub ended_lack : (error : DumpError) → IsLack (IsLongIn options.version (pending ++ piece)) error → HasEnded options first start now out (Err error)
       ended_lack error lack = (so_far.read ++ piece, lines options 0 so_far.items, with_piece, so_far.wrote, dumped_lack error (so_far.read ++ piece) (pending ++ piece) so_far.items now lack then_piece)
 
       module _ (rest : List ℕ) (more : List Item) (split : SplitsInto options.version (pending ++ piece) more rest) where

@@ -2,13 +2,18 @@
 use Rattle.std.specs.Prelude.{◌≡◌, ℕ, List, Option, Some, None, Result, Ok, Err}
 use Rattle.shared_core_record.specs.Payloads.{IsAccepted, payload_meaning}
 use Rattle.journal_json.specs.declared.error.JsonError.{JsonError}
-use Rattle.journal_json.specs.declared.error.JsonError.TheVariants.{Malformed}
-use Rattle.journal_json.specs.Payloads.{IsSpelling}
+use Rattle.journal_json.specs.declared.error.JsonError.TheVariants.{Malformed, TooLong, OutOfMemory}
+use Rattle.journal_json.specs.Payloads.{IsSpelling, IsTooLong}
+
+-- There is a schema, the payload is well-formed for it, and the canonical payload of what it means is too long to be written.
+abbrev pub IsLongFor : Option ℕ → List ℕ → Type 0
+IsLongFor schema payload = (s : ℕ) × (schema ≡ Some s) × IsTooLong s payload
 
 -- Where there is a schema, its number, and the canonical payload of what the payload means stands there; Malformed only where the payload is not
--- well-formed for the schema; None only where there is no schema.
+-- well-formed for the schema; TooLong only where that canonical payload is too long; None only where there is no schema.
 abbrev pub AnswersCanonical : Option ℕ → List ℕ → List ℕ → Result (Option ℕ) JsonError → Type 0
 AnswersCanonical schema payload canonical (Ok None) = schema ≡ None
 AnswersCanonical schema payload canonical (Ok (Some s)) = (schema ≡ Some s) × IsAccepted s payload × IsSpelling s (payload_meaning s payload) canonical
 AnswersCanonical schema payload canonical (Err Malformed) = (s : ℕ) × (schema ≡ Some s) × ¬ (IsAccepted s payload)
-AnswersCanonical schema payload canonical (Err error) = Unit {0}
+AnswersCanonical schema payload canonical (Err TooLong) = IsLongFor schema payload
+AnswersCanonical schema payload canonical (Err OutOfMemory) = Unit {0}

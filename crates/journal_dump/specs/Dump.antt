@@ -1,11 +1,15 @@
 -- What stands written when a dump ends.
-use Rattle.std.specs.Prelude.{◌≡◌, ◌⊎◌, ℕ, List, ◌++◌, length, Result, Ok, Err, Option}
+use Rattle.std.specs.Prelude.{◌≡◌, ◌⊎◌, ℕ, List, [], ◌∷◌, ◌++◌, length, Result, Ok, Err, Option}
 use Rattle.std.specs.Io.KnownBytes.{Consumes, Keeps, IsAtEnd}
+use Rattle.shared_core_base.specs.declared.version.Version.{Version}
 use Rattle.shared_core.specs.declared.encoding.item.Item.{Item}
-use Rattle.shared_core.specs.Items.{SplitsInto}
+use Rattle.shared_core.specs.declared.encoding.item.Item.TheVariants.{Message}
+use Rattle.shared_core.specs.Items.{IsItemsThen, SplitsInto}
 use Rattle.journal_dump.specs.declared.dump.DumpError.{DumpError}
 use Rattle.journal_dump.specs.declared.dump.DumpError.TheVariants.{Input, Output, OutOfMemory, TooLong}
 use Rattle.journal_dump.specs.declared.options.Options.{Options}
+use Rattle.journal_dump.specs.Canonical.{IsLongFor}
+use Rattle.shared_core.specs.Visiting.{schema_at}
 use Rattle.journal_dump.specs.Lines.{lines, dump_of}
 
 -- The most bytes that are pending where no item is whole: a header, and all but one byte of its payload.
@@ -16,20 +20,31 @@ most_pending = 4294967302
 abbrev pub Begins : {A : Type 0} → List A → List A → Type 0
 Begins front whole = (more : List _) × (whole ≡ front ++ more)
 
--- The error is that a line cannot be made.
-abbrev pub IsLack : DumpError → Type 0
-IsLack OutOfMemory = Unit {0}
-IsLack TooLong = Unit {0}
-IsLack error = ⊥
+-- The item is a message, and the canonical payload of what its payload means is too long to be written.
+abbrev pub IsLong : Version → Item → Type 0
+IsLong version (Message message) = IsLongFor (schema_at version message.header.ty) message.payload
+IsLong version item = ⊥
+
+-- One of the items that the bytes begin with is.
+abbrev pub IsLongIn : Version → List ℕ → Type 0
+IsLongIn version bytes = (front : List Item) × (item : Item) × (rest : List ℕ) × IsItemsThen version bytes (front ++ item ∷ []) rest × IsLong version item
+
+-- The error is that a line cannot be made: for want of memory, or where this is too long.
+abbrev pub IsLack : Type 0 → DumpError → Type 0
+IsLack is_long OutOfMemory = Unit {0}
+IsLack is_long TooLong = is_long
+IsLack is_long error = ⊥
 
 -- What stands written, by the answer, of a stream of these items and this rest, and what the reader has left: the whole dump, at the
--- input's end; the lines of all items; a beginning of these lines or, at the input's end, of the dump; or the lines of the first items.
+-- input's end; the lines of all items; a beginning of these lines or, at the input's end, of the dump; the lines of the first items; or
+-- those of items before one that is too long.
 abbrev pub StandsWritten : Options → Result (Unit {0}) DumpError → List Item → List ℕ → List ℕ → Option (List ℕ) → Type 0
 StandsWritten options (Ok _) items rest written left = IsAtEnd left × (written ≡ dump_of options items rest)
 StandsWritten options (Err Input) items rest written left = written ≡ lines options 0 items
 StandsWritten options (Err Output) items rest written left = Begins written (lines options 0 items) ⊎ (IsAtEnd left × Begins written (dump_of options items rest))
 StandsWritten options (Err OutOfMemory) items rest written left = (done : List Item) × Begins done items × (written ≡ lines options 0 done)
-StandsWritten options (Err TooLong) items rest written left = (done : List Item) × Begins done items × (written ≡ lines options 0 done)
+StandsWritten options (Err TooLong) items rest written left =
+    (done : List Item) × (front : List Item) × (item : Item) × Begins (done ++ (front ++ item ∷ [])) items × IsLong options.version item × (written ≡ lines options 0 done)
 
 -- The bytes that were read split into these items and this rest, as every stream does in one way, and what was written is what the
 -- answer says.

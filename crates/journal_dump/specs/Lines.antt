@@ -1,5 +1,5 @@
 -- The lines of a dump: one JSON object for each item of a stream that is asked for, and last one for the rest.
-use Rattle.std.specs.Prelude.{ℕ, ◌+◌, Bool, true, ◌||◌, List, [], ◌∷◌, ◌++◌, length, codes, decimal, nat_eq, nat_lt, ◌==◌, if◌then◌else◌, Option, Some, None}
+use Rattle.std.specs.Prelude.{ℕ, ◌+◌, Bool, true, ◌||◌, List, [], ◌∷◌, ◌++◌, length, codes, decimal, nat_eq, ◌==◌, if◌then◌else◌, Option, Some, None}
 use Rattle.std.specs.List.{list_any}
 use Rattle.base64.specs.GeneralPurpose.{encode_of}
 use Rattle.base64.specs.Engines.{standard}
@@ -7,24 +7,15 @@ use Rattle.json.specs.Token.{Token}
 use Rattle.json.specs.Json.{Json, boolean, number, string, object, Members, no_members, member}
 use Rattle.json.specs.Tree.{json_tokens}
 use Rattle.json.specs.Print.{print}
-use Rattle.shared_core_base.specs.declared.header.MessageType.{MessageType}
-use Rattle.shared_core_base.specs.declared.header.MessageType.TheVariants.{Suspension}
-use Rattle.shared_core_base.specs.declared.version.Version.{Version}
 use Rattle.shared_core_base.specs.MessageType.{code_of, debug_name_of}
-use Rattle.shared_core_base.specs.Version.{version_number}
 use Rattle.shared_core_wire.specs.Acceptance.{accepts_payload}
 use Rattle.shared_core_record.specs.Table as schema
 use Rattle.shared_core_record.specs.Payloads.{payload_meaning}
-use Rattle.shared_core_parts.specs.Messages.{message_schema}
 use Rattle.shared_core.specs.declared.encoding.item.Item.{Item}
 use Rattle.shared_core.specs.declared.encoding.item.Item.TheVariants.{Message, Unknown, Skipped}
+use Rattle.shared_core.specs.Visiting.{schema_at}
 use Rattle.journal_json.specs.Form.{value_json}
 use Rattle.journal_dump.specs.declared.options.Options.{Options}
-
--- The schema of a type's payloads at a version: a suspension has another one before V7; a custom entry has none.
-abbrev pub schema_at : Version → MessageType → Option ℕ
-schema_at version Suspension = Some (if nat_lt (version_number version) 7 then schema.suspension_v6 else schema.suspension)
-schema_at version ty = message_schema ty
 
 -- Bytes in base64.
 abbrev pub bytes_json : List ℕ → Json

@@ -4,7 +4,7 @@ ghost use Rattle.std.specs.Io.KnownBytes.{Appends, Consumes};
 ghost use Rattle.shared_core_base.specs.Version.{version_number};
 ghost use Rattle.shared_core.specs.Items.{SplitsInto};
 ghost use Rattle.shared_core.specs.declared.encoding.item.Item.{Item as AnyItem};
-ghost use Rattle.journal_dump.specs.Dump.{most_pending, IsDumped, IsLack, IsRead, IsWritten};
+ghost use Rattle.journal_dump.specs.Dump.{most_pending, IsDumped, IsLack, IsLong, IsLongIn, IsRead, IsWritten};
 ghost use Rattle.journal_dump.specs.Lines.{line_of, lines};
 
 use crate::lines::{Scratch, print_item, print_rest};
@@ -49,7 +49,8 @@ impl From<AllocError> for DumpError {
 ///
 /// It reads at most 65,536 bytes at a time, and writes the lines of the items that a piece completes before it reads the next. `Ok` comes only
 /// where the reader has no byte left, and then the whole dump is written. `Input` leaves the lines of all items of what was read; `Output` a
-/// beginning of these lines, or of the dump where the input had ended; `OutOfMemory` and `TooLong` the lines of the first items.
+/// beginning of these lines, or of the dump where the input had ended; `OutOfMemory` and `TooLong` the lines of the first items. `TooLong` comes only
+/// where one of the items behind them is a message whose canonical payload has more bytes than a length of 32 bits says.
 pub fn dump<R: Read, W: Write>(
     alloc: Global,
     options: &Options<'_>,
@@ -119,12 +120,13 @@ fn print_items(
     text: Vec<u8>,
 ) -> Result<Vec<u8>, DumpError>
     requires came { length decoder.old.bytes ≤ total }
+    requires version { decoder.old.version ≡ options.now.version }
     ensures printed { IfOk result (λ now. (items : List AnyItem)
         × SplitsInto decoder.old.version decoder.old.bytes items decoder.new.bytes
         × (now.items ≡ lines options.now (total - length decoder.old.bytes) items)) }
     ensures version { decoder.new.version ≡ decoder.old.version }
     ensures short { IfOk result (λ now. length decoder.new.bytes ≤ most_pending) }
-    ensures lack { IfErr result IsLack }
+    ensures lack { IfErr result (IsLack (IsLongIn decoder.old.version decoder.old.bytes)) }
 {
     let mut text = text;
     text.clear();
@@ -146,7 +148,7 @@ fn print_next(
     text: Vec<u8>,
 ) -> Result<Vec<u8>, DumpError>
     ensures line { IfOk result (λ now. now.items ≡ text.items ++ line_of options.now offset item) }
-    ensures lack { IfErr result IsLack }
+    ensures lack { IfErr result (IsLack (IsLong options.now.version item)) }
 {
     print_item(alloc, options, offset, &item, scratch, text)
 }

@@ -8,8 +8,10 @@ ghost use Rattle.json.specs.Token as token;
 ghost use Rattle.json.specs.Tree.{json_tokens, members_tokens};
 ghost use Rattle.shared_core.specs.declared.encoding.item.Item.TheVariants as variant;
 ghost use Rattle.shared_core_base.specs.MessageType.{debug_name_of};
-ghost use Rattle.journal_dump.specs.Dump.{IsLack};
-ghost use Rattle.journal_dump.specs.Lines.{schema_at, payload_members, ack_tokens, item_members, item_json, item_code as code_of_item, is_asked_for, line_of, rest_line};
+ghost use Rattle.journal_dump.specs.Canonical.{IsLongFor};
+ghost use Rattle.journal_dump.specs.Dump.{IsLack, IsLong};
+ghost use Rattle.shared_core.specs.Visiting.{schema_at};
+ghost use Rattle.journal_dump.specs.Lines.{payload_members, ack_tokens, item_members, item_json, item_code as code_of_item, is_asked_for, line_of, rest_line};
 
 use crate::dump::DumpError;
 use crate::messages::canonical_of;
@@ -53,7 +55,7 @@ pub fn print_item(
     lines: Vec<u8>,
 ) -> Result<Vec<u8>, DumpError>
     ensures line { IfOk result (λ now. now.items ≡ lines.items ++ line_of options.now offset item.now) }
-    ensures lack { IfErr result IsLack }
+    ensures lack { IfErr result (IsLack (IsLong options.now.version item.now)) }
 {
     if !is_asked_for(options.codes, item_code(item)) {
         return Ok(lines);
@@ -63,7 +65,7 @@ pub fn print_item(
     let mut out = Writer::new(line);
     write_item(alloc, options, offset, item, scratch, &mut out)?;
     scratch.line = out.into_inner();
-    append_line(scratch.line.as_slice(), lines)
+    Ok(append_line(scratch.line.as_slice(), lines)?)
 }
 
 /// Appends the last line.
@@ -72,9 +74,8 @@ pub fn print_rest(
     offset: u64,
     count: u64,
     lines: Vec<u8>,
-) -> Result<Vec<u8>, DumpError>
+) -> Result<Vec<u8>, AllocError>
     ensures line { IfOk result (λ now. now.items ≡ lines.items ++ rest_line offset count) }
-    ensures lack { IfErr result IsLack }
 {
     let mut out = Writer::new(Vec::new(alloc));
     out.begin_object()?;
@@ -85,9 +86,8 @@ pub fn print_rest(
 }
 
 /// Appends a line.
-fn append_line(line: &[u8], lines: Vec<u8>) -> Result<Vec<u8>, DumpError>
+fn append_line(line: &[u8], lines: Vec<u8>) -> Result<Vec<u8>, AllocError>
     ensures line { IfOk result (λ now. now.items ≡ lines.items ++ (line.now ++ codes "\n")) }
-    ensures lack { IfErr result IsLack }
 {
     let mut lines = lines;
     lines.extend_from_slice(line)?;
@@ -124,7 +124,7 @@ fn write_item(
 ) -> Result<(), DumpError>
     ensures tokens { OnOk result (out.new.tokens ≡ out.old.tokens ++ json_tokens (item_json options.now offset item.now)) }
     ensures before { out.new.before ≡ out.old.before }
-    ensures lack { IfErr result IsLack }
+    ensures lack { IfErr result (IsLack (IsLong options.now.version item.now)) }
 {
     out.begin_object()?;
     write_number(out, "offset", offset)?;
@@ -156,7 +156,7 @@ fn write_message_members(
 ) -> Result<(), DumpError>
     ensures tokens { OnOk result (out.new.tokens ++ end_object ∷ [] ≡ out.old.tokens ++ members_tokens (item_members options.now (variant.Message message.now))) }
     ensures before { out.new.before ≡ out.old.before }
-    ensures lack { IfErr result IsLack }
+    ensures lack { IfErr result (IsLack (IsLongFor (schema_at options.now.version message.now.header.ty) message.now.payload)) }
 {
     let ty = message.ty();
     write_type(out, ty, &mut scratch.text)?;
@@ -180,7 +180,7 @@ fn write_payload(
 ) -> Result<(), DumpError>
     ensures tokens { OnOk result (out.new.tokens ++ end_object ∷ [] ≡ out.old.tokens ++ members_tokens (payload_members (schema_at version ty) payload.now)) }
     ensures before { out.new.before ≡ out.old.before }
-    ensures lack { IfErr result IsLack }
+    ensures lack { IfErr result (IsLack (IsLongFor (schema_at version ty) payload.now)) }
 {
     match canonical_of(alloc, version, ty, payload, &mut scratch.canonical) {
         Ok(Some(schema)) => {

@@ -15,7 +15,7 @@ use Rattle.shared_core_record.specs.Equality.{parts_equal}
 use Rattle.shared_core_record.specs.EqualityRules.{parts_equal_decides}
 use Rattle.shared_core_record.specs.Payloads.{IsAccepted, payload_meaning}
 use Rattle.shared_core_record.specs.Table.{table}
-use Rattle.shared_core_parts.specs.Messages.{message_schema}
+use Rattle.shared_core_message.specs.Messages.{message_schema}
 use Rattle.shared_core_compare.specs.Differences.{difference}
 use Rattle.shared_core_compare.specs.Erasure.{erased}
 use Rattle.shared_core_errors.specs.Mismatch.{command_type_mismatch_text}

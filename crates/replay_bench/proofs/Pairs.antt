@@ -8,7 +8,7 @@ use Rattle.shared_core_base.specs.declared.header.MessageType.TheVariants.{Suspe
 use Rattle.shared_core_base.specs.CommandType.{command_type_of}
 use Rattle.shared_core_wire.specs.Value.{Parts}
 use Rattle.shared_core_record.specs.Payloads.{payload_meaning}
-use Rattle.shared_core_parts.specs.Messages.{IsSchemaOf, message_schema}
+use Rattle.shared_core_message.specs.Messages.{IsSchemaOf, message_schema}
 use Rattle.shared_core_compare.specs.Differences.{difference}
 use Rattle.shared_core_compare.specs.Erasure.{AreSame, erased}
 use Rattle.shared_core_errors.specs.Mismatch.{command_type_mismatch_text}

@@ -5,7 +5,7 @@ use Rattle.shared_core_base.specs.declared.header.MessageType.{MessageType}
 use Rattle.shared_core_base.specs.declared.version.Version.{Version}
 use Rattle.shared_core_wire.specs.Value.{Parts}
 use Rattle.shared_core_record.specs.Payloads.{IsAccepted, payload_meaning}
-use Rattle.shared_core_parts.specs.Messages.{message_schema}
+use Rattle.shared_core_message.specs.Messages.{message_schema}
 use Rattle.shared_core_compare.specs.Differences.{difference}
 use Rattle.shared_core_compare.specs.Erasure.{AreSame}
 use Rattle.shared_core_errors.specs.Mismatch.{command_type_mismatch_text}

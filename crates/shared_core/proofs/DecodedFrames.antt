@@ -12,7 +12,7 @@ use Rattle.shared_core_record.specs.Table.{table}
 use Rattle.shared_core_record.specs.Table as tables
 use Rattle.shared_core_record.specs.Payloads.{IsReadBack}
 use Rattle.shared_core_record.proofs.PayloadLaws.{canonical_is_read_back}
-use Rattle.shared_core_parts.specs.Frames.{WireFits, WireForm, plain_form, wire_frame, wire_payload, wire_size}
+use Rattle.shared_core_message.specs.Frames.{WireFits, WireForm, plain_form, wire_frame, wire_payload, wire_size}
 use Rattle.shared_core_runtime.specs.Flattening.{flattened}
 use Rattle.shared_core_runtime.specs.Versions.{is_before_v7, proposal_form, suspension_form}
 use Rattle.shared_core_runtime.proofs.FlattenedFits.{flattened_fits, flattened_levels}
@@ -23,7 +23,7 @@ use Rattle.shared_core.specs.declared.encoding.item.Item.TheVariants.{Message, U
 use Rattle.shared_core.specs.declared.encoding.raw_message.RawMessage.{RawMessage}
 use Rattle.shared_core.specs.Decoded.{AnswersWritten, DecodesTo, FrameSpells, requested_ack_of}
 use Rattle.shared_core.specs.Items.{AnswersNext, IsItem, TakesItem}
-use Rattle.shared_core.specs.Typed.{IsWritten}
+use Rattle.shared_core.specs.Typed.{IsCanonical}
 use Rattle.shared_core.specs.Written.{item_written}
 use Rattle.shared_core.proofs.Items.{one_item as no_item_begins_another}
 use Rattle.shared_core.proofs.Frames.{frame_is_item}
@@ -33,7 +33,7 @@ use Rattle.shared_core.proofs.TypedPayloads.{written_means}
 pub form_decodes : (version : Version) (ty : MessageType) (form : WireForm) → IsNamed ty → wire_size form < 2 ^ 32 → Fits table form.parts (table form.schema) → levels form.parts ≤ 100
     → FrameSpells version ty form (DecodesTo ty form.schema form.parts)
 form_decodes version ty form named small fits low =
-    let written : IsWritten form.schema form.parts (wire_payload form) = ((fits, low, omega (arith, small)), refl) in
+    let written : IsCanonical form.schema form.parts (wire_payload form) = ((fits, low, omega (arith, small)), refl) in
     let means = written_means form.schema form.parts (wire_payload form) written in
     (frame_is_item version ty form (wire_frame ty form) named small refl, (refl, written, (means.0, sym means.1)))
 

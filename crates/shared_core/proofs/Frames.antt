@@ -11,7 +11,7 @@ use Rattle.shared_core_base.specs.declared.version.Version.{Version}
 use Rattle.shared_core_base.specs.MessageType.{code_of, type_of, allows_ack, IsNamed}
 use Rattle.shared_core_base.specs.MessageHeader.{header_of, word_of, ack_bit}
 use Rattle.shared_core_base.proofs.Types.{type_of_code}
-use Rattle.shared_core_parts.specs.Frames.{WireForm, wire_payload, wire_frame, header_of_payload}
+use Rattle.shared_core_message.specs.Frames.{WireForm, wire_payload, wire_frame, header_of_payload}
 use Rattle.shared_core.specs.Items.{IsItem, AreItems, IsItemsThen, front_word, item_of}
 use Rattle.shared_core.specs.Written.{header_read, item_written, joined_frames, items_written, AreFrames}
 use Rattle.shared_core.proofs.Items.{announces_message, front_word_head, drop_exact}

@@ -8,9 +8,9 @@ use Rattle.shared_core_record.proofs.PayloadLaws.{canonical_is_read_back}
 use Rattle.shared_core.specs.declared.encoding.raw_message.RawMessage.{RawMessage}
 use Rattle.shared_core.specs.declared.encoding.error.DecodingError.{DecodingError}
 use Rattle.shared_core.specs.declared.encoding.error.DecodingError.TheVariants.{DecodeMessage, OutOfMemory}
-use Rattle.shared_core.specs.Typed.{IsWritten, RefusesPayload, RefusesTyped}
+use Rattle.shared_core.specs.Typed.{IsCanonical, RefusesPayload, RefusesTyped}
 
-pub written_means : (schema : ℕ) (v : Parts) (payload : List ℕ) → IsWritten schema v payload → IsAccepted schema payload × (payload_meaning schema payload ≡ v)
+pub written_means : (schema : ℕ) (v : Parts) (payload : List ℕ) → IsCanonical schema v payload → IsAccepted schema payload × (payload_meaning schema payload ≡ v)
 written_means schema v payload (writable, spelled) =
     let back = canonical_is_read_back schema v writable.0 writable.2 writable.1 in
     rw spelled back

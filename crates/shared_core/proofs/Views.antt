@@ -17,7 +17,7 @@ use Rattle.shared_core_record.specs.Table.{table, notification_template}
 use Rattle.shared_core_record.specs.Table as tables
 use Rattle.shared_core_record.specs.Payloads.{IsAccepted}
 use Rattle.shared_core_record.proofs.Tables.{are_schemas}
-use Rattle.shared_core_parts.specs.Messages.{message_schema}
+use Rattle.shared_core_message.specs.Messages.{message_schema}
 use Rattle.shared_core_parts.specs.declared.notification.Notification.{Notification}
 use Rattle.shared_core.specs.declared.encoding.raw_message.RawMessage.{RawMessage}
 use Rattle.shared_core.specs.declared.encoding.error.DecodingError.{DecodingError}

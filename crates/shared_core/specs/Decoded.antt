@@ -3,20 +3,20 @@ use Rattle.std.specs.Prelude.{◌≡◌, ℕ, Bool, List, Option, Some, None, Re
 use Rattle.shared_core_base.specs.declared.header.MessageType.{MessageType}
 use Rattle.shared_core_base.specs.declared.version.Version.{Version}
 use Rattle.shared_core_wire.specs.Value.{Parts}
-use Rattle.shared_core_parts.specs.Frames.{WireForm, wire_frame}
+use Rattle.shared_core_message.specs.Frames.{WireForm, wire_frame}
 use Rattle.shared_core.specs.declared.encoding.error.DecodingError.{DecodingError}
 use Rattle.shared_core.specs.declared.encoding.error.DecodingError.TheVariants.{OutOfMemory}
 use Rattle.shared_core.specs.declared.encoding.raw_message.RawMessage.{RawMessage}
 use Rattle.shared_core.specs.declared.encoding.item.Item.{Item}
 use Rattle.shared_core.specs.declared.encoding.item.Item.TheVariants.{Message}
 use Rattle.shared_core.specs.Items.{IsItem}
-use Rattle.shared_core.specs.Typed.{IsWritten, MeansParts}
+use Rattle.shared_core.specs.Typed.{IsCanonical, MeansParts}
 use Rattle.shared_core.specs.Written.{item_written}
 
 -- The item is a message of this type whose payload is the canonical spelling of the value and means it.
 abbrev pub DecodesTo : MessageType → ℕ → Parts → Item → Type 0
 DecodesTo ty schema v (Message message) =
-    (message.header.ty ≡ ty) × IsWritten schema v message.payload × MeansParts schema message.payload v
+    (message.header.ty ≡ ty) × IsCanonical schema v message.payload × MeansParts schema message.payload v
 DecodesTo ty schema v other = ⊥
 
 -- The flag that is read from an item's header, where its type has one.

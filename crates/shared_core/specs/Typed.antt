@@ -34,5 +34,5 @@ RefusesTyped ty schema message index (UnexpectedMessageType mismatch) =
 RefusesTyped ty schema message index refusal = (message.header.ty ≡ ty) × RefusesPayload schema message refusal
 
 -- The payload is the canonical spelling of the value, which fits the schema and has at most one hundred levels.
-abbrev pub IsWritten : ℕ → Parts → List ℕ → Type 0
-IsWritten schema v payload = IsWritable table 100 schema v × (payload ≡ canonical_payload table schema v)
+abbrev pub IsCanonical : ℕ → Parts → List ℕ → Type 0
+IsCanonical schema v payload = IsWritable table 100 schema v × (payload ≡ canonical_payload table schema v)

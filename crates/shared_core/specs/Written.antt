@@ -4,7 +4,7 @@ use Rattle.shared_core_base.specs.declared.header.MessageType.{MessageType}
 use Rattle.shared_core_base.specs.declared.header.MessageHeader.{MessageHeader}
 use Rattle.shared_core_base.specs.MessageType.{allows_ack, IsNamed}
 use Rattle.shared_core_base.specs.MessageHeader.{ack_bit}
-use Rattle.shared_core_parts.specs.Frames.{WireForm, wire_payload, wire_size, wire_frame}
+use Rattle.shared_core_message.specs.Frames.{WireForm, wire_payload, wire_size, wire_frame}
 use Rattle.shared_core.specs.declared.encoding.item.Item.{Item}
 use Rattle.shared_core.specs.declared.encoding.item.Item.TheVariants.{Message}
 

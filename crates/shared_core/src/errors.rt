@@ -15,9 +15,9 @@ pub use shared_core_errors::typed::{
     UnsupportedFeatureForNegotiatedVersion,
 };
 pub use shared_core_errors::uncompleted::UncompletedDoProgressDuringReplay;
-use shared_core_parts::restate_message::RestateMessage;
+use shared_core_message::restate_message::RestateMessage;
 use std::alloc::Global;
-use std::fmt;
+use std::{error, fmt};
 
 // The errors that are always the same.
 pub use shared_core_errors::constants::{
@@ -101,3 +101,6 @@ impl<M: RestateMessage + CommandMessageHeaderDiff> fmt::Display for CommandMisma
         )
     }
 }
+
+impl<M: RestateMessage + CommandMessageHeaderDiff + fmt::Debug> error::Error
+    for CommandMismatchError<M> {}

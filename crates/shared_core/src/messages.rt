@@ -3,15 +3,16 @@
 mod command_visitor;
 mod message_visitor;
 mod record_visitor;
+mod schemas;
 
 pub use shared_core_base::error::ErrorBehavior;
 pub use shared_core_compare::difference::CommandMessageHeaderDiff;
 pub use shared_core_compare::equality::CommandMessageHeaderEq;
 pub use shared_core_compare::name::NamedCommandMessage;
+pub use shared_core_message::restate_message::{RestateEncodableMessage, RestateMessage};
 pub use shared_core_parts::notification::{
     CANCEL_SIGNAL_ID, CompletionId, Notification, NotificationId, NotificationResult,
 };
-pub use shared_core_parts::restate_message::{RestateEncodableMessage, RestateMessage};
 pub use shared_core_record::error::EncodingError;
 
 // The parts of messages, and the template by which any notification is read.
@@ -74,3 +75,4 @@ pub use shared_core_notifications::{
 pub use command_visitor::{CommandMessage, CommandVisitor, visit_command};
 pub use message_visitor::{MessageVisitor, visit_message};
 pub use record_visitor::{RecordVisitor, visit_record};
+pub use schemas::schema_at;

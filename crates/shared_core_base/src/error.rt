@@ -8,8 +8,8 @@ ghost use Rattle.shared_core_base.specs.Error.{code_of_number, behavior_number, 
 use crate::header::MessageType;
 use std::alloc::{AllocError, Global};
 use std::borrow::CowStr;
-use std::fmt;
 use std::time::Duration;
+use std::{error, fmt};
 
 /// A request for memory was refused.
 #[derive(Clone, Copy, Debug, PartialEq, Eq, thiserror::Error)]
@@ -344,6 +344,8 @@ impl fmt::Display for Error {
         write!(f, "({code}) {message}{related_command}")
     }
 }
+
+impl error::Error for Error {}
 
 /// Prints the line of the command that an error names, or nothing.
 #[derive(Clone, Copy)]

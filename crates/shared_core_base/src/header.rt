@@ -3,6 +3,7 @@ ghost use Rattle.std.specs.Prelude.{◌≡◌, ◌≤◌, ◌<◌, IsTrue, ◌�
 ghost use Rattle.shared_core_base.specs.MessageType.{code_of, variant_name_of, allows_ack};
 
 pub use crate::command_type::CommandType;
+use std::error::Error;
 use std::fmt;
 use std::marker::Model;
 
@@ -96,6 +97,8 @@ impl fmt::Display for UnknownMessageType {
         write!(f, "unknown protocol.message code 0x{code:x}")
     }
 }
+
+impl Error for UnknownMessageType {}
 
 const CUSTOM_ENTRY_MASK: u16 = 0xFC00;
 

@@ -6,8 +6,8 @@ ghost use Rattle.shared_core_errors.specs.Closed.{closed_text, IsClosedText, Wri
 
 use shared_core_base::error::{Error, InvocationErrorCode, OutOfMemory, codes, error_of};
 use std::alloc::Global;
-use std::fmt;
 use std::fmt::Formatter;
+use std::{error, fmt};
 
 /// Writes errors in a form of its own, or as they print.
 pub trait ErrorFormatter: fmt::Debug {
@@ -79,3 +79,5 @@ impl fmt::Display for ClosedError {
         self.print_with(&DefaultErrorFormatter, f)
     }
 }
+
+impl error::Error for ClosedError {}

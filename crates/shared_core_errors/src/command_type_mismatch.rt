@@ -6,7 +6,7 @@ ghost use Rattle.shared_core_errors.specs.Mismatch.{command_type_mismatch_text};
 use shared_core_base::error::{Error, InvocationErrorCode, OutOfMemory, codes, error_of};
 use shared_core_base::header::MessageType;
 use std::alloc::Global;
-use std::fmt;
+use std::{error, fmt};
 
 /// A command is not of the type that the code expects at its place in the journal. A contract sees it as the record of its
 /// index and its two types.
@@ -63,3 +63,5 @@ impl fmt::Display for CommandTypeMismatchError {
         )
     }
 }
+
+impl error::Error for CommandTypeMismatchError {}

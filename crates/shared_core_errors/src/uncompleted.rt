@@ -15,7 +15,7 @@ use shared_core_parts::notification::{CANCEL_SIGNAL_ID, NotificationId};
 use std::alloc::Global;
 use std::cmp::Ordering;
 use std::collections::{HashMap, HashSet};
-use std::fmt;
+use std::{error, fmt};
 
 /// The code awaits notifications where the journal records no await. They print in this order: completions by their ids, then named
 /// signals by the bytes of their names, then signals by their ids, the one that cancels last.
@@ -128,3 +128,5 @@ impl fmt::Display for UncompletedDoProgressDuringReplay {
         write_lines(f, &self.notification_ids, &self.metadata)
     }
 }
+
+impl error::Error for UncompletedDoProgressDuringReplay {}

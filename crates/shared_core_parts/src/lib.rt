@@ -11,7 +11,6 @@ pub mod idempotent_request_target;
 pub mod laws;
 pub mod notification;
 pub mod notification_template;
-pub mod restate_message;
 pub mod state_entry;
 pub mod state_keys;
 pub mod texts;

@@ -3,7 +3,7 @@
 ghost use Rattle.std.specs.Prelude.{false, refl};
 ghost use Rattle.shared_core_wire.specs.Value.{Number, cons, nil};
 ghost use Rattle.shared_core_base.specs.declared.header.MessageType.TheVariants as types;
-ghost use Rattle.shared_core_parts.specs.Frames.{plain_form};
+ghost use Rattle.shared_core_message.specs.Frames.{plain_form};
 ghost use Rattle.std.proofs.Common.{inl};
 ghost use Rattle.shared_core_record.specs.Table as tables;
 ghost use Rattle.shared_core_record.specs.FieldParts.{enum_part, option_part, text_part};
@@ -11,9 +11,8 @@ ghost use Rattle.shared_core_record.specs.EqualityRules.{equality_rules};
 
 use shared_core_base::header::MessageType;
 use shared_core_base::version::Version;
-use shared_core_parts::restate_message::{
-    RestateEncodableMessage, RestateMessage, encode_frame_into,
-};
+use shared_core_message::frame::encode_frame_into;
+use shared_core_message::restate_message::{RestateEncodableMessage, RestateMessage};
 use shared_core_record::error::EncodingError;
 use shared_core_record::occurrence::Occurrence;
 use shared_core_record::record::WireRecord;

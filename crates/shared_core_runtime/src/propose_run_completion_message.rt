@@ -11,8 +11,8 @@ ghost use Rattle.shared_core_record.specs.EqualityRules.{different_members, equa
 
 use bytes::Bytes;
 use shared_core_base::header::MessageType;
+use shared_core_message::restate_message::RestateMessage;
 use shared_core_parts::failure::Failure;
-use shared_core_parts::restate_message::RestateMessage;
 use shared_core_record::kind::FieldKind;
 use shared_core_record::occurrence::Occurrence;
 use shared_core_record::oneof::OneOf;

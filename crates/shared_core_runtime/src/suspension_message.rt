@@ -9,8 +9,8 @@ ghost use Rattle.shared_core_record.specs.FieldParts.{message_part, option_part}
 ghost use Rattle.shared_core_record.specs.EqualityRules.{equality_rules};
 
 use shared_core_base::header::MessageType;
+use shared_core_message::restate_message::RestateMessage;
 use shared_core_parts::future::Future;
-use shared_core_parts::restate_message::RestateMessage;
 use shared_core_record::occurrence::Occurrence;
 use shared_core_record::optional;
 use shared_core_record::record::WireRecord;

@@ -9,7 +9,7 @@ ghost use Rattle.shared_core_record.specs.FieldParts.{elements_part, text_part};
 ghost use Rattle.shared_core_record.specs.EqualityRules.{equality_rules};
 
 use shared_core_base::header::MessageType;
-use shared_core_parts::restate_message::RestateMessage;
+use shared_core_message::restate_message::RestateMessage;
 use shared_core_record::occurrence::Occurrence;
 use shared_core_record::record::WireRecord;
 use shared_core_record::size::Size;

@@ -4,7 +4,7 @@ ghost use Rattle.std.specs.Prelude.{◌≡◌};
 use crate::steps::{becomes, expect, prints, read};
 use bytes::Bytes;
 use shared_core::Version;
-use shared_core::encoding::{Decoder, DecodingError, RawMessage};
+use shared_core::encoding::{Decoder, DecodingError, PiecesError, PushError, RawMessage};
 use shared_core::error::{CommandMetadata, NotificationMetadata};
 use shared_core::errors::{
     BadEagerStateKeyError, BadProposeRunCompletionAck, ClosedError, CommandMismatchError,
@@ -15,14 +15,15 @@ use shared_core::errors::{
 use shared_core::fmt::{DefaultErrorFormatter, ErrorFormatter};
 use shared_core::header::MessageType;
 use shared_core::messages::{
-    InputCommandMessage, NotificationId, OutputCommandMessage, RestateMessage, SleepCommandMessage,
+    EncodingError, InputCommandMessage, NotificationId, OutputCommandMessage, RestateMessage,
+    SleepCommandMessage,
 };
 use shared_core::version::ContentTypeError;
 use std::alloc::Global;
 use std::collections::{HashMap, HashSet};
-use std::fmt;
 use std::fmt::Formatter;
 use std::test::Fail;
+use std::{error, fmt};
 
 /// The frame of an InputCommand whose payload is malformed.
 const MALFORMED_INPUT: &[u8] = &[0x04, 0x00, 0, 0, 0, 0, 0, 1, 0xFF];
@@ -96,6 +97,30 @@ fn refusals_to_decode(rt: HostRuntime) -> Result<(), Fail> {
         "skipped protocol.message code 0x8 with 2 payload bytes",
     )?;
     is_refusal(alloc, DecodingError::OutOfMemory, 500, "out of memory")
+}
+
+#[test]
+fn refusals_of_streams_and_messages(rt: HostRuntime) -> Result<(), Fail> {
+    is_error(PushError::OutOfMemory(Bytes::new()), "out of memory")?;
+    is_error(
+        PushError::TooLong(Bytes::new()),
+        "more than 2^64 - 1 bytes are pending",
+    )?;
+    is_error(PiecesError::OutOfMemory, "out of memory")?;
+    is_error(
+        PiecesError::TooLong,
+        "the pieces have more than 2^64 - 1 bytes",
+    )?;
+    is_error(EncodingError::OutOfMemory, "out of memory")?;
+    is_error(
+        EncodingError::PayloadTooLong,
+        "the payload has more than 4294967295 bytes",
+    )
+}
+
+/// That a refusal is an error as `?` turns it into others, of this text.
+fn is_error<E: error::Error>(refusal: E, text: &str) -> Result<(), Fail> {
+    prints(&refusal, text)
 }
 
 /// A mismatch of types.

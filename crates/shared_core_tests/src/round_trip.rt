@@ -3,7 +3,7 @@ ghost use Rattle.std.specs.Prelude.{◌≡◌, ◌≤◌, ◌^◌, IfOk};
 ghost use Rattle.std.specs.Result.{IsErrOf};
 ghost use Rattle.shared_core_base.specs.Version.{version_number};
 ghost use Rattle.shared_core_wire.specs.Canonical.{levels};
-ghost use Rattle.shared_core_parts.specs.Frames.{wire_size};
+ghost use Rattle.shared_core_message.specs.Frames.{wire_size};
 
 use shared_core::Version;
 use shared_core::encoding::{Decoder, DecodingError, Encoder, PushError};

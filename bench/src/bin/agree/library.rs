@@ -57,6 +57,15 @@ fn compare_case(tally: &mut Tally, random: &mut Random) {
         Case::Payload { schema, payload } | Case::Record { schema, payload } => {
             let ours = ours::canonical(*schema, payload);
             equal(tally, kind, &case, &written(&ours), &verdict.answer);
+            let is_well_formed = usize::from(verdict.answer != MALFORMED).to_string();
+            let ours_is = number(ours::is_well_formed(*schema, payload));
+            equal(
+                tally,
+                "well-formed payloads",
+                &case,
+                &ours_is,
+                &is_well_formed,
+            );
             if let Ok(canonical) = ours {
                 let again = ours::canonical(*schema, &canonical);
                 let canonical = hex(&canonical);
@@ -79,7 +88,8 @@ fn compare_case(tally: &mut Tally, random: &mut Random) {
             payload,
         } => {
             let rounds = random.below(3);
-            for call in [ours::frame_to, ours::frame_into] as [FrameCall; 2] {
+            let calls: [FrameCall; 3] = [ours::frame_once, ours::frame_to, ours::frame_into];
+            for call in calls {
                 let ours = ours::frame(call, *version, message_type.code, payload, rounds);
                 equal(tally, kind, &case, &written(&ours), &verdict.answer);
             }
@@ -90,6 +100,8 @@ fn compare_case(tally: &mut Tally, random: &mut Random) {
             let rounds = random.below(3);
             let ours = list(*version, &stream, piece, rounds);
             equal(tally, kind, &case, &ours, &verdict.answer);
+            let next = list_by_next(*version, &stream);
+            equal(tally, "items of streams", &case, &next, &verdict.answer);
             compare_messages(tally, &case, *version, &stream, piece, rounds);
         }
     }
@@ -126,6 +138,26 @@ fn list(version: u32, stream: &[u8], piece: usize, rounds: usize) -> String {
     listing.rest(rest)
 }
 
+/// The same listing by a call for each item.
+fn list_by_next(version: u32, stream: &[u8]) -> String {
+    let mut listing = Listing::default();
+    let mut rest = stream;
+    loop {
+        let item = match ours::next(version, rest) {
+            Ok(Ok(item)) => item,
+            Ok(Err(_missing)) => return listing.rest(rest.len()),
+            Err(refusal) => return refusal.to_string(),
+        };
+        let length = item.size - item.payload;
+        match item.kind {
+            0 => listing.message(item.code, item.asks, length),
+            1 => listing.unknown(item.code),
+            _ => listing.skipped(item.code, length),
+        }
+        rest = &rest[item.size..];
+    }
+}
+
 /// How many messages of named types a stream has, where all of their payloads are well-formed.
 fn compare_messages(
     tally: &mut Tally,
@@ -136,10 +168,7 @@ fn compare_messages(
     rounds: usize,
 ) {
     const KIND: &str = "messages of streams";
-    let ours = match ours::messages(version, stream, piece, rounds) {
-        Ok(count) => count.to_string(),
-        Err(refusal) => refusal.to_string(),
-    };
+    let ours = number(ours::messages(version, stream, piece, rounds));
     let (expected, departs) = messages_by_rules(version, stream);
     let peer = peer::messages(version, stream, piece, rounds).ok();
     if peer != expected && !departs {
@@ -176,6 +205,14 @@ fn written(answer: &Result<Vec<u8>, Refusal>) -> String {
     }
 }
 
+/// A number or a refusal.
+fn number(answer: Result<usize, Refusal>) -> String {
+    match answer {
+        Ok(number) => number.to_string(),
+        Err(refusal) => refusal.to_string(),
+    }
+}
+
 /// Compares two answers.
 fn equal(tally: &mut Tally, kind: &'static str, case: &Case, ours: &str, expected: &str) {
     if ours == expected {
@@ -186,7 +223,7 @@ fn equal(tally: &mut Tally, kind: &'static str, case: &Case, ours: &str, expecte
     }
 }
 
-/// The numbers that journal.h refuses, and room that is one too short.
+/// The numbers that are refused, and room that is one too short, of which the words are refused, and the bytes not.
 fn compare_refusals(tally: &mut Tally) {
     use Refusal::{NoRoom, Unknown};
     // an end, and then a code that stands for no type
@@ -215,11 +252,11 @@ fn compare_refusals(tally: &mut Tally) {
         (ours::frame_to(4, END, &[], 1, &mut out), Err(Unknown)),
         (ours::frame_to(10, END, &[], 1, &mut out), Err(Unknown)),
         (ours::frame_to(8, CUSTOM, &[], 1, &mut out), Err(Unknown)),
-        (ours::frame_to(8, END, &[], 1, &mut out[..7]), Err(NoRoom)),
+        (ours::frame_to(8, END, &[], 1, &mut out[..7]), Ok(8)),
         (ours::frame_to(8, END, &[], 1, &mut out), Ok(8)),
         (ours::frame_into(10, END, &[], 1, &mut out), Err(Unknown)),
         (ours::frame_into(8, CUSTOM, &[], 1, &mut out), Err(Unknown)),
-        (ours::frame_into(8, END, &[], 1, &mut out[..7]), Err(NoRoom)),
+        (ours::frame_into(8, END, &[], 1, &mut out[..7]), Ok(8)),
         (ours::frame_into(8, END, &[], 1, &mut out), Ok(8)),
     ];
     for (place, (ours, expected)) in answers.into_iter().enumerate() {

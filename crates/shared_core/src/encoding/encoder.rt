@@ -3,11 +3,11 @@ ghost use Rattle.std.specs.Prelude.{◌≡◌, ◌+◌, ◌<◌, ◌≤◌, ◌^
 ghost use Rattle.std.specs.Result.{IsErrOf};
 ghost use Rattle.shared_core_base.specs.Version.{version_number};
 ghost use Rattle.shared_core_record.specs.declared.error.EncodingError.TheVariants.{PayloadTooLong, OutOfMemory};
-ghost use Rattle.shared_core_parts.specs.Frames.{wire_size, wire_frame};
+ghost use Rattle.shared_core_message.specs.Frames.{wire_size, wire_frame};
 
 use bytes::Bytes;
 use shared_core_base::version::Version;
-use shared_core_parts::restate_message::RestateEncodableMessage;
+use shared_core_message::restate_message::RestateEncodableMessage;
 use shared_core_record::error::EncodingError;
 use std::alloc::Global;
 
@@ -21,7 +21,7 @@ impl Encoder {
     ghost use Rattle.std.specs.Prelude.{List, Option, Result, ℕ, ◌++◌};
     ghost use Rattle.shared_core_wire.specs.Canonical.{levels};
     ghost use Rattle.shared_core_record.specs.Payloads.{IsReadBack};
-    ghost use Rattle.shared_core_parts.specs.Frames.{wire_payload};
+    ghost use Rattle.shared_core_message.specs.Frames.{wire_payload};
     ghost use Rattle.shared_core.specs.Items.{AnswersNext, IsItem};
     ghost use Rattle.shared_core.specs.Written.{item_written};
     ghost use Rattle.shared_core.specs.Decoded.{AnswersWritten};

@@ -1,11 +1,12 @@
 //! Why a stream is not taken, and why its messages are not answered.
 
 use bytes::Bytes;
-use shared_core_base::error::{Error, InvocationErrorCode, OutOfMemory, codes, error_of};
+use shared_core_base::error::{self, InvocationErrorCode, OutOfMemory, codes, error_of};
 use shared_core_base::header::{MessageType, UnknownMessageType};
 use shared_core_errors::command_type_mismatch::CommandTypeMismatchError;
 use shared_core_wire::error::WireError;
 use std::alloc::{AllocError, AllocFailed, Global};
+use std::error::Error;
 use std::fmt;
 
 /// Why no message was answered.
@@ -47,7 +48,7 @@ impl DecodingError {
     }
 
     /// The error with this code and this text.
-    pub fn to_error(&self, alloc: Global) -> Result<Error, OutOfMemory>
+    pub fn to_error(&self, alloc: Global) -> Result<error::Error, OutOfMemory>
         ensures { IfOk result (IsErrorOf (decoding_error_code self.now) (Some (decoding_error_text self.now))) }
     {
         error_of(alloc, self.code(), self)
@@ -100,21 +101,27 @@ impl fmt::Display for DecodingError {
     }
 }
 
+impl Error for DecodingError {}
+
 /// Why a piece was not taken. The piece comes back.
-#[derive(Debug, Drop)]
+#[derive(Debug, Drop, thiserror::Error)]
 pub enum PushError {
     /// There is no memory for one more segment.
+    #[error("out of memory")]
     OutOfMemory(Bytes),
     /// The pending bytes would be more than 2^64 - 1.
+    #[error("more than 2^64 - 1 bytes are pending")]
     TooLong(Bytes),
 }
 
 /// Why a list of pieces was not decoded.
-#[derive(Debug, Drop)]
+#[derive(Debug, Drop, thiserror::Error)]
 pub enum PiecesError {
     /// The joined pieces are more than 2^64 - 1 bytes.
+    #[error("the pieces have more than 2^64 - 1 bytes")]
     TooLong,
     /// There is no memory for the list of items, a segment or a payload.
+    #[error("out of memory")]
     OutOfMemory,
 }
 

@@ -4,15 +4,15 @@ ghost use Rattle.shared_core_record.specs.Payloads.{IsAccepted};
 ghost use Rattle.shared_core_wire.specs.Value.{Parts};
 ghost use Rattle.shared_core_base.specs.MessageType.{code_of};
 ghost use Rattle.shared_core_record.specs.Table.{notification_template};
-ghost use Rattle.shared_core_parts.specs.Messages.{message_schema};
+ghost use Rattle.shared_core_message.specs.Messages.{message_schema};
 
 use crate::encoding::DecodingError;
 use crate::errors::CommandTypeMismatchError;
 use bytes::Bytes;
 use shared_core_base::header::{MessageHeader, MessageType};
+use shared_core_message::restate_message::RestateMessage;
 use shared_core_parts::notification::Notification;
 use shared_core_parts::notification_template::NotificationTemplate;
-use shared_core_parts::restate_message::RestateMessage;
 use shared_core_record::record::{WireRecord, decode_payload};
 use shared_core_wire::error::WireError;
 use std::alloc::Global;
@@ -25,7 +25,7 @@ pub struct RawMessage {
 }
 
 impl RawMessage {
-    ghost use Rattle.shared_core.specs.Typed.{MeansParts, IsWritten, RefusesPayload, RefusesTyped, mismatch_of};
+    ghost use Rattle.shared_core.specs.Typed.{MeansParts, IsCanonical, RefusesPayload, RefusesTyped, mismatch_of};
     ghost use Rattle.shared_core.specs.View.{notification_parts, lacking_field, AgreesWithType, AnswersLacking, IsMissing, IsOfNotification, RefusesNotification};
     ghost use Rattle.shared_core.specs.declared.encoding.error.DecodingError.TheVariants as error;
 
@@ -75,7 +75,7 @@ impl RawMessage {
         ensures unexpected { self.now.header.ty ≢ M.message_type
             → result ≡ Err (error.UnexpectedMessageType (mismatch_of M.message_type self.now command_index)) }
         // what was written is read again
-        ensures written { (v : Parts) → self.now.header.ty ≡ M.message_type → IsWritten M.schema v self.now.payload
+        ensures written { (v : Parts) → self.now.header.ty ≡ M.message_type → IsCanonical M.schema v self.now.payload
             → MatchResult result (λ message. M.parts message ≡ v) (λ refusal. refusal ≡ error.OutOfMemory) }
     {
         let actual = self.ty();
@@ -136,7 +136,7 @@ impl RawMessage {
     fn decode_payload<M: WireRecord>(&self, alloc: Global) -> Result<M, DecodingError>
         ensures ok { IfOk result (λ found. MeansParts M.schema self.now.payload (M.parts found)) }
         ensures err { IfErr result (RefusesPayload M.schema self.now) }
-        ensures written { (v : Parts) → IsWritten M.schema v self.now.payload
+        ensures written { (v : Parts) → IsCanonical M.schema v self.now.payload
             → MatchResult result (λ found. M.parts found ≡ v) (λ refusal. refusal ≡ error.OutOfMemory) }
     {
         match decode_payload(alloc, &self.payload) {

@@ -3,7 +3,7 @@
 ghost use Rattle.std.specs.Prelude.{◌≡◌, ℕ, Some, IsSome};
 ghost use Rattle.shared_core_base.specs.declared.header.MessageType.{MessageType as AnyType};
 ghost use Rattle.shared_core_base.specs.CommandType.{command_type_of};
-ghost use Rattle.shared_core_parts.specs.Messages.{message_schema};
+ghost use Rattle.shared_core_message.specs.Messages.{message_schema};
 ghost use Rattle.shared_core.specs.Visiting.{IsVisited, command_schema};
 
 use crate::messages::{

@@ -6,7 +6,7 @@
 ghost use Rattle.std.specs.Prelude.{◌≡◌, ℕ, Some};
 ghost use Rattle.shared_core_base.specs.declared.header.MessageType.{MessageType as AnyType};
 ghost use Rattle.shared_core_base.specs.declared.version.Version.{Version as AnyVersion};
-ghost use Rattle.shared_core_parts.specs.Messages.{message_schema};
+ghost use Rattle.shared_core_message.specs.Messages.{message_schema};
 ghost use Rattle.shared_core.specs.Visiting.{IsVisited, written_form};
 
 use crate::messages::{

@@ -25,7 +25,7 @@ returns-in_err-bytes g c =
 pub returns-in_err-text : goal.returns-in_err-text
 returns-in_err-text g c =
     let from = err_from_is_err_and c.from_residual-in_err-text.result c.from_residual-in_err-text.ensures.1 in
-    rw (from.1, from.2) (ended_lack c.args.options.now _ _ _ _ _ _ c.loop.invariant.so_far _ _ c.in_ok-bytes.ensures.taken.0 _ c.in_err-text.ensures.lack)
+    rw (from.1, from.2) (ended_lack c.args.options.now _ _ _ _ _ _ c.loop.invariant.so_far _ _ c.in_ok-bytes.ensures.taken.0 OutOfMemory tt)
 
 pub returns-then-is_empty : goal.returns-then-is_empty
 returns-then-is_empty g c =
@@ -47,7 +47,7 @@ returns-in_err-feed g c =
 pub returns-in_err-text-2 : goal.returns-in_err-text-2
 returns-in_err-text-2 g c =
     let from = err_from_is_err_and c.from_residual-in_err-text-2.result c.from_residual-in_err-text-2.ensures.1 in
-    rw (from.1, from.2) (ended_lack c.args.options.now _ _ _ _ _ _ c.loop.invariant.so_far _ _ c.in_ok-bytes.ensures.taken.0 _ c.in_err-text-2.ensures.lack)
+    rw (from.1, from.2) (ended_lack c.args.options.now _ _ _ _ _ _ c.loop.invariant.so_far _ _ c.in_ok-bytes.ensures.taken.0 _ (rw (c.in_ok-feed.ensures.fed, c.loop.invariant.version) at c.in_err-text-2.ensures.lack))
 
 pub returns-in_err-write_text : goal.returns-in_err-write_text
 returns-in_err-write_text g c =

@@ -1,7 +1,8 @@
-use Rattle.std.proofs.Common.{◌≡◌, ℕ, ◌-◌, ◌+◌, List, length, ◌++◌, ap, ◌∙◌, arith, length-append}
+use Rattle.std.proofs.Common.{◌≡◌, ℕ, ◌-◌, ◌+◌, List, length, ◌++◌, ap, ◌∙◌, sym, arith, length-append}
+use Rattle.std.proofs.lemmas.Result.{err_from_is_err_and}
 use Rattle.shared_core.proofs.Items.{then_takes}
 use Rattle.journal_dump.specs.Lines.{line_of, lines, items_size}
-use Rattle.journal_dump.proofs.Progress.{lines_next, then_long}
+use Rattle.journal_dump.proofs.Progress.{lack_in, lines_next, then_long}
 use Rattle.journal_dump.proofs.dump.print_items.Goals as goal
 
 pub loop-text-preserved : goal.loop-text-preserved
@@ -28,3 +29,11 @@ returns-clause-printed c =
     let (version, short, place, items, front, printed) = c.loop-text.invariant in
     let none = rw (c.in_default.is, version) at c.in_ok-item.ensures.taken in
     (items, record { items_then = rw none.1 front; no_more = rw none.1 none.0 }, printed)
+
+pub returns-in_err-text-clause-lack : goal.returns-in_err-text-clause-lack
+returns-in_err-text-clause-lack c =
+    let (version, short, place, items, front, printed) = c.loop-text.invariant in
+    let taken = rw (c.in-Some.is, version) at c.in_ok-item.ensures.taken in
+    let from = err_from_is_err_and c.from_residual-in_err-text.result c.from_residual-in_err-text.ensures.1 in
+    let lack = rw (sym c.requires.version) at c.in_err-text.ensures.lack in
+    rw (from.1, from.2) (lack_in c.args.decoder.now.version c.args.decoder.now.bytes _ items c.in-Some.item _ (then_takes c.args.decoder.now.version _ _ _ items _ front taken) lack)

@@ -4,7 +4,8 @@ use Rattle.json.specs.Token.{key, string, number, end_object}
 use Rattle.json.specs.Json.{no_members}
 use Rattle.json.specs.Tree.{members_tokens}
 use Rattle.shared_core_base.specs.MessageType.{code_of, debug_name_of}
-use Rattle.journal_dump.specs.Lines.{ack_tokens, payload_members, schema_at}
+use Rattle.shared_core.specs.Visiting.{schema_at}
+use Rattle.journal_dump.specs.Lines.{ack_tokens, payload_members}
 use Rattle.journal_dump.proofs.Tokens.{head_then}
 use Rattle.journal_dump.proofs.lines.write_message_members.Goals as goal
 

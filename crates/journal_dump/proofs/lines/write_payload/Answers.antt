@@ -10,7 +10,7 @@ use Rattle.journal_json.specs.Form.{value_json}
 use Rattle.journal_json.specs.Payloads.{IsSpelling, WritesJson}
 use Rattle.journal_json.specs.declared.error.JsonError.TheVariants.{Malformed}
 use Rattle.journal_dump.specs.Canonical.{AnswersCanonical}
-use Rattle.journal_dump.specs.Lines.{schema_at}
+use Rattle.shared_core.specs.Visiting.{schema_at}
 use Rattle.journal_dump.proofs.Tokens.{then_tokens, shown_message, shown_malformed}
 use Rattle.journal_dump.proofs.lines.write_payload.Goals as goal
 

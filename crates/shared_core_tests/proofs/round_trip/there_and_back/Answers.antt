@@ -1,6 +1,6 @@
 use Rattle.std.proofs.Common.{rules, ◌≡◌, ap, subst, Ok, Err, Some, None}
 use Rattle.shared_core_wire.specs.Value.{Parts}
-use Rattle.shared_core.specs.Typed.{IsWritten}
+use Rattle.shared_core.specs.Typed.{IsCanonical}
 use Rattle.shared_core_tests.proofs.Chain.{alone}
 use Rattle.shared_core_tests.proofs.round_trip.there_and_back.Goals as goal
 
@@ -21,12 +21,12 @@ returns-in-Ok-decode_to-clause-same g c =
     let came = alone _ (g.M.RestateEncodableMessage.wire_form c.args.message.now) _ _ _ (ap (λ e. e.version) c.new.ensures) c.requires.low c.in-Ok.ensures.comes_out
     _ c.new-decoder.ensures _ c.in-Ok-push.ensures.ok (Ok c.in-Ok-Some.field-0) c.consume_next.new.self.bytes c.in-Ok-Some.ensures.next in
     let came = rw c.in-Ok-Some.field-0-is at came in
-    c.in-Ok-decode_to.ensures.written _ came.0.0 (subst (λ s. IsWritten s (g.M.RestateEncodableMessage.wire_form c.args.message.now c.args.version).parts c.in-Ok-Some.received.payload) c.requires.own came.0.1)
+    c.in-Ok-decode_to.ensures.written _ came.0.0 (subst (λ s. IsCanonical s (g.M.RestateEncodableMessage.wire_form c.args.message.now c.args.version).parts c.in-Ok-Some.received.payload) c.requires.own came.0.1)
 
 pub unreachable-requires-in-Err-decode_to : goal.unreachable-requires-in-Err-decode_to
 unreachable-requires-in-Err-decode_to g c =
     let came = alone _ (g.M.RestateEncodableMessage.wire_form c.args.message.now) _ _ _ (ap (λ e. e.version) c.new.ensures) c.requires.low c.in-Ok.ensures.comes_out
     _ c.new-decoder.ensures _ c.in-Ok-push.ensures.ok (Ok c.in-Ok-Some.field-0) c.consume_next.new.self.bytes c.in-Ok-Some.ensures.next in
     let came = rw c.in-Ok-Some.field-0-is at came in
-    let refused = c.in-Err-decode_to.ensures.written _ came.0.0 (subst (λ s. IsWritten s (g.M.RestateEncodableMessage.wire_form c.args.message.now c.args.version).parts c.in-Ok-Some.received.payload) c.requires.own came.0.1) in
+    let refused = c.in-Err-decode_to.ensures.written _ came.0.0 (subst (λ s. IsCanonical s (g.M.RestateEncodableMessage.wire_form c.args.message.now c.args.version).parts c.in-Ok-Some.received.payload) c.requires.own came.0.1) in
     search (rules, refused)

@@ -1,0 +1,9 @@
+//! The peer of journal_list: prints a line for each item of the stream on the standard input: list [5..9]
+
+use std::process::ExitCode;
+
+use pendratsoa_bench::{list, reading};
+
+fn main() -> ExitCode {
+    reading::run(list::list)
+}

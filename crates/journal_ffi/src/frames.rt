@@ -1,0 +1,40 @@
+//! The calls that make headers and frames.
+
+ghost use Rattle.journal_calls.specs.Answers.{Answers, Writes};
+ghost use Rattle.journal_calls.specs.Headers.{AnswersHeader};
+ghost use Rattle.journal_calls.specs.Payloads.{AnswersFrame};
+
+use journal_calls::answer::answer_of;
+use journal_calls::{frames, headers};
+use std::alloc::Global;
+
+/// Writes the eight bytes of the header that a message of the type that has the code has at a version from 5 to 9, by the length of its
+/// payload in bytes. `Unknown` where the number stands for no version or the code for no type; a custom entry has a header.
+#[unsafe(no_mangle)]
+pub extern "C" fn journal_header(
+    version: u32,
+    code: u16,
+    payload_length: u32,
+    out: &mut [u8],
+) -> i64
+    ensures { Answers result (Writes (AnswersHeader version code payload_length) out.old out.new) }
+{
+    answer_of(headers::write_header(version, code, payload_length, out))
+}
+
+/// Decodes a payload for the named message type that has the code, and writes the frame of that message at a version from 5 to 9.
+///
+/// `Malformed` where it is not well-formed for the type, `TooLong` where the payload of the frame would have more than 4,294,967,295 bytes,
+/// `Unknown` where the number stands for no version or the code for no named type.
+#[unsafe(no_mangle)]
+pub extern "C" fn journal_frame(
+    alloc: Global,
+    version: u32,
+    code: u16,
+    payload: &[u8],
+    out: &mut [u8],
+) -> i64
+    ensures { Answers result (Writes (AnswersFrame version code payload.now) out.old out.new) }
+{
+    answer_of(frames::write_frame(alloc, version, code, payload, out))
+}

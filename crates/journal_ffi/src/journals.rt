@@ -1,0 +1,39 @@
+//! The call that compares two journals.
+
+ghost use Rattle.std.specs.Prelude.{nat_lt, length};
+ghost use Rattle.journal_calls.specs.Answers.{Answers};
+ghost use Rattle.journal_calls.specs.Journals.{AnswersVerdict, WritesVerdict};
+
+use journal_calls::answer::answer_of;
+use journal_calls::journals;
+use std::alloc::Global;
+
+/// Compares a journal that was recorded with one that is replayed, both streams of a version from 5 to 9, command by command, and writes
+/// two numbers, the kind of the verdict and its index, and the text of a mismatch. The content of user data is not compared where
+/// `ignore_payloads` is another number than 0. The numbers are written also where there is no room for the text.
+///
+/// `Unknown` where the number stands for no version, and else `NoRoom` where there is room for fewer than two numbers.
+#[unsafe(no_mangle)]
+pub extern "C" fn journal_verdict(
+    alloc: Global,
+    version: u32,
+    recorded: &[u8],
+    replayed: &[u8],
+    ignore_payloads: u32,
+    numbers: &mut [u64],
+    out: &mut [u8],
+) -> i64
+    ensures { Answers result (WritesVerdict (AnswersVerdict version (length numbers.old) (nat_lt 0 ignore_payloads) recorded.now replayed.now)
+        numbers.old numbers.new out.old out.new) }
+{
+    let ignore_payloads = ignore_payloads != 0;
+    answer_of(journals::write_verdict(
+        alloc,
+        version,
+        recorded,
+        replayed,
+        ignore_payloads,
+        numbers,
+        out,
+    ))
+}

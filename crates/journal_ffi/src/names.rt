@@ -1,0 +1,41 @@
+//! The calls on names and numbers.
+
+ghost use Rattle.std.specs.Prelude.{◌≡◌, Ok, codes};
+ghost use Rattle.journal_calls.specs.Answers.{Answers, Writes};
+ghost use Rattle.journal_calls.specs.Names.{AnswersSchema, AnswersTypeCode, AnswersTypeName};
+
+use journal_calls::answer::answer_of;
+use journal_calls::names;
+
+/// Writes the version of the library, as "0.1.0".
+#[unsafe(no_mangle)]
+pub extern "C" fn journal_library_version(out: &mut [u8]) -> i64
+    ensures { Answers result (Writes (λ written. written ≡ Ok (codes "0.1.0")) out.old out.new) }
+{
+    answer_of(names::write_library_version(out))
+}
+
+/// The number of the schema that payloads of the type that has the code have at a version from 5 to 9. `Unknown` where the number stands for
+/// no version or the code for no named type.
+#[unsafe(no_mangle)]
+pub extern "C" fn journal_schema(version: u32, code: u16) -> i64
+    ensures { Answers result (AnswersSchema version code) }
+{
+    answer_of(names::schema(version, code))
+}
+
+/// Writes the name of the type that has the code, as "SleepCommand" or "CustomEntry(64513)". `Unknown` where no type has it.
+#[unsafe(no_mangle)]
+pub extern "C" fn journal_type_name(code: u16, out: &mut [u8]) -> i64
+    ensures { Answers result (Writes (AnswersTypeName code) out.old out.new) }
+{
+    answer_of(names::write_type_name(code, out))
+}
+
+/// The code of the named type that has the name, as "SleepCommand". `Unknown` where none has.
+#[unsafe(no_mangle)]
+pub extern "C" fn journal_type_code(name: &[u8]) -> i64
+    ensures { Answers result (AnswersTypeCode name.now) }
+{
+    answer_of(names::type_code(name))
+}

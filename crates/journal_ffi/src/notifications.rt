@@ -1,0 +1,28 @@
+//! The call that reads notifications.
+
+ghost use Rattle.journal_calls.specs.Answers.{Answers};
+ghost use Rattle.journal_calls.specs.Notifications.{WritesNotification};
+
+use journal_calls::answer::answer_of;
+use journal_calls::notifications;
+use std::alloc::Global;
+
+/// Reads the id and the result of a notification, of whichever type. Writes four numbers: which of the three its id is (0 a completion, 1 a
+/// signal, 2 a signal's name), the number of the id, the length of the name in bytes, and which of the five its result is (0 a void, 1 a value,
+/// 2 a failure, 3 the id of an invocation, 4 the keys of a state); and as bytes the name, and behind it the result's canonical payload or text.
+///
+/// The answer is how many bytes these are; where there is no room for them, the numbers are written nevertheless. `Unknown` where the code is
+/// that of no notification, else `NoRoom` where there is room for fewer than four numbers, else `Malformed`, then `NoId`, then `NoResult`, and
+/// last `TooLong`.
+#[unsafe(no_mangle)]
+pub extern "C" fn journal_notification(
+    alloc: Global,
+    code: u16,
+    payload: &[u8],
+    numbers: &mut [u64],
+    out: &mut [u8],
+) -> i64
+    ensures { Answers result (WritesNotification code payload.now numbers.old numbers.new out.old out.new) }
+{
+    answer_of(notifications::write_notification(alloc, code, payload, numbers, out))
+}

@@ -1,0 +1,57 @@
+//! The calls on payloads, by their schemas.
+
+ghost use Rattle.std.specs.Prelude.{[], ◌∷◌};
+ghost use Rattle.journal_calls.specs.Answers.{Answers, Writes};
+ghost use Rattle.journal_calls.specs.Payloads.{AnswersCanonical, AnswersJson, AnswersWellFormed};
+
+use journal_calls::answer::answer_of;
+use journal_calls::payloads;
+use std::alloc::Global;
+
+/// 1 where a payload is well-formed for a schema, by its number (its place in the table), and else 0. `Unknown` where no schema has the number.
+#[unsafe(no_mangle)]
+pub extern "C" fn journal_is_well_formed(alloc: Global, schema: u32, payload: &[u8]) -> i64
+    ensures { Answers result (AnswersWellFormed schema payload.now) }
+{
+    answer_of(payloads::is_well_formed(alloc, schema, payload))
+}
+
+/// Decodes a payload for a schema, and writes the canonical payload of what it means.
+///
+/// `Malformed` where it is not well-formed for the schema, `TooLong` where the canonical payload has more than 4,294,967,295 bytes, `Unknown`
+/// where no schema has the number.
+#[unsafe(no_mangle)]
+pub extern "C" fn journal_canonical(
+    alloc: Global,
+    schema: u32,
+    payload: &[u8],
+    out: &mut [u8],
+) -> i64
+    ensures { Answers result (Writes (AnswersCanonical schema payload.now []) out.old out.new) }
+{
+    answer_of(payloads::write_canonical(alloc, schema, payload, out))
+}
+
+/// Decodes the first payload for a schema, merges the second into it, and writes the canonical payload of the outcome. `Malformed` where one
+/// of the two is not well-formed; the other refusals are those of `journal_canonical`.
+#[unsafe(no_mangle)]
+pub extern "C" fn journal_merge(
+    alloc: Global,
+    schema: u32,
+    first: &[u8],
+    second: &[u8],
+    out: &mut [u8],
+) -> i64
+    ensures { Answers result (Writes (AnswersCanonical schema first.now (second.now ∷ [])) out.old out.new) }
+{
+    answer_of(payloads::write_merged(alloc, schema, first, second, out))
+}
+
+/// Decodes a payload for a schema, and writes the JSON of what it means, in protobuf's own form. The refusals are those of
+/// `journal_canonical`.
+#[unsafe(no_mangle)]
+pub extern "C" fn journal_json(alloc: Global, schema: u32, payload: &[u8], out: &mut [u8]) -> i64
+    ensures { Answers result (Writes (AnswersJson schema payload.now) out.old out.new) }
+{
+    answer_of(payloads::write_json(alloc, schema, payload, out))
+}

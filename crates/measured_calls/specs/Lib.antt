@@ -1,0 +1,4 @@
+pub mod Pieces
+pub mod Rounds
+pub mod Streams
+pub mod Comparisons

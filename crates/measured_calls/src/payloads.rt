@@ -1,0 +1,24 @@
+//! Payloads.
+
+ghost use Rattle.journal_calls.specs.Payloads.{AnswersWellFormed};
+
+use crate::rounds::repeated;
+use journal_calls::answer::Refusal;
+use journal_calls::payloads;
+use std::alloc::Global;
+
+/// Answers so many times over (0 counts as 1) whether a payload is well-formed for a schema: 1, and else 0.
+pub fn is_well_formed(
+    alloc: Global,
+    schema: u32,
+    payload: &[u8],
+    rounds: usize,
+) -> Result<usize, Refusal>
+    ensures { AnswersWellFormed schema payload.now result }
+{
+    repeated(
+        rounds,
+        &mut [],
+        |_words| payloads::is_well_formed(alloc, schema, payload),
+    )
+}

@@ -1,0 +1,20 @@
+//! Work that is done several times over.
+
+ghost use Rattle.measured_calls.specs.Rounds.{AnswersInRounds, WorksAt};
+
+use journal_calls::answer::Refusal;
+
+/// Does the work so many times over (0 counts as 1), each time on the same words, and answers what the last answers. A refusal ends it.
+pub fn repeated<T: Drop, F: Fn(&mut [u64]) -> Result<T, Refusal>>(
+    rounds: usize,
+    words: &mut [u64],
+    work: F,
+) -> Result<T, Refusal>
+    requires { F.IsAlwaysCallable work }
+    ensures { AnswersInRounds (WorksAt F.Fn work) rounds words.old result words.new }
+{
+    for _round in 0..rounds.saturating_sub(1) {
+        work(words)?;
+    }
+    work(words)
+}

@@ -1,0 +1,75 @@
+//! Messages: records with a type, and what they are written as.
+
+ghost use Rattle.std.specs.Prelude.{◌≡◌, ◌≤◌, ◌<◌, ◌+◌, ◌^◌, ◌++◌, Bool, IfOk, OnOk, OnErr, IsErr, Err, false, MatchBool, vec_len, vec_capacity};
+ghost use Rattle.std.specs.Result.{IsErrOf};
+ghost use Rattle.shared_core_base.specs.declared.header.MessageType.{MessageType as AnyType};
+ghost use Rattle.shared_core_base.specs.MessageType.{IsNamed};
+ghost use Rattle.shared_core_base.specs.declared.version.Version.{Version as AnyVersion};
+ghost use Rattle.shared_core_record.specs.declared.error.EncodingError.TheVariants.{PayloadTooLong, OutOfMemory};
+ghost use Rattle.shared_core_message.specs.Frames.{WireForm, WireFits, wire_size, wire_frame};
+ghost use Rattle.shared_core_message.specs.Messages.{IsSchemaOf};
+
+use bytes::Bytes;
+use shared_core_base::header::MessageType;
+use shared_core_base::version::Version;
+use shared_core_record::error::EncodingError;
+use shared_core_record::record::WireRecord;
+use std::alloc::Global;
+
+/// A record that is the payload of messages of a type.
+pub trait RestateMessage: WireRecord {
+    /// The type of its messages.
+    ghost message_type: { AnyType };
+
+    /// The type of its messages.
+    fn ty() -> MessageType
+        ensures { result ≡ message_type };
+
+    /// It is a type that has a name.
+    ghost named: { IsNamed message_type };
+
+    /// The record's schema is one that payloads of the type have.
+    ghost own_schema: { IsSchemaOf message_type Self.schema };
+}
+
+/// A message that can be written. Its header says its type.
+pub trait RestateEncodableMessage: RestateMessage {
+    /// What it is written as at a version.
+    ghost wire_form: { Self → AnyVersion → WireForm };
+
+    /// Whether it is written as another record at a version, for which memory is asked first.
+    ghost is_rewritten: { AnyVersion → Bool };
+
+    /// Appends the frame: the header's eight bytes and the canonical payload of what it is written as.
+    ///
+    /// The errors are those of `encode`; `OutOfMemory` comes only where the buffer has too little room, or where the message is rewritten
+    /// first. After either the buffer holds what it held, and the message stands.
+    fn encode_into(&self, version: Version, out: &mut Vec<u8>) -> Result<(), EncodingError>
+        ensures ok { OnOk result (out.new.items ≡ out.old.items ++ wire_frame Self.message_type (wire_form self.now version)) }
+        ensures short { OnOk result (wire_size (wire_form self.now version) < 2 ^ 32) }
+        // what is written is a value of its schema
+        ensures fits { OnOk result (WireFits (wire_form self.now version)) }
+        ensures unchanged { OnErr result (out.new.items ≡ out.old.items) }
+        ensures full { is_rewritten version ≡ false → IsErrOf result OutOfMemory → vec_capacity out.old < vec_len out.old + (8 + wire_size (wire_form self.now version)) }
+        ensures too_long { IsErrOf result PayloadTooLong → 2 ^ 32 ≤ wire_size (wire_form self.now version) }
+        ensures refused { 2 ^ 32 ≤ wire_size (wire_form self.now version)
+            → MatchBool (is_rewritten version) (IsErr result) (result ≡ Err PayloadTooLong) };
+
+    /// The frame: the header's eight bytes and the canonical payload of what it is written as.
+    ///
+    /// `PayloadTooLong` exactly where that payload has more than 4,294,967,295 bytes, which is known before memory is asked for, unless the
+    /// message is rewritten first. `OutOfMemory` where a request for memory was refused. The message stands after either.
+    final fn encode(&self, alloc: Global, version: Version) -> Result<Bytes, EncodingError>
+        ensures ok { IfOk result (λ bytes. bytes ≡ wire_frame Self.message_type (wire_form self.now version)) }
+        ensures short { IfOk result (λ bytes. wire_size (wire_form self.now version) < 2 ^ 32) }
+        // what is written is a value of its schema
+        ensures fits { IfOk result (λ bytes. WireFits (wire_form self.now version)) }
+        ensures too_long { IsErrOf result PayloadTooLong → 2 ^ 32 ≤ wire_size (wire_form self.now version) }
+        ensures refused { 2 ^ 32 ≤ wire_size (wire_form self.now version)
+            → MatchBool (is_rewritten version) (IsErr result) (result ≡ Err PayloadTooLong) }
+    {
+        let mut frame = Vec::new(alloc);
+        self.encode_into(version, &mut frame)?;
+        Ok(Bytes::from_vec(frame)?)
+    }
+}

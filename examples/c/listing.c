@@ -1,0 +1,209 @@
+/*
+ * Lists the stream that comes on the standard input, in pieces of 4 KiB: listing [VERSION]
+ *
+ * A line is an item: the name of its type and the length of its payload, and " ack" where its header asks for an acknowledgement. A call
+ * has the names of its service and its handler besides. The last line counts the bytes that are in no item. VERSION is from 5 to 9, and 8 if it
+ * is not said. The status is 0 after a whole listing, 1 where the input, the output or memory fails, and 2 where the words are wrong.
+ *
+ *   cc -std=c99 listing.c $(pkg-config --cflags --libs pendratsoa) -o listing
+ */
+#include <inttypes.h>
+#include <stdio.h>
+#include <stdlib.h>
+#include <string.h>
+
+#include <pendratsoa.h>
+
+#define PIECE 4096
+
+/* Bytes that grow; those from `begin` to `end` are not used up yet. */
+struct buffer {
+    uint8_t *bytes;
+    size_t begin;
+    size_t end;
+    size_t room;
+};
+
+/* Makes room for so many bytes behind those that are held. Answers whether there is. */
+static int reserve(struct buffer *buffer, size_t count) {
+    size_t held = buffer->end - buffer->begin;
+    size_t room = buffer->room;
+    uint8_t *bytes;
+
+    if (buffer->bytes && room - buffer->end >= count) {
+        return 1;
+    }
+    if (buffer->bytes && held > 0) {
+        memmove(buffer->bytes, buffer->bytes + buffer->begin, held);
+    }
+    buffer->begin = 0;
+    buffer->end = held;
+    if (buffer->bytes && room - held >= count) {
+        return 1;
+    }
+    /* at least twice as much, so that what is held is seldom moved */
+    room = held + count > 2 * room ? held + count : 2 * room;
+    bytes = (uint8_t *)realloc(buffer->bytes, room);
+    if (!bytes) {
+        return 0;
+    }
+    buffer->bytes = bytes;
+    buffer->room = room;
+    return 1;
+}
+
+/* Puts the canonical payload of a payload into a buffer. Answers its length, or a refusal. */
+static int64_t canonical(uint32_t schema, const uint8_t *payload, size_t length, struct buffer *buffer) {
+    int64_t needed = journal_canonical(schema, payload, length, buffer->bytes, buffer->room);
+
+    if (needed >= 0 && (uint64_t)needed > buffer->room) {
+        if (!reserve(buffer, (size_t)needed)) {
+            return JOURNAL_OUT_OF_MEMORY;
+        }
+        needed = journal_canonical(schema, payload, length, buffer->bytes, buffer->room);
+    }
+    return needed;
+}
+
+/*
+ * Prints the text field of this number where it is the next of a canonical payload, and else no text. Answers the place behind it. The one
+ * spelling of a payload has the fields in order, and the length of a text in the fewest groups of seven bits.
+ */
+static const uint8_t *print_text(const uint8_t *at, const uint8_t *end, int number) {
+    size_t length = 0;
+    int shift = 0;
+
+    fputs(" \"", stdout);
+    if (at < end && *at == 8 * number + 2) {
+        at++;
+        do {
+            length |= (size_t)(*at & 0x7F) << shift;
+            shift += 7;
+        } while (*at++ & 0x80);
+        for (; length > 0; length--, at++) {
+            if (*at < ' ' || *at > '~' || *at == '"' || *at == '\\') {
+                printf("\\x%02x", *at);
+            } else {
+                putchar(*at);
+            }
+        }
+    }
+    putchar('"');
+    return at;
+}
+
+/* Prints the names of the service and of the handler of a call, its first two fields. Answers 0, or why there are none. */
+static int64_t print_call(uint32_t schema, const uint8_t *payload, size_t length, struct buffer *buffer) {
+    int64_t needed = canonical(schema, payload, length, buffer);
+
+    if (needed == JOURNAL_MALFORMED) {
+        fputs(" malformed", stdout);
+    } else if (needed < 0) {
+        return needed;
+    } else if (needed == 0) {
+        fputs(" \"\" \"\"", stdout);
+    } else {
+        const uint8_t *end = buffer->bytes + needed;
+        print_text(print_text(buffer->bytes, end, 1), end, 2);
+    }
+    return 0;
+}
+
+/* Answers the code of the type that has a name. */
+static int64_t code_of(const char *name) {
+    return journal_type_code((const uint8_t *)name, strlen(name));
+}
+
+/* Prints the line of an item. Answers 0, or a refusal. */
+static int64_t print_item(uint32_t version, const uint8_t *bytes, const uint64_t *item, struct buffer *buffer) {
+    const uint8_t *payload = bytes + item[JOURNAL_ITEM_PAYLOAD];
+    size_t length = (size_t)(item[JOURNAL_ITEM_SIZE] - item[JOURNAL_ITEM_PAYLOAD]);
+    uint16_t code = (uint16_t)item[JOURNAL_ITEM_CODE];
+    uint8_t name[64];
+    int64_t name_length = journal_type_name(code, name, sizeof name);
+    int64_t answer = 0;
+
+    switch (item[JOURNAL_ITEM_KIND]) {
+    case JOURNAL_UNKNOWN_CODE:
+        printf("unknown 0x%x\n", (unsigned)code);
+        return 0;
+    case JOURNAL_SKIPPED:
+        printf("skipped 0x%x %zu\n", (unsigned)code, length);
+        return 0;
+    default:
+        break;
+    }
+    if (name_length < 0 || (uint64_t)name_length > sizeof name) {
+        return JOURNAL_UNKNOWN;
+    }
+    printf("%.*s %zu", (int)name_length, (const char *)name, length);
+    if (item[JOURNAL_ITEM_ACK]) {
+        fputs(" ack", stdout);
+    }
+    if (code == code_of("CallCommand") || code == code_of("OneWayCallCommand")) {
+        answer = print_call((uint32_t)journal_schema(version, code), payload, length, buffer);
+    }
+    putchar('\n');
+    return answer;
+}
+
+/* Lists a stream. Answers null, or what fails. */
+static const char *list(uint32_t version, FILE *input, struct buffer *stream, struct buffer *scratch) {
+    uint64_t item[JOURNAL_ITEM_NUMBERS];
+
+    for (;;) {
+        int64_t missing, answer;
+        size_t count;
+
+        while (stream->end > stream->begin) {
+            const uint8_t *bytes = stream->bytes + stream->begin;
+            missing = journal_next(version, bytes, stream->end - stream->begin, item, JOURNAL_ITEM_NUMBERS);
+            if (missing != 0) {
+                break;
+            }
+            answer = print_item(version, bytes, item, scratch);
+            if (answer < 0) {
+                return answer == JOURNAL_OUT_OF_MEMORY ? "out of memory" : "a type has no name";
+            }
+            stream->begin += (size_t)item[JOURNAL_ITEM_SIZE];
+        }
+        if (!reserve(stream, PIECE)) {
+            return "out of memory";
+        }
+        count = fread(stream->bytes + stream->end, 1, PIECE, input);
+        stream->end += count;
+        if (count == 0) {
+            break;
+        }
+    }
+    if (ferror(input)) {
+        return "input failed";
+    }
+    printf("rest %zu\n", stream->end - stream->begin);
+    return NULL;
+}
+
+int main(int argc, char **argv) {
+    struct buffer stream = {NULL, 0, 0, 0};
+    struct buffer scratch = {NULL, 0, 0, 0};
+    uint32_t version = 8;
+    const char *failure;
+
+    if (argc == 2 && argv[1][0] >= '5' && argv[1][0] <= '9' && argv[1][1] == '\0') {
+        version = (uint32_t)(argv[1][0] - '0');
+    } else if (argc != 1) {
+        fputs("usage: listing [5..9]\n", stderr);
+        return 2;
+    }
+    failure = list(version, stdin, &stream, &scratch);
+    free(stream.bytes);
+    free(scratch.bytes);
+    if (!failure && (fflush(stdout) != 0 || ferror(stdout))) {
+        failure = "output failed";
+    }
+    if (failure) {
+        fprintf(stderr, "listing: %s\n", failure);
+        return 1;
+    }
+    return 0;
+}

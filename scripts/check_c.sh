@@ -1,0 +1,227 @@
+#!/bin/sh
+# The library for C as its users have it: scripts/install.sh puts it into a folder and takes it away again, and both libraries show the calls
+# of include/pendratsoa.h alone. The examples in C and Python list streams alike, and as scripts/list_stream.awk does; the conformance lines
+# are answered by the calls; and scripts/hostile_calls.c makes a million calls that nobody means well with.
+#
+# It takes the proved static library, which scripts/static_library.sh builds over what rt ci has proved. What needs a tool that is not there is
+# 'not run'. The last line is 'N passed, M failed'; it is '0 passed, 0 failed' where there is no library to be had.
+set -u
+cd "$(dirname "$0")/.." || exit 1
+
+# not_run WHY: says so and ends
+not_run() {
+  echo "check_c.sh: not run, since $1"
+  echo '0 passed, 0 failed'
+  exit 0
+}
+
+# without WHAT TOOL: says that something is not run
+without() {
+  echo "check_c.sh: $1: not run, since there is no $2"
+}
+
+for tool in cc ld objcopy ar nm; do
+  command -v $tool > /dev/null || not_run "there is no $tool"
+done
+sh scripts/static_library.sh
+case $? in
+  0) ;;
+  2) not_run 'there is no static library' ;;
+  *) echo '0 passed, 1 failed'; exit 1 ;;
+esac
+
+work=$(mktemp -d) || exit 1
+trap 'rm -rf "$work"' EXIT
+passed=0
+failed=0
+: > "$work/err"
+
+# outcome NAME STATUS: counts a case, which passed where the status is 0, and else shows what was said
+outcome() {
+  if [ "$2" -eq 0 ]; then
+    passed=$((passed + 1))
+  else
+    failed=$((failed + 1))
+    echo "failed: $1: status $2"
+    head -n 20 "$work/err"
+  fi
+}
+
+# case_of NAME COMMAND..: a case that is a command, which passed where its status is 0
+case_of() {
+  name=$1
+  shift
+  "$@" > "$work/log" 2> "$work/err"
+  status=$?
+  [ $status -eq 0 ] || head -n 20 "$work/log"
+  outcome "$name" $status
+}
+
+# counted NAME COMMAND..: a command whose last line is 'N passed, M failed'
+counted() {
+  name=$1
+  shift
+  "$@" > "$work/log" 2> "$work/err"
+  counts=$(sed -n '$p' "$work/log" | grep -E '^[0-9]+ passed, [0-9]+ failed$')
+  if [ -z "$counts" ]; then
+    outcome "$name" 1
+    return
+  fi
+  [ "${counts##*, }" = '0 failed' ] || head -n 20 "$work/log"
+  passed=$((passed + ${counts%% *}))
+  counts=${counts#*, }
+  failed=$((failed + ${counts%% *}))
+}
+
+# same NAME FILE FILE: two files are the same
+same() {
+  diff "$2" "$3" > "$work/err" 2>&1
+  outcome "$1" $?
+}
+
+# Installed beside a file of another's, below a folder whose name is not plain.
+prefix="$work/a prefix"
+mkdir -p "$prefix/lib"
+echo other > "$prefix/lib/other"
+for words in '' '--install' "$prefix other"; do
+  # shellcheck disable=SC2086 # the words are split
+  sh scripts/install.sh $words > "$work/out" 2> "$work/err"
+  [ $? -eq 2 ] && grep -q '^usage: install.sh' "$work/err"
+  outcome "install.sh $words" $?
+done
+CC=no-compiler sh scripts/install.sh "$prefix" > "$work/out" 2> "$work/err"
+[ $? -eq 2 ] && [ "$(cat "$work/err")" = 'install.sh: nothing is installed, since there is no no-compiler, and it needs a C compiler and binutils' ]
+outcome 'install.sh without a compiler' $?
+case_of 'install.sh' sh scripts/install.sh "$prefix"
+case_of 'install.sh again' sh scripts/install.sh "$prefix"
+if [ "$failed" -gt 0 ]; then
+  echo "$passed passed, $failed failed"
+  exit 1
+fi
+library=$prefix/lib/libpendratsoa.so
+
+# What the libraries show and need.
+awk '/^int64_t journal_/ { sub(/^int64_t /, ""); sub(/\(.*/, ""); print }' include/pendratsoa.h | sort > "$work/calls"
+nm -D --defined-only "$library" | awk '{ print $3 }' | sort > "$work/names"
+same 'the names of the shared library' "$work/calls" "$work/names"
+nm -g --defined-only "$prefix/lib/libpendratsoa.a" | awk 'NF == 3 { print $3 }' | sort > "$work/names"
+same 'the names of the static library' "$work/calls" "$work/names"
+nm -g --undefined-only "$prefix/lib/libpendratsoa.a" | awk 'NF == 2 { print $2 }' > "$work/names"
+grep -vxE 'malloc|realloc|free|mem(cpy|move|set|cmp)|bcmp|strlen' "$work/names" > "$work/err"
+[ ! -s "$work/err" ]
+outcome 'the static library needs the C library alone' $?
+readelf -d "$library" | sed -n 's/.*(\(NEEDED\|SONAME\)).*\[\(.*\)\]$/\1 \2/p' | sort > "$work/names"
+printf '%s\n' 'NEEDED libc.so.6' 'SONAME libpendratsoa.so.0' > "$work/wanted"
+same 'what the shared library needs and is called' "$work/wanted" "$work/names"
+
+# The program of the page, by pkg-config where it is there; the page has every call's refusals.
+awk '/^```c$/ { is_code = 1; next } /^```$/ { is_code = 0 } is_code' docs/C.md > "$work/page.c"
+sed -n 's/^It prints `\(.*\)`\..*/\1/p' docs/C.md > "$work/wanted"
+if command -v pkg-config > /dev/null; then
+  plain=$work/plain
+  ln -s "$prefix" "$plain"
+  sed "s|^prefix=.*|prefix=$plain|" "$prefix/lib/pkgconfig/pendratsoa.pc" > "$work/pendratsoa.pc"
+  # shellcheck disable=SC2046 # the flags are split
+  case_of 'the program of docs/C.md' cc -std=c99 -Wall -Wextra -Werror "$work/page.c" \
+    $(PKG_CONFIG_PATH=$work pkg-config --cflags --libs pendratsoa) -o "$work/page"
+  LD_LIBRARY_PATH=$prefix/lib "$work/page" > "$work/out" 2> "$work/err"
+  same 'what it prints' "$work/wanted" "$work/out"
+else
+  without 'the program of docs/C.md' pkg-config
+fi
+grep -o '^#define JOURNAL_[A-Z_]* (-[0-9])' include/pendratsoa.h | sed 's/#define \(.*\) (\(.*\))/\2 \1/' > "$work/wanted"
+sed -n 's/^| \(-[0-9]\) | `\(JOURNAL_[A-Z_]*\)` .*/\1 \2/p' docs/C.md > "$work/out"
+same 'the refusals of docs/C.md' "$work/wanted" "$work/out"
+
+# The example in C, without a warning of any compiler that is there, and with each library.
+strict='-Wall -Wextra -Wpedantic -Wconversion -Werror -O2'
+for compiler in 'cc -std=c99' 'cc -std=c17' 'c++ -x c++ -std=c++11' 'clang -std=c99' 'clang++ -x c++ -std=c++17'; do
+  if ! command -v "${compiler%% *}" > /dev/null; then
+    without "$compiler examples/c/listing.c" "${compiler%% *}"
+    continue
+  fi
+  # shellcheck disable=SC2086 # the flags are split
+  case_of "$compiler examples/c/listing.c" $compiler $strict -I "$prefix/include" -c examples/c/listing.c -o "$work/listing.o"
+done
+# shellcheck disable=SC2086 # the flags are split
+case_of 'the listing with the static library' cc -std=c99 $strict -I "$prefix/include" examples/c/listing.c "$prefix/lib/libpendratsoa.a" -o "$work/static"
+# shellcheck disable=SC2086 # the flags are split
+case_of 'the listing with the shared library' cc -std=c99 $strict -I "$prefix/include" examples/c/listing.c "$library" -o "$work/shared"
+PENDRATSOA_LIBRARY=$library
+PYTHONDONTWRITEBYTECODE=1
+export PENDRATSOA_LIBRARY PYTHONDONTWRITEBYTECODE
+python=
+! command -v python3 > /dev/null || python=python3
+[ -n "$python" ] || without 'the example in Python' python3
+
+# listed NAME STREAM VERSION: the examples list a stream alike, and but for the names behind calls as the lister does
+listed() {
+  "$work/static" "$3" < "$2" > "$work/out" 2> "$work/err"
+  outcome "$1 at $3" $?
+  od -An -v -t u1 "$2" | awk -v version="$3" -f scripts/list_stream.awk scripts/types.txt - > "$work/listing"
+  sed 's/^\([A-Z][A-Za-z]*CallCommand\|CallCommand\) \([0-9]*\) .*/\1 \2/' "$work/out" > "$work/short"
+  same "$1 at $3, beside the lister" "$work/listing" "$work/short"
+  LD_LIBRARY_PATH=$prefix/lib "$work/shared" "$3" < "$2" > "$work/again" 2> "$work/err"
+  same "$1 at $3, by the shared library" "$work/out" "$work/again"
+  if [ -n "$python" ]; then
+    "$python" examples/python/listing.py "$3" < "$2" > "$work/again" 2> "$work/err"
+    same "$1 at $3, in Python" "$work/out" "$work/again"
+  fi
+}
+
+listed 'a replay' examples/replay 8
+listed 'a recorded journal' examples/recorded 8
+grep -qx 'CallCommand 27 "Greeter" "greet"' "$work/out"
+outcome 'the names of a call' $?
+listed 'an unknown type' examples/unknown_type 9
+for kind in random mixed skipped; do
+  LC_ALL=C awk -v kind=$kind -v size=200000 -v seed=7 -f scripts/write_stream.awk scripts/types.txt > "$work/$kind"
+  version=8
+  [ $kind != skipped ] || version=9
+  listed "a $kind stream" "$work/$kind" $version
+done
+printf '\004\015\000\000\000\000\000\002\012\001' > "$work/malformed"
+"$work/static" < "$work/malformed" > "$work/out" 2> "$work/err"
+[ "$(sed 1q "$work/out")" = 'CallCommand 2 malformed' ]
+outcome 'a malformed call' $?
+"$work/static" 10 < examples/replay > "$work/out" 2> "$work/err"
+[ $? -eq 2 ] && [ ! -s "$work/out" ]
+outcome 'a version that is not spoken' $?
+if [ -c /dev/full ]; then
+  "$work/static" < examples/replay > /dev/full 2> "$work/err"
+  [ $? -eq 1 ] && [ "$(cat "$work/err")" = 'listing: output failed' ]
+  outcome 'a full output' $?
+fi
+
+# The module, and the conformance lines by it.
+if [ -n "$python" ]; then
+  case_of 'the tests of the module' "$python" -m unittest discover -s examples/python
+  cat conformance/*.txt > "$work/lines"
+  counted 'the conformance lines' "$python" scripts/conformance_calls.py < "$work/lines"
+fi
+
+# Calls that nobody means well with.
+# shellcheck disable=SC2086 # the flags are split
+case_of 'hostile_calls.c' cc -std=gnu99 -O2 -Wall -Wextra -Werror -I "$prefix/include" scripts/hostile_calls.c "$prefix/lib/libpendratsoa.a" \
+  -Wl,--wrap=malloc,--wrap=realloc,--wrap=free -pthread -o "$work/hostile"
+case_of 'a million hostile calls' "$work/hostile" 1 1000000
+cat "$work/log"
+case_of 'hostile calls in four threads' "$work/hostile" 2 100000 4
+if command -v valgrind > /dev/null; then
+  quiet='valgrind -q --error-exitcode=9 --leak-check=full'
+  # shellcheck disable=SC2086 # the words are split
+  case_of 'valgrind: hostile calls' $quiet "$work/hostile" --heap 3 20000
+  # shellcheck disable=SC2086 # the words are split
+  case_of 'valgrind: the listing' $quiet "$work/static" < "$work/mixed"
+else
+  without 'hostile calls and the listing' valgrind
+fi
+
+# Taken away, and nothing but that.
+case_of 'install.sh --uninstall' sh scripts/install.sh --uninstall "$prefix"
+find "$prefix" ! -type d > "$work/names"
+echo "$prefix/lib/other" > "$work/wanted"
+same 'what stands then' "$work/wanted" "$work/names"
+
+echo "$passed passed, $failed failed"
+[ "$failed" -eq 0 ]

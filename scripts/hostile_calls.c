@@ -1,0 +1,722 @@
+/*
+ * Calls the library for C as nobody does who means well: hostile_calls [--heap] SEED COUNT [THREADS]
+ *
+ * Each call is handed random slices and numbers, among them slices of no length that are null. A slice ends at a page that nothing may
+ * touch, or begins behind one, and has guard bytes at its other side. A call is made again with room of every size from none to what is
+ * needed, with too few numbers and with too many, and with each of its requests for memory refused in turn. After each call
+ *
+ * - what is read stands as it stood, and so do the guards and what is to be written, but for the bytes of the answer where there is room;
+ * - the answer is one that the header lists, and the same whatever the room;
+ * - a refused request for memory is JOURNAL_OUT_OF_MEMORY, and a call without that refusal asks for none;
+ * - no memory is held.
+ *
+ * Each thread makes the same calls, COUNT at least, and has to have the same answers. With --heap the slices are blocks of malloc of
+ * exactly their length, for valgrind to watch. Of 100,000 calls and more, each has to have answered, and to have been refused in each way
+ * that it lists but JOURNAL_TOO_LONG.
+ *
+ * It is linked with the static library and --wrap of malloc, realloc and free; scripts/check_c.sh does so.
+ */
+#define _GNU_SOURCE
+#include <pendratsoa.h>
+
+#include <inttypes.h>
+#include <pthread.h>
+#include <signal.h>
+#include <stdio.h>
+#include <stdlib.h>
+#include <string.h>
+#include <sys/mman.h>
+#include <unistd.h>
+
+#define GUARD 64
+#define MOST_INPUT 4096
+#define REGION (1 << 18)
+#define POOL 8
+#define POOLED 120
+#define MOST_NAMED 256
+
+void *__real_malloc(size_t size);
+void *__real_realloc(void *block, size_t size);
+void __real_free(void *block);
+
+/* The requests of the call that a thread makes, the one of them to be refused (0: none), whether it was, and the blocks that are held. */
+static __thread struct { long requests, refuse, held; int is_refused; } heap;
+
+static int is_refused(void) {
+    heap.requests++;
+    if (heap.requests != heap.refuse) {
+        return 0;
+    }
+    heap.is_refused = 1;
+    return 1;
+}
+
+void *__wrap_malloc(size_t size) {
+    void *block = is_refused() ? NULL : __real_malloc(size);
+    heap.held += block != NULL;
+    return block;
+}
+
+void *__wrap_realloc(void *block, size_t size) {
+    void *moved = is_refused() ? NULL : __real_realloc(block, size);
+    heap.held += !block && moved;
+    return moved;
+}
+
+void __wrap_free(void *block) {
+    heap.held -= block != NULL;
+    __real_free(block);
+}
+
+/* The calls, and what the header says of each. */
+
+enum call {
+    LIBRARY_VERSION, SCHEMA, TYPE_NAME, TYPE_CODE, NEXT, HEADER, FRAME, IS_WELL_FORMED, CANONICAL, MERGE, JSON, NOTIFICATION, HEADER_EQ,
+    DIFFERENCE, VERDICT, CALLS
+};
+
+#define REFUSALS 8
+#define BIT(refusal) (1u << -(refusal))
+#define UNKNOWN BIT(JOURNAL_UNKNOWN)
+#define MALFORMED BIT(JOURNAL_MALFORMED)
+#define MEMORY BIT(JOURNAL_OUT_OF_MEMORY)
+#define NO_ROOM BIT(JOURNAL_NO_ROOM)
+#define TOO_LONG BIT(JOURNAL_TOO_LONG)
+
+static const struct {
+    const char *name;
+    int inputs;
+    size_t numbers;
+    int writes;
+    unsigned refusals;
+} listed[CALLS] = {
+    [LIBRARY_VERSION] = {"journal_library_version", 0, 0, 1, 0},
+    [SCHEMA] = {"journal_schema", 0, 0, 0, UNKNOWN},
+    [TYPE_NAME] = {"journal_type_name", 0, 0, 1, UNKNOWN},
+    [TYPE_CODE] = {"journal_type_code", 1, 0, 0, UNKNOWN},
+    [NEXT] = {"journal_next", 1, JOURNAL_ITEM_NUMBERS, 0, UNKNOWN | NO_ROOM},
+    [HEADER] = {"journal_header", 0, 0, 1, UNKNOWN},
+    [FRAME] = {"journal_frame", 1, 0, 1, UNKNOWN | MALFORMED | MEMORY | TOO_LONG},
+    [IS_WELL_FORMED] = {"journal_is_well_formed", 1, 0, 0, UNKNOWN | MEMORY},
+    [CANONICAL] = {"journal_canonical", 1, 0, 1, UNKNOWN | MALFORMED | MEMORY | TOO_LONG},
+    [MERGE] = {"journal_merge", 2, 0, 1, UNKNOWN | MALFORMED | MEMORY | TOO_LONG},
+    [JSON] = {"journal_json", 1, 0, 1, UNKNOWN | MALFORMED | MEMORY | TOO_LONG},
+    [NOTIFICATION] = {"journal_notification", 1, JOURNAL_NOTIFICATION_NUMBERS, 1,
+                      UNKNOWN | MALFORMED | MEMORY | TOO_LONG | NO_ROOM | BIT(JOURNAL_NO_ID) | BIT(JOURNAL_NO_RESULT)},
+    [HEADER_EQ] = {"journal_header_eq", 2, 0, 0, UNKNOWN | MALFORMED | MEMORY},
+    [DIFFERENCE] = {"journal_difference", 2, 0, 1, UNKNOWN | MALFORMED | MEMORY},
+    [VERDICT] = {"journal_verdict", 2, JOURNAL_VERDICT_NUMBERS, 1, UNKNOWN | MEMORY | NO_ROOM},
+};
+
+/* Bytes that are made up, before they are handed over. */
+struct source {
+    uint8_t bytes[MOST_INPUT];
+    size_t length;
+};
+
+/* A slice that is handed over: its first byte, or null, and its guards. Byte i of these, and of what is to be written, is salt + 31 i. */
+struct slice {
+    uint8_t *at;
+    size_t length;
+    uint8_t *guard;
+    size_t guards;
+    uint8_t salt;
+    uint8_t *block;
+};
+
+enum place { FIRST, SECOND, NUMBERS, OUT, PLACES };
+
+struct request {
+    enum call call;
+    uint32_t version;
+    uint16_t code;
+    uint32_t schema;
+    uint32_t payload_length;
+    uint32_t ignore_payloads;
+    struct source source[2];
+};
+
+/* A thread's work. */
+struct work {
+    uint64_t seed;
+    long count;
+    int on_heap;
+    uint64_t random;
+    long calls;
+    long cases;
+    uint64_t digest;
+    long answers[CALLS][REFUSALS];
+    uint8_t *regions[PLACES];
+    struct slice slices[PLACES];
+    uint64_t numbers[JOURNAL_ITEM_NUMBERS];
+    uint8_t written[REGION];
+    uint16_t codes[MOST_NAMED];
+    size_t named;
+    struct { uint8_t length, bytes[POOLED]; } pool[JOURNAL_SCHEMAS][POOL];
+};
+
+static void fail(const char *why) {
+    perror(why);
+    exit(2);
+}
+
+static void wrong(const struct work *work, const struct request *request, const char *what, int64_t answer) {
+    flockfile(stdout);
+    printf("wrong: %s: %s: answer %" PRId64 ", room %zu, numbers %zu, version %" PRIu32 ", code 0x%04x, schema %" PRIu32 ", flag %" PRIu32
+           ", request %ld refused; seed %" PRIu64 ", case %ld\n",
+           listed[request->call].name, what, answer, work->slices[OUT].length, work->slices[NUMBERS].length / 8, request->version,
+           request->code, request->schema, request->ignore_payloads, heap.refuse, work->seed, work->cases);
+    for (int i = 0; i < listed[request->call].inputs; i++) {
+        printf("  input %d:", i);
+        for (size_t k = 0; k < request->source[i].length; k++) {
+            printf(" %02x", request->source[i].bytes[k]);
+        }
+        putchar('\n');
+    }
+    fflush(stdout);
+    exit(1);
+}
+
+/* The call that a thread makes. */
+static __thread const struct request *made;
+static __thread const struct work *maker;
+
+static void touched(int signal) {
+    (void)signal;
+    if (made) {
+        wrong(maker, made, "it touches what it was not handed", 0);
+    }
+    _exit(3);
+}
+
+/* Random numbers: splitmix64. */
+static uint64_t any(struct work *work) {
+    uint64_t number = work->random += UINT64_C(0x9E3779B97F4A7C15);
+    number = (number ^ number >> 30) * UINT64_C(0xBF58476D1CE4E5B9);
+    number = (number ^ number >> 27) * UINT64_C(0x94D049BB133111EB);
+    return number ^ number >> 31;
+}
+
+static uint32_t below(struct work *work, uint32_t bound) {
+    return (uint32_t)((any(work) >> 32) * bound >> 32);
+}
+
+static int one_of(struct work *work, uint32_t count) {
+    return below(work, count) == 0;
+}
+
+/* Takes bytes into the digest. */
+static void digest(struct work *work, const void *bytes, size_t length) {
+    const uint8_t *at = bytes;
+    for (size_t i = 0; i < length; i++) {
+        work->digest = (work->digest ^ at[i]) * UINT64_C(0x100000001B3);
+    }
+}
+
+/* Bytes to be read. */
+
+static void put(struct source *source, const void *bytes, size_t length) {
+    if (length > MOST_INPUT - source->length) {
+        length = MOST_INPUT - source->length;
+    }
+    memcpy(source->bytes + source->length, bytes, length);
+    source->length += length;
+}
+
+static void put_byte(struct source *source, uint8_t byte) {
+    put(source, &byte, 1);
+}
+
+static void put_varint(struct source *source, uint64_t number) {
+    for (; number > 0x7F; number >>= 7) {
+        put_byte(source, (uint8_t)(number | 0x80));
+    }
+    put_byte(source, (uint8_t)number);
+}
+
+static void put_any(struct work *work, struct source *source, size_t length) {
+    while (length-- > 0) {
+        put_byte(source, (uint8_t)any(work));
+    }
+}
+
+static uint64_t any_number(struct work *work) {
+    uint64_t number = any(work);
+    return one_of(work, 2) ? number % 20 : number >> below(work, 64);
+}
+
+/* Records of any fields, which may hold others. */
+static void put_records(struct work *work, struct source *source, int depth) {
+    for (uint32_t count = below(work, 4); count > 0; count--) {
+        uint64_t field = 1 + below(work, one_of(work, 8) ? 40 : 16);
+        struct source content;
+        size_t room = MOST_INPUT - source->length;
+
+        switch (below(work, 16)) {
+        default:
+            put_varint(source, field * 8 + 2);
+            content.length = 0;
+            if (depth > 0 && one_of(work, 2)) {
+                put_records(work, &content, depth - 1);
+            } else if (one_of(work, 4)) {
+                put_any(work, &content, below(work, 12));
+            } else {
+                put(&content, "t\xc3\xa9xt of a field", below(work, 16));
+            }
+            if (content.length > room) {
+                content.length = room;
+            }
+            put_varint(source, content.length);
+            put(source, content.bytes, content.length);
+            break;
+        case 8: case 9: case 10: case 11: case 12: case 13:
+            put_varint(source, field * 8);
+            put_varint(source, any_number(work));
+            break;
+        case 14:
+            put_varint(source, field * 8 + below(work, 8));
+            put_any(work, source, below(work, 9));
+            break;
+        case 15:
+            put_varint(source, field * 8 + 5);
+            put_any(work, source, 4);
+            break;
+        }
+    }
+}
+
+/* A payload for a schema: any bytes, any records, or what was well-formed before, twice, changed or cut. */
+static void put_payload(struct work *work, struct source *source, uint32_t schema) {
+    size_t begin = source->length;
+    uint32_t pick = below(work, 12);
+
+    if (pick == 0) {
+        put_any(work, source, below(work, 40));
+    } else if (pick < 5 || schema >= JOURNAL_SCHEMAS) {
+        put_records(work, source, 3);
+    } else {
+        for (uint32_t count = pick < 8 ? 1 : below(work, one_of(work, 40) ? 60 : 4); count > 0; count--) {
+            uint32_t place = below(work, POOL);
+            put(source, work->pool[schema][place].bytes, work->pool[schema][place].length);
+        }
+    }
+    if (source->length > begin && one_of(work, 8)) {
+        source->bytes[begin + below(work, (uint32_t)(source->length - begin))] = (uint8_t)any(work);
+    }
+    if (source->length > begin && one_of(work, 16)) {
+        source->length -= below(work, (uint32_t)(source->length - begin)) + 1;
+    }
+}
+
+static uint16_t any_code(struct work *work) {
+    return one_of(work, 6) ? (uint16_t)any(work) : work->codes[below(work, (uint32_t)work->named)];
+}
+
+static uint32_t any_version(struct work *work) {
+    if (one_of(work, 8)) {
+        return one_of(work, 2) ? (uint32_t)any(work) : below(work, 13);
+    }
+    return JOURNAL_FIRST_VERSION + below(work, JOURNAL_LAST_VERSION - JOURNAL_FIRST_VERSION + 1);
+}
+
+/* The schema of a code's payloads from version 7 on, or one that there is not. */
+static uint32_t schema_of(uint16_t code) {
+    int64_t schema = journal_schema(JOURNAL_LAST_VERSION, code);
+    return schema < 0 ? JOURNAL_SCHEMAS : (uint32_t)schema;
+}
+
+/* Frames, of which the last may be cut. Most are commands where journals are compared. */
+static void put_stream(struct work *work, struct source *source, int of_commands) {
+    for (uint32_t count = below(work, 6); count > 0; count--) {
+        uint16_t code = any_code(work);
+        struct source payload;
+        uint8_t header[8];
+
+        while (of_commands && (code < 0x400 || code >= 0x8000) && !one_of(work, 8)) {
+            code = any_code(work);
+        }
+        payload.length = 0;
+        put_payload(work, &payload, schema_of(code));
+        for (int i = 0; i < 4; i++) {
+            header[4 + i] = (uint8_t)(payload.length >> (24 - 8 * i));
+        }
+        header[0] = (uint8_t)(code >> 8);
+        header[1] = (uint8_t)code;
+        header[2] = one_of(work, 4) ? (uint8_t)any(work) : 0;
+        header[3] = one_of(work, 4) ? (uint8_t)any(work) : 0;
+        if (one_of(work, 32)) {
+            header[4 + below(work, 4)] = (uint8_t)any(work);
+        }
+        put(source, header, sizeof header);
+        put(source, payload.bytes, payload.length);
+    }
+    if (source->length > 0 && one_of(work, 6)) {
+        source->length -= below(work, (uint32_t)source->length);
+    }
+}
+
+/* Slices. */
+
+static uint8_t pattern(const struct slice *slice, size_t i) {
+    return (uint8_t)(slice->salt + 31 * i);
+}
+
+/* Hands over a slice of a length, filled by its pattern. */
+static void place(struct work *work, enum place which, size_t length) {
+    struct slice *slice = &work->slices[which];
+
+    slice->length = length;
+    slice->salt = (uint8_t)any(work);
+    slice->block = NULL;
+    slice->guards = 0;
+    slice->guard = NULL;
+    if (length == 0 && one_of(work, 2)) {
+        slice->at = NULL;
+        return;
+    }
+    if (work->on_heap) {
+        slice->at = slice->block = __real_malloc(length);
+        if (!slice->at) {
+            fail("malloc");
+        }
+    } else if (one_of(work, 2)) {
+        slice->at = work->regions[which];
+        slice->guard = slice->at + length;
+        slice->guards = GUARD;
+    } else {
+        slice->at = work->regions[which] + REGION - length;
+        slice->guard = slice->at - GUARD;
+        slice->guards = GUARD;
+    }
+    for (size_t i = 0; i < slice->guards; i++) {
+        slice->guard[i] = pattern(slice, i);
+    }
+    for (size_t i = 0; i < length; i++) {
+        slice->at[i] = pattern(slice, i);
+    }
+}
+
+/* Whether the guards of a slice stand, and its bytes from one on. */
+static int stands(const struct slice *slice, size_t from) {
+    for (size_t i = 0; i < slice->guards; i++) {
+        if (slice->guard[i] != pattern(slice, i)) {
+            return 0;
+        }
+    }
+    for (size_t i = from; i < slice->length; i++) {
+        if (slice->at[i] != pattern(slice, i)) {
+            return 0;
+        }
+    }
+    return 1;
+}
+
+static int64_t make(const struct request *r, const struct slice *slices) {
+    const struct slice *first = &slices[FIRST], *second = &slices[SECOND], *out = &slices[OUT];
+    uint64_t *numbers = (uint64_t *)(void *)slices[NUMBERS].at;
+    size_t count = slices[NUMBERS].length / 8;
+
+    switch (r->call) {
+    case LIBRARY_VERSION: return journal_library_version(out->at, out->length);
+    case SCHEMA: return journal_schema(r->version, r->code);
+    case TYPE_NAME: return journal_type_name(r->code, out->at, out->length);
+    case TYPE_CODE: return journal_type_code(first->at, first->length);
+    case NEXT: return journal_next(r->version, first->at, first->length, numbers, count);
+    case HEADER: return journal_header(r->version, r->code, r->payload_length, out->at, out->length);
+    case FRAME: return journal_frame(r->version, r->code, first->at, first->length, out->at, out->length);
+    case IS_WELL_FORMED: return journal_is_well_formed(r->schema, first->at, first->length);
+    case CANONICAL: return journal_canonical(r->schema, first->at, first->length, out->at, out->length);
+    case MERGE: return journal_merge(r->schema, first->at, first->length, second->at, second->length, out->at, out->length);
+    case JSON: return journal_json(r->schema, first->at, first->length, out->at, out->length);
+    case NOTIFICATION: return journal_notification(r->code, first->at, first->length, numbers, count, out->at, out->length);
+    case HEADER_EQ:
+        return journal_header_eq(r->code, first->at, first->length, second->at, second->length, r->ignore_payloads);
+    case DIFFERENCE:
+        return journal_difference(r->code, first->at, first->length, second->at, second->length, out->at, out->length);
+    case VERDICT:
+        return journal_verdict(r->version, first->at, first->length, second->at, second->length, r->ignore_payloads, numbers, count,
+                               out->at, out->length);
+    default: abort();
+    }
+}
+
+/* Makes a call with so much room, looks at all that the header says of any call, and keeps what was written. */
+static int64_t called(struct work *work, const struct request *request, size_t room, size_t numbers_room, long refuse) {
+    enum call call = request->call;
+    size_t written = 0, numbers = 0;
+    int64_t answer;
+
+    for (int i = 0; i < 2; i++) {
+        place(work, FIRST + i, request->source[i].length);
+        if (request->source[i].length > 0) {
+            memcpy(work->slices[FIRST + i].at, request->source[i].bytes, request->source[i].length);
+        }
+    }
+    place(work, NUMBERS, 8 * numbers_room);
+    place(work, OUT, room);
+    heap.requests = 0;
+    heap.refuse = refuse;
+    heap.is_refused = 0;
+    heap.held = 0;
+    maker = work;
+    made = request;
+    answer = make(request, work->slices);
+    made = NULL;
+    work->calls++;
+
+    if (answer >= 0) {
+        written = listed[call].writes && (uint64_t)answer <= room ? (size_t)answer : 0;
+        numbers = call == NEXT && answer > 0 ? 0 : listed[call].numbers;
+        work->answers[call][0]++;
+    } else if (answer <= -REFUSALS || !(listed[call].refusals & BIT(answer))) {
+        wrong(work, request, "a refusal that the header does not list", answer);
+    } else {
+        work->answers[call][-answer]++;
+    }
+    if (heap.held != 0) {
+        wrong(work, request, "memory is held after the call", answer);
+    }
+    if (heap.is_refused != (answer == JOURNAL_OUT_OF_MEMORY)) {
+        wrong(work, request, "a request for memory was refused and is not answered, or the other way round", answer);
+    }
+    if (heap.requests > 0 && !(listed[call].refusals & MEMORY)) {
+        wrong(work, request, "it asks for memory", answer);
+    }
+    for (int i = 0; i < 2; i++) {
+        const struct slice *slice = &work->slices[FIRST + i];
+        if (!stands(slice, slice->length) ||
+            (slice->length > 0 && memcmp(slice->at, request->source[i].bytes, slice->length) != 0)) {
+            wrong(work, request, "what is only read was written", answer);
+        }
+    }
+    if (8 * numbers > work->slices[NUMBERS].length || !stands(&work->slices[NUMBERS], 8 * numbers)) {
+        wrong(work, request, "numbers that are not the answer's were written", answer);
+    }
+    if (!stands(&work->slices[OUT], written)) {
+        wrong(work, request, "bytes that are not the answer's were written", answer);
+    }
+    if (numbers > 0) {
+        memcpy(work->numbers, work->slices[NUMBERS].at, 8 * numbers);
+        digest(work, work->numbers, 8 * numbers);
+    }
+    if (written > 0) {
+        memcpy(work->written, work->slices[OUT].at, written);
+        digest(work, work->written, written);
+    }
+    digest(work, &answer, sizeof answer);
+    for (int i = 0; i < PLACES; i++) {
+        if (work->slices[i].block) {
+            __real_free(work->slices[i].block);
+        }
+    }
+    return answer;
+}
+
+/* Makes a call as `called` does, which has to answer as before, with the same numbers, and the same bytes where there is room for them. */
+static void again(struct work *work, const struct request *request, int64_t answer, size_t room, size_t numbers_room) {
+    static __thread uint8_t bytes[REGION];
+    uint64_t numbers[JOURNAL_ITEM_NUMBERS];
+    size_t length = listed[request->call].writes && answer > 0 && answer <= REGION ? (size_t)answer : 0;
+
+    memcpy(numbers, work->numbers, sizeof numbers);
+    memcpy(bytes, work->written, length);
+    if (called(work, request, room, numbers_room, 0) != answer) {
+        wrong(work, request, "another answer than before", answer);
+    }
+    if (memcmp(numbers, work->numbers, sizeof numbers) != 0 || memcmp(bytes, work->written, length) != 0) {
+        wrong(work, request, "the same answer with other numbers or bytes", answer);
+    }
+}
+
+static void make_request(struct work *work, struct request *request) {
+    request->call = (enum call)below(work, CALLS);
+    request->version = any_version(work);
+    request->code = any_code(work);
+    request->schema = below(work, one_of(work, 16) ? 70 : JOURNAL_SCHEMAS);
+    if (one_of(work, 64)) {
+        request->schema = (uint32_t)any(work);
+    }
+    request->payload_length = (uint32_t)any(work);
+    request->ignore_payloads = one_of(work, 2) ? 0 : (uint32_t)any(work) % 3;
+    request->source[0].length = request->source[1].length = 0;
+    switch (request->call) {
+    case TYPE_CODE:
+        if (one_of(work, 2)) {
+            int64_t length = journal_type_name(request->code, request->source[0].bytes, MOST_INPUT);
+            request->source[0].length = length < 0 ? 0 : (size_t)length;
+        } else {
+            put_any(work, &request->source[0], below(work, 30));
+        }
+        break;
+    case NEXT:
+        put_stream(work, &request->source[0], 0);
+        break;
+    case VERDICT:
+        put_stream(work, &request->source[0], 1);
+        if (one_of(work, 2)) {
+            request->source[1] = request->source[0];
+        } else {
+            put_stream(work, &request->source[1], 1);
+        }
+        break;
+    case HEADER_EQ:
+    case DIFFERENCE:
+    case NOTIFICATION:
+        /* most codes are of no notification */
+        while (request->call == NOTIFICATION && request->code < 0x8000 && !one_of(work, 8)) {
+            request->code = any_code(work);
+        }
+        request->schema = schema_of(request->code);
+        put_payload(work, &request->source[0], request->schema);
+        break;
+    case FRAME:
+        put_payload(work, &request->source[0], schema_of(request->code));
+        break;
+    default:
+        if (listed[request->call].inputs > 0) {
+            put_payload(work, &request->source[0], request->schema);
+        }
+        break;
+    }
+    if (request->call == MERGE || request->call == HEADER_EQ || request->call == DIFFERENCE) {
+        put_payload(work, &request->source[1], request->schema);
+    }
+}
+
+/* Room for an answer, or none where no region is so long. */
+static size_t room_for(int64_t answer) {
+    return answer <= REGION - GUARD ? (size_t)answer : 0;
+}
+
+/* Makes a call in all ways. */
+static void try_case(struct work *work, struct request *request) {
+    enum call call;
+    size_t numbers, room;
+    int64_t answer;
+
+    make_request(work, request);
+    call = request->call;
+    numbers = listed[call].numbers;
+    room = listed[call].writes ? 1024 : 0;
+    work->cases++;
+    answer = called(work, request, room, numbers, 0);
+    if (listed[call].writes && answer > 0 && answer <= REGION - GUARD) {
+        size_t needed = (size_t)answer;
+        if (needed > room) {
+            called(work, request, needed, numbers, 0);
+        }
+        for (size_t less = needed <= 24 ? 0 : needed - 1; less < needed + 2; less++) {
+            again(work, request, answer, less, numbers);
+        }
+        again(work, request, answer, below(work, (uint32_t)needed), numbers);
+        again(work, request, answer, 0, numbers);
+    }
+    if (numbers > 0) {
+        int64_t refusal = called(work, request, room, below(work, (uint32_t)numbers), 0);
+        if (refusal != JOURNAL_NO_ROOM && (answer >= 0 || refusal != answer)) {
+            wrong(work, request, "too few numbers are taken", refusal);
+        }
+        if (answer >= 0) {
+            again(work, request, answer, listed[call].writes ? room_for(answer) : 0, numbers + 1 + below(work, 4));
+        }
+    }
+    if ((listed[call].refusals & MEMORY) && one_of(work, 4)) {
+        long refuse = 0;
+        do {
+            refuse++;
+        } while (refuse < 100 && called(work, request, room, numbers, refuse) == JOURNAL_OUT_OF_MEMORY);
+        if (answer >= 0) {
+            again(work, request, answer, listed[call].writes ? room_for(answer) : 0, numbers);
+        }
+    }
+    if (call == IS_WELL_FORMED && answer == 1 && request->source[0].length <= POOLED) {
+        uint32_t slot = below(work, POOL);
+        work->pool[request->schema][slot].length = (uint8_t)request->source[0].length;
+        memcpy(work->pool[request->schema][slot].bytes, request->source[0].bytes, request->source[0].length);
+    }
+}
+
+/* Bytes that have a page before them and one behind that nothing may touch. */
+static uint8_t *region(void) {
+    size_t page = (size_t)sysconf(_SC_PAGESIZE);
+    uint8_t *first = mmap(NULL, REGION + 2 * page, PROT_NONE, MAP_PRIVATE | MAP_ANONYMOUS, -1, 0);
+    if (first == MAP_FAILED || mprotect(first + page, REGION, PROT_READ | PROT_WRITE) != 0) {
+        fail("mmap");
+    }
+    return first + page;
+}
+
+static void *run(void *argument) {
+    struct work *work = argument;
+    struct request *request = __real_malloc(sizeof *request);
+
+    if (!request) {
+        fail("malloc");
+    }
+    for (int i = 0; i < PLACES; i++) {
+        work->regions[i] = region();
+    }
+    for (uint32_t code = 0; code <= 0xFFFF && work->named < MOST_NAMED; code++) {
+        if (journal_schema(JOURNAL_LAST_VERSION, (uint16_t)code) >= 0) {
+            work->codes[work->named++] = (uint16_t)code;
+        }
+    }
+    while (work->calls < work->count) {
+        try_case(work, request);
+    }
+    __real_free(request);
+    return NULL;
+}
+
+int main(int argc, char **argv) {
+    int on_heap = argc > 1 && strcmp(argv[1], "--heap") == 0;
+    long threads, failed = 0, memory = 0;
+    struct work *works;
+    pthread_t *started;
+
+    argv += on_heap;
+    argc -= on_heap;
+    if (argc < 3 || argc > 4) {
+        fputs("usage: hostile_calls [--heap] SEED COUNT [THREADS]\n", stderr);
+        return 2;
+    }
+    signal(SIGSEGV, touched);
+    signal(SIGBUS, touched);
+    threads = argc > 3 ? atol(argv[3]) : 1;
+    works = calloc((size_t)threads, sizeof *works);
+    started = calloc((size_t)threads, sizeof *started);
+    if (!works || !started) {
+        fail("calloc");
+    }
+    for (long i = 0; i < threads; i++) {
+        works[i].seed = works[i].random = strtoull(argv[1], NULL, 10);
+        works[i].count = atol(argv[2]);
+        works[i].on_heap = on_heap;
+        works[i].digest = UINT64_C(0xCBF29CE484222325);
+        if (pthread_create(&started[i], NULL, run, &works[i]) != 0) {
+            fail("pthread_create");
+        }
+    }
+    for (long i = 0; i < threads; i++) {
+        pthread_join(started[i], NULL);
+        if (works[i].digest != works[0].digest) {
+            printf("wrong: thread %ld has other answers than the first\n", i);
+            failed++;
+        }
+    }
+    for (int call = 0; call < CALLS; call++) {
+        memory += works[0].answers[call][-JOURNAL_OUT_OF_MEMORY];
+        for (int refusal = 0; refusal < REFUSALS; refusal++) {
+            int is_listed = refusal == 0 || (listed[call].refusals & ~TOO_LONG) >> refusal & 1;
+            if (works[0].count >= 100000 && is_listed && works[0].answers[call][refusal] == 0) {
+                printf("wrong: %s never answered %s%d\n", listed[call].name, refusal ? "-" : "at least ", refusal);
+                failed++;
+            }
+        }
+    }
+    printf("%ld calls of %d in %ld threads, %ld with a request for memory refused, answers %016" PRIx64 "\n", works[0].calls, CALLS,
+           threads, memory, works[0].digest);
+    free(works);
+    free(started);
+    return failed > 0;
+}

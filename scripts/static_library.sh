@@ -1,0 +1,90 @@
+#!/bin/sh
+# Builds the static library crates/journal_ffi/out/libjournal_ffi.a, with its proofs, where it is not there or older than a source.
+#
+# The toolchain builds no library that it has not proved. Over what rt ci has proved it takes half a minute, over what rt check keeps some
+# ten seconds, and from nothing every crate below is proved first. It prints the line of the verdict. Where there is no rt it has status 2.
+set -u
+cd "$(dirname "$0")/.." || exit 1
+
+top=$PWD
+library=crates/journal_ffi/out/libjournal_ffi.a
+
+# below CRATE: the crates of this repository on which a crate stands
+below() {
+  awk -F: -v crate="$1" '
+    /^#/ || !NF { next }
+    { split($1, name, " "); listed[name[1]] = $2 }
+    function visit(name,  words, count, i) {
+      if (!(name in listed) || name in seen) return
+      seen[name] = 1
+      count = split(listed[name], words, " ")
+      for (i = 1; i <= count; i++) visit(words[i])
+      if (name != crate) print name
+    }
+    END { visit(crate) }' crates.txt
+}
+
+# sources CRATE..: the folders and files that they are made of
+sources() {
+  echo crates.txt
+  for crate in "$@"; do
+    for part in src specs proofs; do
+      [ ! -d "crates/$crate/$part" ] || echo "crates/$crate/$part"
+    done
+  done
+}
+
+# is_newer FILE CRATE..: whether a file is there and none of the sources of these crates is newer
+is_newer() {
+  file=$1
+  shift
+  # shellcheck disable=SC2046 # no name has a space
+  [ -e "$file" ] && [ -z "$(find $(sources "$@") -newer "$file" -print | sed 1q)" ]
+}
+
+libraries=$(below journal_ffi)
+# shellcheck disable=SC2086 # the names are words
+if is_newer "$library" journal_ffi $libraries; then
+  exit 0
+fi
+if ! command -v rt > /dev/null; then
+  echo 'static_library.sh: not run, since there is no rt'
+  exit 2
+fi
+
+# The libraries that rt ci leaves have no stamp, and rt lib would prove them again; rattle itself takes them as they are.
+are_of_ci=yes
+for crate in $libraries; do
+  kept=crates/$crate/out/rlib
+  if [ -e "$kept/stamp" ] || ! is_newer "$kept/$crate.rlib" "$crate"; then
+    are_of_ci=no
+  fi
+done
+
+log=$(mktemp) || exit 1
+trap 'rm -f "$log"' EXIT
+cd crates/journal_ffi || exit 1
+if [ "$are_of_ci" = yes ]; then
+  kit=$(dirname "$(rt doc)")
+  set -- --extern "std=$kit/rlibs/std.rlib" -L "dependency=$kit/rlibs"
+  used=$(sed -n 's/^journal_ffi [^:]*://p' "$top/crates.txt")
+  for crate in $used; do
+    set -- "$@" --extern "$crate=$top/crates/$crate/out/rlib/$crate.rlib"
+  done
+  for crate in $libraries; do
+    set -- "$@" -L "dependency=$top/crates/$crate/out/rlib"
+  done
+  mkdir -p out
+  "$kit/bin/rattle" build --crate-name journal_ffi src/lib.rt "$@" --antt-project "$kit/rattle/logic/antt-project.json" \
+    --logic-built "$kit/logic_built" --jobs 2 --links journal_ffi= --crate-type staticlib --toolchain "$kit/toolchain" --backend llvm \
+    -o out/libjournal_ffi.a > "$log" 2>&1
+else
+  echo 'static_library.sh: proving what is not proved yet, which takes a quarter of an hour from nothing' >&2
+  rt lib > "$log" 2>&1
+fi
+status=$?
+if [ "$status" -ne 0 ]; then
+  cat "$log"
+  exit 1
+fi
+grep '^logic=proved ' "$log" | tail -n 1
