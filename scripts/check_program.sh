@@ -108,14 +108,12 @@ if [ -z "$program" ]; then
 fi
 
 # Each stream in pieces of the default size, of its own and of others: the listing is the same.
-for stream in ../../examples/*; do
-  case $stream in
-    *.stdout | *.args) continue ;;
-  esac
+for listing in ../../examples/*.stdout; do
+  stream=${listing%.stdout}
   for word in '' $(cat "$stream.args" 2> "$work/nothing.args") 1 7 65536; do
     "$program" ${word:+"$word"} < "$stream" > "$out" 2> "$err"
     status=$?
-    ended "journal_list $word < ${stream##*/}" 0 "$stream.stdout"
+    ended "journal_list $word < ${stream##*/}" 0 "$listing"
   done
 done
 

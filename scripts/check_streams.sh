@@ -50,11 +50,9 @@ same() {
 }
 
 # The lister itself, on the streams of examples/
-for stream in examples/*; do
-  case $stream in
-    *.stdout | *.args) continue ;;
-  esac
-  cp "$stream.stdout" "$work/listing"
+for listing in examples/*.stdout; do
+  stream=${listing%.stdout}
+  cp "$listing" "$work/listing"
   list < "$stream" > "$work/out" 2> "$work/err"
   same "the lister on $stream" $?
 done
