@@ -1,9 +1,9 @@
 -- The header of a payload in front of its frame.
-use Rattle.std.proofs.Common.{◌≡◌, ℕ, ◌+◌, ◌-◌, List, ◌++◌, Option, Some, None, Bool, true, false, cond, Result, Ok, Err, length, take, refl, sym, ap, ◌∙◌, arith, length-append}
+use Rattle.std.proofs.Common.{◌≡◌, ℕ, ◌+◌, ◌-◌, List, Option, Some, None, Bool, true, false, cond, Ok, length, take, refl, ap, ◌∙◌, arith, length-append}
 use Rattle.std.specs.Int.{w64, to_be_bytes}
 use Rattle.shared_core_base.specs.declared.version.Version.{Version}
 use Rattle.shared_core_base.specs.declared.header.MessageType.{MessageType}
-use Rattle.shared_core_base.specs.declared.header.MessageType.TheVariants.{Suspension, ProposeRunCompletion}
+use Rattle.shared_core_base.specs.declared.header.MessageType.TheVariants.{Suspension}
 use Rattle.shared_core_base.specs.MessageHeader.{word_of}
 use Rattle.shared_core_base.specs.MessageType.{type_of}
 use Rattle.shared_core_wire.specs.Value.{Parts}
@@ -12,9 +12,8 @@ use Rattle.shared_core_message.specs.Frames.{WireForm, header_of_payload, plain_
 use Rattle.shared_core_message.specs.Messages.{message_schema}
 use Rattle.shared_core_record.specs.Table as tables
 use Rattle.shared_core_runtime.specs.Flattening.{flattened}
-use Rattle.shared_core_runtime.specs.Versions.{is_before_v7, suspension_form}
+use Rattle.shared_core_runtime.specs.Versions.{is_before_v7}
 use Rattle.shared_core.specs.Visiting.{written_form}
-use Rattle.journal_calls.specs.declared.answer.Refusal.{Refusal}
 use Rattle.journal_calls.specs.Answers.{AtVersion, spoken_version}
 use Rattle.journal_calls.specs.Headers.{AnswersHeader, flag_at, header_at, header_answer}
 use Rattle.journal_calls.specs.Payloads.{AnswersFrame, AnswersFrameAt, AnswersFrameOf}

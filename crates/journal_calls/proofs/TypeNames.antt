@@ -1,16 +1,15 @@
--- The named types, by their codes and by their names.
-use Rattle.std.proofs.Common.{◌≡◌, ℕ, List, [], ◌∷◌, Option, Some, None, Result, Ok, Err, Bool, true, false, cond, eqb, map, refl, sym, ap, ◌∙◌}
-use Rattle.std.specs.Prelude.{bit_and, find, not, option_map}
+-- The named types, by their names.
+use Rattle.std.proofs.Common.{◌≡◌, ℕ, List, [], ◌∷◌, Option, Some, None, Ok, Err, Bool, true, false, cond, eqb, refl, sym, ap, ◌∙◌}
+use Rattle.std.specs.Prelude.{find, not}
 use Rattle.std.specs.List.{list_all}
-use Rattle.std.specs.Option.{ok_or, option_or}
 use Rattle.std.specs.Str.{bytes_eq}
 use Rattle.std.proofs.lemmas.Bool.{and_from, and_parts, both_ways}
 use Rattle.std.proofs.lemmas.Slice.Eq.{bytes_eq-Decides}
 use Rattle.shared_core_base.specs.declared.header.MessageType.{MessageType}
 use Rattle.shared_core_base.specs.declared.header.MessageType.TheVariants.{CustomEntry}
-use Rattle.shared_core_base.specs.MessageType.{IsNamed, code_of, custom_entry, debug_name_of, named_types, type_of}
+use Rattle.shared_core_base.specs.MessageType.{IsNamed, code_of, named_types, variant_name_of}
 use Rattle.journal_calls.specs.declared.answer.Refusal.TheVariants.{Unknown}
-use Rattle.journal_calls.specs.Names.{AnswersTypeCode, AnswersTypeName, name_in, names_of_types, type_in}
+use Rattle.journal_calls.specs.Names.{AnswersTypeCode, type_in}
 
 -- ---- what is found in a list
 
@@ -60,70 +59,31 @@ all_named : list_all is_named named_types ≡ true
 unfolding is_named named_types
 all_named = refl
 
--- ---- names by codes
-
-name_in-map : (types : List MessageType) (code : ℕ) → name_in (map (λ ty. (ty, debug_name_of ty)) types) code ≡ option_map debug_name_of (find (λ ty. eqb (code_of ty) code) types)
-name_in-map [] code = refl
-name_in-map (ty ∷ types) code =
-    elim (eqb (code_of ty) code) as (λ b. cond b (Some (debug_name_of ty)) (name_in (map (λ t. (t, debug_name_of t)) types) code)
-    ≡ option_map debug_name_of (cond b (Some ty) (find (λ t. eqb (code_of t) code) types))) [
+type_in-find : (types : List MessageType) (name : List ℕ) → type_in types name ≡ find (λ ty. bytes_eq (variant_name_of ty) name) types
+type_in-find [] name = refl
+type_in-find (ty ∷ types) name =
+    elim (bytes_eq (variant_name_of ty) name) as (λ b. cond b (Some ty) (type_in types name)
+    ≡ cond b (Some ty) (find (λ t. bytes_eq (variant_name_of t) name) types)) [
       | true ↦ refl
-      | false ↦ name_in-map types code
+      | false ↦ type_in-find types name
     ]
 
--- a name that a code finds is that of the type that the code stands for
-pub type_name_is : (code : ℕ) (name : List ℕ) → name_in names_of_types code ≡ Some name → AnswersTypeName code (Ok name)
-unfolding type_of named_type
-type_name_is code name is = answer (named_type code) (sym (name_in-map named_types code) ∙ is)
-  where
-    answer : (found : Option MessageType) → option_map debug_name_of found ≡ Some name
-        → Ok name ≡ ok_or (option_map debug_name_of (option_or found (custom_entry code))) Unknown
-    answer None same = absurd cc
-    answer (Some ty) same = let named : debug_name_of ty ≡ name = cc in ap Ok (sym named)
-
--- a code that finds no name, and stands for a type, stands for a custom entry
-pub custom_name_is : (code : ℕ) (ty : MessageType) → name_in names_of_types code ≡ None → type_of code ≡ Some ty
-    → AnswersTypeName code (Ok (debug_name_of (CustomEntry code)))
-unfolding type_of named_type
-custom_name_is code ty none known = answer (named_type code) (sym (name_in-map named_types code) ∙ none) known
-  where
-    custom : (b : Bool) → cond b None (Some (CustomEntry code)) ≡ Some ty
-        → Ok (debug_name_of (CustomEntry code)) ≡ ok_or (option_map debug_name_of (cond b None (Some (CustomEntry code)))) Unknown
-    custom true is = absurd cc
-    custom false is = refl
-
-    answer : (found : Option MessageType) → option_map debug_name_of found ≡ None → option_or found (custom_entry code) ≡ Some ty
-        → Ok (debug_name_of (CustomEntry code)) ≡ ok_or (option_map debug_name_of (option_or found (custom_entry code))) Unknown
-    answer None same is = custom (eqb (bit_and code 0xFC00) 0) is
-    answer (Some named) same is = absurd cc
-
--- ---- codes by names
-
-type_in-map : (types : List MessageType) (name : List ℕ) → type_in (map (λ ty. (ty, debug_name_of ty)) types) name ≡ find (λ ty. bytes_eq (debug_name_of ty) name) types
-type_in-map [] name = refl
-type_in-map (ty ∷ types) name =
-    elim (bytes_eq (debug_name_of ty) name) as (λ b. cond b (Some ty) (type_in (map (λ t. (t, debug_name_of t)) types) name)
-    ≡ cond b (Some ty) (find (λ t. bytes_eq (debug_name_of t) name) types)) [
-      | true ↦ refl
-      | false ↦ type_in-map types name
-    ]
-
--- the type that a name finds among the names of types has that name
-pub type_code_is : (name : List ℕ) (ty : MessageType) → type_in names_of_types name ≡ Some ty → AnswersTypeCode name (Ok (code_of ty))
+-- the type that a name finds among the named types has that name
+pub type_code_is : (name : List ℕ) (ty : MessageType) → type_in named_types name ≡ Some ty → AnswersTypeCode name (Ok (code_of ty))
 type_code_is name ty is =
-    let found : find (λ t. bytes_eq (debug_name_of t) name) named_types ≡ Some ty = sym (type_in-map named_types name) ∙ is in
-    let both = found_passes (λ t. bytes_eq (debug_name_of t) name) is_named named_types ty all_named found in
-    (ty, named_from ty both.1, (bytes_eq-Decides (debug_name_of ty) name).0 both.0, refl)
+    let found : find (λ t. bytes_eq (variant_name_of t) name) named_types ≡ Some ty = sym (type_in-find named_types name) ∙ is in
+    let both = found_passes (λ t. bytes_eq (variant_name_of t) name) is_named named_types ty all_named found in
+    (ty, named_from ty both.1, (bytes_eq-Decides (variant_name_of ty) name).0 both.0, refl)
 
 -- a name that finds none is the name of no named type
-pub no_type_code_is : (name : List ℕ) → type_in names_of_types name ≡ None → AnswersTypeCode name (Err Unknown)
+pub no_type_code_is : (name : List ℕ) → type_in named_types name ≡ None → AnswersTypeCode name (Err Unknown)
 unfolding named_type
 no_type_code_is name is ty named same =
-    let test : MessageType → Bool = λ t. bytes_eq (debug_name_of t) name in
-    let none : find test named_types ≡ None = sym (type_in-map named_types name) ∙ is in
+    let test : MessageType → Bool = λ t. bytes_eq (variant_name_of t) name in
+    let none : find test named_types ≡ None = sym (type_in-find named_types name) ∙ is in
     let fails : not (test ty) ≡ true =
     (found_passes (λ t. eqb (code_of t) (code_of ty)) (λ t. not (test t)) named_types ty (none_passes test named_types none) (found_by_code ty named)).1 in
-    let passes : test ty ≡ true = (bytes_eq-Decides (debug_name_of ty) name).1 same in
+    let passes : test ty ≡ true = (bytes_eq-Decides (variant_name_of ty) name).1 same in
     both_ways (test ty) (fails_is (test ty) fails) passes
   where
     fails_is : (b : Bool) → not b ≡ true → b ≡ false

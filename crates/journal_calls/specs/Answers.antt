@@ -2,6 +2,8 @@
 use Rattle.std.specs.Prelude.{◌≡◌, ℕ, ℤ, pos, negsuc, ◌^◌, nat_lt, nat_le, List, ◌++◌, drop, length, Option, Some, None, Result, Ok, Err, ◌==◌, if◌then◌else◌}
 use Rattle.shared_core_base.specs.declared.version.Version.{Version}
 use Rattle.shared_core_base.specs.declared.version.Version.TheVariants.{V5, V6, V7, V8, V9}
+use Rattle.shared_core_wire.specs.declared.error.WireError.{WireError}
+use Rattle.shared_core_wire.specs.declared.error.WireError.TheVariants as wire
 use Rattle.shared_core_record.specs.declared.error.EncodingError.{EncodingError}
 use Rattle.shared_core_record.specs.declared.error.EncodingError.TheVariants.{PayloadTooLong, OutOfMemory}
 use Rattle.journal_json.specs.declared.error.JsonError.{JsonError}
@@ -27,6 +29,11 @@ answer_number (Err refusal) = refusal_number refusal
 -- The number stands for an answer of which this holds.
 abbrev pub Answers : ℤ → (Result ℕ Refusal → Type 0) → Type 0
 Answers number holds = (answer : Result ℕ Refusal) × (number ≡ answer_number answer) × holds answer
+
+-- The refusal of a payload that was not read.
+abbrev pub wire_refusal : WireError → Refusal
+wire_refusal wire.Malformed = Malformed
+wire_refusal wire.OutOfMemory = NoMemory
 
 -- The refusal that an encoding error is.
 abbrev pub encoding_refusal : EncodingError → Refusal

@@ -6,17 +6,9 @@ use Rattle.shared_core_wire.specs.Value.{Parts}
 use Rattle.shared_core_record.specs.Payloads.{IsAccepted, payload_meaning}
 use Rattle.shared_core_compare.specs.Differences.{difference}
 use Rattle.shared_core_compare.specs.Erasure.{AreSame}
-use Rattle.shared_core.specs.Typed.{MeansParts}
 use Rattle.shared_core.specs.Visiting.{command_schema}
 use Rattle.journal_calls.specs.declared.answer.Refusal.{Refusal}
 use Rattle.journal_calls.specs.declared.answer.Refusal.TheVariants.{Malformed, OutOfMemory, Unknown}
-
--- A record has the parts that a payload means for the schema. Malformed where the payload is not well-formed. Memory may be wanting.
-abbrev pub MeansRecord : {M : Type 0} → ℕ → (M → Parts) → List ℕ → Result M Refusal → Type 0
-MeansRecord s parts payload (Ok decoded) = MeansParts s payload (parts decoded)
-MeansRecord s parts payload (Err Malformed) = ¬ (IsAccepted s payload)
-MeansRecord s parts payload (Err OutOfMemory) = Unit {0}
-MeansRecord s parts payload (Err refusal) = ⊥
 
 -- Where both payloads are well-formed for the schema, this holds of the answer and of the two commands that they mean; else it is
 -- Malformed. Memory may be wanting.

@@ -4,17 +4,26 @@ use Rattle.std.specs.List.{All, concat}
 use Rattle.shared_core_base.specs.declared.version.Version.{Version}
 use Rattle.shared_core_base.specs.declared.header.MessageType.{MessageType}
 use Rattle.shared_core_base.specs.MessageType.{type_of}
+use Rattle.shared_core_wire.specs.Value.{Parts}
 use Rattle.shared_core_wire.specs.Canonical.{canonical_payload, size}
 use Rattle.shared_core_record.specs.Table.{schemas, table}
 use Rattle.shared_core_record.specs.Payloads.{IsAccepted, payload_meaning}
 use Rattle.shared_core_message.specs.Frames.{WireForm, wire_size, wire_frame}
 use Rattle.shared_core_message.specs.Messages.{message_schema}
+use Rattle.shared_core.specs.Typed.{MeansParts}
 use Rattle.shared_core.specs.Visiting.{written_form}
 use Rattle.journal_json.specs.Form.{json_text}
 use Rattle.journal_json.specs.Payloads.{IsSpelling, IsTooLong}
 use Rattle.journal_calls.specs.declared.answer.Refusal.{Refusal}
 use Rattle.journal_calls.specs.declared.answer.Refusal.TheVariants.{Malformed, OutOfMemory, TooLong, Unknown}
 use Rattle.journal_calls.specs.Answers.{AtVersion, spoken_version}
+
+-- A record has the parts that a payload means for the schema. Malformed where the payload is not well-formed. Memory may be wanting.
+abbrev pub MeansRecord : {M : Type 0} → ℕ → (M → Parts) → List ℕ → Result M Refusal → Type 0
+MeansRecord s parts payload (Ok decoded) = MeansParts s payload (parts decoded)
+MeansRecord s parts payload (Err Malformed) = ¬ (IsAccepted s payload)
+MeansRecord s parts payload (Err OutOfMemory) = Unit {0}
+MeansRecord s parts payload (Err refusal) = ⊥
 
 -- Where each part of a payload is well-formed, the answer is the canonical payload of what the joined parts mean, or that it is too long for a header;
 -- else it is Malformed. Memory may be wanting.

@@ -5,8 +5,10 @@ ghost use Rattle.journal_calls.specs.Answers.{answer_number, spoken_version, wri
 
 use bytes::Bytes;
 use journal_json::JsonError;
+use shared_core::header::UnknownMessageType;
 use shared_core::messages::EncodingError;
 use shared_core::version::Version;
+use shared_core::wire::WireError;
 use std::alloc::AllocError;
 
 /// Why a call is refused.
@@ -36,6 +38,31 @@ impl From<AllocError> for Refusal {
 
     fn from(_error: AllocError) -> Refusal {
         Refusal::OutOfMemory
+    }
+}
+
+impl From<UnknownMessageType> for Refusal {
+    ghost use Rattle.std.specs.Prelude.{◌≡◌};
+    ghost use Rattle.journal_calls.specs.declared.answer.Refusal.TheVariants.{Unknown};
+
+    ghost from_gives = { λ _ refusal. refusal ≡ Unknown };
+
+    fn from(_error: UnknownMessageType) -> Refusal {
+        Refusal::Unknown
+    }
+}
+
+impl From<WireError> for Refusal {
+    ghost use Rattle.std.specs.Prelude.{◌≡◌};
+    ghost use Rattle.journal_calls.specs.Answers.{wire_refusal};
+
+    ghost from_gives = { λ error refusal. refusal ≡ wire_refusal error };
+
+    fn from(error: WireError) -> Refusal {
+        match error {
+            WireError::Malformed => Refusal::Malformed,
+            WireError::OutOfMemory => Refusal::OutOfMemory,
+        }
     }
 }
 

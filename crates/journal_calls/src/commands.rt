@@ -3,16 +3,16 @@
 ghost use Rattle.std.specs.Prelude.{Some, codes};
 ghost use Rattle.shared_core_compare.specs.Differences.{difference};
 ghost use Rattle.journal_calls.specs.Answers.{Writes};
-ghost use Rattle.journal_calls.specs.Commands.{AnswersDifference, AnswersSameness, ComparesPayloads, IsDifference, IsOneWhereSame, MeansRecord};
+ghost use Rattle.journal_calls.specs.Commands.{AnswersDifference, AnswersSameness, ComparesPayloads, IsDifference, IsOneWhereSame};
 
 use crate::answer::{Refusal, write_answer};
+use crate::payloads::decoded;
 use bytes::Bytes;
 use shared_core::fmt::DiffFormatter;
 use shared_core::header::MessageType;
 use shared_core::messages::{
     CommandMessage, CommandMessageHeaderDiff, CommandVisitor, visit_command,
 };
-use shared_core::wire::{WireError, WireRecord};
 use std::alloc::Global;
 use std::fmt;
 
@@ -29,19 +29,14 @@ pub fn header_eq(
 ) -> Result<usize, Refusal>
     ensures { AnswersSameness code ignore_payloads first.now second.now result }
 {
-    let Ok(ty) = MessageType::try_from(code) else {
-        return Err(Refusal::Unknown);
-    };
+    let ty = MessageType::try_from(code)?;
     let comparing = Comparing {
         alloc,
         first,
         second,
         ignore_payloads,
     };
-    match visit_command(ty, comparing) {
-        Some(answer) => answer,
-        None => Err(Refusal::Unknown),
-    }
+    visit_command(ty, comparing).ok_or(Refusal::Unknown)?
 }
 
 /// Writes a line for each printed field in which the commands that two payloads of a code mean differ: a line feed, three spaces and
@@ -65,18 +60,13 @@ pub fn write_difference(
 fn difference(alloc: Global, code: u16, first: &[u8], second: &[u8]) -> Result<Bytes, Refusal>
     ensures { AnswersDifference code first.now second.now result }
 {
-    let Ok(ty) = MessageType::try_from(code) else {
-        return Err(Refusal::Unknown);
-    };
+    let ty = MessageType::try_from(code)?;
     let printing = Printing {
         alloc,
         first,
         second,
     };
-    match visit_command(ty, printing) {
-        Some(answer) => answer,
-        None => Err(Refusal::Unknown),
-    }
+    visit_command(ty, printing).ok_or(Refusal::Unknown)?
 }
 
 /// Decodes two payloads, and answers 1 where the commands are the same, and else 0.
@@ -122,18 +112,6 @@ impl<'a> CommandVisitor for Printing<'a> {
         };
         let text = lines.to_string(self.alloc)?;
         Ok(Bytes::from_string(text)?)
-    }
-}
-
-/// The command that a payload means, as the record of its type.
-fn decoded<M: WireRecord>(alloc: Global, payload: &[u8]) -> Result<M, Refusal>
-    ensures { MeansRecord M.schema M.parts payload.now result }
-{
-    let payload = Bytes::copy_from_slice(alloc, payload)?;
-    match M::decode(alloc, payload) {
-        Ok(command) => Ok(command),
-        Err(WireError::Malformed) => Err(Refusal::Malformed),
-        Err(WireError::OutOfMemory) => Err(Refusal::OutOfMemory),
     }
 }
 

@@ -5,11 +5,11 @@ ghost use Rattle.journal_calls.specs.Answers.{Writes};
 ghost use Rattle.journal_calls.specs.Payloads.{AnswersFrame, AnswersFrameOf, SpellsFrame};
 
 use crate::answer::{Refusal, version_of, write_answer};
+use crate::payloads::decoded;
 use bytes::Bytes;
 use shared_core::encoding::Encoder;
 use shared_core::header::MessageType;
 use shared_core::messages::{MessageVisitor, RestateEncodableMessage, visit_message};
-use shared_core::wire::WireError;
 use std::alloc::Global;
 use std::fmt::Debug;
 
@@ -32,9 +32,7 @@ fn frame(alloc: Global, version: u32, code: u16, payload: &[u8]) -> Result<Bytes
     ensures { AnswersFrame version code payload.now result }
 {
     let encoder = Encoder::new(version_of(version)?);
-    let Ok(ty) = MessageType::try_from(code) else {
-        return Err(Refusal::Unknown);
-    };
+    let ty = MessageType::try_from(code)?;
     frame_of(alloc, encoder, ty, payload)
 }
 
@@ -52,10 +50,7 @@ fn frame_of(
         encoder,
         payload,
     };
-    match visit_message(ty, framing) {
-        Some(answer) => answer,
-        None => Err(Refusal::Unknown),
-    }
+    visit_message(ty, framing).ok_or(Refusal::Unknown)?
 }
 
 /// Decodes a payload to a record, and answers its frame.
@@ -72,12 +67,7 @@ impl<'a> MessageVisitor for Framing<'a> {
     ghost answers = { λ self ty schema answer. SpellsFrame ty schema self.encoder.version self.payload.now answer };
 
     fn visit<M: RestateEncodableMessage + Debug>(self) -> Result<Bytes, Refusal> {
-        let payload = Bytes::copy_from_slice(self.alloc, self.payload)?;
-        let message = match M::decode(self.alloc, payload) {
-            Ok(message) => message,
-            Err(WireError::Malformed) => return Err(Refusal::Malformed),
-            Err(WireError::OutOfMemory) => return Err(Refusal::OutOfMemory),
-        };
+        let message = decoded::<M>(self.alloc, self.payload)?;
         Ok(self.encoder.encode(self.alloc, &message)?)
     }
 }

@@ -19,9 +19,7 @@ pub fn write_header(
     ensures { Writes (AnswersHeader version code payload_length) out.old out.new result }
 {
     let version = version_of(version)?;
-    let Ok(ty) = MessageType::try_from(code) else {
-        return Err(Refusal::Unknown);
-    };
+    let ty = MessageType::try_from(code)?;
     let header = match requested_ack(version, ty) {
         Some(flag) => MessageHeader::new_with_requested_ack(ty, flag, payload_length),
         None => MessageHeader::new(ty, payload_length),

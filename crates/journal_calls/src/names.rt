@@ -1,10 +1,10 @@
 //! Names and numbers: of the library, of schemas and of types.
 
-ghost use Rattle.std.specs.Prelude.{◌≡◌, Ok, codes, length, map, option_map};
-ghost use Rattle.shared_core_base.specs.MessageType.{debug_name_of};
+ghost use Rattle.std.specs.Prelude.{◌≡◌, Ok, codes, length};
+ghost use Rattle.shared_core_base.specs.MessageType.{debug_name_of, named_types};
 ghost use Rattle.shared_core_base.specs.declared.header.MessageType.TheVariants.{CustomEntry};
 ghost use Rattle.journal_calls.specs.Answers.{Writes, written_over};
-ghost use Rattle.journal_calls.specs.Names.{AnswersSchema, AnswersTypeCode, AnswersTypeName, name_in, names_of_types, row_view, text_view, type_in};
+ghost use Rattle.journal_calls.specs.Names.{AnswersSchema, AnswersTypeCode, AnswersTypeName, type_in};
 
 use crate::answer::{Refusal, version_of, write_over};
 use arrayvec::ArrayString;
@@ -14,111 +14,6 @@ use shared_core::messages::schema_at;
 
 /// The version of the library.
 pub const LIBRARY_VERSION: &str = "0.1.0";
-
-/// The named types, each with its name.
-static TYPE_NAMES: [(MessageType, &str); 41] = [
-    (MessageType::Start, "Start"),
-    (MessageType::Suspension, "Suspension"),
-    (MessageType::Error, "Error"),
-    (MessageType::End, "End"),
-    (MessageType::ProposeRunCompletion, "ProposeRunCompletion"),
-    (MessageType::AwaitingOn, "AwaitingOn"),
-    (
-        MessageType::ProposeRunCompletionAck,
-        "ProposeRunCompletionAck",
-    ),
-    (
-        MessageType::GetStateEphemeralCommand,
-        "GetStateEphemeralCommand",
-    ),
-    (
-        MessageType::GetStateEphemeralNotification,
-        "GetStateEphemeralNotification",
-    ),
-    (MessageType::InputCommand, "InputCommand"),
-    (MessageType::OutputCommand, "OutputCommand"),
-    (MessageType::GetLazyStateCommand, "GetLazyStateCommand"),
-    (MessageType::SetStateCommand, "SetStateCommand"),
-    (MessageType::ClearStateCommand, "ClearStateCommand"),
-    (MessageType::ClearAllStateCommand, "ClearAllStateCommand"),
-    (
-        MessageType::GetLazyStateKeysCommand,
-        "GetLazyStateKeysCommand",
-    ),
-    (MessageType::GetEagerStateCommand, "GetEagerStateCommand"),
-    (
-        MessageType::GetEagerStateKeysCommand,
-        "GetEagerStateKeysCommand",
-    ),
-    (MessageType::GetPromiseCommand, "GetPromiseCommand"),
-    (MessageType::PeekPromiseCommand, "PeekPromiseCommand"),
-    (
-        MessageType::CompletePromiseCommand,
-        "CompletePromiseCommand",
-    ),
-    (MessageType::SleepCommand, "SleepCommand"),
-    (MessageType::CallCommand, "CallCommand"),
-    (MessageType::OneWayCallCommand, "OneWayCallCommand"),
-    (MessageType::SendSignalCommand, "SendSignalCommand"),
-    (MessageType::RunCommand, "RunCommand"),
-    (
-        MessageType::AttachInvocationCommand,
-        "AttachInvocationCommand",
-    ),
-    (
-        MessageType::GetInvocationOutputCommand,
-        "GetInvocationOutputCommand",
-    ),
-    (
-        MessageType::CompleteAwakeableCommand,
-        "CompleteAwakeableCommand",
-    ),
-    (
-        MessageType::GetLazyStateCompletionNotification,
-        "GetLazyStateCompletionNotification",
-    ),
-    (
-        MessageType::GetLazyStateKeysCompletionNotification,
-        "GetLazyStateKeysCompletionNotification",
-    ),
-    (
-        MessageType::GetPromiseCompletionNotification,
-        "GetPromiseCompletionNotification",
-    ),
-    (
-        MessageType::PeekPromiseCompletionNotification,
-        "PeekPromiseCompletionNotification",
-    ),
-    (
-        MessageType::CompletePromiseCompletionNotification,
-        "CompletePromiseCompletionNotification",
-    ),
-    (
-        MessageType::SleepCompletionNotification,
-        "SleepCompletionNotification",
-    ),
-    (
-        MessageType::CallCompletionNotification,
-        "CallCompletionNotification",
-    ),
-    (
-        MessageType::CallInvocationIdCompletionNotification,
-        "CallInvocationIdCompletionNotification",
-    ),
-    (
-        MessageType::RunCompletionNotification,
-        "RunCompletionNotification",
-    ),
-    (
-        MessageType::AttachInvocationCompletionNotification,
-        "AttachInvocationCompletionNotification",
-    ),
-    (
-        MessageType::GetInvocationOutputCompletionNotification,
-        "GetInvocationOutputCompletionNotification",
-    ),
-    (MessageType::SignalNotification, "SignalNotification"),
-];
 
 /// Writes the version of the library, and answers its length in bytes.
 pub fn write_library_version(out: &mut [u8]) -> Result<usize, Refusal>
@@ -132,27 +27,18 @@ pub fn schema(version: u32, code: u16) -> Result<usize, Refusal>
     ensures { AnswersSchema version code result }
 {
     let version = version_of(version)?;
-    let Ok(ty) = MessageType::try_from(code) else {
-        return Err(Refusal::Unknown);
-    };
-    match schema_at(version, ty) {
-        Some(schema) => Ok(schema as usize),
-        None => Err(Refusal::Unknown),
-    }
+    let ty = MessageType::try_from(code)?;
+    let schema = schema_at(version, ty).ok_or(Refusal::Unknown)?;
+    Ok(schema as usize)
 }
 
 /// Writes the name of the type that has a code, and answers its length in bytes.
 pub fn write_type_name(code: u16, out: &mut [u8]) -> Result<usize, Refusal>
     ensures { Writes (AnswersTypeName code) out.old out.new result }
 {
-    match type_name(code) {
-        Some(name) => Ok(write_text(name, out)),
-        None => {
-            let Ok(_) = MessageType::try_from(code) else {
-                return Err(Refusal::Unknown);
-            };
-            Ok(write_text(custom_entry_name(code).as_str(), out))
-        }
+    match MessageType::try_from(code)? {
+        MessageType::CustomEntry(code) => Ok(write_text(custom_entry_name(code).as_str(), out)),
+        ty => Ok(write_text(ty.variant_name(), out)),
     }
 }
 
@@ -167,33 +53,13 @@ pub fn type_code(name: &[u8]) -> Result<usize, Refusal>
     }
 }
 
-/// The named types, each with its name.
-#[tactic(auto, unfolding(shared_core_base::specs::MessageType::named_types))]
-fn named_types() -> &'static [(MessageType, &'static str)]
-    ensures { map row_view result.now ≡ names_of_types }
-{
-    &TYPE_NAMES
-}
-
 /// The named type that has a name.
 fn type_named(name: &[u8]) -> Option<MessageType>
-    ensures { result ≡ type_in names_of_types name.now }
+    ensures { result ≡ type_in named_types name.now }
 {
-    for (ty, known) in named_types() {
-        if known.as_bytes() == name {
+    for ty in MessageType::named() {
+        if ty.variant_name().as_bytes() == name {
             return Some(*ty);
-        }
-    }
-    None
-}
-
-/// The name of the named type that has a code.
-fn type_name(code: u16) -> Option<&'static str>
-    ensures { option_map text_view result ≡ name_in names_of_types code }
-{
-    for (ty, name) in named_types() {
-        if u16::from(*ty) == code {
-            return Some(*name);
         }
     }
     None

@@ -4,12 +4,12 @@ ghost use Rattle.std.specs.Prelude.{◌≡◌, ◌↔◌, ◌++◌, IsTrue, IfEr
 ghost use Rattle.journal_calls.specs.Notifications.{IsNotificationCode, ReadsNotification, RefusesResult, WritesNotification, id_name, notification_bytes, notification_numbers, result_bytes, result_kind};
 
 use crate::answer::{Refusal, write_over};
-use bytes::Bytes;
+use crate::payloads::decoded;
 use shared_core::header::MessageType;
 use shared_core::messages::{
     Notification, NotificationId, NotificationResult, NotificationTemplate,
 };
-use shared_core::wire::{WireError, WireRecord};
+use shared_core::wire::WireRecord;
 use std::alloc::Global;
 
 /// How many numbers a notification has.
@@ -57,18 +57,9 @@ fn is_notification(code: u16) -> bool
 fn read_notification(alloc: Global, payload: &[u8]) -> Result<Notification, Refusal>
     ensures { ReadsNotification payload.now result }
 {
-    let payload = Bytes::copy_from_slice(alloc, payload)?;
-    let NotificationTemplate { id, result } = match NotificationTemplate::decode(alloc, payload) {
-        Ok(template) => template,
-        Err(WireError::Malformed) => return Err(Refusal::Malformed),
-        Err(WireError::OutOfMemory) => return Err(Refusal::OutOfMemory),
-    };
-    let Some(id) = id else {
-        return Err(Refusal::NoId);
-    };
-    let Some(result) = result else {
-        return Err(Refusal::NoResult);
-    };
+    let template = decoded::<NotificationTemplate>(alloc, payload)?;
+    let id = template.id.ok_or(Refusal::NoId)?;
+    let result = template.result.ok_or(Refusal::NoResult)?;
     Ok(Notification { id, result })
 }
 

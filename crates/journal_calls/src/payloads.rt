@@ -2,19 +2,16 @@
 
 ghost use Rattle.std.specs.Prelude.{[], ◌∷◌, List};
 ghost use Rattle.journal_calls.specs.Answers.{Writes};
-ghost use Rattle.journal_calls.specs.Payloads.{AnswersCanonical, AnswersJson, AnswersMeaning, AnswersWellFormed, ChecksPayload, SpellsPayload};
+ghost use Rattle.journal_calls.specs.Payloads.{AnswersCanonical, AnswersJson, AnswersMeaning, AnswersWellFormed, ChecksPayload, MeansRecord, SpellsPayload};
 
 use crate::answer::{Refusal, write_answer};
 use bytes::Bytes;
 use journal_json::{write_canonical as spell_canonical, write_message};
 use json::Writer;
 use shared_core::messages::{RecordVisitor, visit_record};
-use shared_core::wire::{WireError, WireRecord, decode_parts};
+use shared_core::wire::{WireRecord, decode_parts};
 use std::alloc::Global;
 use std::fmt::Debug;
-
-/// How many schemas the table has.
-const SCHEMAS: u32 = 53;
 
 /// Writes the canonical payload of what a payload means.
 #[tactic(auto, using(crate::proofs::Writing::writes_answer))]
@@ -60,73 +57,63 @@ pub fn write_json(
 pub fn is_well_formed(alloc: Global, schema: u32, payload: &[u8]) -> Result<usize, Refusal>
     ensures { AnswersWellFormed schema payload.now result }
 {
-    if schema >= SCHEMAS {
-        return Err(Refusal::Unknown);
-    }
-    let payload = Bytes::copy_from_slice(alloc, payload)?;
-    match visit_record(schema, Checking { alloc, payload }) {
-        Some(answer) => answer,
-        None => Err(Refusal::Unknown),
-    }
+    visit_record(schema, Checking { alloc, payload }).ok_or(Refusal::Unknown)?
 }
 
 /// The canonical payload of what a payload means.
 fn canonical(alloc: Global, schema: u32, payload: &[u8]) -> Result<Bytes, Refusal>
     ensures { AnswersCanonical schema payload.now [] result }
 {
-    if schema >= SCHEMAS {
-        return Err(Refusal::Unknown);
+    visit_record(schema, Encoding { alloc, payload }).ok_or(Refusal::Unknown)?
+}
+
+/// Decodes a payload, and answers the canonical payload of what it means.
+#[derive(Drop)]
+struct Encoding<'a> {
+    alloc: Global,
+    payload: &'a [u8],
+}
+
+impl<'a> RecordVisitor for Encoding<'a> {
+    type Output = Result<Bytes, Refusal>;
+
+    ghost answers = { λ self schema answer. AnswersMeaning schema self.payload.now [] answer };
+
+    fn visit<M: WireRecord + Debug>(self) -> Result<Bytes, Refusal> {
+        let record = decoded::<M>(self.alloc, self.payload)?;
+        Ok(record.encode_payload(self.alloc)?)
     }
-    let payload = Bytes::copy_from_slice(alloc, payload)?;
-    canonical_of_parts(alloc, schema, payload, &[])
 }
 
 /// The canonical payload of what two payloads mean, the second merged into the first.
 fn merged(alloc: Global, schema: u32, first: &[u8], second: &[u8]) -> Result<Bytes, Refusal>
     ensures { AnswersCanonical schema first.now (second.now ∷ []) result }
 {
-    if schema >= SCHEMAS {
-        return Err(Refusal::Unknown);
-    }
-    let first = Bytes::copy_from_slice(alloc, first)?;
-    let second = Bytes::copy_from_slice(alloc, second)?;
-    canonical_of_parts(alloc, schema, first, &[second])
+    let merging = Merging {
+        alloc,
+        first,
+        second,
+    };
+    visit_record(schema, merging).ok_or(Refusal::Unknown)?
 }
 
-/// The canonical payload of what a payload means that comes in parts, for the schema at a place of the table.
-fn canonical_of_parts(
-    alloc: Global,
-    schema: u32,
-    first: Bytes,
-    rest: &[Bytes],
-) -> Result<Bytes, Refusal>
-    ensures { AnswersCanonical schema first rest.now result }
-{
-    match visit_record(schema, Merging { alloc, first, rest }) {
-        Some(answer) => answer,
-        None => Err(Refusal::Unknown),
-    }
-}
-
-/// Decodes a payload that comes in parts, and answers the canonical payload of what it means.
+/// Decodes a payload that comes in two parts, and answers the canonical payload of what it means.
 #[derive(Drop)]
 struct Merging<'a> {
     alloc: Global,
-    first: Bytes,
-    rest: &'a [Bytes],
+    first: &'a [u8],
+    second: &'a [u8],
 }
 
 impl<'a> RecordVisitor for Merging<'a> {
     type Output = Result<Bytes, Refusal>;
 
-    ghost answers = { λ self schema answer. AnswersMeaning schema self.first self.rest.now answer };
+    ghost answers = { λ self schema answer. AnswersMeaning schema self.first.now (self.second.now ∷ []) answer };
 
     fn visit<M: WireRecord + Debug>(self) -> Result<Bytes, Refusal> {
-        let record = match decode_parts::<M>(self.alloc, self.first, self.rest) {
-            Ok(record) => record,
-            Err(WireError::Malformed) => return Err(Refusal::Malformed),
-            Err(WireError::OutOfMemory) => return Err(Refusal::OutOfMemory),
-        };
+        let first = Bytes::copy_from_slice(self.alloc, self.first)?;
+        let second = Bytes::copy_from_slice(self.alloc, self.second)?;
+        let record = decode_parts::<M>(self.alloc, first, &[second])?;
         Ok(record.encode_payload(self.alloc)?)
     }
 }
@@ -135,14 +122,8 @@ impl<'a> RecordVisitor for Merging<'a> {
 fn json(alloc: Global, schema: u32, payload: &[u8]) -> Result<Bytes, Refusal>
     ensures { AnswersJson schema payload.now result }
 {
-    if schema >= SCHEMAS {
-        return Err(Refusal::Unknown);
-    }
-    let payload = Bytes::copy_from_slice(alloc, payload)?;
-    let canonical = match visit_record(schema, Spelling { alloc, payload }) {
-        Some(spelled) => spelled?,
-        None => return Err(Refusal::Unknown),
-    };
+    let spelling = Spelling { alloc, payload };
+    let canonical = visit_record(schema, spelling).ok_or(Refusal::Unknown)??;
     let mut text = Writer::new(Vec::new(alloc));
     let mut base64 = String::new(alloc);
     write_message(&mut text, &mut base64, schema, canonical.as_slice())?;
@@ -154,40 +135,49 @@ fn json(alloc: Global, schema: u32, payload: &[u8]) -> Result<Bytes, Refusal>
 
 /// Decodes a payload, and answers the canonical payload of what it means, from which the JSON is made.
 #[derive(Drop)]
-struct Spelling {
+struct Spelling<'a> {
     alloc: Global,
-    payload: Bytes,
+    payload: &'a [u8],
 }
 
-impl RecordVisitor for Spelling {
+impl<'a> RecordVisitor for Spelling<'a> {
     type Output = Result<Vec<u8>, Refusal>;
 
-    ghost answers = { λ self schema answer. SpellsPayload schema self.payload answer };
+    ghost answers = { λ self schema answer. SpellsPayload schema self.payload.now answer };
 
     fn visit<M: WireRecord + Debug>(self) -> Result<Vec<u8>, Refusal> {
+        let payload = Bytes::copy_from_slice(self.alloc, self.payload)?;
         let mut canonical = Vec::new(self.alloc);
-        spell_canonical::<M>(self.alloc, &self.payload, &mut canonical)?;
+        spell_canonical::<M>(self.alloc, &payload, &mut canonical)?;
         Ok(canonical)
     }
 }
 
 /// Decodes a payload, and answers whether it could: 1 or 0.
 #[derive(Drop)]
-struct Checking {
+struct Checking<'a> {
     alloc: Global,
-    payload: Bytes,
+    payload: &'a [u8],
 }
 
-impl RecordVisitor for Checking {
+impl<'a> RecordVisitor for Checking<'a> {
     type Output = Result<usize, Refusal>;
 
-    ghost answers = { λ self schema answer. ChecksPayload schema self.payload answer };
+    ghost answers = { λ self schema answer. ChecksPayload schema self.payload.now answer };
 
     fn visit<M: WireRecord + Debug>(self) -> Result<usize, Refusal> {
-        match M::decode(self.alloc, self.payload) {
+        match decoded::<M>(self.alloc, self.payload) {
             Ok(_record) => Ok(1),
-            Err(WireError::Malformed) => Ok(0),
-            Err(WireError::OutOfMemory) => Err(Refusal::OutOfMemory),
+            Err(Refusal::Malformed) => Ok(0),
+            Err(refusal) => Err(refusal),
         }
     }
+}
+
+/// The record that a payload means.
+pub fn decoded<M: WireRecord>(alloc: Global, payload: &[u8]) -> Result<M, Refusal>
+    ensures { MeansRecord M.schema M.parts payload.now result }
+{
+    let payload = Bytes::copy_from_slice(alloc, payload)?;
+    Ok(M::decode(alloc, payload)?)
 }

@@ -203,10 +203,15 @@ fn write_type(out: &mut Writer, ty: MessageType, text: &mut String) -> Result<()
     ensures tokens { OnOk result (out.new.tokens ≡ out.old.tokens ++ (key (codes "type") ∷ token.string (debug_name_of ty) ∷ [])) }
     ensures before { out.new.before ≡ out.old.before }
 {
-    text.clear();
-    write!(text, "{}", ty.debug_name())?;
     out.key("type")?;
-    out.string(text.as_str())
+    match ty {
+        MessageType::CustomEntry(_) => {
+            text.clear();
+            write!(text, "{}", ty.debug_name())?;
+            out.string(text.as_str())
+        }
+        ty => out.string(ty.variant_name()),
+    }
 }
 
 /// Writes a number as a member.

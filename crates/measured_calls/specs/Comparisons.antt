@@ -1,29 +1,14 @@
 -- What the call on commands answers.
-use Rattle.std.specs.Prelude.{◌≡◌, ℕ, Bool, ◌*◌, ◌^◌, ◌≤◌, List, Option, Some, None, Result, Ok, Err}
+use Rattle.std.specs.Prelude.{◌≡◌, ℕ, ◌*◌, ◌^◌, ◌≤◌, List, Option, Result, Ok, Err}
 use Rattle.shared_core_base.specs.declared.version.Version.{Version}
-use Rattle.shared_core_wire.specs.Value.{Parts}
-use Rattle.shared_core_record.specs.Payloads.{IsAccepted}
-use Rattle.shared_core_compare.specs.Erasure.{erased}
 use Rattle.shared_core.specs.declared.encoding.item.Item.{Item}
 use Rattle.shared_core.specs.declared.encoding.item.Item.TheVariants.{Message}
 use Rattle.shared_core.specs.Items.{IsItemsThen, SplitsInto}
-use Rattle.shared_core.specs.Typed.{MeansParts}
 use Rattle.shared_core.specs.Visiting.{command_schema}
 use Rattle.journal_calls.specs.declared.answer.Refusal.{Refusal}
 use Rattle.journal_calls.specs.declared.answer.Refusal.TheVariants.{Malformed, OutOfMemory, TooLong}
 use Rattle.journal_calls.specs.Answers.{AtVersion, spoken_version}
 use Rattle.measured_calls.specs.Streams.{AllDecode, HasMalformed, IsAcceptedFor, count_with, one_with}
-
--- A record has the parts that a payload means for the schema. Malformed where the payload is not well-formed.
-abbrev pub MeansRecord : {M : Type 0} → ℕ → (M → Parts) → List ℕ → Result M Refusal → Type 0
-MeansRecord s parts payload (Ok decoded) = MeansParts s payload (parts decoded)
-MeansRecord s parts payload (Err Malformed) = ¬ (IsAccepted s payload)
-MeansRecord s parts payload (Err OutOfMemory) = Unit {0}
-MeansRecord s parts payload (Err refusal) = ⊥
-
--- Two commands of a schema are the same without what is not compared.
-abbrev pub AreSame : ℕ → Bool → Parts → Parts → Type 0
-AreSame s ignore_payloads a b = erased s ignore_payloads a ≡ erased s ignore_payloads b
 
 -- Of so many comparisons all hold where two are the same, and none where they are not.
 abbrev pub HoldsInRounds : Type 0 → ℕ → ℕ → Type 0

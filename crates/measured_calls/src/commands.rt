@@ -2,8 +2,9 @@
 
 ghost use Rattle.std.specs.Prelude.{◌≡◌, ◌≤◌, Some};
 ghost use Rattle.shared_core_base.specs.Version.{version_number};
+ghost use Rattle.shared_core_compare.specs.Erasure.{AreSame};
 ghost use Rattle.shared_core.specs.Visiting.{command_schema};
-ghost use Rattle.measured_calls.specs.Comparisons.{AreSame, AnswersComparisons, ComparesAll, ComparesItem, ComparesPayload, HoldsInRounds};
+ghost use Rattle.measured_calls.specs.Comparisons.{AnswersComparisons, ComparesAll, ComparesItem, ComparesPayload, HoldsInRounds};
 
 use crate::messages::decoded;
 use crate::pieced_stream::PiecedStream;

@@ -2,7 +2,7 @@
 
 ghost use Rattle.std.specs.Prelude.{◌≡◌, Some};
 ghost use Rattle.shared_core_message.specs.Messages.{message_schema};
-ghost use Rattle.measured_calls.specs.Comparisons.{MeansRecord};
+ghost use Rattle.journal_calls.specs.Payloads.{MeansRecord};
 ghost use Rattle.measured_calls.specs.Streams.{DecodesPayload};
 
 use journal_calls::answer::Refusal;

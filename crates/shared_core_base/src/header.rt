@@ -1,6 +1,6 @@
 //! The header in front of each message: its type, its length and its flag.
 ghost use Rattle.std.specs.Prelude.{◌≡◌, ◌≤◌, ◌<◌, IsTrue, ◌↔◌, Some, None};
-ghost use Rattle.shared_core_base.specs.MessageType.{code_of, variant_name_of, allows_ack};
+ghost use Rattle.shared_core_base.specs.MessageType.{code_of, named_types, variant_name_of, allows_ack};
 
 pub use crate::command_type::CommandType;
 use std::error::Error;
@@ -213,6 +213,50 @@ impl From<MessageType> for u16 {
     }
 }
 
+static NAMED_TYPES: [MessageType; 41] = [
+    MessageType::Start,
+    MessageType::Suspension,
+    MessageType::Error,
+    MessageType::End,
+    MessageType::ProposeRunCompletion,
+    MessageType::AwaitingOn,
+    MessageType::ProposeRunCompletionAck,
+    MessageType::GetStateEphemeralCommand,
+    MessageType::GetStateEphemeralNotification,
+    MessageType::InputCommand,
+    MessageType::OutputCommand,
+    MessageType::GetLazyStateCommand,
+    MessageType::SetStateCommand,
+    MessageType::ClearStateCommand,
+    MessageType::ClearAllStateCommand,
+    MessageType::GetLazyStateKeysCommand,
+    MessageType::GetEagerStateCommand,
+    MessageType::GetEagerStateKeysCommand,
+    MessageType::GetPromiseCommand,
+    MessageType::PeekPromiseCommand,
+    MessageType::CompletePromiseCommand,
+    MessageType::SleepCommand,
+    MessageType::CallCommand,
+    MessageType::OneWayCallCommand,
+    MessageType::SendSignalCommand,
+    MessageType::RunCommand,
+    MessageType::AttachInvocationCommand,
+    MessageType::GetInvocationOutputCommand,
+    MessageType::CompleteAwakeableCommand,
+    MessageType::GetLazyStateCompletionNotification,
+    MessageType::GetLazyStateKeysCompletionNotification,
+    MessageType::GetPromiseCompletionNotification,
+    MessageType::PeekPromiseCompletionNotification,
+    MessageType::CompletePromiseCompletionNotification,
+    MessageType::SleepCompletionNotification,
+    MessageType::CallCompletionNotification,
+    MessageType::CallInvocationIdCompletionNotification,
+    MessageType::RunCompletionNotification,
+    MessageType::AttachInvocationCompletionNotification,
+    MessageType::GetInvocationOutputCompletionNotification,
+    MessageType::SignalNotification,
+];
+
 const FIRST_COMMAND: u16 = 0x0400;
 
 const FIRST_NOTIFICATION: u16 = 0x8000;
@@ -239,6 +283,69 @@ impl MessageType {
         ensures { result ≡ allows_ack self.now }
     {
         matches!(self, MessageType::ProposeRunCompletion)
+    }
+
+    /// The types that have a name, in the order of their codes.
+    #[tactic(auto, unfolding(crate::specs::MessageType::named_types))]
+    pub fn named() -> &'static [MessageType]
+        ensures { result.now ≡ named_types }
+    {
+        &NAMED_TYPES
+    }
+
+    /// The name of the variant, as `InputCommand`; that of every custom entry is `CustomEntry`.
+    pub fn variant_name(&self) -> &'static str
+        ensures { result.now ≡ variant_name_of self.now }
+    {
+        match self {
+            MessageType::Start => "Start",
+            MessageType::Suspension => "Suspension",
+            MessageType::Error => "Error",
+            MessageType::End => "End",
+            MessageType::ProposeRunCompletion => "ProposeRunCompletion",
+            MessageType::AwaitingOn => "AwaitingOn",
+            MessageType::ProposeRunCompletionAck => "ProposeRunCompletionAck",
+            MessageType::GetStateEphemeralCommand => "GetStateEphemeralCommand",
+            MessageType::GetStateEphemeralNotification => "GetStateEphemeralNotification",
+            MessageType::InputCommand => "InputCommand",
+            MessageType::OutputCommand => "OutputCommand",
+            MessageType::GetLazyStateCommand => "GetLazyStateCommand",
+            MessageType::SetStateCommand => "SetStateCommand",
+            MessageType::ClearStateCommand => "ClearStateCommand",
+            MessageType::ClearAllStateCommand => "ClearAllStateCommand",
+            MessageType::GetLazyStateKeysCommand => "GetLazyStateKeysCommand",
+            MessageType::GetEagerStateCommand => "GetEagerStateCommand",
+            MessageType::GetEagerStateKeysCommand => "GetEagerStateKeysCommand",
+            MessageType::GetPromiseCommand => "GetPromiseCommand",
+            MessageType::PeekPromiseCommand => "PeekPromiseCommand",
+            MessageType::CompletePromiseCommand => "CompletePromiseCommand",
+            MessageType::SleepCommand => "SleepCommand",
+            MessageType::CallCommand => "CallCommand",
+            MessageType::OneWayCallCommand => "OneWayCallCommand",
+            MessageType::SendSignalCommand => "SendSignalCommand",
+            MessageType::RunCommand => "RunCommand",
+            MessageType::AttachInvocationCommand => "AttachInvocationCommand",
+            MessageType::GetInvocationOutputCommand => "GetInvocationOutputCommand",
+            MessageType::CompleteAwakeableCommand => "CompleteAwakeableCommand",
+            MessageType::GetLazyStateCompletionNotification => "GetLazyStateCompletionNotification",
+            MessageType::GetLazyStateKeysCompletionNotification =>
+                "GetLazyStateKeysCompletionNotification",
+            MessageType::GetPromiseCompletionNotification => "GetPromiseCompletionNotification",
+            MessageType::PeekPromiseCompletionNotification => "PeekPromiseCompletionNotification",
+            MessageType::CompletePromiseCompletionNotification =>
+                "CompletePromiseCompletionNotification",
+            MessageType::SleepCompletionNotification => "SleepCompletionNotification",
+            MessageType::CallCompletionNotification => "CallCompletionNotification",
+            MessageType::CallInvocationIdCompletionNotification =>
+                "CallInvocationIdCompletionNotification",
+            MessageType::RunCompletionNotification => "RunCompletionNotification",
+            MessageType::AttachInvocationCompletionNotification =>
+                "AttachInvocationCompletionNotification",
+            MessageType::GetInvocationOutputCompletionNotification =>
+                "GetInvocationOutputCompletionNotification",
+            MessageType::SignalNotification => "SignalNotification",
+            MessageType::CustomEntry(_) => "CustomEntry",
+        }
     }
 
     /// The name of the variant, for printing: a custom entry prints as `CustomEntry(64513)`.
@@ -272,62 +379,8 @@ impl fmt::Display for DebugName {
     fn fmt<W: fmt::Write>(&self, f: &mut fmt::Formatter<W>) -> fmt::Result {
         match self.0 {
             MessageType::CustomEntry(code) => write!(f, "CustomEntry({code})"),
-            ty => f.write_str(variant_name(ty)),
+            ty => f.write_str(ty.variant_name()),
         }
-    }
-}
-
-fn variant_name(ty: MessageType) -> &'static str
-    ensures { result.now ≡ variant_name_of ty }
-{
-    match ty {
-        MessageType::Start => "Start",
-        MessageType::Suspension => "Suspension",
-        MessageType::Error => "Error",
-        MessageType::End => "End",
-        MessageType::ProposeRunCompletion => "ProposeRunCompletion",
-        MessageType::AwaitingOn => "AwaitingOn",
-        MessageType::ProposeRunCompletionAck => "ProposeRunCompletionAck",
-        MessageType::GetStateEphemeralCommand => "GetStateEphemeralCommand",
-        MessageType::GetStateEphemeralNotification => "GetStateEphemeralNotification",
-        MessageType::InputCommand => "InputCommand",
-        MessageType::OutputCommand => "OutputCommand",
-        MessageType::GetLazyStateCommand => "GetLazyStateCommand",
-        MessageType::SetStateCommand => "SetStateCommand",
-        MessageType::ClearStateCommand => "ClearStateCommand",
-        MessageType::ClearAllStateCommand => "ClearAllStateCommand",
-        MessageType::GetLazyStateKeysCommand => "GetLazyStateKeysCommand",
-        MessageType::GetEagerStateCommand => "GetEagerStateCommand",
-        MessageType::GetEagerStateKeysCommand => "GetEagerStateKeysCommand",
-        MessageType::GetPromiseCommand => "GetPromiseCommand",
-        MessageType::PeekPromiseCommand => "PeekPromiseCommand",
-        MessageType::CompletePromiseCommand => "CompletePromiseCommand",
-        MessageType::SleepCommand => "SleepCommand",
-        MessageType::CallCommand => "CallCommand",
-        MessageType::OneWayCallCommand => "OneWayCallCommand",
-        MessageType::SendSignalCommand => "SendSignalCommand",
-        MessageType::RunCommand => "RunCommand",
-        MessageType::AttachInvocationCommand => "AttachInvocationCommand",
-        MessageType::GetInvocationOutputCommand => "GetInvocationOutputCommand",
-        MessageType::CompleteAwakeableCommand => "CompleteAwakeableCommand",
-        MessageType::GetLazyStateCompletionNotification => "GetLazyStateCompletionNotification",
-        MessageType::GetLazyStateKeysCompletionNotification =>
-            "GetLazyStateKeysCompletionNotification",
-        MessageType::GetPromiseCompletionNotification => "GetPromiseCompletionNotification",
-        MessageType::PeekPromiseCompletionNotification => "PeekPromiseCompletionNotification",
-        MessageType::CompletePromiseCompletionNotification =>
-            "CompletePromiseCompletionNotification",
-        MessageType::SleepCompletionNotification => "SleepCompletionNotification",
-        MessageType::CallCompletionNotification => "CallCompletionNotification",
-        MessageType::CallInvocationIdCompletionNotification =>
-            "CallInvocationIdCompletionNotification",
-        MessageType::RunCompletionNotification => "RunCompletionNotification",
-        MessageType::AttachInvocationCompletionNotification =>
-            "AttachInvocationCompletionNotification",
-        MessageType::GetInvocationOutputCompletionNotification =>
-            "GetInvocationOutputCompletionNotification",
-        MessageType::SignalNotification => "SignalNotification",
-        MessageType::CustomEntry(_) => "CustomEntry",
     }
 }
 

@@ -226,6 +226,8 @@ fn types_and_headers(
     let _: bool = MessageType::is_notification(&ty);
     let _: bool = MessageType::allows_ack(&ty);
     let _: DebugName = MessageType::debug_name(&ty);
+    let _: &'static str = MessageType::variant_name(&ty);
+    let _: &'static [MessageType] = MessageType::named();
     let _: Result<MessageType, UnknownMessageType> = MessageType::try_from(code);
     let _: u16 = u16::from(ty);
     let _: u16 = UnknownMessageType::code(unknown);

@@ -1,5 +1,6 @@
 use Rattle.std.proofs.Common.{◌≤◌, ◌↔◌}
-use Rattle.measured_calls.specs.Comparisons.{AreSame, HoldsInRounds}
+use Rattle.shared_core_compare.specs.Erasure.{AreSame}
+use Rattle.measured_calls.specs.Comparisons.{HoldsInRounds}
 use Rattle.measured_calls.proofs.commands.count_same.Given as goal
 
 abbrev pub invariant-loop-round : goal.invariant-loop-round
