@@ -1,5 +1,5 @@
 -- The lines of a dump: one JSON object for each item of a stream that is asked for, and last one for the rest.
-use Rattle.std.specs.Prelude.{ℕ, ◌+◌, Bool, true, ◌||◌, List, [], ◌∷◌, ◌++◌, length, codes, decimal, nat_eq, ◌==◌, if◌then◌else◌, Option, Some, None}
+use Rattle.std.specs.Prelude.{ℕ, Bool, true, ◌||◌, List, [], ◌∷◌, ◌++◌, length, codes, decimal, nat_eq, ◌==◌, if◌then◌else◌, Option, Some, None}
 use Rattle.std.specs.List.{list_any}
 use Rattle.base64.specs.GeneralPurpose.{encode_of}
 use Rattle.base64.specs.Engines.{standard}
@@ -68,12 +68,6 @@ item_code (Message message) = code_of message.header.ty
 item_code (Unknown code) = code
 item_code (Skipped code payload) = code
 
--- How many bytes of the stream an item takes.
-abbrev pub item_size : Item → ℕ
-item_size (Message message) = 8 + length message.payload
-item_size (Unknown code) = 8
-item_size (Skipped code payload) = 8 + length payload
-
 -- Whether items of a code have lines: all where none is asked for.
 abbrev pub is_asked_for : List ℕ → ℕ → Bool
 is_asked_for wanted code = (length wanted == 0) || list_any (λ x. nat_eq x code) wanted
@@ -86,20 +80,6 @@ json_line json = print (json_tokens json) ++ codes "\n"
 abbrev pub line_of : Options → ℕ → Item → List ℕ
 line_of options at item = if is_asked_for options.codes.now (item_code item) then json_line (item_json options at item) else []
 
--- The lines of items, of which the first begins at a place.
-abbrev pub lines : Options → ℕ → List Item → List ℕ
-lines options at [] = []
-lines options at (item ∷ items) = line_of options at item ++ lines options (at + item_size item) items
-
--- How many bytes items take.
-abbrev pub items_size : List Item → ℕ
-items_size [] = 0
-items_size (item ∷ items) = item_size item + items_size items
-
 -- The last line: where the bytes begin that are in no item, and how many they are.
 abbrev pub rest_line : ℕ → ℕ → List ℕ
 rest_line at count = json_line (object (number_member (codes "offset") at (number_member (codes "rest") count no_members)))
-
--- The whole dump of a stream of these items and this rest.
-abbrev pub dump_of : Options → List Item → List ℕ → List ℕ
-dump_of options items rest = lines options 0 items ++ rest_line (items_size items) (length rest)

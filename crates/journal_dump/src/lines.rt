@@ -9,13 +9,14 @@ ghost use Rattle.json.specs.Tree.{json_tokens, members_tokens};
 ghost use Rattle.shared_core.specs.declared.encoding.item.Item.TheVariants as variant;
 ghost use Rattle.shared_core_base.specs.MessageType.{debug_name_of};
 ghost use Rattle.journal_dump.specs.Canonical.{IsLongFor};
-ghost use Rattle.journal_dump.specs.Dump.{IsLack, IsLong};
+ghost use Rattle.stream_lines.specs.Printing.{IsLack};
+ghost use Rattle.journal_dump.specs.Dump.{IsLong};
 ghost use Rattle.shared_core.specs.Visiting.{schema_at};
 ghost use Rattle.journal_dump.specs.Lines.{payload_members, ack_tokens, item_members, item_json, item_code as code_of_item, is_asked_for, line_of, rest_line};
 
-use crate::dump::DumpError;
 use crate::messages::canonical_of;
 use crate::options::Options;
+use crate::scratch::Scratch;
 use base64::engine::general_purpose::STANDARD;
 use bytes::Bytes;
 use journal_json::{JsonError, write_message};
@@ -25,25 +26,7 @@ use shared_core::header::MessageType;
 use shared_core::version::Version;
 use std::alloc::{AllocError, Global};
 use std::mem;
-
-/// Memory that lines are made in, one after the other.
-#[derive(Drop)]
-pub struct Scratch {
-    /// A line's object. It has memory of its own, since a writer fills its memory ahead.
-    line: Vec<u8>,
-    canonical: Vec<u8>,
-    text: String,
-}
-
-impl Scratch {
-    pub fn new(alloc: Global) -> Scratch {
-        Scratch {
-            line: Vec::new(alloc),
-            canonical: Vec::new(alloc),
-            text: String::new(alloc),
-        }
-    }
-}
+use stream_lines::PrintError;
 
 /// Appends the line of an item that begins at a place of the stream, where it is asked for.
 pub fn print_item(
@@ -53,7 +36,7 @@ pub fn print_item(
     item: &Item,
     scratch: &mut Scratch,
     lines: Vec<u8>,
-) -> Result<Vec<u8>, DumpError>
+) -> Result<Vec<u8>, PrintError>
     ensures line { IfOk result (λ now. now.items ≡ lines.items ++ line_of options.now offset item.now) }
     ensures lack { IfErr result (IsLack (IsLong options.now.version item.now)) }
 {
@@ -121,7 +104,7 @@ fn write_item(
     item: &Item,
     scratch: &mut Scratch,
     out: &mut Writer,
-) -> Result<(), DumpError>
+) -> Result<(), PrintError>
     ensures tokens { OnOk result (out.new.tokens ≡ out.old.tokens ++ json_tokens (item_json options.now offset item.now)) }
     ensures before { out.new.before ≡ out.old.before }
     ensures lack { IfErr result (IsLack (IsLong options.now.version item.now)) }
@@ -153,7 +136,7 @@ fn write_message_members(
     message: &RawMessage,
     scratch: &mut Scratch,
     out: &mut Writer,
-) -> Result<(), DumpError>
+) -> Result<(), PrintError>
     ensures tokens { OnOk result (out.new.tokens ++ end_object ∷ [] ≡ out.old.tokens ++ members_tokens (item_members options.now (variant.Message message.now))) }
     ensures before { out.new.before ≡ out.old.before }
     ensures lack { IfErr result (IsLack (IsLongFor (schema_at options.now.version message.now.header.ty) message.now.payload)) }
@@ -177,7 +160,7 @@ fn write_payload(
     payload: &Bytes,
     scratch: &mut Scratch,
     out: &mut Writer,
-) -> Result<(), DumpError>
+) -> Result<(), PrintError>
     ensures tokens { OnOk result (out.new.tokens ++ end_object ∷ [] ≡ out.old.tokens ++ members_tokens (payload_members (schema_at version ty) payload.now)) }
     ensures before { out.new.before ≡ out.old.before }
     ensures lack { IfErr result (IsLack (IsLongFor (schema_at version ty) payload.now)) }
@@ -192,8 +175,8 @@ fn write_payload(
             write_flag(out, "malformed", true)?;
             write_bytes(out, payload, &mut scratch.text)?;
         }
-        Err(JsonError::TooLong) => return Err(DumpError::TooLong),
-        Err(JsonError::OutOfMemory) => return Err(DumpError::OutOfMemory),
+        Err(JsonError::TooLong) => return Err(PrintError::TooLong),
+        Err(JsonError::OutOfMemory) => return Err(PrintError::OutOfMemory),
     }
     Ok(())
 }

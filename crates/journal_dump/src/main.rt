@@ -9,9 +9,10 @@ mod dump;
 mod lines;
 mod messages;
 mod options;
+mod scratch;
 
 use crate::command_line::read_command_line;
-use crate::dump::{DumpError, dump};
+use crate::dump::dump;
 use crate::options::Options;
 use clap::Error;
 use clap::error::ErrorKind;
@@ -20,6 +21,7 @@ use std::fs::File;
 use std::io::Read;
 use std::process::ExitCode;
 use std::{env, fs, io};
+use stream_lines::PrintError;
 
 /// The program's words, its own name first.
 fn words(rt: &HostRuntime) -> io::Result<Vec<String>> {
@@ -58,10 +60,10 @@ fn dump_input<R: Read>(rt: &HostRuntime, options: &Options<'_>, input: &mut R) -
 {
     match dump(rt.alloc(), options, input, &mut rt.stdout()) {
         Ok(()) => ExitCode::SUCCESS,
-        Err(DumpError::Input) => trouble(rt, "input failed", 1),
-        Err(DumpError::Output) => trouble(rt, "output failed", 1),
-        Err(DumpError::OutOfMemory) => trouble(rt, "out of memory", 1),
-        Err(DumpError::TooLong) => trouble(rt, "a message is too long", 1),
+        Err(PrintError::Input) => trouble(rt, "input failed", 1),
+        Err(PrintError::Output) => trouble(rt, "output failed", 1),
+        Err(PrintError::OutOfMemory) => trouble(rt, "out of memory", 1),
+        Err(PrintError::TooLong) => trouble(rt, "a message is too long", 1),
     }
 }
 

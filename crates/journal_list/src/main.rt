@@ -13,11 +13,11 @@ mod run;
 #[cfg(test)]
 mod test_words;
 
-use crate::list::ListError;
 use crate::run::{Outcome, exit_code, message, run};
 use std::io::ErrorKind;
 use std::process::ExitCode;
 use std::{env, io};
+use stream_lines::PrintError;
 
 /// The words behind the program's name.
 fn words(rt: &HostRuntime) -> io::Result<Vec<String>> {
@@ -37,10 +37,10 @@ fn main(rt: HostRuntime) -> ExitCode {
             &mut rt.stdout(),
         ),
         Err(error) if error.kind() == ErrorKind::OutOfMemory => {
-            Outcome::Listed(Err(ListError::OutOfMemory))
+            Outcome::Listed(Err(PrintError::OutOfMemory))
         }
         // words that cannot be fetched are input too
-        Err(_) => Outcome::Listed(Err(ListError::Input)),
+        Err(_) => Outcome::Listed(Err(PrintError::Input)),
     };
     // nothing is left to do where the standard error fails too
     let _ = eprint!(rt; "{}", message(&outcome));

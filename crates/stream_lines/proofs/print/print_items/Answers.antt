@@ -1,39 +1,38 @@
-use Rattle.std.proofs.Common.{◌≡◌, ℕ, ◌-◌, ◌+◌, List, length, ◌++◌, ap, ◌∙◌, sym, arith, length-append}
+use Rattle.std.proofs.Common.{◌≡◌, ℕ, ◌-◌, ◌+◌, List, length, ◌++◌, ap, ◌∙◌, arith, length-append}
 use Rattle.std.proofs.lemmas.Result.{err_from_is_err_and}
 use Rattle.shared_core.proofs.Items.{then_takes}
-use Rattle.journal_dump.specs.Lines.{line_of, lines, items_size}
-use Rattle.journal_dump.proofs.Progress.{lack_in, lines_next, then_long}
-use Rattle.journal_dump.proofs.dump.print_items.Goals as goal
+use Rattle.stream_lines.specs.Printing.{lines, items_size}
+use Rattle.stream_lines.proofs.Progress.{lack_in, lines_next, then_long}
+use Rattle.stream_lines.proofs.print.print_items.Goals as goal
 
 pub loop-text-preserved : goal.loop-text-preserved
-loop-text-preserved c =
+loop-text-preserved g c =
     let (version, short, place, items, front, printed) = c.loop-text.invariant in
     let taken = rw (c.in-Some.is, version) at c.in_ok-item.ensures.taken in
     let item = c.in-Some.item in
-    let options = c.args.options.now in
+    let line = g.P.LinePrinter.item_line c.args.printer.now in
     let first = c.args.total - length c.args.decoder.now.bytes in
     let long = then_long c.args.decoder.now.version c.args.decoder.now.bytes c.loop-text.decoder.bytes items front in
-    let at : c.loop-text.offset ≡ first + items_size items = omega (arith, long, place, c.requires.came, short) in
+    let at : c.loop-text.offset ≡ first + items_size items = omega (arith, long, place, c.requires, short) in
     let left : length c.loop-text.decoder.bytes ≡ length taken.0 + length c.next_item.new.self.bytes = ap length taken.2 ∙ length-append taken.0 c.next_item.new.self.bytes in (
       c.in_ok-item.ensures.version ∙ version,
       omega (arith, left, short),
       ap (λ (n : ℕ). c.args.total - n) c.pending-in-Some.ensures,
       _,
       then_takes c.args.decoder.now.version _ _ _ items _ front taken,
-      c.in_ok-text.ensures.line ∙ ap (λ (t : List ℕ). t ++ line_of options c.loop-text.offset item) printed
-          ∙ ap (λ (n : ℕ). lines options first items ++ line_of options n item) at ∙ lines_next options first items item,
+      c.in_ok-text.ensures.line ∙ ap (λ (t : List ℕ). t ++ line c.loop-text.offset item) printed
+          ∙ ap (λ (n : ℕ). lines line first items ++ line n item) at ∙ lines_next line first items item,
     )
 
 pub returns-clause-printed : goal.returns-clause-printed
-returns-clause-printed c =
+returns-clause-printed g c =
     let (version, short, place, items, front, printed) = c.loop-text.invariant in
     let none = rw (c.in_default.is, version) at c.in_ok-item.ensures.taken in
     (items, record { items_then = rw none.1 front; no_more = rw none.1 none.0 }, printed)
 
 pub returns-in_err-text-clause-lack : goal.returns-in_err-text-clause-lack
-returns-in_err-text-clause-lack c =
+returns-in_err-text-clause-lack g c =
     let (version, short, place, items, front, printed) = c.loop-text.invariant in
     let taken = rw (c.in-Some.is, version) at c.in_ok-item.ensures.taken in
     let from = err_from_is_err_and c.from_residual-in_err-text.result c.from_residual-in_err-text.ensures.1 in
-    let lack = rw (sym c.requires.version) at c.in_err-text.ensures.lack in
-    rw (from.1, from.2) (lack_in c.args.decoder.now.version c.args.decoder.now.bytes _ items c.in-Some.item _ (then_takes c.args.decoder.now.version _ _ _ items _ front taken) lack)
+    rw (from.1, from.2) (lack_in (g.P.LinePrinter.is_long c.args.printer.now) c.args.decoder.now.version c.args.decoder.now.bytes _ items c.in-Some.item _ (then_takes c.args.decoder.now.version _ _ _ items _ front taken) c.in_err-text.ensures.lack)

@@ -1,16 +1,16 @@
 use Rattle.std.proofs.Common.{◌≡◌, ◌-◌, ◌≤◌, List, length}
 use Rattle.shared_core.specs.declared.encoding.item.Item.{Item}
 use Rattle.shared_core.specs.Items.{IsItemsThen}
-use Rattle.journal_dump.specs.Lines.{lines}
-use Rattle.journal_dump.proofs.dump.print_items.Given as goal
+use Rattle.stream_lines.specs.Printing.{lines}
+use Rattle.stream_lines.proofs.print.print_items.Given as goal
 
 abbrev pub invariant-loop-text : goal.invariant-loop-text
-invariant-loop-text l =
+invariant-loop-text g l =
     (l.decoder.version ≡ l.fn.decoder.version)
     × (length l.decoder.bytes ≤ l.total)
     × (l.offset ≡ l.total - length l.decoder.bytes)
     × (items : List Item) × IsItemsThen l.fn.decoder.version l.fn.decoder.bytes items l.decoder.bytes
-    × (l.text.items ≡ lines l.options (l.total - length l.fn.decoder.bytes) items)
+    × (l.text.items ≡ lines (g.P.LinePrinter.item_line l.printer) (l.total - length l.fn.decoder.bytes) items)
 
 abbrev pub decreases-loop-text : goal.decreases-loop-text
-decreases-loop-text l = length l.decoder.bytes
+decreases-loop-text g l = length l.decoder.bytes

@@ -1,0 +1,10 @@
+//! A stream printed as it comes: a line for each of its items, and last one for the bytes that are in none.
+#![tactic(auto)]
+
+pub mod error;
+pub mod line_printer;
+pub mod print;
+
+pub use crate::error::PrintError;
+pub use crate::line_printer::LinePrinter;
+pub use crate::print::print_lines;

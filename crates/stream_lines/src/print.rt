@@ -1,0 +1,117 @@
+//! The loop that reads a stream and writes its lines.
+
+ghost use Rattle.std.specs.Prelude.{◌≡◌, ◌<◌, ◌≤◌, ◌-◌, ◌++◌, ℕ, List, length, IfOk, IfErr, OnOk};
+ghost use Rattle.std.specs.Io.KnownBytes.{Appends, Consumes};
+ghost use Rattle.shared_core_base.specs.Version.{version_number};
+ghost use Rattle.shared_core.specs.Items.{SplitsInto};
+ghost use Rattle.shared_core.specs.declared.encoding.item.Item.{Item as AnyItem};
+ghost use Rattle.stream_lines.specs.Printing.{lines, most_pending, ArePrinted, IsLack, IsLongIn, IsRead};
+
+use crate::error::PrintError;
+use crate::line_printer::LinePrinter;
+use bytes::Bytes;
+use shared_core::encoding::{Decoder, PushError};
+use shared_core::version::Version;
+use std::alloc::{AllocError, Global};
+use std::io::{Read, Write};
+use text_output::write_whole;
+
+/// How many reads are made at most, so that offsets fit 64 bits.
+const READS: u64 = 1 << 47;
+
+/// Writes a line for each item of a stream of a version, of at least V5, and at its end a line for the bytes that are in no item.
+///
+/// It reads at most `piece` bytes at a time, from 1 to 65,536, and writes the lines of the items that a piece completes before it reads the next. `Ok`
+/// comes only where the reader has no byte left, and then all is written. `Input` leaves the lines of all items of what was read; `Output` a
+/// beginning of these lines, or of all where the input had ended; `OutOfMemory` and `TooLong` the lines of the first items. `TooLong` comes only where
+/// one of the items behind them is too long for a line.
+pub fn print_lines<P: LinePrinter, R: Read, W: Write>(
+    alloc: Global,
+    version: Version,
+    printer: &P,
+    input: &mut R,
+    output: &mut W,
+    piece: usize,
+) -> Result<(), PrintError>
+    requires spoken { 5 ≤ version_number version }
+    requires low { 1 ≤ piece }
+    requires high { piece ≤ 65536 }
+    ensures { (read : List ℕ) × (written : List ℕ)
+        × Consumes (R.remaining input.old) (R.remaining input.new) read
+        × Appends (W.contents output.old) (W.contents output.new) written
+        × ArePrinted (P.item_line printer.now) (P.rest_line printer.now) (P.is_long printer.now) version result read written (R.remaining input.new) }
+{
+    let mut decoder = Decoder::new(alloc, version);
+    let mut scratch = printer.scratch(alloc);
+    let mut text = Vec::new(alloc);
+    let mut buffer = Vec::from_elem(alloc, 0u8, piece)?;
+    let buffer = buffer.as_mut_slice();
+    let mut total = 0;
+    for _ in 0..READS {
+        let bytes = read_piece(alloc, input, buffer)?;
+        if bytes.is_empty() {
+            text.clear();
+            let pending = decoder.pending();
+            let text = printer.print_rest(alloc, total - pending, pending, text)?;
+            write_whole(output, text.as_slice())?;
+            return Ok(());
+        }
+        total += bytes.len() as u64;
+        feed(&mut decoder, bytes)?;
+        text = print_items(alloc, printer, &mut decoder, total, &mut scratch, text)?;
+        write_whole(output, text.as_slice())?;
+    }
+    Err(PrintError::Input)
+}
+
+/// Reads once, at most as much as the buffer has room for. No byte is the end of the input.
+fn read_piece<R: Read>(alloc: Global, input: &mut R, buffer: &mut [u8]) -> Result<Bytes, PrintError>
+    requires { 0 < length buffer.old }
+    ensures taken { IsRead result (R.remaining input.old) (R.remaining input.new) }
+    ensures fits { IfOk result (λ piece. length piece ≤ length buffer.old) }
+{
+    let Ok(count) = input.read(buffer) else {
+        return Err(PrintError::Input);
+    };
+    Ok(Bytes::copy_from_slice(alloc, &buffer[..count])?)
+}
+
+/// Pushes a piece. A decoder that holds no whole item has room for it, so none is too long.
+fn feed(decoder: &mut Decoder, piece: Bytes) -> Result<(), AllocError>
+    requires short { length decoder.old.bytes ≤ most_pending }
+    requires fits { length piece ≤ 65536 }
+    ensures fed { OnOk result (decoder.new ≡ record decoder.old { bytes = decoder.old.bytes ++ piece }) }
+{
+    match decoder.push(piece) {
+        Ok(()) => Ok(()),
+        Err(PushError::OutOfMemory(_)) => Err(AllocError),
+        Err(PushError::TooLong(_)) => unreachable!(),
+    }
+}
+
+/// Makes a text of the lines of the decoder's whole items, where `total` bytes of the stream have come.
+fn print_items<P: LinePrinter>(
+    alloc: Global,
+    printer: &P,
+    decoder: &mut Decoder,
+    total: u64,
+    scratch: &mut P::Scratch,
+    text: Vec<u8>,
+) -> Result<Vec<u8>, PrintError>
+    requires came { length decoder.old.bytes ≤ total }
+    ensures printed { IfOk result (λ now. (items : List AnyItem)
+        × SplitsInto decoder.old.version decoder.old.bytes items decoder.new.bytes
+        × (now.items ≡ lines (P.item_line printer.now) (total - length decoder.old.bytes) items)) }
+    ensures version { decoder.new.version ≡ decoder.old.version }
+    ensures short { IfOk result (λ now. length decoder.new.bytes ≤ most_pending) }
+    ensures lack { IfErr result (IsLack (IsLongIn (P.is_long printer.now) decoder.old.version decoder.old.bytes)) }
+{
+    let mut text = text;
+    text.clear();
+    let mut offset = total - decoder.pending();
+    while let Some(item) = decoder.next_item()? {
+        text = printer.print_item(alloc, offset, item, scratch, text)?;
+        offset = total - decoder.pending();
+    }
+    Ok(text)
+}
