@@ -11,9 +11,9 @@ IsLongFor schema payload = (s : ℕ) × (schema ≡ Some s) × IsTooLong s paylo
 
 -- Where there is a schema, its number, and the canonical payload of what the payload means stands there; Malformed only where the payload is not
 -- well-formed for the schema; TooLong only where that canonical payload is too long; None only where there is no schema.
-abbrev pub AnswersCanonical : Option ℕ → List ℕ → List ℕ → Result (Option ℕ) JsonError → Type 0
-AnswersCanonical schema payload canonical (Ok None) = schema ≡ None
-AnswersCanonical schema payload canonical (Ok (Some s)) = (schema ≡ Some s) × IsAccepted s payload × IsSpelling s (payload_meaning s payload) canonical
-AnswersCanonical schema payload canonical (Err Malformed) = (s : ℕ) × (schema ≡ Some s) × ¬ (IsAccepted s payload)
-AnswersCanonical schema payload canonical (Err TooLong) = IsLongFor schema payload
-AnswersCanonical schema payload canonical (Err OutOfMemory) = Unit {0}
+abbrev pub AnswersSpelling : Option ℕ → List ℕ → List ℕ → Result (Option ℕ) JsonError → Type 0
+AnswersSpelling schema payload canonical (Ok None) = schema ≡ None
+AnswersSpelling schema payload canonical (Ok (Some s)) = (schema ≡ Some s) × IsAccepted s payload × IsSpelling s (payload_meaning s payload) canonical
+AnswersSpelling schema payload canonical (Err Malformed) = (s : ℕ) × (schema ≡ Some s) × ¬ (IsAccepted s payload)
+AnswersSpelling schema payload canonical (Err TooLong) = IsLongFor schema payload
+AnswersSpelling schema payload canonical (Err OutOfMemory) = Unit {0}

@@ -21,7 +21,6 @@ use std::fs::File;
 use std::io::Read;
 use std::process::ExitCode;
 use std::{env, fs, io};
-use stream_lines::PrintError;
 
 /// The program's words, its own name first.
 fn words(rt: &HostRuntime) -> io::Result<Vec<String>> {
@@ -60,10 +59,7 @@ fn dump_input<R: Read>(rt: &HostRuntime, options: &Options<'_>, input: &mut R) -
 {
     match dump(rt.alloc(), options, input, &mut rt.stdout()) {
         Ok(()) => ExitCode::SUCCESS,
-        Err(PrintError::Input) => trouble(rt, "input failed", 1),
-        Err(PrintError::Output) => trouble(rt, "output failed", 1),
-        Err(PrintError::OutOfMemory) => trouble(rt, "out of memory", 1),
-        Err(PrintError::TooLong) => trouble(rt, "a message is too long", 1),
+        Err(error) => trouble(rt, error, 1),
     }
 }
 

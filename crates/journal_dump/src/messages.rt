@@ -6,7 +6,7 @@ ghost use Rattle.shared_core_record.specs.Payloads.{IsAccepted, payload_meaning}
 ghost use Rattle.journal_json.specs.Payloads.{IsSpelling, IsTooLong};
 ghost use Rattle.journal_json.specs.declared.error.JsonError.TheVariants.{Malformed, TooLong};
 ghost use Rattle.shared_core.specs.Visiting.{schema_at};
-ghost use Rattle.journal_dump.specs.Canonical.{AnswersCanonical};
+ghost use Rattle.journal_dump.specs.Canonical.{AnswersSpelling};
 
 use bytes::Bytes;
 use journal_json::{JsonError, write_canonical};
@@ -27,7 +27,7 @@ pub fn canonical_of(
     payload: &Bytes,
     canonical: &mut Vec<u8>,
 ) -> Result<Option<u32>, JsonError>
-    ensures { AnswersCanonical (schema_at version ty) payload.now canonical.new.items result }
+    ensures { AnswersSpelling (schema_at version ty) payload.now canonical.new.items result }
 {
     let Some(schema) = schema_at(version, ty) else {
         return Ok(None);

@@ -2,17 +2,22 @@
 
 use std::alloc::AllocError;
 use text_output::OutputFailed;
+use thiserror::Error;
 
 /// Why printing ended before the last line.
-#[derive(Clone, Copy, Debug, PartialEq, Eq)]
+#[derive(Clone, Copy, Debug, PartialEq, Eq, Error)]
 pub enum PrintError {
     /// A read failed, or 2^47 reads met no end.
+    #[error("input failed")]
     Input,
     /// A write failed, or took no byte.
+    #[error("output failed")]
     Output,
     /// There is no memory for a piece, an item or a line.
+    #[error("out of memory")]
     OutOfMemory,
     /// An item is too long for a line.
+    #[error("an item is too long for a line")]
     TooLong,
 }
 
