@@ -1,7 +1,8 @@
 #!/bin/sh
 # Shows that proto/journal.proto, the schemas and the names in JSON that contracts cite and the code of the records say the same of every
 # field: message, name, number, kind, presence and oneof; and that conformance/ has lines of every message, message type and command, among them each message
-# with every field present, with each member of its oneofs, and its frames. It reads the code as it stands: whether the files that programs
+# with every field present, with each member of its oneofs, and its frames; and that the codes of types, the numbers of schemas, how many of each there are, the last version
+# and the names of the surface are the same wherever they stand. It reads the code as it stands: whether the files that programs
 # write are up to date is for check_records.sh. The last line is 'N passed, M failed'; what differs is shown above it.
 set -u
 cd "$(dirname "$0")/.." || exit 1
@@ -244,6 +245,76 @@ same "the records and the frames of conformance/records.txt" "$work/values" "$wo
 awk '$1 == "frame" && $NF ~ /^(0[4-9a-f]|[1-7])/ { print $2 }' conformance/*.txt | sort -u > "$work/commands"
 awk '$1 == "compare" { print $2 }' conformance/*.txt | sort -u > "$work/lines"
 same "the commands and the compare lines of conformance" "$work/commands" "$work/lines"
+
+# The types and their codes: those of the contracts; of the frames of the messages in which nothing is present; of the list by which hostile streams are written;
+# and of the table of the tests of the calls for C, which has codes alone.
+awk '/^code_of [A-Z][A-Za-z]* = 0x/ { print tolower(substr($4, 3)), $2 }' crates/shared_core_base/specs/MessageType.antt | sort > "$work/codes"
+awk '$1 == "frame" && $3 == 5 && $4 == "-" { print substr($6, 1, 4), $2 }' conformance/frames.txt | sort -u > "$work/lines"
+same "the codes of shared_core_base and the frames of conformance/frames.txt" "$work/codes" "$work/lines"
+grep -v '^#' scripts/types.txt | sort > "$work/lines"
+same "the codes of shared_core_base and scripts/types.txt" "$work/codes" "$work/lines"
+cut -d' ' -f1 "$work/codes" > "$work/values"
+awk '/^const CODES/ { inside = 1; next } /^\];/ { inside = 0 } inside' crates/journal_ffi/src/tests.rt | grep -o '0x[0-9A-F]*' | cut -c3- | tr A-F a-f | sort > "$work/lines"
+same "the codes of shared_core_base and those of the tests of journal_ffi" "$work/values" "$work/lines"
+
+# The numbers of schemas, and how many there are: those of the contracts, and those that callers from C know.
+awk '/^-- The schema of / { message = $5; sub(/\.$/, "", message) } /^[a-z_0-9]+ = [0-9]+$/ { print $3, message; count++ } END { print count, "header" }' \
+  crates/shared_core_record/specs/Table.antt | sort -n > "$work/values"
+{
+  sed -n '/^## Numbers of schemas/,$p' docs/C.md | grep -o '[0-9]* `[A-Za-z0-9]*`' | tr -d '`'
+  awk '$2 == "JOURNAL_SCHEMAS" { print $3, "header" }' include/pendratsoa.h
+} | sort -n > "$work/lines"
+same "the numbers of shared_core_record and those of docs/C.md and include/pendratsoa.h" "$work/values" "$work/lines"
+
+# The tests of the surface name each record, each member of a oneof and each type.
+surface=crates/shared_core_surface_tests/src/surface.rt
+sed -n 's/^    \(part\|message\|encodable\|command\)::<\(messages::\)\{0,1\}\([A-Za-z0-9]*\)>();$/\3/p' "$surface" | sort > "$work/lines"
+same "proto/journal.proto and the records of $surface" "$work/messages" "$work/lines"
+awk '
+  function camel(text,  out, i, count, words) {
+    count = split(text, words, "_"); out = ""
+    for (i = 1; i <= count; i++) out = out toupper(substr(words[i], 1, 1)) substr(words[i], 2)
+    return out
+  }
+  function snake(text,  out, i, c) {
+    out = ""
+    for (i = 1; i <= length(text); i++) { c = substr(text, i, 1); out = out (c ~ /[A-Z]/ ? (i > 1 ? "_" : "") tolower(c) : c) }
+    return out
+  }
+  $4 == "member" { print snake($1) "::" camel($5) "::" camel($6) }
+' "$work/proto" | sort > "$work/values"
+grep -o '[a-z_]*::[A-Z][A-Za-z]*::[A-Z][A-Za-z]*(' "$surface" | tr -d '(' | grep -xF -f "$work/values" | sort -u > "$work/lines"
+same "proto/journal.proto and the members of oneofs of $surface" "$work/values" "$work/lines"
+cut -d' ' -f2 "$work/codes" | sort > "$work/values"
+sed -n 's/^        MessageType::\([A-Za-z]*\),$/\1/p' "$surface" | sort -u > "$work/lines"
+same "the types of shared_core_base and those of $surface" "$work/values" "$work/lines"
+
+# How many schemas and types there are, where a page or a comment says it; not where a page says what was measured.
+{
+  awk 'END { print NR " schemas"; print NR " records" }' "$work/messages"
+  awk 'END { print NR " types"; print NR " named types" }' "$work/codes"
+} > "$work/counts"
+find README.md conformance/README.md bench/README.md docs crates/*/src crates/*/specs -name '*.md' -o -name '*.rt' -o -name '*.antt' | grep -v '/GATE\|/PERFORMANCE' | sort \
+  | xargs grep -noE '\b[0-9]+ (schemas|records|types|named types)\b' > "$work/values"
+awk -F: 'NR == FNR { is[$1] = 1; next } $3 in is' "$work/counts" "$work/values" > "$work/lines"
+same "the numbers of schemas and types, and pages and comments" "$work/values" "$work/lines"
+
+# The last version: that of the library, those that callers from C, the programs and the conformance lines can ask for, and what pages and comments say.
+last=$(sed -n '/fn maximum_supported_version/,/^    }$/s/^        Version::V\([0-9]*\)$/\1/p' crates/shared_core_base/src/version.rt)
+for place in include/pendratsoa.h examples/python/pendratsoa.py scripts/vectors.py crates/conformance/src/cases.rt crates/journal_calls/src/answer.rt \
+  crates/journal_calls/specs/Answers.antt crates/journal_diff/src/options.rt crates/journal_dump/src/command_line.rt; do
+  echo "$place $last" >> "$work/last"
+  echo "$place $(grep -oE 'Version::V[0-9]+|Some V[0-9]+|LAST_VERSION (= )?[0-9]+' "$place" | grep -oE '[0-9]+$' | sort -n | tail -n 1)" >> "$work/asked"
+done
+for place in crates/journal_diff/src/options.rt crates/journal_dump/src/command_line.rt; do
+  echo "$place, by its words $last" >> "$work/last"
+  echo "$place, by its words $(sed -n 's/^const VERSIONS.*"\([0-9]*\)"\];$/\1/p' "$place")" >> "$work/asked"
+done
+same "the last version of shared_core_base and those that can be asked for" "$work/last" "$work/asked"
+find README.md conformance bench/README.md bench/src docs include examples crates/*/src crates/*/specs -name '*.[a-z]*' | sort \
+  | xargs grep -noE '\bversion (is )?from 5 to [0-9]+' > "$work/values"
+grep " to $last\$" "$work/values" > "$work/lines"
+same "the last version of shared_core_base, and pages and comments" "$work/values" "$work/lines"
 
 echo "$passed passed, $failed failed"
 [ "$failed" -eq 0 ]
