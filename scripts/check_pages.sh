@@ -1,6 +1,6 @@
 #!/bin/sh
-# Shows that the pages lead somewhere: each link, each path of this repository in `code`, each worked line of conformance, the README's page of code, and, in a table of
-# promises, each name behind a promise in the crates that it is about. The last line is 'N passed, M failed'; what is missing is
+# Shows that the pages lead somewhere: each link, each path of this repository in `code`, each worked line of conformance, the README's page of code and the listing and the dump that
+# it shows, and, in a table of promises, each name behind a promise in the crates that it is about. The last line is 'N passed, M failed'; what is missing is
 # shown above it.
 set -u
 cd "$(dirname "$0")/.." || exit 1
@@ -51,6 +51,16 @@ done
 awk '/^```rust$/ { inside = 1; next } /^```$/ { inside = 0 } inside' README.md > "$work/page"
 sed '/^\/\/! /d' crates/first_program/src/main.rt > "$work/program"
 if cmp -s "$work/page" "$work/program"; then passed=$((passed + 1)); else missing README.md 'its page of code is not crates/first_program/src/main.rt'; fi
+
+# the listing and the dump of README.md are those that the programs are checked against
+sed 's/^/    /' examples/replay.stdout > "$work/shown"
+while IFS= read -r line; do
+  if grep -qxF -- "$line" README.md; then passed=$((passed + 1)); else missing README.md "it does not show: $line"; fi
+done < "$work/shown"
+sed -n 's/^    \({"offset":.*\)$/\1/p' README.md > "$work/shown"
+while IFS= read -r line; do
+  if grep -qF -- "='$line'" scripts/check_dump.sh; then passed=$((passed + 1)); else missing README.md "scripts/check_dump.sh does not want: $line"; fi
+done < "$work/shown"
 
 # names behind promises: each `Name` or `path::name` of a table's last column is a word of the code or the definitions of the crate in the heading, of
 # one that it stands on, or of one that the column names

@@ -1,8 +1,9 @@
 #!/bin/sh
 # Shows that proto/journal.proto, the schemas and the names in JSON that contracts cite and the code of the records say the same of every
 # field: message, name, number, kind, presence and oneof; and that conformance/ has lines of every message, message type and command, among them each message
-# with every field present, with each member of its oneofs, and its frames; and that the codes of types, the numbers of schemas, how many of each there are, the last version
-# and the names of the surface are the same wherever they stand. It reads the code as it stands: whether the files that programs
+# with every field present, with each member of its oneofs, and its frames; that no list of types, commands or schemas, and no page that says how many there are,
+# lacks one; that the last version is the same wherever it stands; and that a call for C is the same in journal_ffi, the header and the module
+# for Python, and has tests, hostile calls and a promise. It reads the code as it stands: whether the files that programs
 # write are up to date is for check_records.sh. The last line is 'N passed, M failed'; what differs is shown above it.
 set -u
 cd "$(dirname "$0")/.." || exit 1
@@ -246,30 +247,86 @@ awk '$1 == "frame" && $NF ~ /^(0[4-9a-f]|[1-7])/ { print $2 }' conformance/*.txt
 awk '$1 == "compare" { print $2 }' conformance/*.txt | sort -u > "$work/lines"
 same "the commands and the compare lines of conformance" "$work/commands" "$work/lines"
 
-# The types and their codes: those of the contracts; of the frames of the messages in which nothing is present; of the list by which hostile streams are written;
-# and of the table of the tests of the calls for C, which has codes alone.
-awk '/^code_of [A-Z][A-Za-z]* = 0x/ { print tolower(substr($4, 3)), $2 }' crates/shared_core_base/specs/MessageType.antt | sort > "$work/codes"
-awk '$1 == "frame" && $3 == 5 && $4 == "-" { print substr($6, 1, 4), $2 }' conformance/frames.txt | sort -u > "$work/lines"
-same "the codes of shared_core_base and the frames of conformance/frames.txt" "$work/codes" "$work/lines"
-grep -v '^#' scripts/types.txt | sort > "$work/lines"
-same "the codes of shared_core_base and scripts/types.txt" "$work/codes" "$work/lines"
-cut -d' ' -f1 "$work/codes" > "$work/values"
-awk '/^const CODES/ { inside = 1; next } /^\];/ { inside = 0 } inside' crates/journal_ffi/src/tests.rt | grep -o '0x[0-9A-F]*' | cut -c3- | tr A-F a-f | sort > "$work/lines"
-same "the codes of shared_core_base and those of the tests of journal_ffi" "$work/values" "$work/lines"
+# Each type stands wherever types are listed, as in the table of codes that contracts cite: a line each, the code in hex digits and the name.
+base=crates/shared_core_base/specs
+awk '$1 == "code_of" && $4 ~ /^0x/ { print tolower(substr($4, 3)), $2 }' $base/MessageType.antt | sort > "$work/types"
+awk '$1 != "#" { print $1, $2 }' scripts/types.txt | sort > "$work/lines"
+same "the types of shared_core_base and scripts/types.txt" "$work/types" "$work/lines"
+awk '$1 == "frame" && $3 == 5 && $4 == "-" { print substr($NF, 1, 4), $2 }' conformance/frames.txt | sort -u > "$work/lines"
+same "the types of shared_core_base and conformance/frames.txt" "$work/types" "$work/lines"
 
-# The numbers of schemas, and how many there are: those of the contracts, and those that callers from C know.
-awk '/^-- The schema of / { message = $5; sub(/\.$/, "", message) } /^[a-z_0-9]+ = [0-9]+$/ { print $3, message; count++ } END { print count, "header" }' \
-  crates/shared_core_record/specs/Table.antt | sort -n > "$work/values"
-{
-  sed -n '/^## Numbers of schemas/,$p' docs/C.md | grep -o '[0-9]* `[A-Za-z0-9]*`' | tr -d '`'
-  awk '$2 == "JOURNAL_SCHEMAS" { print $3, "header" }' include/pendratsoa.h
-} | sort -n > "$work/lines"
-same "the numbers of shared_core_record and those of docs/C.md and include/pendratsoa.h" "$work/values" "$work/lines"
-
-# The tests of the surface name each record, each member of a oneof and each type.
+# entries FILE TEXT: the entries of a list in a source, one a line without spaces, from behind the line with this text to the line that ends it
+entries() {
+  awk -v text="$2" 'inside && /^ *\];$/ { exit } inside { print } index($0, text) { inside = 1 }' "$1" | tr -d ' \n' | sed 's/),*(/,/g' | tr ',' '\n'
+}
+tests=crates/shared_core_wire_tests/src/types.rt
+entries $tests 'const NAMED: ' | tr -d '()"' | awk '/^0x/ { code = tolower(substr($0, 3)); next } NF { print code, $0 }' | sort > "$work/lines"
+same "the types of shared_core_base and $tests" "$work/types" "$work/lines"
+entries crates/conformance/src/message_types.rt 'const TYPES: ' | sed -n 's/^(*"\(.*\)"$/\1/p' | sort > "$work/lines"
+cut -d' ' -f2 "$work/types" | sort > "$work/names"
+same "the types of shared_core_base and the names of the program conformance" "$work/names" "$work/lines"
 surface=crates/shared_core_surface_tests/src/surface.rt
-sed -n 's/^    \(part\|message\|encodable\|command\)::<\(messages::\)\{0,1\}\([A-Za-z0-9]*\)>();$/\3/p' "$surface" | sort > "$work/lines"
-same "proto/journal.proto and the records of $surface" "$work/messages" "$work/lines"
+entries $surface 'let _: [MessageType; ' | sed -n 's/^MessageType::\([A-Za-z]*\)$/\1/p' | sort > "$work/lines"
+same "the types of shared_core_base and $surface" "$work/names" "$work/lines"
+entries crates/journal_ffi/src/tests.rt 'const CODES: ' | sed -n 's/^0x//p' | tr A-F a-f | sort > "$work/lines"
+cut -d' ' -f1 "$work/types" > "$work/values"
+same "the types of shared_core_base and the codes of journal_ffi's tests" "$work/values" "$work/lines"
+
+# And each command: the code of its type and its command type.
+awk '
+  NR == FNR { code[$2] = $1; next }
+  $1 == "command_type_of" && $4 == "Some" { sub(/message\./, "", $2); sub(/command\./, "", $5); print code[$2], $5 }
+' "$work/types" $base/CommandType.antt | sort > "$work/commands"
+entries $tests 'const COMMANDS: ' | tr -d '()' | awk '/^0x/ { code = tolower(substr($0, 3)) } sub(/^CommandType::/, "") { print code, $0 }' | sort > "$work/lines"
+same "the commands of shared_core_base and $tests" "$work/commands" "$work/lines"
+sed -n 's/^command_text_of command\.\([A-Za-z]*\) = .*/\1/p' $base/CommandType.antt | sort > "$work/values"
+entries $surface 'let _: [CommandType; ' | sed -n 's/^CommandType:://p' | sort > "$work/lines"
+same "the command types of shared_core_base and $surface" "$work/values" "$work/lines"
+
+# The tests of the surface name each message as what it is, which a command is by its type and the message of another type is not.
+awk '
+  FILENAME == ARGV[1] { is_command[$1]; next }
+  FILENAME == ARGV[2] { kind[$2 "Message"] = $1 in is_command ? "command" : "encodable"; next }
+  { print ($1 in kind ? kind[$1] : $1 ~ /Message/ ? "message" : "part"), $1 }
+' "$work/commands" "$work/types" "$work/messages" | sort > "$work/values"
+sed -n 's/^    \([a-z]*\)::<\(messages::\)*\([A-Za-z0-9]*\)>();$/\1 \3/p' $surface | grep -E '^(part|message|encodable|command) ' | sort > "$work/lines"
+same "proto/journal.proto and the records of $surface" "$work/values" "$work/lines"
+
+# Each command has a text in those tests, and a row in the table of what is printed.
+sed -n 's/^command //p' "$work/values" > "$work/names"
+texts=crates/shared_core_surface_tests/src/texts.rt
+sed -n 's/^ *differs::<\([A-Za-z]*\)>(.*/\1/p' $texts | sort > "$work/lines"
+same "the commands of shared_core_base and $texts" "$work/names" "$work/lines"
+awk -F'|' '/^\| Commands \| Fields \|$/ { inside = 1; next } inside && NF == 0 { exit } inside { print $2 }' conformance/README.md |
+  grep -oE '[A-Za-z]+' | sed 's/$/CommandMessage/' | sort > "$work/lines"
+same "the commands of shared_core_base and the fields of conformance/README.md" "$work/names" "$work/lines"
+
+# The numbers of schemas stand in docs/C.md, and how many they are wherever it is written down.
+awk '/^-- The schema of / { message = $5; sub(/\.$/, "", message) } /^[a-z_0-9]+ = [0-9]+$/ { print $3, message }' \
+  crates/shared_core_record/specs/Table.antt > "$work/places"
+sed -n '/^## Numbers of schemas$/,$p' docs/C.md | tr -d '\140' | grep -oE '[0-9]+ [A-Z][A-Za-z0-9]+' > "$work/lines"
+same "the schemas of shared_core_record and docs/C.md" "$work/places" "$work/lines"
+count=$(awk 'END { print NR }' "$work/places")
+{
+  sed -n 's/^#define JOURNAL_SCHEMAS \([0-9]*\)$/\1 include/p' include/pendratsoa.h
+  sed -n 's/^SCHEMAS = \([0-9]*\)$/\1 example/p' examples/python/pendratsoa.py
+  sed -n 's/.*\[false; \([0-9]*\)\].*/\1 names/p; s/.* place < \([0-9]*\) .*/\1 names/p' crates/journal_ffi/src/tests/names.rt
+  sed -n 's/.* in 0\.\.\([0-9]*\) .*/\1 payloads/p' crates/journal_ffi/src/tests/payloads.rt
+} > "$work/lines"
+for place in include example names names payloads; do
+  echo "$count $place"
+done > "$work/values"
+same "how many schemas there are, and include/pendratsoa.h, examples/python and journal_ffi's tests" "$work/values" "$work/lines"
+
+# What pages and comments say of how many schemas, types and commands there are, but for what was measured.
+grep -rnoE --include='*.md' --include='*.rt' --include='*.antt' '(the|The|all|its|these|each of the) [0-9]+ (named )?(schemas|records|types|codes|commands)' \
+  README.md bench/README.md conformance docs crates/*/src crates/*/specs | grep -vE '^docs/(GATE|PERFORMANCE)\.md' > "$work/said"
+awk -v schemas="$count" -v types="$(awk 'END { print NR }' "$work/types")" -v commands="$(awk 'END { print NR }' "$work/commands")" '
+  { there = /(schemas|records)$/ ? schemas : /commands$/ ? commands : types; gsub(/ [0-9]+ /, " " there " "); print }
+' "$work/said" > "$work/values"
+same "how many schemas, types and commands there are, and what pages and comments say" "$work/values" "$work/said"
+
+# They name each member of a oneof.
 awk '
   function camel(text,  out, i, count, words) {
     count = split(text, words, "_"); out = ""
@@ -285,19 +342,6 @@ awk '
 ' "$work/proto" | sort > "$work/values"
 grep -o '[a-z_]*::[A-Z][A-Za-z]*::[A-Z][A-Za-z]*(' "$surface" | tr -d '(' | grep -xF -f "$work/values" | sort -u > "$work/lines"
 same "proto/journal.proto and the members of oneofs of $surface" "$work/values" "$work/lines"
-cut -d' ' -f2 "$work/codes" | sort > "$work/values"
-sed -n 's/^        MessageType::\([A-Za-z]*\),$/\1/p' "$surface" | sort -u > "$work/lines"
-same "the types of shared_core_base and those of $surface" "$work/values" "$work/lines"
-
-# How many schemas and types there are, where a page or a comment says it; not where a page says what was measured.
-{
-  awk 'END { print NR " schemas"; print NR " records" }' "$work/messages"
-  awk 'END { print NR " types"; print NR " named types" }' "$work/codes"
-} > "$work/counts"
-find README.md conformance/README.md bench/README.md docs crates/*/src crates/*/specs -name '*.md' -o -name '*.rt' -o -name '*.antt' | grep -v '/GATE\|/PERFORMANCE' | sort \
-  | xargs grep -noE '\b[0-9]+ (schemas|records|types|named types)\b' > "$work/values"
-awk -F: 'NR == FNR { is[$1] = 1; next } $3 in is' "$work/counts" "$work/values" > "$work/lines"
-same "the numbers of schemas and types, and pages and comments" "$work/values" "$work/lines"
 
 # The last version: that of the library, those that callers from C, the programs and the conformance lines can ask for, and what pages and comments say.
 last=$(sed -n '/fn maximum_supported_version/,/^    }$/s/^        Version::V\([0-9]*\)$/\1/p' crates/shared_core_base/src/version.rt)
@@ -315,6 +359,51 @@ find README.md conformance bench/README.md bench/src docs include examples crate
   | xargs grep -noE '\bversion (is )?from 5 to [0-9]+' > "$work/values"
 grep " to $last\$" "$work/values" > "$work/lines"
 same "the last version of shared_core_base, and pages and comments" "$work/values" "$work/lines"
+
+# The calls for C: a line each, its name and what it takes in C's words. In journal_ffi a slice is one parameter, and memory another.
+cat crates/journal_ffi/src/*.rt | awk '
+  /^pub extern "C" fn journal_/ { text = ""; inside = 1 }
+  inside { text = text $0 }
+  inside && / -> / {
+    inside = 0
+    line = text; sub(/^.* fn /, "", line); sub(/\(.*/, "", line)
+    sub(/^[^(]*\( */, "", text); sub(/,? *\) -> .*/, "", text)
+    count = split(text, taken, /, */)
+    for (i = 1; i <= count; i++) {
+      split(taken[i], parts, ": *")
+      type = parts[2]; is_slice = sub(/\]$/, "", type)
+      sub(/^&mut \[/, "", type); sub(/^&\[/, "const ", type); sub(/u/, "uint", type)
+      if (type != "Global") line = line " " type "_t " (is_slice ? "*" parts[1] " size_t" : parts[1])
+    }
+    print line
+  }
+' | sort > "$work/calls"
+awk '
+  /^int64_t journal_/ { text = ""; inside = 1 }
+  inside { text = text " " $0 }
+  inside && /;/ {
+    inside = 0
+    sub(/^ int64_t /, "", text); sub(/\(/, " ", text); sub(/\);.*/, "", text); gsub(/size_t [a-z_]+/, "size_t", text); gsub(/,/, "", text)
+    gsub(/ +/, " ", text); print text
+  }
+' include/pendratsoa.h | sort > "$work/lines"
+same "the calls of journal_ffi and include/pendratsoa.h" "$work/calls" "$work/lines"
+
+# Each stands in the module for Python, with what it takes and with a function that makes it.
+sed 's/const //g; s/uint[0-9]*_t \*[a-z_]* size_t/slice_/g; s/uint\([0-9]*\)_t [a-z_]*/u\1/g' "$work/calls" > "$work/values"
+sed -n '/^ *"journal_/ { s/[",+:]/ /g; s/  */ /g; s/^ //; s/ $//; p; }' examples/python/pendratsoa.py | sort > "$work/lines"
+same "the calls and the parameters in examples/python/pendratsoa.py" "$work/values" "$work/lines"
+sed 's/ .*//' "$work/calls" > "$work/values"
+grep -o '_library\.journal_[a-z_]*' examples/python/pendratsoa.py | sed 's/.*\.//' | sort -u > "$work/lines"
+same "the calls and the functions of examples/python/pendratsoa.py" "$work/values" "$work/lines"
+
+# It has tests, is called by nobody who means well, and stands in the table of promises.
+grep -oh 'journal_[a-z_]*(' crates/journal_ffi/src/tests/*.rt | sed 's/(//' | sort -u > "$work/lines"
+same "the calls and the tests of journal_ffi" "$work/values" "$work/lines"
+sed -n 's/^    \[[A-Z_]*\] = {"\(journal_[a-z_]*\)".*/\1/p' scripts/hostile_calls.c | sort > "$work/lines"
+same "the calls and the list of scripts/hostile_calls.c" "$work/values" "$work/lines"
+awk -F'|' '/^## / { inside = /^## journal_ffi:/ } inside && /^\| / { print $(NF - 1) }' docs/PROOFS.md | grep -o '`journal_[a-z_]*`' | tr -d '`' | grep -v '^journal_calls$' | sort -u > "$work/lines"
+same "the calls and the promises of docs/PROOFS.md" "$work/values" "$work/lines"
 
 echo "$passed passed, $failed failed"
 [ "$failed" -eq 0 ]
