@@ -196,7 +196,7 @@ fi
 # The module, and the conformance lines by it.
 if [ -n "$python" ]; then
   case_of 'the tests of the module' "$python" -m unittest discover -s examples/python
-  cat conformance/*.txt > "$work/lines"
+  cat conformance/*.txt conformance/json/*.txt > "$work/lines"
   counted 'the conformance lines' "$python" scripts/conformance_calls.py < "$work/lines"
 fi
 

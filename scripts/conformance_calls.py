@@ -74,8 +74,12 @@ def compare(type_, first, second):
     return " ".join([*words, pendratsoa.difference(code, first, second).encode().hex() or "-"])
 
 
-KINDS = {"payload": payload, "merge": merge, "frame": frame, "stream": stream, "compare": compare}
-NAMED = {"payload": 1, "merge": 1, "frame": 2, "stream": 1, "compare": 1}
+def json(schema, data):
+    return pendratsoa.to_json(SCHEMAS[schema], data)
+
+
+KINDS = {"payload": payload, "merge": merge, "frame": frame, "stream": stream, "compare": compare, "json": json}
+NAMED = {"payload": 1, "merge": 1, "frame": 2, "stream": 1, "compare": 1, "json": 1}
 
 
 def answer(question):

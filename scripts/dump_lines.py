@@ -1,7 +1,7 @@
 """Streams and their dumps, with protobuf's own JSON printer as the judge:
 
-    dump_lines.py --write            writes the stored run of journal_dump, crates/journal_dump/stdin and stdout
-    dump_lines.py --check            whether it is up to date
+    dump_lines.py --write            writes the stored run of journal_dump, crates/journal_dump/stdin and stdout, and conformance/json/records.txt
+    dump_lines.py --check            whether they are up to date
     dump_lines.py --random SEED COUNT PROGRAM [WORD..]
                                      COUNT random payloads of each message type in one stream, dumped by the program and printed by protobuf
 
@@ -22,6 +22,12 @@ from google.protobuf.descriptor import FieldDescriptor
 
 ROOT = pathlib.Path(__file__).resolve().parent.parent
 RUN = ROOT / "crates" / "journal_dump"
+RECORDS = ROOT / "conformance" / "records.txt"
+JSON = ROOT / "conformance" / "json" / "records.txt"
+
+HEAD = """# The JSON of each message: with every field present, with each member of its oneofs in turn, and with nothing present. The payloads are those of
+# conformance/records.txt, which are protoc's; the JSON is protobuf's own. Written by scripts/dump_lines.py.
+"""
 
 
 def load():
@@ -93,6 +99,20 @@ class Stream:
         return self.bytes, "".join(line + "\n" for line in self.lines)
 
 
+def records():
+    """The messages of conformance/records.txt and their payloads."""
+    for line in RECORDS.read_text().splitlines():
+        words = line.split(" ")
+        if words[0] == "record":
+            yield words[1], b"" if words[2] == "-" else bytes.fromhex(words[2])
+
+
+def json_lines(kinds):
+    """The JSON of these payloads, a line each."""
+    lines = [f"json {name} {payload.hex() or '-'} = {text_of(printed(getattr(kinds, name), payload))}\n" for name, payload in records()]
+    return HEAD + "".join(lines)
+
+
 def future_of(kinds, levels):
     future = kinds.Future(combinator_type=1)
     for _ in range(levels):
@@ -104,11 +124,9 @@ def stored(kinds):
     """The stream of the stored run: each message with every field, with each member of its oneofs, and empty; texts with every escape; ninety
     levels; a malformed payload between two good ones; items that are no messages; and a rest."""
     stream = Stream(kinds)
-    for line in (ROOT / "conformance" / "records.txt").read_text().splitlines():
-        words = line.split(" ")
-        if words[0] == "record" and words[1].endswith("Message"):
-            payload = b"" if words[2] == "-" else bytes.fromhex(words[2])
-            stream.message(words[1][: -len("Message")], payload, 0x8000 if payload else 0)
+    for name, payload in records():
+        if name.endswith("Message"):
+            stream.message(name[: -len("Message")], payload, 0x8000 if payload else 0)
     text = "".join(map(chr, range(0x20))) + "\"\\/\x7f\u0080\u2028\u2029\ufffd\U0001f600"
     stream.message("Error", kinds.ErrorMessage(message=text).SerializeToString())
     stream.message("InputCommand", kinds.InputCommandMessage(headers=[kinds.Header()], name="\0").SerializeToString())
@@ -201,7 +219,7 @@ def main():
     if words not in (["--write"], ["--check"]):
         sys.exit(__doc__)
     given, wanted = stored(kinds)
-    files = {RUN / "stdin": given, RUN / "stdout": wanted.encode()}
+    files = {RUN / "stdin": given, RUN / "stdout": wanted.encode(), JSON: json_lines(kinds).encode()}
     stale = [path for path, data in files.items() if not path.exists() or path.read_bytes() != data]
     for path in stale:
         if words == ["--write"]:
