@@ -3,16 +3,12 @@
 ghost use Rattle.std.specs.Prelude.{◌≤◌, ℕ, List};
 ghost use Rattle.std.specs.Io.KnownBytes.{Appends, Consumes};
 ghost use Rattle.shared_core_base.specs.Version.{version_number};
-ghost use Rattle.journal_dump.specs.Dump.{IsDumped, IsLong};
-ghost use Rattle.journal_dump.specs.Lines as text;
+ghost use Rattle.journal_dump.specs.Dump.{IsDumped};
 
-use crate::lines;
 use crate::options::Options;
-use crate::scratch::Scratch;
-use shared_core::encoding::Item;
-use std::alloc::{AllocError, Global};
+use std::alloc::Global;
 use std::io::{Read, Write};
-use stream_lines::{LinePrinter, PrintError, print_lines};
+use stream_lines::{PrintError, print_lines};
 
 /// How many bytes are read at a time.
 const PIECE: usize = 65536;
@@ -34,40 +30,4 @@ pub fn dump<R: Read, W: Write>(
         × IsDumped options.now result read written (R.remaining input.new) }
 {
     print_lines(alloc, options.version, options, input, output, PIECE)
-}
-
-/// Items as these options show them.
-impl<'a> LinePrinter for Options<'a> {
-    type Scratch = Scratch;
-
-    ghost item_line = { text.line_of };
-
-    ghost rest_line = { λ options. text.rest_line };
-
-    ghost is_long = { λ options. IsLong options.version };
-
-    fn scratch(&self, alloc: Global) -> Scratch {
-        Scratch::new(alloc)
-    }
-
-    fn print_item(
-        &self,
-        alloc: Global,
-        offset: u64,
-        item: Item,
-        scratch: &mut Scratch,
-        lines: Vec<u8>,
-    ) -> Result<Vec<u8>, PrintError> {
-        lines::print_item(alloc, self, offset, &item, scratch, lines)
-    }
-
-    fn print_rest(
-        &self,
-        alloc: Global,
-        offset: u64,
-        count: u64,
-        lines: Vec<u8>,
-    ) -> Result<Vec<u8>, AllocError> {
-        lines::print_rest(alloc, offset, count, lines)
-    }
 }

@@ -26,46 +26,55 @@ use shared_core::header::MessageType;
 use shared_core::version::Version;
 use std::alloc::{AllocError, Global};
 use std::mem;
-use stream_lines::PrintError;
+use stream_lines::{LinePrinter, PrintError};
 
-/// Appends the line of an item that begins at a place of the stream, where it is asked for.
-pub fn print_item(
-    alloc: Global,
-    options: &Options<'_>,
-    offset: u64,
-    item: &Item,
-    scratch: &mut Scratch,
-    lines: Vec<u8>,
-) -> Result<Vec<u8>, PrintError>
-    ensures line { IfOk result (λ now. now.items ≡ lines.items ++ line_of options.now offset item.now) }
-    ensures lack { IfErr result (IsLack (IsLong options.now.version item.now)) }
-{
-    if !is_asked_for(options.codes, item_code(item)) {
-        return Ok(lines);
+/// The lines of items as these options show them.
+impl<'a> LinePrinter for Options<'a> {
+    type Scratch = Scratch;
+
+    ghost item_line = { line_of };
+
+    ghost rest_line = { λ options. rest_line };
+
+    ghost is_long = { λ options. IsLong options.version };
+
+    fn scratch(&self, alloc: Global) -> Scratch {
+        Scratch::new(alloc)
     }
-    let mut line = mem::replace(&mut scratch.line, Vec::new(alloc));
-    line.clear();
-    let mut out = Writer::new(line);
-    write_item(alloc, options, offset, item, scratch, &mut out)?;
-    scratch.line = out.into_inner();
-    Ok(append_line(scratch.line.as_slice(), lines)?)
-}
 
-/// Appends the last line.
-pub fn print_rest(
-    alloc: Global,
-    offset: u64,
-    count: u64,
-    lines: Vec<u8>,
-) -> Result<Vec<u8>, AllocError>
-    ensures line { IfOk result (λ now. now.items ≡ lines.items ++ rest_line offset count) }
-{
-    let mut out = Writer::new(Vec::new(alloc));
-    out.begin_object()?;
-    write_number(&mut out, "offset", offset)?;
-    write_number(&mut out, "rest", count)?;
-    out.end_object()?;
-    append_line(out.into_inner().as_slice(), lines)
+    fn print_item(
+        &self,
+        alloc: Global,
+        offset: u64,
+        item: Item,
+        scratch: &mut Scratch,
+        lines: Vec<u8>,
+    ) -> Result<Vec<u8>, PrintError> {
+        if !is_asked_for(self.codes, item_code(&item)) {
+            return Ok(lines);
+        }
+        let mut line = mem::replace(&mut scratch.line, Vec::new(alloc));
+        line.clear();
+        let mut out = Writer::new(line);
+        write_item(alloc, self, offset, &item, scratch, &mut out)?;
+        scratch.line = out.into_inner();
+        Ok(append_line(scratch.line.as_slice(), lines)?)
+    }
+
+    fn print_rest(
+        &self,
+        alloc: Global,
+        offset: u64,
+        count: u64,
+        lines: Vec<u8>,
+    ) -> Result<Vec<u8>, AllocError> {
+        let mut out = Writer::new(Vec::new(alloc));
+        out.begin_object()?;
+        write_number(&mut out, "offset", offset)?;
+        write_number(&mut out, "rest", count)?;
+        out.end_object()?;
+        append_line(out.into_inner().as_slice(), lines)
+    }
 }
 
 /// Appends a line.
