@@ -47,6 +47,31 @@ for page in $pages; do
   done < "$work/worked"
 done
 
+# test vectors of each rule: `FILE, N: BEGINNING` in a page names the N lines of FILE under the one heading that begins so, and every heading
+# of the files that are not written at random is named
+for file in payloads merging levels hostile worked streams frames long; do
+  awk -v file="$file.txt" '
+    function leave() { if (count > 0) print file "|" count "|" heading; heading = ""; count = 0 }
+    /^#/ { if (count > 0) leave(); heading = heading (heading == "" ? "" : " ") substr($0, 3); next }
+    /^$/ { leave(); next }
+    { count++ }
+    END { leave() }' "conformance/$file.txt"
+done > "$work/headings"
+cat docs/PAYLOADS.md docs/FORMAT.md | sed -n 's/^    \([a-z]*\.txt\), \([0-9]*\): \(.*\)$/\1|\2|\3/p' > "$work/named"
+awk -F'|' '
+  NR == FNR { file[NR] = $1; count[NR] = $2; beginning[NR] = $3; named = NR; next }
+  {
+    found = 0
+    for (i = 1; i <= named; i++)
+      if (file[i] == $1 && index($3, beginning[i]) == 1) { seen[i]++; found++; if (count[i] != $2) print count[i] " lines in " $1 " where there are " $2 ": " beginning[i] }
+    if (found == 0) print "no rule names the lines in " $1 ": " $3
+  }
+  END { for (i = 1; i <= named; i++) if (seen[i] != 1) print seen[i] + 0 " headings in " file[i] " begin: " beginning[i] }' "$work/named" "$work/headings" > "$work/wrong"
+while IFS= read -r line; do
+  missing docs/PAYLOADS.md "$line"
+done < "$work/wrong"
+passed=$((passed + $(grep -c . "$work/named")))
+
 # the page of code of README.md is the program that the gate proves and runs
 awk '/^```rust$/ { inside = 1; next } /^```$/ { inside = 0 } inside' README.md > "$work/page"
 sed '/^\/\/! /d' crates/first_program/src/main.rt > "$work/program"
