@@ -8,11 +8,14 @@ the one that comes of the tables.
 With --check nothing is written; the last line is 'N passed, M failed', and the status 1 where the file is not what would be written.
 """
 import pathlib
+import re
 import sys
 
 from journal import OneOf, messages
 
-FILE = pathlib.Path(__file__).resolve().parent.parent / "conformance" / "comparisons.txt"
+FOLDER = pathlib.Path(__file__).resolve().parent.parent / "conformance"
+FILE = FOLDER / "comparisons.txt"
+PAGE = FOLDER / "README.md"
 
 HEAD = """\
 # Commands compared: the one that was recorded with the one that the code makes now. Above each line stands what it is, and the text of the
@@ -878,8 +881,37 @@ def comparisons():
     return "".join(parts)
 
 
+def page_table(header):
+    """The rows of the table of conformance/README.md that has this header, each a command and the words of its last column."""
+    lines = PAGE.read_text(encoding="utf-8").splitlines()
+    rows = {}
+    for line in lines[lines.index(header) + 2 :]:
+        if not line.startswith("|"):
+            break
+        commands, words = line.strip("|").split("|")
+        for command in re.findall(r"`(\w+)`", commands):
+            rows[command] = words.strip()
+    return rows
+
+
+def said_on_the_page():
+    """What conformance/README.md says otherwise than the tables above."""
+    never = {command: " ".join(sorted(re.findall(r"`(\w+)`", words))) for command, words in page_table("| Command | Never compared |").items()}
+    if never != {command: " ".join(sorted(fields.split())) for command, fields in NEVER_COMPARED.items()}:
+        yield "what is never compared"
+    payloads = {command: f"`{field}`" + (", where it is a value" if member else "") for command, (field, member) in PAYLOADS.items()}
+    if page_table("| Command | Payload |") != payloads:
+        yield "what is a payload"
+    printed = page_table("| Commands | Fields |")
+    printed["OneWayCall"] = printed["Call"].rsplit(",", 1)[0] if printed.get("OneWayCall") == "the same but the last" else ""
+    if {command: " ".join(re.findall(r"`(\w+)`", words)) for command, words in printed.items()} != PRINTED:
+        yield "what is printed"
+
+
 def main():
     text = comparisons()
+    for what in said_on_the_page():
+        sys.exit(f"compare.py: conformance/README.md says otherwise {what}")
     if sys.argv[1:] != ["--check"]:
         FILE.write_text(text, encoding="utf-8")
         return 0
