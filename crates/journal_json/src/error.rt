@@ -2,21 +2,36 @@
 
 use shared_core_wire::error::WireError;
 use std::alloc::AllocError;
-use thiserror::Error;
+use std::error::Error;
+use std::fmt;
 
 /// Why a payload has no JSON.
-#[derive(Debug, Drop, Error)]
+#[derive(Debug, Drop)]
 pub enum JsonError {
     /// It is not well-formed for its message.
-    #[error("malformed payload")]
     Malformed,
     /// Its canonical payload has more than 4,294,967,295 bytes.
-    #[error("too long")]
     TooLong,
     /// A request for memory was refused.
-    #[error("out of memory")]
     OutOfMemory,
 }
+
+impl fmt::Display for JsonError {
+    ghost use Rattle.std.specs.Prelude.{Some};
+    ghost use Rattle.journal_json.specs.Errors.{error_text};
+
+    ghost output = { λ error. Some (error_text error) };
+
+    fn fmt<W: fmt::Write>(&self, f: &mut fmt::Formatter<W>) -> fmt::Result {
+        f.write_str(match self {
+            JsonError::Malformed => "malformed payload",
+            JsonError::TooLong => "too long",
+            JsonError::OutOfMemory => "out of memory",
+        })
+    }
+}
+
+impl Error for JsonError {}
 
 impl From<WireError> for JsonError {
     ghost use Rattle.journal_json.specs.Errors.{error_of_wire};

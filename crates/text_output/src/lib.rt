@@ -5,11 +5,25 @@ ghost use Rattle.std.specs.Prelude.{ℕ, List};
 ghost use Rattle.std.specs.Io.KnownBytes.{Appends};
 ghost use Rattle.text_output.specs.Written.{IsWritten};
 
+use std::error::Error;
+use std::fmt;
 use std::io::Write;
 
 /// A write failed, or took no byte.
-#[derive(Debug, Clone, Copy)]
+#[derive(Debug, Clone, Copy, Drop)]
 pub struct OutputFailed;
+
+impl fmt::Display for OutputFailed {
+    ghost use Rattle.std.specs.Prelude.{Some, codes};
+
+    ghost output = { λ _. Some (codes "output failed") };
+
+    fn fmt<W: fmt::Write>(&self, f: &mut fmt::Formatter<W>) -> fmt::Result {
+        f.write_str("output failed")
+    }
+}
+
+impl Error for OutputFailed {}
 
 /// Writes until all bytes are written, a write fails, or one takes nothing. A beginning of the bytes stands then.
 pub fn write_whole<W: Write>(output: &mut W, bytes: &[u8]) -> Result<(), OutputFailed>
