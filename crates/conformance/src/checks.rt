@@ -6,26 +6,25 @@ use crate::message_types::check_frame;
 use crate::schemas::{RecordQuestion, check_record};
 use crate::streams::check_stream;
 use crate::verdict::{Failed, Verdict};
-use std::alloc::{AllocError, Global};
+use std::alloc::Global;
+use std::borrow::CowStr;
 
-/// What is answered instead of what a line says, or None where it says what the library answers.
-pub fn refutation(alloc: Global, line: &str) -> Result<Option<String>, AllocError> {
-    let Some(case) = read_case(alloc, line)? else {
-        return Ok(Some(unreadable(alloc)?));
+/// What the library returns in place of a line's answer, or what is wrong with the line; `None` where the library returns that answer.
+pub fn refutation(alloc: Global, line: &str) -> Option<CowStr<'static>> {
+    let Ok(case) = read_case(alloc, line) else {
+        return Some(CowStr::Borrowed("out of memory"));
+    };
+    let Some(case) = case else {
+        return Some(CowStr::Borrowed("no case"));
     };
     let mut verdict = Verdict::new(alloc, case.answer);
     match check(&case, &mut verdict) {
-        Ok(()) => Ok(None),
-        Err(Failed::Otherwise) => Ok(Some(verdict.given)),
-        Err(Failed::TooLong) => Ok(Some(String::from_str(alloc, "too long")?)),
-        Err(Failed::Unreadable) => Ok(Some(unreadable(alloc)?)),
-        Err(Failed::OutOfMemory) => Err(AllocError),
+        Ok(()) => None,
+        Err(Failed::Otherwise) => Some(CowStr::Owned(verdict.given)),
+        Err(Failed::TooLong) => Some(CowStr::Borrowed("too long")),
+        Err(Failed::Unreadable) => Some(CowStr::Borrowed("no case")),
+        Err(Failed::OutOfMemory) => Some(CowStr::Borrowed("out of memory")),
     }
-}
-
-/// What is said of a line that is no case.
-fn unreadable(alloc: Global) -> Result<String, AllocError> {
-    String::from_str(alloc, "no case")
 }
 
 /// Checks a case.

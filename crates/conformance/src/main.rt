@@ -8,6 +8,7 @@ mod comparisons;
 mod frames;
 mod message_types;
 mod payloads;
+mod record_ends;
 mod schemas;
 mod streams;
 mod verdict;
@@ -16,18 +17,20 @@ use crate::checks::refutation;
 use std::io::{self, BufRead, BufReader, ErrorKind};
 use std::process::ExitCode;
 
-/// Checks every line, and answers whether none failed. An empty line, and one that begins with `#`, is no case.
-fn run(rt: &HostRuntime) -> io::Result<bool> {
+/// Checks every line, and returns whether none failed. An empty line, and one that begins with `#`, is no case. `number` counts the lines
+/// that were read.
+fn run(rt: &HostRuntime, number: &mut u64) -> io::Result<bool> {
     let alloc = rt.alloc();
     let mut passed = 0u64;
     let mut failed = 0u64;
     for line in BufReader::new(alloc, rt.reader())?.lines(alloc) {
         let line = line?;
+        *number = number.saturating_add(1);
         let line = line.as_str();
         if line.is_empty() || line.starts_with('#') {
             continue;
         }
-        match refutation(alloc, line)? {
+        match refutation(alloc, line) {
             None => passed = passed.saturating_add(1),
             Some(instead) => {
                 failed = failed.saturating_add(1);
@@ -40,13 +43,14 @@ fn run(rt: &HostRuntime) -> io::Result<bool> {
 }
 
 fn main(rt: HostRuntime) -> ExitCode {
-    let why = match run(&rt) {
+    let mut number = 0;
+    let why = match run(&rt, &mut number) {
         Ok(true) => return ExitCode::SUCCESS,
         Ok(false) => return ExitCode::FAILURE,
         Err(error) if error.kind() == ErrorKind::OutOfMemory => "out of memory",
         Err(_) => "input or output failed",
     };
     // Nothing is left to do where that fails too.
-    let _ = eprintln!(rt; "conformance: {why}");
+    let _ = eprintln!(rt; "conformance: {why}, after line {number}");
     ExitCode::FAILURE
 }

@@ -1,8 +1,9 @@
 //! The payloads of a record: read, merged, printed and written again.
 
+use crate::record_ends::ends_of_records;
 use crate::verdict::{Failed, Verdict, copied};
 use bytes::Bytes;
-use shared_core::wire::{Records, WireError, WireRecord, decode_parts};
+use shared_core::wire::{WireError, WireRecord, decode_parts};
 use std::alloc::{AllocError, Global};
 use std::fmt::Debug;
 
@@ -144,7 +145,11 @@ fn check_cuts<M: WireRecord>(
     payload: &[u8],
     verdict: &mut Verdict<'_>,
 ) -> Result<(), Failed> {
-    let ends = ends_of_records(verdict.alloc, payload)?;
+    let Some(ends) = ends_of_records(verdict.alloc, payload)? else {
+        return verdict.refuse(
+            "its canonical payload has a record of another wire type than 0 and 2",
+        );
+    };
     for cut in 0..payload.len() + 1 {
         let front = copied(verdict.alloc, &payload[..cut])?;
         let well_formed = decoded::<M>(verdict.alloc, &front)?.is_some();
@@ -158,15 +163,4 @@ fn check_cuts<M: WireRecord>(
         }
     }
     Ok(())
-}
-
-/// Where the top records of a payload end.
-fn ends_of_records(alloc: Global, payload: &[u8]) -> Result<Vec<usize>, AllocError> {
-    let mut ends = Vec::new(alloc);
-    for found in Records::new(payload) {
-        if let Ok(record) = found {
-            ends.push(record.span.1)?;
-        }
-    }
-    Ok(ends)
 }
