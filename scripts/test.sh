@@ -1,19 +1,25 @@
 #!/bin/sh
-# scripts/test.sh [--quick]
+# scripts/test.sh [--quick [CRATE..]]
 #
-# All tests: the gate (every proof from nothing, the edits that must fail, each test and the stored runs of the programs), then
-# that the table of fields is one everywhere and written files are up to date, the programs on the examples, where they fail and on hostile streams, the JSON of messages beside
-# protobuf, the library on all conformance lines, also through its calls for C, and with each request for memory refused in turn, and prost on the same lines and on random ones. With --quick: what can be
-# known within minutes, without a proof (scripts/quick.sh). The last line is 'N passed, M failed', of all.
+# All tests: the gate (every proof from nothing, the mutants of must-fail/, each test and the stored runs of the programs), then that the
+# table of fields is one everywhere and generated files are up to date, the programs on the examples, where they fail and on hostile streams, the
+# JSON of messages beside protobuf, the library on all test vectors, also through its calls for C, and with each allocation failing in turn,
+# and prost on the same vectors and on random ones. With --quick: what can be known within two minutes, without a proof, and the tests of the
+# crates that are named (scripts/quick.sh). The last line is 'N passed, M failed', of all.
 set -u
 cd "$(dirname "$0")/.." || exit 1
 
-case $#:${1-} in
-  0:) ;;
-  1:--quick) exec sh scripts/quick.sh ;;
-  1:--help) sed -n '2,8s/^# \{0,1\}//p' scripts/test.sh; exit 0 ;;
-  *) echo 'usage: test.sh [--quick]' >&2; exit 2 ;;
+case ${1-} in
+  --quick)
+    shift
+    exec sh scripts/quick.sh "$@"
+    ;;
+  --help) sed -n '2,8s/^# \{0,1\}//p' scripts/test.sh; exit 0 ;;
 esac
+if [ $# -gt 0 ]; then
+  echo 'usage: test.sh [--quick [CRATE..]]' >&2
+  exit 2
+fi
 
 log=$(mktemp) || exit 1
 trap 'rm -f "$log" "$log.status"' EXIT
