@@ -7,6 +7,9 @@ use bytes::Bytes;
 use std::alloc::{AllocError, Global};
 use std::io::Read;
 
+/// The most bytes that are read at once.
+const MAX_PIECE: usize = 65536;
+
 /// What a reader gives, each read a piece.
 #[derive(Drop)]
 pub struct ReaderPieces<R> {
@@ -19,17 +22,18 @@ pub struct ReaderPieces<R> {
 }
 
 impl<R: Read + Drop> ReaderPieces<R> {
-    ghost use Rattle.std.specs.Prelude.{◌≡◌, ◌≤◌, IfOk};
+    ghost use Rattle.std.specs.Prelude.{◌≡◌, ◌≤◌, min, IfOk};
 
-    /// The pieces that a reader gives, each of at most so many bytes, which is 1 at least.
+    /// The pieces that a reader gives, each of at most `piece` bytes, which is 1 at least, and of at most 65,536.
     pub fn new(alloc: Global, reader: R, piece: usize) -> Result<ReaderPieces<R>, AllocError>
         requires { 1 ≤ piece }
-        ensures { IfOk result (λ source. source.reader ≡ reader) }
+        ensures reader { IfOk result (λ source. source.reader ≡ reader) }
+        ensures room { IfOk result (λ source. vec_len source.buffer ≡ min piece 65536) }
     {
         Ok(ReaderPieces {
             alloc,
             reader,
-            buffer: Vec::from_elem(alloc, 0, piece)?,
+            buffer: Vec::from_elem(alloc, 0, piece.min(MAX_PIECE))?,
             reads_left: u64::MAX,
         })
     }

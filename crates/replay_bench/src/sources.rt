@@ -6,6 +6,8 @@ ghost use Rattle.replay_bench.specs.Taking.{GivesPiece};
 
 use bytes::Bytes;
 use std::alloc::AllocError;
+use std::error::Error;
+use std::fmt;
 
 /// Why a source gave no piece. It is not asked again.
 #[derive(Clone, Copy, Debug, PartialEq, Eq)]
@@ -15,6 +17,21 @@ pub enum SourceError {
     /// A request for memory was refused.
     OutOfMemory,
 }
+
+impl fmt::Display for SourceError {
+    ghost use Rattle.replay_bench.specs.Texts.{source_error_text};
+
+    ghost output = { λ error. Some (source_error_text error) };
+
+    fn fmt<W: fmt::Write>(&self, f: &mut fmt::Formatter<W>) -> fmt::Result {
+        f.write_str(match self {
+            SourceError::Failed => "reading failed",
+            SourceError::OutOfMemory => "out of memory",
+        })
+    }
+}
+
+impl Error for SourceError {}
 
 impl From<AllocError> for SourceError {
     ghost use Rattle.std.specs.Prelude.{◌≡◌};

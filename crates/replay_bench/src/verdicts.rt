@@ -1,6 +1,8 @@
 //! What a comparison of two journals answers.
 
 use std::alloc::AllocError;
+use std::error::Error;
+use std::fmt;
 
 /// One of the two journals that are compared.
 #[derive(Clone, Copy, Debug, PartialEq, Eq)]
@@ -9,6 +11,20 @@ pub enum Side {
     Recorded,
     /// The journal that the execution now makes.
     Replayed,
+}
+
+impl fmt::Display for Side {
+    ghost use Rattle.std.specs.Prelude.{Some};
+    ghost use Rattle.replay_bench.specs.Texts.{side_text};
+
+    ghost output = { λ side. Some (side_text side) };
+
+    fn fmt<W: fmt::Write>(&self, f: &mut fmt::Formatter<W>) -> fmt::Result {
+        f.write_str(match self {
+            Side::Recorded => "recorded",
+            Side::Replayed => "replayed",
+        })
+    }
 }
 
 /// How two journals compare. An index counts the commands of a journal, from 0.
@@ -61,6 +77,41 @@ pub enum ReaderError {
     /// What any journals may be refused for.
     Bench(BenchError),
 }
+
+impl fmt::Display for BenchError {
+    ghost use Rattle.std.specs.Prelude.{Some};
+    ghost use Rattle.replay_bench.specs.Texts.{bench_error_text};
+
+    ghost output = { λ error. Some (bench_error_text error) };
+
+    fn fmt<W: fmt::Write>(&self, f: &mut fmt::Formatter<W>) -> fmt::Result {
+        match self {
+            BenchError::Malformed { side, index } => {
+                write!(f, "the {side} command {index} is malformed")
+            }
+            BenchError::TooLong => f.write_str("a journal has more than 2^64 - 1 bytes"),
+            BenchError::OutOfMemory => f.write_str("out of memory"),
+        }
+    }
+}
+
+impl Error for BenchError {}
+
+impl fmt::Display for ReaderError {
+    ghost use Rattle.std.specs.Prelude.{Some};
+    ghost use Rattle.replay_bench.specs.Texts.{reader_error_text};
+
+    ghost output = { λ error. Some (reader_error_text error) };
+
+    fn fmt<W: fmt::Write>(&self, f: &mut fmt::Formatter<W>) -> fmt::Result {
+        match self {
+            ReaderError::Read(side) => write!(f, "reading the {side} journal failed"),
+            ReaderError::Bench(error) => write!(f, "{error}"),
+        }
+    }
+}
+
+impl Error for ReaderError {}
 
 impl From<AllocError> for BenchError {
     ghost use Rattle.std.specs.Prelude.{◌≡◌};

@@ -131,7 +131,7 @@ fn worked_journals_in_any_cut(rt: HostRuntime) -> Result<(), Fail> {
         },
     ];
     for (at, row) in rows.iter().enumerate() {
-        for size in [1usize, 3, 4096] {
+        for size in [1, 3, usize::MAX] {
             // at most one request of a run is refused
             let answered = match answers(rt.alloc(), row, size) {
                 Err(AllocError) => answers(rt.alloc(), row, size)?,
