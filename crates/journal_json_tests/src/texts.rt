@@ -67,6 +67,46 @@ fn payloads_in_json(rt: HostRuntime) -> Result<(), Fail> {
     Ok(())
 }
 
+/// Whether a payload of one field, of so many bytes `a`, has the JSON that is wanted.
+fn is_written(
+    alloc: Global,
+    schema: u32,
+    tag: u8,
+    length: &[u8],
+    size: usize,
+    want: &str,
+) -> Result<bool, Fail> {
+    let mut payload = vec![in alloc; tag]?;
+    payload.extend_from_slice(length)?;
+    payload.extend_from_slice("a".repeat(alloc, size)?.as_bytes())?;
+    Ok(text_of(alloc, schema, payload.as_slice())?.as_slice() == want.as_bytes())
+}
+
+#[test]
+fn texts_and_bytes_of_many_lengths(rt: HostRuntime) -> Result<(), Fail> {
+    let alloc = rt.alloc();
+    for (size, length, end) in [
+        (0, &b"\x00"[..], ""),
+        (1, &b"\x01"[..], "YQ=="),
+        (2, &b"\x02"[..], "YWE="),
+        (7, &b"\x07"[..], "YQ=="),
+        (100, &b"\x64"[..], "YQ=="),
+        (4096, &b"\x80\x20"[..], "YQ=="),
+        (70000, &b"\xF0\xA2\x04"[..], "YQ=="),
+    ] {
+        let text = "a".repeat(alloc, size)?;
+        let text = format!(in alloc; "{{\"signalName\":\"{text}\"}}")?;
+        let base64 = "YWFh".repeat(alloc, size / 3)?;
+        let base64 = format!(in alloc; "{{\"value\":\"{base64}{end}\"}}")?;
+        assert!(rt;
+            is_written(alloc, 52, 0x1A, length, size, text.as_str())?
+                && is_written(alloc, 15, 0x72, length, size, base64.as_str())?,
+            "at {size}"
+        );
+    }
+    Ok(())
+}
+
 #[test]
 fn a_malformed_payload_has_none(rt: HostRuntime) -> Result<(), Fail> {
     for payload in [&b"\x08"[..], &b"\x0A\x01\x80"[..], &b"\x1A\x01\xFF"[..]] {
