@@ -15,8 +15,8 @@ const PIECE: usize = 65536;
 
 /// Writes a line for each item of a stream that is asked for, and at its end a line for the bytes that are in no item.
 ///
-/// It reads at most 65,536 bytes at a time, and ends as `print_lines` says. `TooLong` comes only where one of the items behind the lines that stand is a
-/// message whose canonical payload has more bytes than a length of 32 bits says.
+/// It reads at most 65,536 bytes at a time, and ends as `print_lines` says. `TooLong` comes only where payloads are shown and one of the items after
+/// those whose lines are written is a message that is asked for, whose canonical payload has more bytes than a length of 32 bits says.
 pub fn dump<R: Read, W: Write>(
     alloc: Global,
     options: &Options<'_>,

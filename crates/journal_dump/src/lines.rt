@@ -1,6 +1,6 @@
 //! The lines of a dump.
 
-ghost use Rattle.std.specs.Prelude.{◌≡◌, ◌∷◌, ◌++◌, [], Bool, codes, decimal, OnOk, IfOk, IfErr};
+ghost use Rattle.std.specs.Prelude.{◌≡◌, ◌∷◌, ◌++◌, [], true, codes, decimal, OnOk, IfOk, IfErr};
 ghost use Rattle.base64.specs.GeneralPurpose.{encode_of};
 ghost use Rattle.base64.specs.Engines.{standard};
 ghost use Rattle.json.specs.Token.{key, number, boolean, end_object};
@@ -10,7 +10,7 @@ ghost use Rattle.shared_core.specs.declared.encoding.item.Item.TheVariants as va
 ghost use Rattle.shared_core_base.specs.MessageType.{debug_name_of};
 ghost use Rattle.journal_dump.specs.Canonical.{IsLongFor};
 ghost use Rattle.stream_lines.specs.Printing.{IsLack};
-ghost use Rattle.journal_dump.specs.Dump.{IsLong};
+ghost use Rattle.journal_dump.specs.Dump.{HasLongPayload};
 ghost use Rattle.shared_core.specs.Visiting.{schema_at};
 ghost use Rattle.journal_dump.specs.Lines.{payload_members, ack_tokens, item_members, item_json, item_code as code_of_item, is_asked_for, line_of, rest_line};
 
@@ -30,13 +30,15 @@ use stream_lines::{LinePrinter, PrintError};
 
 /// The lines of items as these options show them.
 impl<'a> LinePrinter for Options<'a> {
+    ghost use Rattle.journal_dump.specs.Dump.{IsLong};
+
     type Scratch = Scratch;
 
     ghost item_line = { line_of };
 
     ghost rest_line = { λ options. rest_line };
 
-    ghost is_long = { λ options. IsLong options.version };
+    ghost is_long = { IsLong };
 
     fn scratch(&self, alloc: Global) -> Scratch {
         Scratch::new(alloc)
@@ -45,7 +47,7 @@ impl<'a> LinePrinter for Options<'a> {
     fn print_item(
         &self,
         alloc: Global,
-        offset: u64,
+        offset: u128,
         item: Item,
         scratch: &mut Scratch,
         lines: Vec<u8>,
@@ -64,13 +66,13 @@ impl<'a> LinePrinter for Options<'a> {
     fn print_rest(
         &self,
         alloc: Global,
-        offset: u64,
+        offset: u128,
         count: u64,
         lines: Vec<u8>,
     ) -> Result<Vec<u8>, AllocError> {
         let mut out = Writer::new(Vec::new(alloc));
         out.begin_object()?;
-        write_number(&mut out, "offset", offset)?;
+        write_offset(&mut out, offset, &mut String::new(alloc))?;
         write_number(&mut out, "rest", count)?;
         out.end_object()?;
         append_line(out.into_inner().as_slice(), lines)
@@ -109,17 +111,17 @@ fn is_asked_for(codes: &[u16], code: u16) -> bool
 fn write_item(
     alloc: Global,
     options: &Options<'_>,
-    offset: u64,
+    offset: u128,
     item: &Item,
     scratch: &mut Scratch,
     out: &mut Writer,
 ) -> Result<(), PrintError>
     ensures tokens { OnOk result (out.new.tokens ≡ out.old.tokens ++ json_tokens (item_json options.now offset item.now)) }
     ensures before { out.new.before ≡ out.old.before }
-    ensures lack { IfErr result (IsLack (IsLong options.now.version item.now)) }
+    ensures lack { IfErr result (IsLack (HasLongPayload options.now item.now)) }
 {
     out.begin_object()?;
-    write_number(out, "offset", offset)?;
+    write_offset(out, offset, &mut scratch.text)?;
     match item {
         Item::Message(message) => write_message_members(alloc, options, message, scratch, out)?,
         Item::Unknown(code) => {
@@ -148,7 +150,7 @@ fn write_message_members(
 ) -> Result<(), PrintError>
     ensures tokens { OnOk result (out.new.tokens ++ end_object ∷ [] ≡ out.old.tokens ++ members_tokens (item_members options.now (variant.Message message.now))) }
     ensures before { out.new.before ≡ out.old.before }
-    ensures lack { IfErr result (IsLack (IsLongFor (schema_at options.now.version message.now.header.ty) message.now.payload)) }
+    ensures lack { IfErr result (IsLack ((options.now.payloads ≡ true) × IsLongFor (schema_at options.now.version message.now.header.ty) message.now.payload)) }
 {
     let ty = message.ty();
     write_type(out, ty, &mut scratch.text)?;
@@ -203,6 +205,23 @@ fn write_type(out: &mut Writer, ty: MessageType, text: &mut String) -> Result<()
             out.string(text.as_str())
         }
         ty => out.string(ty.variant_name()),
+    }
+}
+
+/// Writes where something begins, as the member `offset`.
+#[tactic(auto, using(crate::proofs::Decimals::wide_is_number))]
+fn write_offset(out: &mut Writer, offset: u128, text: &mut String) -> Result<(), AllocError>
+    ensures tokens { OnOk result (out.new.tokens ≡ out.old.tokens ++ (key (codes "offset") ∷ token.number (decimal offset) ∷ [])) }
+    ensures before { out.new.before ≡ out.old.before }
+{
+    out.key("offset")?;
+    match u64::try_from(offset) {
+        Ok(offset) => out.u64(offset),
+        Err(_) => {
+            text.clear();
+            write!(text, "{offset}")?;
+            out.number(text.as_str())
+        }
     }
 }
 

@@ -1,12 +1,15 @@
 -- The listing of a stream of frames: a line for each item, and last the count of the bytes that are in no item.
-use Rattle.std.specs.Prelude.{ℕ, Bool, true, List, [], ◌++◌, false, length, codes, decimal, Result, Option, Some}
+use Rattle.std.specs.Prelude.{ℕ, Bool, true, List, [], ◌++◌, false, length, codes, decimal, Result, Ok, Err, Option, Some}
 use Rattle.std.specs.Fmt.{digits}
 use Rattle.shared_core_base.specs.declared.version.Version.{Version}
 use Rattle.shared_core_base.specs.MessageType.{debug_name_of}
 use Rattle.shared_core.specs.declared.encoding.item.Item.{Item}
 use Rattle.shared_core.specs.declared.encoding.item.Item.TheVariants.{Message, Unknown, Skipped}
 use Rattle.stream_lines.specs.declared.error.PrintError.{PrintError}
+use Rattle.stream_lines.specs.declared.error.PrintError.TheVariants as print_error
 use Rattle.stream_lines.specs.Printing.{ArePrinted}
+use Rattle.journal_list.specs.declared.error.ListError.{ListError}
+use Rattle.journal_list.specs.declared.error.ListError.TheVariants.{Input, Output, OutOfMemory}
 
 -- What stands behind a message's length: a mark where its header asks for an acknowledgement.
 abbrev pub ack_text : Option Bool → List ℕ
@@ -26,6 +29,13 @@ line_of (Skipped code payload) =
 abbrev pub rest_line : ℕ → List ℕ
 rest_line count = codes "rest " ++ (decimal count ++ codes "\n")
 
--- What was written of the bytes that were read is the lines of their items, as far as the answer says; no item is too long for its line.
-abbrev pub IsListed : Version → Result (Unit {0}) PrintError → List ℕ → List ℕ → Option (List ℕ) → Type 0
-IsListed version result read written left = ArePrinted (λ at. line_of) (λ at. rest_line) (λ item. ⊥) version result read written left
+-- How the printing of a stream ended where a listing ended so.
+abbrev pub printed_of : Result (Unit {0}) ListError → Result (Unit {0}) PrintError
+printed_of (Ok done) = Ok done
+printed_of (Err Input) = Err print_error.Input
+printed_of (Err Output) = Err print_error.Output
+printed_of (Err OutOfMemory) = Err print_error.OutOfMemory
+
+-- What was written of the bytes that were read is the lines of their items, as far as the result says; no item is too long for its line.
+abbrev pub IsListed : Version → Result (Unit {0}) ListError → List ℕ → List ℕ → Option (List ℕ) → Type 0
+IsListed version result read written left = ArePrinted (λ at. line_of) (λ at. rest_line) (λ item. ⊥) version (printed_of result) read written left

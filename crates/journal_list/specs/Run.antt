@@ -1,7 +1,7 @@
 -- How a run of the program ends, and what it says of it.
 use Rattle.std.specs.Prelude.{ℕ, List, [], codes, Result, Ok, Err, ⊤}
-use Rattle.stream_lines.specs.declared.error.PrintError.{PrintError}
-use Rattle.stream_lines.specs.declared.error.PrintError.TheVariants.{Input, Output, OutOfMemory, TooLong}
+use Rattle.journal_list.specs.declared.error.ListError.{ListError}
+use Rattle.journal_list.specs.declared.error.ListError.TheVariants.{Input, Output, OutOfMemory}
 use Rattle.journal_list.specs.declared.run.Outcome.{Outcome}
 use Rattle.journal_list.specs.declared.run.Outcome.TheVariants.{Refused, Listed}
 
@@ -11,18 +11,17 @@ IsRefused Refused = ⊤
 IsRefused (Listed _) = ⊥
 
 -- The fact holds of the listing's answer, where there is one.
-abbrev pub IfListed : Outcome → (Result (Unit {0}) PrintError → Type 0) → Type 0
+abbrev pub IfListed : Outcome → (Result (Unit {0}) ListError → Type 0) → Type 0
 IfListed Refused fact = ⊤
 IfListed (Listed answer) fact = fact answer
 
--- The line on the standard error: none after a whole listing. No listing is too long.
+-- The line on the standard error: none after a whole listing.
 abbrev pub message_of : Outcome → List ℕ
 message_of Refused = codes "usage: journal_list [1..65536] [v9]\n"
 message_of (Listed (Ok _)) = []
 message_of (Listed (Err Input)) = codes "journal_list: input failed\n"
 message_of (Listed (Err Output)) = codes "journal_list: output failed\n"
 message_of (Listed (Err OutOfMemory)) = codes "journal_list: out of memory\n"
-message_of (Listed (Err TooLong)) = codes "journal_list: a line is too long\n"
 
 -- The status at the end: 0 after a whole listing, 1 after a failure, 2 after words that were refused.
 abbrev pub status_of : Outcome → ℕ

@@ -1,11 +1,11 @@
 //! One read or one write of a listing fails.
+use crate::error::ListError;
 use crate::faults::{FaultyReader, FaultyWriter};
 use crate::list::list;
 use crate::run::{Outcome, run};
 use crate::test_words::words_of;
 use std::io::ErrorKind;
 use std::test::Fail;
-use stream_lines::PrintError;
 
 /// A header of the unknown code 8, which announces eight bytes, and an `End` without a payload.
 const STREAM: [u8; 16] = [
@@ -64,7 +64,7 @@ fn a_failed_read_leaves_the_lines_so_far(rt: HostRuntime) -> Result<(), Fail> {
             let mut output = Vec::new(rt.alloc());
             let result = list(rt.alloc(), &mut input, &mut output, 3);
             assert!(rt;
-                matches!(&result, Err(PrintError::Input)),
+                matches!(&result, Err(ListError::Input)),
                 "after {reads} reads"
             );
             assert_eq!(rt; output.as_slice(), want.as_bytes(), "after {reads} reads");
@@ -87,7 +87,7 @@ fn a_failed_write_leaves_a_beginning(rt: HostRuntime) -> Result<(), Fail> {
             };
             let result = list(rt.alloc(), &mut input, &mut output, 3);
             assert!(rt;
-                matches!(&result, Err(PrintError::Output)),
+                matches!(&result, Err(ListError::Output)),
                 "after {left} bytes"
             );
             assert_eq!(rt;

@@ -7,6 +7,7 @@ ghost use Rattle.shared_core_base.specs.Version.{version_number};
 ghost use Rattle.journal_list.specs.Listing.{ack_text, line_of, IsListed};
 ghost use Rattle.journal_list.specs.Listing as text;
 
+use crate::error::ListError;
 use shared_core::encoding::Item;
 use shared_core::version::Version;
 use std::alloc::{AllocError, Global};
@@ -19,7 +20,7 @@ pub fn list<R: Read, W: Write>(
     input: &mut R,
     output: &mut W,
     piece: usize,
-) -> Result<(), PrintError>
+) -> Result<(), ListError>
     requires low { 1 ≤ piece }
     requires high { piece ≤ 65536 }
     ensures { (read : List ℕ) × (written : List ℕ)
@@ -33,14 +34,16 @@ pub fn list<R: Read, W: Write>(
 /// Writes a line for each item of a stream of a version, of at least V5, and at its end the count of the bytes that are in
 /// no item.
 ///
-/// It reads at most `piece` bytes at a time, from 1 to 65,536, and ends as `print_lines` says, but never by `TooLong`.
+/// It reads at most `piece` bytes at a time, from 1 to 65,536, and writes the lines of the items that a piece completes before it reads the next. `Ok`
+/// comes only where the reader has no byte left, and then all is written. `Input` leaves the lines of all items of what was read; `Output` a
+/// beginning of these lines, or of all where the input had ended; `OutOfMemory` the lines of the first items.
 pub fn list_at<R: Read, W: Write>(
     alloc: Global,
     version: Version,
     input: &mut R,
     output: &mut W,
     piece: usize,
-) -> Result<(), PrintError>
+) -> Result<(), ListError>
     requires spoken { 5 ≤ version_number version }
     requires low { 1 ≤ piece }
     requires high { piece ≤ 65536 }
@@ -49,7 +52,14 @@ pub fn list_at<R: Read, W: Write>(
         × Appends (W.contents output.old) (W.contents output.new) written
         × IsListed version result read written (R.remaining input.new) }
 {
-    print_lines(alloc, version, &Listing, input, output, piece)
+    match print_lines(alloc, version, &Listing, input, output, piece) {
+        Ok(()) => Ok(()),
+        Err(PrintError::Input) => Err(ListError::Input),
+        Err(PrintError::Output) => Err(ListError::Output),
+        Err(PrintError::OutOfMemory) => Err(ListError::OutOfMemory),
+        // no item is too long for its line
+        Err(PrintError::TooLong) => unreachable!(),
+    }
 }
 
 /// What makes the lines of a listing.
@@ -72,7 +82,7 @@ impl LinePrinter for Listing {
     fn print_item(
         &self,
         _alloc: Global,
-        _offset: u64,
+        _offset: u128,
         item: Item,
         line: &mut String,
         lines: Vec<u8>,
@@ -87,7 +97,7 @@ impl LinePrinter for Listing {
     fn print_rest(
         &self,
         alloc: Global,
-        _offset: u64,
+        _offset: u128,
         count: u64,
         lines: Vec<u8>,
     ) -> Result<Vec<u8>, AllocError> {

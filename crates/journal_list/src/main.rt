@@ -1,6 +1,7 @@
 //! Lists the frames of a stream that comes on the standard input: of a V8 stream, or with the word `v9` of a V9 one.
 #![tactic(auto)]
 
+mod error;
 #[cfg(test)]
 mod fault_tests;
 #[cfg(test)]
@@ -13,11 +14,11 @@ mod run;
 #[cfg(test)]
 mod test_words;
 
+use crate::error::ListError;
 use crate::run::{Outcome, exit_code, message, run};
 use std::io::ErrorKind;
 use std::process::ExitCode;
 use std::{env, io};
-use stream_lines::PrintError;
 
 /// The words behind the program's name.
 fn words(rt: &HostRuntime) -> io::Result<Vec<String>> {
@@ -37,10 +38,10 @@ fn main(rt: HostRuntime) -> ExitCode {
             &mut rt.stdout(),
         ),
         Err(error) if error.kind() == ErrorKind::OutOfMemory => {
-            Outcome::Listed(Err(PrintError::OutOfMemory))
+            Outcome::Listed(Err(ListError::OutOfMemory))
         }
         // words that cannot be fetched are input too
-        Err(_) => Outcome::Listed(Err(PrintError::Input)),
+        Err(_) => Outcome::Listed(Err(ListError::Input)),
     };
     // nothing is left to do where the standard error fails too
     let _ = eprint!(rt; "{}", message(&outcome));

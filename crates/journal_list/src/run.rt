@@ -7,12 +7,12 @@ ghost use Rattle.journal_list.specs.Listing.{IsListed};
 ghost use Rattle.journal_list.specs.Options.{AreOptions};
 ghost use Rattle.journal_list.specs.Run.{message_of, status_of, IsRefused, IfListed};
 
+use crate::error::ListError;
 use crate::list::list_at;
 use crate::options::options;
 use std::alloc::Global;
 use std::io::{Read, Write};
 use std::process::ExitCode;
-use stream_lines::PrintError;
 
 /// How a run ended.
 #[derive(Drop)]
@@ -20,7 +20,7 @@ pub enum Outcome {
     /// The words are not the program's.
     Refused,
     /// The listing's answer.
-    Listed(Result<(), PrintError>),
+    Listed(Result<(), ListError>),
 }
 
 /// Lists the input at the version, and in pieces of the size, that the words say. Words that say none leave input and output untouched.
@@ -55,10 +55,9 @@ pub fn message(outcome: &Outcome) -> &'static str
     match outcome {
         Outcome::Refused => "usage: journal_list [1..65536] [v9]\n",
         Outcome::Listed(Ok(())) => "",
-        Outcome::Listed(Err(PrintError::Input)) => "journal_list: input failed\n",
-        Outcome::Listed(Err(PrintError::Output)) => "journal_list: output failed\n",
-        Outcome::Listed(Err(PrintError::OutOfMemory)) => "journal_list: out of memory\n",
-        Outcome::Listed(Err(PrintError::TooLong)) => "journal_list: a line is too long\n",
+        Outcome::Listed(Err(ListError::Input)) => "journal_list: input failed\n",
+        Outcome::Listed(Err(ListError::Output)) => "journal_list: output failed\n",
+        Outcome::Listed(Err(ListError::OutOfMemory)) => "journal_list: out of memory\n",
     }
 }
 

@@ -1,5 +1,5 @@
 -- What stands written when the printing of a stream ends: a line for each of its items, and last one for the bytes that are in none.
-use Rattle.std.specs.Prelude.{◌≡◌, ◌⊎◌, ℕ, ◌+◌, List, [], ◌∷◌, ◌++◌, length, Result, Ok, Err, Option}
+use Rattle.std.specs.Prelude.{◌≡◌, ◌⊎◌, ℕ, ◌+◌, List, [], ◌∷◌, ◌++◌, length, codes, Result, Ok, Err, Option}
 use Rattle.std.specs.Io.KnownBytes.{Consumes, Keeps, IsAtEnd}
 use Rattle.shared_core_base.specs.declared.version.Version.{Version}
 use Rattle.shared_core.specs.declared.encoding.item.Item.{Item}
@@ -73,3 +73,10 @@ IsRead (Ok piece) old new = Consumes old new piece × (length piece ≡ 0 → Is
 IsRead (Err Input) old new = Keeps old new
 IsRead (Err OutOfMemory) old new = (lost : List ℕ) × Consumes old new lost
 IsRead (Err error) old new = ⊥
+
+-- The text of an error.
+abbrev pub error_text : PrintError → List ℕ
+error_text Input = codes "input failed"
+error_text Output = codes "output failed"
+error_text OutOfMemory = codes "out of memory"
+error_text TooLong = codes "an item is too long for a line"

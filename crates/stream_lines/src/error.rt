@@ -1,25 +1,40 @@
 //! Why printing ended before the last line.
 
 use std::alloc::AllocError;
+use std::error::Error;
+use std::fmt;
 use text_output::OutputFailed;
-use thiserror::Error;
 
 /// Why printing ended before the last line.
-#[derive(Clone, Copy, Debug, PartialEq, Eq, Error)]
+#[derive(Clone, Copy, Debug, PartialEq, Eq, Drop)]
 pub enum PrintError {
-    /// A read failed, or 2^47 reads met no end.
-    #[error("input failed")]
+    /// A read failed, or 2^64 - 1 reads met no end.
     Input,
     /// A write failed, or took no byte.
-    #[error("output failed")]
     Output,
     /// There is no memory for a piece, an item or a line.
-    #[error("out of memory")]
     OutOfMemory,
     /// An item is too long for a line.
-    #[error("an item is too long for a line")]
     TooLong,
 }
+
+impl fmt::Display for PrintError {
+    ghost use Rattle.std.specs.Prelude.{Some};
+    ghost use Rattle.stream_lines.specs.Printing.{error_text};
+
+    ghost output = { λ error. Some (error_text error) };
+
+    fn fmt<W: fmt::Write>(&self, f: &mut fmt::Formatter<W>) -> fmt::Result {
+        f.write_str(match self {
+            PrintError::Input => "input failed",
+            PrintError::Output => "output failed",
+            PrintError::OutOfMemory => "out of memory",
+            PrintError::TooLong => "an item is too long for a line",
+        })
+    }
+}
+
+impl Error for PrintError {}
 
 impl From<AllocError> for PrintError {
     ghost use Rattle.std.specs.Prelude.{◌≡◌};

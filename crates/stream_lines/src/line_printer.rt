@@ -29,7 +29,7 @@ pub trait LinePrinter {
     fn print_item(
         &self,
         alloc: Global,
-        offset: u64,
+        offset: u128,
         item: Item,
         scratch: &mut Self::Scratch,
         lines: Vec<u8>,
@@ -41,7 +41,7 @@ pub trait LinePrinter {
     fn print_rest(
         &self,
         alloc: Global,
-        offset: u64,
+        offset: u128,
         count: u64,
         lines: Vec<u8>,
     ) -> Result<Vec<u8>, AllocError>

@@ -16,9 +16,6 @@ use std::alloc::{AllocError, Global};
 use std::io::{Read, Write};
 use text_output::write_whole;
 
-/// How many reads are made at most, so that offsets fit 64 bits.
-const READS: u64 = 1 << 47;
-
 /// Writes a line for each item of a stream of a version, of at least V5, and at its end a line for the bytes that are in no item.
 ///
 /// It reads at most `piece` bytes at a time, from 1 to 65,536, and writes the lines of the items that a piece completes before it reads the next. `Ok`
@@ -46,17 +43,19 @@ pub fn print_lines<P: LinePrinter, R: Read, W: Write>(
     let mut text = Vec::new(alloc);
     let mut buffer = Vec::from_elem(alloc, 0u8, piece)?;
     let buffer = buffer.as_mut_slice();
-    let mut total = 0;
-    for _ in 0..READS {
+    // 2^64 - 1 reads may give more bytes than 64 bits count
+    let mut total = 0u128;
+    for _ in 0..u64::MAX {
         let bytes = read_piece(alloc, input, buffer)?;
         if bytes.is_empty() {
             text.clear();
             let pending = decoder.pending();
-            let text = printer.print_rest(alloc, total - pending, pending, text)?;
+            let offset = total - pending as u128;
+            let text = printer.print_rest(alloc, offset, pending, text)?;
             write_whole(output, text.as_slice())?;
             return Ok(());
         }
-        total += bytes.len() as u64;
+        total += bytes.len() as u128;
         feed(&mut decoder, bytes)?;
         text = print_items(alloc, printer, &mut decoder, total, &mut scratch, text)?;
         write_whole(output, text.as_slice())?;
@@ -94,7 +93,7 @@ fn print_items<P: LinePrinter>(
     alloc: Global,
     printer: &P,
     decoder: &mut Decoder,
-    total: u64,
+    total: u128,
     scratch: &mut P::Scratch,
     text: Vec<u8>,
 ) -> Result<Vec<u8>, PrintError>
@@ -108,10 +107,10 @@ fn print_items<P: LinePrinter>(
 {
     let mut text = text;
     text.clear();
-    let mut offset = total - decoder.pending();
+    let mut offset = total - decoder.pending() as u128;
     while let Some(item) = decoder.next_item()? {
         text = printer.print_item(alloc, offset, item, scratch, text)?;
-        offset = total - decoder.pending();
+        offset = total - decoder.pending() as u128;
     }
     Ok(text)
 }
