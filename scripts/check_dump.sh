@@ -82,12 +82,24 @@ dump 0 "$rest" '' --type End replay
 dump 0 '{"offset":0,"unknown":true,"code":8}
 {"offset":8,"type":"End","code":3,"length":0,"message":{}}
 {"offset":16,"rest":0}' '' unknown_type
+dump 0 '{"offset":8,"type":"End","code":3,"length":0,"message":{}}
+{"offset":16,"rest":0}' '' --type End unknown_type
+dump 0 '{"offset":16,"rest":0}' '' --protocol 9 --type End unknown_type
 dump 0 '{"offset":0,"skipped":true,"code":8,"length":8,"bytes":"AAMAAAAAAAA="}
 {"offset":16,"rest":0}' '' --protocol 9 unknown_type
 dump 0 '{"offset":0,"skipped":true,"code":8,"length":8}
 {"offset":16,"rest":0}' '' --protocol 9 --no-payload unknown_type
 dump 0 '{"offset":13,"type":"CustomEntry(64513)","code":64513,"length":0,"bytes":""}
 {"offset":21,"rest":8}' '' --type 'CustomEntry(64513)' cut_short
+
+# Two custom entries, the second with the highest code that there is
+printf '\374\000\000\000\000\000\000\000\377\377\000\000\000\000\000\000' > "$work/custom"
+first='{"offset":0,"type":"CustomEntry(64512)","code":64512,"length":0,"bytes":""}'
+second='{"offset":8,"type":"CustomEntry(65535)","code":65535,"length":0,"bytes":""}'
+dump 0 "$first
+{\"offset\":16,\"rest\":0}" '' --type 'CustomEntry(64512)' "$work/custom"
+dump 0 "$second
+{\"offset\":16,\"rest\":0}" '' --type 'CustomEntry(65535)' "$work/custom"
 
 # A suspension has another schema before V7; a malformed payload ends nothing.
 printf '\000\001\000\000\000\000\000\026\n\003\001\256\002\022\003\003\260\002\032\004t\303\2515\032\004t\303\2516\000\003\000\000\000\000\000\001\n' > "$work/v6"
@@ -98,9 +110,13 @@ dump 0 "$old
 $end" '' --protocol 6 "$work/v6"
 dump 0 "{\"offset\":0,\"type\":\"Suspension\",\"code\":1,\"length\":22,\"message\":{}}
 $end" '' --protocol 7 "$work/v6"
+dump 0 '{"offset":30,"type":"End","code":3,"length":1}
+{"offset":39,"rest":0}' '' --no-payload --type End "$work/v6"
 
 dump 2 '' "$usage" --protocol 4 replay
 dump 2 '' "$usage" --type Nothing replay
+dump 2 '' "$usage" --type CustomEntry replay
+dump 2 '' "$usage" --type 'CustomEntry(65536)' replay
 dump 2 '' "$usage" --type
 dump 2 '' "$usage" replay replay
 dump 2 '' "$usage" --payload
@@ -120,6 +136,11 @@ ended 'a folder on the standard input' 1 '' 'journal_dump: input failed'
 "$program" replay 2> "$work/err" >&-
 status=$?
 ended 'a closed output' 1 '' 'journal_dump: output failed'
+for word in --help --version; do
+  "$program" $word 2> "$work/err" >&-
+  status=$?
+  ended "a closed output, $word" 1 '' 'journal_dump: output failed'
+done
 if [ -c /dev/full ]; then
   "$program" replay > /dev/full 2> "$work/err"
   status=$?
@@ -140,6 +161,12 @@ done > "$work/many"
 } | head -n 1 > "$work/out"
 status=$(cat "$work/status")
 ended 'journal_dump | head -n 1' 1 "$start" 'journal_dump: output failed'
+
+# All of it, in reads of 65,536 bytes
+"$program" "$work/many" > "$work/out" 2> "$work/err"
+status=$?
+[ "$status" -eq 0 ] && [ "$(wc -l < "$work/out")" -eq 6001 ] && [ "$(tail -n 1 "$work/out")" = '{"offset":112000,"rest":0}' ]
+outcome 'a long stream' $?
 
 # A message of 4 GiB begins, and 128 MiB of address space do not hold the 192 MiB of it that come.
 if (ulimit -v 131072) 2> "$work/shell"; then

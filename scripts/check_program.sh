@@ -167,6 +167,9 @@ done
 "$program" < "$work/long" > "$out" 2> "$err"
 status=$?
 ended 'a long stream' 0 "$work/long.stdout"
+"$program" 1 < "$work/long" > "$out" 2> "$err"
+status=$?
+ended 'a long stream, a byte a read' 0 "$work/long.stdout"
 
 # Outputs that fail at once: nothing of the listing stands anywhere.
 : > "$out"
