@@ -39,8 +39,23 @@ pub fn next(decoder: &mut Decoder) -> Result<RawMessage, Fail> {
 
 /// The message of a stream that is one frame.
 pub fn message_of(alloc: Global, frame: &[u8]) -> Result<RawMessage, Fail> {
+    message_of_piece(alloc, Bytes::copy_from_slice(alloc, frame)?)
+}
+
+/// The message of a piece that is one frame, which it shares.
+pub fn message_of_piece(alloc: Global, piece: Bytes) -> Result<RawMessage, Fail> {
     let mut decoder = Decoder::new(alloc, Version::V8);
-    push_copy(alloc, &mut decoder, frame)?;
+    push(&mut decoder, piece)?;
+    next(&mut decoder)
+}
+
+/// The message of this code and payload, which has less than 256 bytes, in two pieces.
+pub fn message_with(alloc: Global, code: u16, payload: &[u8]) -> Result<RawMessage, Fail> {
+    let [high, low] = code.to_be_bytes();
+    let header = [high, low, 0, 0, 0, 0, 0, (payload.len() % 256) as u8];
+    let mut decoder = Decoder::new(alloc, Version::V8);
+    push_copy(alloc, &mut decoder, &header)?;
+    push_copy(alloc, &mut decoder, payload)?;
     next(&mut decoder)
 }
 

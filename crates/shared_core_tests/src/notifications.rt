@@ -1,6 +1,5 @@
 //! Views of notifications, whatever their type.
 use crate::steps::{expect, message_of, message_with};
-use bytes::Bytes;
 use shared_core::encoding::{DecodingError, RawMessage};
 use shared_core::header::MessageType;
 use shared_core::messages::{
@@ -242,7 +241,7 @@ fn a_typed_message_needs_no_id(rt: HostRuntime) -> Result<(), Fail> {
 /// The message of the frame that cancels an invocation.
 fn cancellation(alloc: Global) -> Result<RawMessage, Fail> {
     let frame = [0xFB, 0xFF, 0, 0, 0, 0, 0, 4, 0x10, 0x01, 0x22, 0x00];
-    message_of(alloc, &Bytes::copy_from_slice(alloc, &frame)?)
+    message_of(alloc, &frame)
 }
 
 #[test]

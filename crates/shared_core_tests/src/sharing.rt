@@ -1,7 +1,7 @@
 //! That payloads are cut from the pieces and not copied, and that nothing is held longer than it is used.
 
 use crate::frames::THREE_FRAMES;
-use crate::steps::{expect, message_of, next, push};
+use crate::steps::{expect, message_of_piece, next, push};
 use bytes::Bytes;
 use shared_core::Version;
 use shared_core::encoding::{Decoder, Item, RawMessage, decode_pieces};
@@ -12,9 +12,9 @@ use shared_core::messages::{
 use std::alloc::Global;
 use std::test::Fail;
 
-/// A frame of End with a payload of 65,536 bytes, and behind it the first three bytes of a header where they are asked for.
-fn large_frame(alloc: Global, more: bool) -> Result<Bytes, Fail> {
-    let mut frame = [0x00, 0x03, 0, 0, 0, 1, 0, 0].to_vec(alloc)?;
+/// A frame of a code below 256 with a payload of 65,536 bytes, and after it the first three bytes of a header where they are wanted.
+fn large_frame(alloc: Global, code: u8, more: bool) -> Result<Bytes, Fail> {
+    let mut frame = [0x00, code, 0, 0, 0, 1, 0, 0].to_vec(alloc)?;
     frame.extend_from_slice(&Vec::from_elem(alloc, 0x6Bu8, 65_536)?)?;
     if more {
         frame.extend_from_slice(&[0x00, 0x03, 0])?;
@@ -31,7 +31,7 @@ fn is_last_of<T: Drop>(held: T, piece: &Bytes) -> Result<(), Fail> {
 
 #[test]
 fn a_payload_in_one_piece_shares_it(rt: HostRuntime) -> Result<(), Fail> {
-    let piece = large_frame(rt.alloc(), false)?;
+    let piece = large_frame(rt.alloc(), 0x03, false)?;
     let mut decoder = Decoder::new(rt.alloc(), Version::V8);
     push(&mut decoder, piece.clone()?)?;
     let message = next(&mut decoder)?;
@@ -42,7 +42,7 @@ fn a_payload_in_one_piece_shares_it(rt: HostRuntime) -> Result<(), Fail> {
 
 #[test]
 fn a_payload_that_does_not_end_its_piece_shares_it(rt: HostRuntime) -> Result<(), Fail> {
-    let piece = large_frame(rt.alloc(), true)?;
+    let piece = large_frame(rt.alloc(), 0x03, true)?;
     let mut decoder = Decoder::new(rt.alloc(), Version::V8);
     push(&mut decoder, piece.clone()?)?;
     let message = next(&mut decoder)?;
@@ -53,8 +53,20 @@ fn a_payload_that_does_not_end_its_piece_shares_it(rt: HostRuntime) -> Result<()
 }
 
 #[test]
+fn a_skipped_payload_shares_its_piece(rt: HostRuntime) -> Result<(), Fail> {
+    let piece = large_frame(rt.alloc(), 0x08, false)?;
+    let mut decoder = Decoder::new(rt.alloc(), Version::V9);
+    push(&mut decoder, piece.clone()?)?;
+    let Some(Item::Skipped(8, payload)) = decoder.next_item()? else {
+        return Err(Fail::new("no skipped message"));
+    };
+    assert!(rt; payload.len() == 65_536 && decoder.pending() == 0);
+    is_last_of(payload, &piece)
+}
+
+#[test]
 fn the_decoder_holds_what_is_left_of_a_piece(rt: HostRuntime) -> Result<(), Fail> {
-    let piece = large_frame(rt.alloc(), true)?;
+    let piece = large_frame(rt.alloc(), 0x03, true)?;
     let mut decoder = Decoder::new(rt.alloc(), Version::V8);
     push(&mut decoder, piece.clone()?)?;
     drop(next(&mut decoder)?);
@@ -72,8 +84,8 @@ fn push_all(decoder: &mut Decoder, pieces: &[Bytes]) -> Result<(), Fail> {
 #[test]
 fn payloads_of_pieces_behind_one_another_share_their_own(rt: HostRuntime) -> Result<(), Fail> {
     let pieces = [
-        large_frame(rt.alloc(), false)?,
-        large_frame(rt.alloc(), false)?,
+        large_frame(rt.alloc(), 0x03, false)?,
+        large_frame(rt.alloc(), 0x03, false)?,
     ];
     let mut decoder = Decoder::new(rt.alloc(), Version::V8);
     push_all(&mut decoder, &pieces)?;
@@ -88,8 +100,8 @@ fn a_payload_shares_its_piece_before_the_piece_in_front_is_gone(
     rt: HostRuntime,
 ) -> Result<(), Fail> {
     let pieces = [
-        large_frame(rt.alloc(), false)?,
-        large_frame(rt.alloc(), false)?,
+        large_frame(rt.alloc(), 0x03, false)?,
+        large_frame(rt.alloc(), 0x03, false)?,
     ];
     let mut decoder = Decoder::new(rt.alloc(), Version::V8);
     push_all(&mut decoder, &pieces)?;
@@ -100,7 +112,7 @@ fn a_payload_shares_its_piece_before_the_piece_in_front_is_gone(
 
 /// The frame in two pieces, the first of a thousand bytes.
 fn two_pieces(alloc: Global) -> Result<[Bytes; 2], Fail> {
-    let frame = large_frame(alloc, false)?;
+    let frame = large_frame(alloc, 0x03, false)?;
     let Some((front, back)) = frame.as_slice().split_at_checked(1000) else {
         return Err(Fail::new("a short frame"));
     };
@@ -112,7 +124,7 @@ fn two_pieces(alloc: Global) -> Result<[Bytes; 2], Fail> {
 
 /// Whether the message has the payload of the large frame.
 fn has_large_payload(alloc: Global, message: &RawMessage) -> Result<bool, Fail> {
-    let frame = large_frame(alloc, false)?;
+    let frame = large_frame(alloc, 0x03, false)?;
     Ok(Some(message.payload().as_slice()) == frame.as_slice().get(8..))
 }
 
@@ -130,7 +142,7 @@ fn a_payload_in_two_pieces_is_joined_once(rt: HostRuntime) -> Result<(), Fail> {
 
 #[test]
 fn an_empty_piece_is_not_kept(rt: HostRuntime) -> Result<(), Fail> {
-    let piece = large_frame(rt.alloc(), false)?;
+    let piece = large_frame(rt.alloc(), 0x03, false)?;
     let end = piece.len();
     let mut decoder = Decoder::new(rt.alloc(), Version::V8);
     push(&mut decoder, piece.slice(end..end)?)?;
@@ -177,7 +189,7 @@ fn payloads_of_one_piece_share_it(rt: HostRuntime) -> Result<(), Fail> {
 /// That the record of this frame, whose bytes are in one field, is the last that holds the piece of the frame.
 fn record_shares<M: RestateMessage>(alloc: Global, frame: &[u8]) -> Result<(), Fail> {
     let piece = Bytes::copy_from_slice(alloc, frame)?;
-    let found: M = message_of(alloc, &piece)?.decode_to(alloc, 0)?;
+    let found: M = message_of_piece(alloc, piece.clone()?)?.decode_to(alloc, 0)?;
     is_last_of(found, &piece)
 }
 
@@ -197,7 +209,7 @@ fn records_share_the_piece_of_their_frame(rt: HostRuntime) -> Result<(), Fail> {
 
 /// The view of a piece that is the frame of a notification.
 fn view_of(alloc: Global, piece: &Bytes) -> Result<Notification, Fail> {
-    let message = message_of(alloc, piece)?;
+    let message = message_of_piece(alloc, piece.clone()?)?;
     if !message.ty().is_notification() {
         return Err(Fail::new("no notification"));
     }
@@ -224,6 +236,8 @@ fn views_share_the_piece_of_their_frame(rt: HostRuntime) -> Result<(), Fail> {
 #[test]
 fn a_payload_outlives_its_message(rt: HostRuntime) -> Result<(), Fail> {
     let piece = Bytes::copy_from_slice(rt.alloc(), &THREE_FRAMES[27..44])?;
-    let payload = message_of(rt.alloc(), &piece)?.payload().clone()?;
+    let payload = message_of_piece(rt.alloc(), piece.clone()?)?
+        .payload()
+        .clone()?;
     is_last_of(payload, &piece)
 }
