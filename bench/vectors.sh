@@ -57,7 +57,7 @@ fi
 # what is random last, so that what the readers differ on is seen before
 if target/release/vectors "$seed" "$count" > "$work/lines"; then
   echo "random cases: seed $seed, $count of them"
-  stage sh ../scripts/conformance.sh - < "$work/lines"
+  stage sh ../scripts/checks/conformance.sh - < "$work/lines"
 else
   echo "failed: vectors $seed $count"
   failed=$((failed + 1))

@@ -6,7 +6,7 @@
                                      COUNT random payloads of each message type in one stream, dumped by the program and printed by protobuf
 
 It needs protoc and python3's protobuf (Debian's protobuf-compiler and python3-protobuf). Nothing of this project's own code takes part: payloads are
-those of conformance/records.txt, which protoc made, and what protobuf makes of random values; a type's code is that of scripts/types.txt. The last
+those of conformance/records.txt, which protoc made, and what protobuf makes of random values; a type's code is that of proto/types.txt. The last
 line of --check and --random is 'N passed, M failed'.
 """
 import base64
@@ -43,7 +43,7 @@ def load():
 def types():
     """The names of types and their codes."""
     found = {}
-    for line in (ROOT / "scripts" / "types.txt").read_text().splitlines():
+    for line in (ROOT / "proto" / "types.txt").read_text().splitlines():
         if line and not line.startswith("#"):
             code, name = line.split()[:2]
             found[name] = int(code, 16)

@@ -53,11 +53,11 @@ test_crate() {
     test_crate "$crate" > "$work/$crate" 2>&1
   done
 } &
-for check in check_table check_pages check_records; do
-  sh "scripts/$check.sh" > "$work/$check" 2>&1
+for check in table pages generated; do
+  sh "scripts/checks/$check.sh" > "$work/$check" 2>&1
   counted "$check"
 done
-ls conformance/*.txt | grep -v /random_ | xargs cat | sh scripts/conformance.sh - > "$work/conformance" 2> /dev/null
+ls conformance/*.txt | grep -v /random_ | xargs cat | sh scripts/checks/conformance.sh - > "$work/conformance" 2> /dev/null
 counted conformance
 wait
 for crate in "$@"; do

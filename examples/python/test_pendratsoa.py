@@ -51,7 +51,7 @@ class TestConstants(unittest.TestCase):
 
 class TestNames(unittest.TestCase):
     def test_types_have_their_codes(self):
-        for row in (TOP / "scripts/types.txt").read_text().splitlines():
+        for row in (TOP / "proto/types.txt").read_text().splitlines():
             if not row.startswith("#"):
                 code, name = row.split()
                 self.assertEqual(pendratsoa.type_name(int(code, 16)), name)

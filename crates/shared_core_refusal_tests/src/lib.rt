@@ -1,5 +1,5 @@
 //! Tests of what calls answer where a request for memory is refused, and that they have the right answer when they are asked again.
-//! `scripts/refusals.sh` runs each of them once for each request that it makes, with that one refused.
+//! `scripts/checks/refusals.sh` runs each of them once for each request that it makes, with that one refused.
 #![tactic(auto)]
 
 #[cfg(test)]

@@ -1,24 +1,13 @@
 #!/bin/sh
-# The library for C as its users have it: scripts/install.sh puts it into a folder and takes it away again, and both libraries show the calls
-# of include/pendratsoa.h alone. The examples in C and Python list streams alike, and as scripts/list_stream.awk does; the conformance lines
-# are answered by the calls; and scripts/hostile_calls.c makes a million calls that nobody means well with.
+# The library for C: installed, its examples, the test vectors and a million hostile calls through its calls.
 #
-# It takes the proved static library, which scripts/static_library.sh builds over what rt ci has proved. What needs a tool that is not there is
-# 'not run'. The last line is 'N passed, M failed'; it is '0 passed, 0 failed' where there is no library to be had.
+# scripts/install.sh puts it into a folder and takes it away again, and both libraries show the calls of
+# include/pendratsoa.h alone. The examples in C and Python list streams alike, and as list_stream.awk does; the
+# conformance lines are answered by the calls; and tests/c/hostile_calls.c makes a million calls that nobody means well
+# with. It takes the proved static library, which scripts/static_library.sh builds over what rt ci has proved.
 set -u
-cd "$(dirname "$0")/.." || exit 1
-
-# not_run WHY: says so and ends
-not_run() {
-  echo "check_c.sh: not run, since $1"
-  echo '0 passed, 0 failed'
-  exit 0
-}
-
-# without WHAT TOOL: says that something is not run
-without() {
-  echo "check_c.sh: $1: not run, since there is no $2"
-}
+cd "$(dirname "$0")/../.." || exit 1
+. scripts/checks/lib.sh
 
 for tool in cc ld objcopy ar nm; do
   command -v $tool > /dev/null || not_run "there is no $tool"
@@ -27,34 +16,17 @@ sh scripts/static_library.sh
 case $? in
   0) ;;
   2) not_run 'there is no static library' ;;
-  *) echo '0 passed, 1 failed'; exit 1 ;;
+  *) failed=1; finish ;;
 esac
-
-work=$(mktemp -d) || exit 1
-trap 'rm -rf "$work"' EXIT
-passed=0
-failed=0
-: > "$work/err"
-
-# outcome NAME STATUS: counts a case, which passed where the status is 0, and else shows what was said
-outcome() {
-  if [ "$2" -eq 0 ]; then
-    passed=$((passed + 1))
-  else
-    failed=$((failed + 1))
-    echo "failed: $1: status $2"
-    head -n 20 "$work/err"
-  fi
-}
 
 # case_of NAME COMMAND..: a case that is a command, which passed where its status is 0
 case_of() {
   name=$1
   shift
   "$@" > "$work/log" 2> "$work/err"
-  status=$?
-  [ $status -eq 0 ] || head -n 20 "$work/log"
-  outcome "$name" $status
+  ended=$?
+  [ $ended -eq 0 ] || head -n 20 "$work/log"
+  outcome "$name" $ended
 }
 
 # counted NAME COMMAND..: a command whose last line is 'N passed, M failed'
@@ -62,21 +34,12 @@ counted() {
   name=$1
   shift
   "$@" > "$work/log" 2> "$work/err"
-  counts=$(sed -n '$p' "$work/log" | grep -E '^[0-9]+ passed, [0-9]+ failed$')
-  if [ -z "$counts" ]; then
+  counts=$(sed -n '$p' "$work/log")
+  if ! add "$counts"; then
     outcome "$name" 1
-    return
+  elif [ "${counts##*, }" != '0 failed' ]; then
+    head -n 20 "$work/log"
   fi
-  [ "${counts##*, }" = '0 failed' ] || head -n 20 "$work/log"
-  passed=$((passed + ${counts%% *}))
-  counts=${counts#*, }
-  failed=$((failed + ${counts%% *}))
-}
-
-# same NAME FILE FILE: two files are the same
-same() {
-  diff "$2" "$3" > "$work/err" 2>&1
-  outcome "$1" $?
 }
 
 # Installed beside a file of another's, below a folder whose name is not plain.
@@ -94,10 +57,7 @@ CC=no-compiler sh scripts/install.sh "$prefix" > "$work/out" 2> "$work/err"
 outcome 'install.sh without a compiler' $?
 case_of 'install.sh' sh scripts/install.sh "$prefix"
 case_of 'install.sh again' sh scripts/install.sh "$prefix"
-if [ "$failed" -gt 0 ]; then
-  echo "$passed passed, $failed failed"
-  exit 1
-fi
+[ "$failed" -eq 0 ] || finish
 library=$prefix/lib/libpendratsoa.so
 
 # What the libraries show and need.
@@ -158,7 +118,7 @@ python=
 listed() {
   "$work/static" "$3" < "$2" > "$work/out" 2> "$work/err"
   outcome "$1 at $3" $?
-  od -An -v -t u1 "$2" | awk -v version="$3" -f scripts/list_stream.awk scripts/types.txt - > "$work/listing"
+  od -An -v -t u1 "$2" | awk -v version="$3" -f scripts/checks/list_stream.awk proto/types.txt - > "$work/listing"
   sed 's/^\([A-Z][A-Za-z]*CallCommand\|CallCommand\) \([0-9]*\) .*/\1 \2/' "$work/out" > "$work/short"
   same "$1 at $3, beside the lister" "$work/listing" "$work/short"
   LD_LIBRARY_PATH=$prefix/lib "$work/shared" "$3" < "$2" > "$work/again" 2> "$work/err"
@@ -175,7 +135,7 @@ grep -qx 'CallCommand 27 "Greeter" "greet"' "$work/out"
 outcome 'the names of a call' $?
 listed 'an unknown type' examples/unknown_type 9
 for kind in random mixed skipped; do
-  LC_ALL=C awk -v kind=$kind -v size=200000 -v seed=7 -f scripts/write_stream.awk scripts/types.txt > "$work/$kind"
+  LC_ALL=C awk -v kind=$kind -v size=200000 -v seed=7 -f scripts/checks/write_stream.awk proto/types.txt > "$work/$kind"
   version=8
   [ $kind != skipped ] || version=9
   listed "a $kind stream" "$work/$kind" $version
@@ -197,12 +157,12 @@ fi
 if [ -n "$python" ]; then
   case_of 'the tests of the module' "$python" -m unittest discover -s examples/python
   cat conformance/*.txt conformance/json/*.txt > "$work/lines"
-  counted 'the conformance lines' "$python" scripts/conformance_calls.py < "$work/lines"
+  counted 'the conformance lines' "$python" scripts/checks/conformance_calls.py < "$work/lines"
 fi
 
 # Calls that nobody means well with.
 # shellcheck disable=SC2086 # the flags are split
-case_of 'hostile_calls.c' cc -std=gnu99 -O2 -Wall -Wextra -Werror -I "$prefix/include" scripts/hostile_calls.c "$prefix/lib/libpendratsoa.a" \
+case_of 'hostile_calls.c' cc -std=gnu99 -O2 -Wall -Wextra -Werror -I "$prefix/include" tests/c/hostile_calls.c "$prefix/lib/libpendratsoa.a" \
   -Wl,--wrap=malloc,--wrap=realloc,--wrap=free -pthread -o "$work/hostile"
 case_of 'a million hostile calls' "$work/hostile" 1 1000000
 cat "$work/log"
@@ -223,5 +183,4 @@ find "$prefix" ! -type d > "$work/names"
 echo "$prefix/lib/other" > "$work/wanted"
 same 'what stands then' "$work/wanted" "$work/names"
 
-echo "$passed passed, $failed failed"
-[ "$failed" -eq 0 ]
+finish

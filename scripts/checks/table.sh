@@ -1,15 +1,16 @@
 #!/bin/sh
-# Shows that proto/journal.proto, the schemas and the names in JSON that contracts cite and the code of the records say the same of every
-# field: message, name, number, kind, presence and oneof; and that conformance/ has lines of every message, message type and command, among them each message
-# with every field present, with each member of its oneofs, and its frames; that no list of types, commands or schemas, and no page that says how many there are,
-# lacks one; that the last version is the same wherever it stands; and that a call for C is the same in journal_ffi, the header and the module
-# for Python, and has tests, hostile calls and a promise. It reads the code as it stands: whether the files that programs
-# write are up to date is for check_records.sh. The last line is 'N passed, M failed'; what differs is shown above it.
+# Fields, types, commands, versions and calls for C are the same wherever they are listed.
+#
+# proto/journal.proto, the schemas and the names in JSON that contracts cite and the code of the records say the same
+# of every field: message, name, number, kind, presence and oneof. conformance/ has lines of every message, message
+# type and command, among them each message with every field present, with each member of its oneofs, and its frames.
+# No list of types, commands or schemas, and no page that says how many there are, lacks one. The last version is the
+# same wherever it stands. A call for C is the same in journal_ffi, the header and the module for Python, and has
+# tests, hostile calls and a promise. It reads the code as it stands: the check 'generated' looks whether what is
+# written by programs is up to date. What differs is shown above the last line.
 set -u
-cd "$(dirname "$0")/.." || exit 1
-
-work=$(mktemp -d) || exit 1
-trap 'rm -rf "$work"' EXIT
+cd "$(dirname "$0")/../.." || exit 1
+. scripts/checks/lib.sh
 
 # A line a field: message, number, kind, presence, oneof, name. Kinds: u32 u64 bool enum text bytes, or a message's name.
 # Presence: plain optional repeated message, and member of a oneof.
@@ -152,18 +153,6 @@ done | awk '
   }
 ' | sort > "$work/code"
 
-passed=0
-failed=0
-# same NAME FILE FILE: whether two listings are the same and not empty
-same() {
-  if [ -s "$2" ] && cmp -s "$2" "$3"; then
-    passed=$((passed + 1))
-  else
-    failed=$((failed + 1))
-    echo "failed: $1"
-    diff "$2" "$3" | head -20
-  fi
-}
 same "proto/journal.proto and the schemas of shared_core_record" "$work/proto_rows" "$work/schemas"
 same "proto/journal.proto and the code of the records" "$work/proto" "$work/code"
 
@@ -250,8 +239,8 @@ same "the commands and the compare lines of conformance" "$work/commands" "$work
 # Each type stands wherever types are listed, as in the table of codes that contracts cite: a line each, the code in hex digits and the name.
 base=crates/shared_core_base/specs
 awk '$1 == "code_of" && $4 ~ /^0x/ { print tolower(substr($4, 3)), $2 }' $base/MessageType.antt | sort > "$work/types"
-awk '$1 != "#" { print $1, $2 }' scripts/types.txt | sort > "$work/lines"
-same "the types of shared_core_base and scripts/types.txt" "$work/types" "$work/lines"
+awk '$1 != "#" { print $1, $2 }' proto/types.txt | sort > "$work/lines"
+same "the types of shared_core_base and proto/types.txt" "$work/types" "$work/lines"
 awk '$1 == "frame" && $3 == 5 && $4 == "-" { print substr($NF, 1, 4), $2 }' conformance/frames.txt | sort -u > "$work/lines"
 same "the types of shared_core_base and conformance/frames.txt" "$work/types" "$work/lines"
 
@@ -400,10 +389,9 @@ same "the calls and the functions of examples/python/pendratsoa.py" "$work/value
 # It has tests, is called by nobody who means well, and stands in the table of promises.
 grep -oh 'journal_[a-z_]*(' crates/journal_ffi/src/tests/*.rt | sed 's/(//' | sort -u > "$work/lines"
 same "the calls and the tests of journal_ffi" "$work/values" "$work/lines"
-sed -n 's/^    \[[A-Z_]*\] = {"\(journal_[a-z_]*\)".*/\1/p' scripts/hostile_calls.c | sort > "$work/lines"
-same "the calls and the list of scripts/hostile_calls.c" "$work/values" "$work/lines"
+sed -n 's/^    \[[A-Z_]*\] = {"\(journal_[a-z_]*\)".*/\1/p' tests/c/hostile_calls.c | sort > "$work/lines"
+same "the calls and the list of tests/c/hostile_calls.c" "$work/values" "$work/lines"
 awk -F'|' '/^## / { inside = /^## journal_ffi:/ } inside && /^\| / { print $(NF - 1) }' docs/PROOFS.md | grep -o '`journal_[a-z_]*`' | tr -d '`' | grep -v '^journal_calls$' | sort -u > "$work/lines"
 same "the calls and the promises of docs/PROOFS.md" "$work/values" "$work/lines"
 
-echo "$passed passed, $failed failed"
-[ "$failed" -eq 0 ]
+finish

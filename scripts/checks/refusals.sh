@@ -1,36 +1,27 @@
 #!/bin/sh
-# Each request for memory refused in turn. Each test of crates/shared_core_refusal_tests and of crates/replay_bench_tests, and the programs journal_list
-# and journal_diff, run once for each request for memory that they make, with that one refused, and at last with none refused. A test has to pass.
-# journal_list has to write its listing, or whole lines at the beginning of it and that memory was refused, and journal_diff its verdict, or nothing and
-# that memory was refused, for which there is no excuse where none is.
+# Each request for memory of tests and of programs is refused in turn.
 #
-# It takes the tests and the programs that rt ci has proved and built, and scripts/refuse.c, which counts their requests and refuses one. Two runs go
-# at a time. The last line is 'N passed, M failed', where each refused request counts as one.
+# Each test of crates/shared_core_refusal_tests and of crates/replay_bench_tests, and the programs journal_list and
+# journal_diff, run once for each request for memory that they make, with that one refused, and at last with none
+# refused. A test has to pass. journal_list has to write its listing, or whole lines at the beginning of it and that
+# memory was refused, and journal_diff its verdict, or nothing and that memory was refused, for which there is no
+# excuse where none is.
+#
+# It takes the tests and the programs that rt ci has proved and built, and tests/c/refuse.c, which counts their
+# requests and refuses one. Two runs go at a time. Each refused request counts as one.
 set -u
-cd "$(dirname "$0")/.." || exit 1
+cd "$(dirname "$0")/../.." || exit 1
+. scripts/checks/lib.sh
 
 test_crates='shared_core_refusal_tests replay_bench_tests'
 journal_list=crates/journal_list/out/journal_list
 journal_diff=crates/journal_diff/out/journal_diff
 
-passed=0
-failed=0
-
-# finish: the last line, and the status
-finish() {
-  echo "$passed passed, $failed failed"
-  [ "$failed" -eq 0 ]
-  exit
-}
-
 if ! command -v cc > /dev/null; then
-  echo 'refusals.sh: not run, since there is no cc'
-  finish
+  not_run 'there is no cc'
 fi
-work=$(mktemp -d) || exit 1
-trap 'rm -rf "$work"' EXIT
-if ! cc -O2 -shared -fPIC -o "$work/refuse.so" scripts/refuse.c -ldl; then
-  echo 'failed: cc scripts/refuse.c'
+if ! cc -O2 -shared -fPIC -o "$work/refuse.so" tests/c/refuse.c -ldl; then
+  echo 'failed: cc tests/c/refuse.c'
   failed=1
   finish
 fi
@@ -123,7 +114,7 @@ for crate in $test_crates; do
       refuse_each "$test" is_right_test /dev/null "$tests" "$test"
     done
   else
-    echo "refusals.sh: the tests of $crate: not run, since there is no $tests"
+    without "the tests of $crate" "$tests"
   fi
 done
 
@@ -134,7 +125,7 @@ if [ -x "$journal_list" ]; then
     done
   done
 else
-  echo "refusals.sh: journal_list: not run, since there is no $journal_list"
+  without journal_list "$journal_list"
 fi
 
 # refuse_verdict STATUS LINES WORD..: runs journal_diff, which is to end with this status and to write these lines
@@ -150,6 +141,6 @@ if [ -x "$journal_diff" ]; then
   refuse_verdict 1 "$verdict" crates/journal_diff/data/recorded crates/journal_diff/data/replayed
   refuse_verdict 0 'same, 4 commands' --ignore-payloads --protocol 9 - examples/replayed_other_payload
 else
-  echo "refusals.sh: journal_diff: not run, since there is no $journal_diff"
+  without journal_diff "$journal_diff"
 fi
 finish

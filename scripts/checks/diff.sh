@@ -1,13 +1,13 @@
 #!/bin/sh
-# Runs the proved journal_diff, which rt ci leaves in out/, on the journals of examples/, on words that it refuses, and where an input, the output or
-# memory fails, and compares standard output, the whole of standard error and the status. The last line is 'N passed, M failed'; it is
-# '0 passed, 0 failed' where the program is not there, or is older than a source.
+# journal_diff on the journals of examples/, on words that it refuses, and where an input, the output or memory fail.
+#
+# It runs the proved program, and compares standard output, the whole of standard error and the status.
 set -u
-cd "$(dirname "$0")/.." || exit 1
+cd "$(dirname "$0")/../.." || exit 1
 
 # not_run WHY: says so and ends
 not_run() {
-  echo "check_diff.sh: not run, since $1"
+  echo "diff: not run, since $1"
   echo '0 passed, 0 failed'
   exit 0
 }
@@ -100,7 +100,7 @@ if [ -c /dev/full ]; then
   status=$?
   ended 'a full output' 2 '' 'journal_diff: output failed'
 else
-  echo 'check_diff.sh: a full output: not run, since there is no /dev/full'
+  echo 'diff: a full output: not run, since there is no /dev/full'
 fi
 
 # A message of 4 GiB begins, and 128 MiB of address space do not hold the 192 MiB of it that come.
@@ -117,7 +117,7 @@ if (ulimit -v 131072) 2> "$work/shell"; then
   )
   ended 'no memory' 2 '' 'journal_diff: out of memory'
 else
-  echo 'check_diff.sh: no memory: not run, since memory cannot be bounded here'
+  echo 'diff: no memory: not run, since memory cannot be bounded here'
 fi
 
 echo "$passed passed, $failed failed"

@@ -1,15 +1,14 @@
 #!/bin/sh
-# Shows that the pages lead somewhere: each link, each path of this repository in `code`, each worked line of conformance, the README's page of code and the listing and the dump that
-# it shows, and, in a table of promises, each name behind a promise in the crates that it is about. The last line is 'N passed, M failed'; what is missing is
-# shown above it.
+# Links, paths, worked lines and the names behind promises in pages lead somewhere; the README shows what runs.
+#
+# Each link, each path of this repository in `code`, each worked line of conformance, the test vectors of each rule,
+# the README's page of code and the listing and the dump that it shows, and, in a table of promises, each name behind a
+# promise in the crates that it is about. What is missing is shown above the last line.
 set -u
-cd "$(dirname "$0")/.." || exit 1
+cd "$(dirname "$0")/../.." || exit 1
+. scripts/checks/lib.sh
 
-work=$(mktemp -d) || exit 1
-trap 'rm -rf "$work"' EXIT
 pages=$(find . -name '*.md' -not -path '*/out/*' -not -path '*/target/*' | sed 's|^\./||' | sort)
-passed=0
-failed=0
 
 # missing PAGE WHAT
 missing() {
@@ -22,7 +21,7 @@ for page in $pages; do
   folder=$(dirname "$page")
   {
     awk '{ while (match($0, /\]\([^)#: ]+[)#]/)) { print "link " substr($0, RSTART + 2, RLENGTH - 3); $0 = substr($0, RSTART + RLENGTH) } }' "$page"
-    awk -v RS='`' 'NR % 2 == 0 && /^(bench|conformance|crates|docs|examples|proto|scripts)\/[A-Za-z0-9_.\/-]+$/ { print "path " $0 }' "$page"
+    awk -v RS='`' 'NR % 2 == 0 && /^(bench|conformance|crates|docs|examples|proto|python|scripts|tests|tools)\/[A-Za-z0-9_.\/-]+$/ { print "path " $0 }' "$page"
   } | sort -u > "$work/targets"
   while read -r kind target; do
     case $kind in
@@ -84,7 +83,7 @@ while IFS= read -r line; do
 done < "$work/shown"
 sed -n 's/^    \({"offset":.*\)$/\1/p' README.md > "$work/shown"
 while IFS= read -r line; do
-  if grep -qF -- "='$line'" scripts/check_dump.sh; then passed=$((passed + 1)); else missing README.md "scripts/check_dump.sh does not want: $line"; fi
+  if grep -qF -- "='$line'" scripts/checks/dump.sh; then passed=$((passed + 1)); else missing README.md "scripts/checks/dump.sh does not want: $line"; fi
 done < "$work/shown"
 
 # names behind promises: each `Name` or `path::name` of a table's last column is a word of the code or the definitions of the crate in the heading, of
@@ -115,5 +114,4 @@ for page in README.md docs/PROOFS.md; do
   done < "$work/promises"
 done
 
-echo "$passed passed, $failed failed"
-[ "$failed" -eq 0 ]
+finish

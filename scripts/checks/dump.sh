@@ -1,15 +1,16 @@
 #!/bin/sh
-# Runs the proved journal_dump, which rt ci leaves in out/, on the streams of examples/, on words that it refuses, where an input, the output or
-# memory fail, and with each request for memory refused in turn, and compares standard output, the whole of standard error and the status; and holds
-# its lines against others: jq and Python's json read each line of the dumps of hostile streams, and protobuf prints the same JSON for random
-# payloads of each message type. Where jq, a C compiler, protoc or Python's protobuf are absent it says 'not run'. The last line is 'N passed, M
-# failed'; it is '0 passed, 0 failed' where the program is not there, or is older than a source.
+# journal_dump on examples, refused words and what fails; its lines beside protobuf, jq and Python.
+#
+# It runs the proved program, also with each request for memory refused in turn, and compares standard output, the
+# whole of standard error and the status. jq and Python's json read each line of the dumps of hostile streams, and
+# protobuf prints the same JSON for random payloads of each message type. It needs jq, a C compiler, protoc and
+# Python's protobuf, for parts of it.
 set -u
-cd "$(dirname "$0")/.." || exit 1
+cd "$(dirname "$0")/../.." || exit 1
 
 # not_run WHY: says so and ends
 not_run() {
-  echo "check_dump.sh: not run, since $1"
+  echo "dump: not run, since $1"
   echo '0 passed, 0 failed'
   exit 0
 }
@@ -146,7 +147,7 @@ if [ -c /dev/full ]; then
   status=$?
   ended 'a full output' 1 '' 'journal_dump: output failed'
 else
-  echo 'check_dump.sh: a full output: not run, since there is no /dev/full'
+  echo 'dump: a full output: not run, since there is no /dev/full'
 fi
 
 # A reader that goes away after one line of many.
@@ -185,11 +186,11 @@ if (ulimit -v 131072) 2> "$work/shell"; then
 $input
 $state" 'journal_dump: out of memory'
 else
-  echo 'check_dump.sh: no memory: not run, since memory cannot be bounded here'
+  echo 'dump: no memory: not run, since memory cannot be bounded here'
 fi
 
 # Each request for memory refused in turn, in a stream that needs some: whole lines stand, and one line says why, or all stands.
-if command -v cc > /dev/null && cc -O2 -shared -fPIC -o "$work/refuse.so" "$top/scripts/refuse.c" -ldl; then
+if command -v cc > /dev/null && cc -O2 -shared -fPIC -o "$work/refuse.so" "$top/tests/c/refuse.c" -ldl; then
   request=0
   requests=0
   wrong=0
@@ -210,7 +211,7 @@ if command -v cc > /dev/null && cc -O2 -shared -fPIC -o "$work/refuse.so" "$top/
     outcome "request $request refused" "$is_right"
   done
 else
-  echo 'check_dump.sh: refused requests for memory: not run, since there is no cc'
+  echo 'dump: refused requests for memory: not run, since there is no cc'
 fi
 
 # The stored run, and hostile streams, of which others read each line.
@@ -220,7 +221,7 @@ status=$?
 [ "$status" -eq 0 ] && cmp -s "$run/stdout" "$work/out" && [ ! -s "$work/err" ]
 outcome 'the stored run' $?
 for kind in random mixed skipped; do
-  LC_ALL=C awk -v kind=$kind -v size=200000 -v seed=7 -f scripts/write_stream.awk scripts/types.txt > "$work/$kind"
+  LC_ALL=C awk -v kind=$kind -v size=200000 -v seed=7 -f scripts/checks/write_stream.awk proto/types.txt > "$work/$kind"
   version=8
   [ $kind != skipped ] || version=9
   "$program" --protocol $version "$work/$kind" > "$work/$kind.lines" 2> "$work/err"
@@ -231,13 +232,13 @@ for kind in random mixed skipped; do
       [ "$(tail -n 1 "$work/out" | jq '.offset + .rest')" -eq "$(wc -c < "$work/$kind")" ]
     outcome "jq on a $kind stream" $?
   else
-    echo "check_dump.sh: jq on a $kind stream: not run, since there is no jq"
+    echo "dump: jq on a $kind stream: not run, since there is no jq"
   fi
   if command -v python3 > /dev/null; then
     [ "$status" -eq 0 ] && python3 -c 'import json, sys; [json.loads(line) for line in open(sys.argv[1], newline="\n")]' "$work/out" 2> "$work/err"
     outcome "Python on a $kind stream" $?
   else
-    echo "check_dump.sh: Python on a $kind stream: not run, since there is no python3"
+    echo "dump: Python on a $kind stream: not run, since there is no python3"
   fi
 done
 
@@ -268,7 +269,7 @@ if [ -n "$judge" ] && command -v protoc > /dev/null; then
     esac
   done
 else
-  echo "check_dump.sh: protobuf's own printer: not run, since there is no protoc or no protobuf for python3"
+  echo "dump: protobuf's own printer: not run, since there is no protoc or no protobuf for python3"
 fi
 
 echo "$passed passed, $failed failed"

@@ -14,7 +14,7 @@
  * exactly their length, for valgrind to watch. Of 100,000 calls and more, each has to have answered, and to have been refused in each way
  * that it lists but JOURNAL_TOO_LONG.
  *
- * It is linked with the static library and --wrap of malloc, realloc and free; scripts/check_c.sh does so.
+ * It is linked with the static library and --wrap of malloc, realloc and free; scripts/checks/c.sh does so.
  */
 #define _GNU_SOURCE
 #include <pendratsoa.h>

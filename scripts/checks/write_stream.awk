@@ -1,5 +1,5 @@
 # Writes a stream that nobody means well with, the same for the same kind, size and seed:
-#   LC_ALL=C awk -v kind=KIND -v size=BYTES -v seed=SEED -f write_stream.awk types.txt
+#   LC_ALL=C awk -v kind=KIND -v size=BYTES -v seed=SEED -f write_stream.awk proto/types.txt
 #
 # random: any bytes. unknown: headers alone whose codes stand for no type. promise: a header that promises 4,294,967,295 bytes, and
 # any bytes behind it. mixed: frames of all types and of custom ones with any payload, unknown headers between them, and at the end a

@@ -1,10 +1,11 @@
 #!/bin/sh
-# Runs journal_list on the streams of examples/, on words that it refuses, on inputs and outputs that fail, and with little memory, and
-# compares standard output, the whole of standard error and the status. It runs the proved program, which rt ci or scripts/run.sh --proved list
-# leaves in out/. Where there is none, or a source is newer, it runs by rt try, without the proofs, what can be run so, and
-# says 'not run' of the rest. The last line is 'N passed, M failed'.
+# journal_list on the examples, on words that it refuses, and where input, output or memory fail.
+#
+# It compares standard output, the whole of standard error and the status. It runs the proved program, which rt ci or
+# scripts/run.sh --proved list leaves in out/. Where there is none, or a source is newer, it runs by rt try, without
+# the proofs, what can be run so.
 set -u
-cd "$(dirname "$0")/../crates/journal_list" || exit 1
+cd "$(dirname "$0")/../../crates/journal_list" || exit 1
 
 # what the program says on standard error
 usage='usage: journal_list [1..65536] [v9]'
@@ -101,7 +102,7 @@ if [ -z "$program" ]; then
   rt try --cases ../../examples > "$out" 2> "$err"
   status=$?
   outcome 'the listings of examples/' "$status"
-  echo "check_program.sh: inputs and outputs that fail, little memory and the size of a piece: not run, since $why; sh scripts/run.sh --proved list builds it"
+  echo "list: inputs and outputs that fail, little memory and the size of a piece: not run, since $why; sh scripts/run.sh --proved list builds it"
   echo "$passed passed, $failed failed"
   [ "$failed" -eq 0 ]
   exit
@@ -182,7 +183,7 @@ for listed in "$stream" "$work/long"; do
     status=$?
     ended "a full output, ${listed##*/}" 1 "$work/nothing" "$output_failed"
   else
-    echo 'check_program.sh: a full output: not run, since there is no /dev/full'
+    echo 'list: a full output: not run, since there is no /dev/full'
   fi
 done
 
@@ -197,7 +198,7 @@ if (trap '' XFSZ && ulimit -f 200) 2> "$work/ulimit"; then
   said 1 "$output_failed" && [ "$(stands "$work/long.stdout")" = part ]
   outcome 'an output that is full in the middle' $?
 else
-  echo 'check_program.sh: an output that is full in the middle: not run, since files cannot be bounded here'
+  echo 'list: an output that is full in the middle: not run, since files cannot be bounded here'
 fi
 
 # An output whose reader goes away after three lines is one that fails: the program has the signal SIGPIPE ignored.
@@ -282,7 +283,7 @@ if (ulimit -v 131072) 2> "$work/ulimit"; then
   [ "$refused" -gt 0 ] && [ "$listed" -gt 0 ]
   outcome "bounds of address space: $refused too low to list, $listed enough" $?
 else
-  echo 'check_program.sh: no memory: not run, since memory cannot be bounded here'
+  echo 'list: no memory: not run, since memory cannot be bounded here'
 fi
 
 echo "$passed passed, $failed failed"

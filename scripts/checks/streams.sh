@@ -1,20 +1,16 @@
 #!/bin/sh
-# Runs the proved journal_list, which rt ci or scripts/run.sh --proved list leaves in out/, on streams that nobody means well with: some MiB of any
-# bytes, unknown headers alone, a header that promises 4 GiB, and frames of all types with any payload, at v9 unknown ones too. It reads each in pieces of several sizes, under
-# a bound of address space. The listing has to be that of scripts/list_stream.awk, which knows the rule of items and nothing of the library.
-# The streams are the same in each run. The last line is 'N passed, M failed'; it is '0 passed, 0 failed' where nothing can be run.
+# journal_list on hostile streams, beside an independent lister and under bounds of memory.
+#
+# The streams are some MiB of any bytes, unknown headers alone, a header that promises 4 GiB, and frames of all types
+# with any payload, at v9 unknown ones too. The proved program reads each in pieces of several sizes, under a bound of
+# address space. The listing has to be that of list_stream.awk, which knows the rule of items and nothing of the
+# library. The streams are the same in each run.
 set -u
-cd "$(dirname "$0")/.." || exit 1
+cd "$(dirname "$0")/../.." || exit 1
+. scripts/checks/lib.sh
 # a byte is a character
 LC_ALL=C
 export LC_ALL
-
-# not_run WHY: says so and ends
-not_run() {
-  echo "check_streams.sh: not run, since $1"
-  echo '0 passed, 0 failed'
-  exit 0
-}
 
 program=crates/journal_list/out/journal_list
 [ -x "$program" ] || not_run "there is no $program; sh scripts/run.sh --proved list builds it"
@@ -24,28 +20,23 @@ fit='\000\310\n2147466840'
 [ "$(awk 'BEGIN { printf "%c%c%c%.0f", 0, 200, 10, 2147483646 * 16807 % 2147483647 }' | od -An -v -t u1)" = "$(printf "$fit" | od -An -v -t u1)" ] ||
   not_run 'awk here does not write bytes, or does not count exactly'
 
-work=$(mktemp -d) || exit 1
-trap 'rm -rf "$work"' EXIT
-passed=0
-failed=0
-
 # the program's last word: none, or v9
 version=
 
 # list: the listing of standard input
 list() {
-  od -An -v -t u1 | awk -v version="${version#v}" -f scripts/list_stream.awk scripts/types.txt -
+  od -An -v -t u1 | awk -v version="${version#v}" -f scripts/checks/list_stream.awk proto/types.txt -
 }
 
-# same NAME STATUS: the run ended with status 0, said nothing, and what it wrote is what the lister wrote
-same() {
-  if [ "$2" -eq 0 ] && [ ! -s "$work/err" ] && cmp -s "$work/out" "$work/listing"; then
+# agreed NAME STATUS: the run ended with status 0, said nothing, and what it wrote is what the lister wrote
+agreed() {
+  if [ "$2" -eq 0 ] && [ ! -s "$err" ] && cmp -s "$out" "$work/listing"; then
     passed=$((passed + 1))
   else
     failed=$((failed + 1))
     echo "failed: $1: status $2"
-    head -n 3 "$work/err"
-    diff "$work/listing" "$work/out" | head -n 6
+    head -n 3 "$err"
+    diff "$work/listing" "$out" | head -n 6
   fi
 }
 
@@ -53,20 +44,20 @@ same() {
 for listing in examples/*.stdout; do
   stream=${listing%.stdout}
   cp "$listing" "$work/listing"
-  list < "$stream" > "$work/out" 2> "$work/err"
-  same "the lister on $stream" $?
+  list < "$stream" > "$out" 2> "$err"
+  agreed "the lister on $stream" $?
 done
 
 # listed WORD BOUND: lists the stream of the work folder in pieces of this size, with so many KiB of address space
-if (ulimit -v 131072) 2> "$work/err"; then
+if (ulimit -v 131072) 2> "$err"; then
   listed() {
-    (ulimit -v "$2" && "$program" "$1" $version) < "$work/stream" > "$work/out" 2> "$work/err"
+    (ulimit -v "$2" && "$program" "$1" $version) < "$work/stream" > "$out" 2> "$err"
   }
 else
   listed() {
-    "$program" "$1" $version < "$work/stream" > "$work/out" 2> "$work/err"
+    "$program" "$1" $version < "$work/stream" > "$out" 2> "$err"
   }
-  echo 'check_streams.sh: the bounds of memory: not run, since memory cannot be bounded here'
+  left_out 'the bounds of memory' 'memory cannot be bounded here'
 fi
 
 # What the program needs where nothing comes
@@ -86,13 +77,13 @@ in_pieces() {
   for word in "$@"; do
     bound=$((need + 1024 + (held * times + (held / word + 1) * 160) / 1024))
     listed "$word" "$bound"
-    same "$name in pieces of $word, with $bound KiB" $?
+    agreed "$name in pieces of $word, with $bound KiB" $?
   done
 }
 
 # stream KIND SIZE SEED: writes a stream and its listing
 stream() {
-  awk -v kind="$1" -v size="$2" -v seed="$3" -f scripts/write_stream.awk scripts/types.txt > "$work/stream"
+  awk -v kind="$1" -v size="$2" -v seed="$3" -f scripts/checks/write_stream.awk proto/types.txt > "$work/stream"
   list < "$work/stream" > "$work/listing"
 }
 
@@ -116,22 +107,21 @@ stream mixed 2097152 1
 longest=$(awk '$1 != "unknown" && $2 > longest { longest = $2 } END { print longest }' "$work/listing")
 in_pieces 'mixed frames' "$longest" 2 1 7 4096 65536
 {
-  awk '$1 != "#" { print $2 }' scripts/types.txt
+  awk '$1 != "#" { print $2 }' proto/types.txt
   printf '%s\n' CustomEntry ack rest unknown
 } | sort > "$work/listing"
-awk '{ sub(/\(.*/, "", $1); print $1 } $3 != "" { print $3 }' "$work/out" | sort -u > "$work/kinds"
-mv "$work/kinds" "$work/out"
-same 'the types in mixed frames' 0
+awk '{ sub(/\(.*/, "", $1); print $1 } $3 != "" { print $3 }' "$out" | sort -u > "$work/kinds"
+mv "$work/kinds" "$out"
+agreed 'the types in mixed frames' 0
 
 # At v9 unknown messages are skipped with their payloads, and a promise of an unknown one is waited for.
 version=v9
 stream skipped 2097152 2
 longest=$(awk '{ size = $1 == "skipped" ? $3 : $2 } size > longest { longest = size } END { print longest }' "$work/listing")
 in_pieces 'frames and unknown messages' "$longest" 2 1 7 4096 65536
-grep -q '^skipped' "$work/out" && ! grep -q '^unknown' "$work/out"
-same 'skipped messages among them' $?
+grep -q '^skipped' "$out" && ! grep -q '^unknown' "$out"
+agreed 'skipped messages among them' $?
 stream unknown 131072 1
 in_pieces 'unknown headers at v9' 131072 1 1 7 4096 65536
 
-echo "$passed passed, $failed failed"
-[ "$failed" -eq 0 ]
+finish

@@ -1,0 +1,44 @@
+#!/bin/sh
+# scripts/check.sh [NAME..|all]
+#
+# Runs the checks that are named, each a file of scripts/checks/; all of them with 'all', as scripts/test.sh does
+# behind the proofs; with no name it lists them. Those of the programs and of the library for C take what 'rt ci' or
+# 'rt run' has proved and built, and say 'not run' where there is none. The last line is 'N passed, M failed', of all.
+set -u
+cd "$(dirname "$0")/.." || exit 1
+
+all='table pages generated list streams diff dump conformance c refusals prost'
+
+case ${1-} in
+  '')
+    for name in $all; do
+      # the second line of a check says what it shows
+      printf '%-12s %s\n' "$name" "$(sed -n '2s/^# //p' "scripts/checks/$name.sh")"
+    done
+    exit 0
+    ;;
+  --help)
+    sed -n '2,6s/^# \{0,1\}//p' scripts/check.sh
+    exit 0
+    ;;
+  all)
+    shift
+    # shellcheck disable=SC2086 # the names are split
+    set -- $all "$@"
+    ;;
+esac
+for name in "$@"; do
+  case " $all " in
+    *" $name "*) ;;
+    *)
+      echo "check.sh: there is no check '$name'; alone it lists them" >&2
+      exit 2
+      ;;
+  esac
+done
+
+. scripts/checks/lib.sh
+for name in "$@"; do
+  stage sh "scripts/checks/$name.sh"
+done
+finish

@@ -1,0 +1,6 @@
+#!/bin/sh
+# prost answers the test vectors alike, and the library 50,000 random cases that prost has answered.
+#
+# It needs cargo and packages, and installs none. The last line is 'N passed, M failed'; it is '0 passed, 0 failed'
+# where something is absent.
+exec sh "$(dirname "$0")/../../bench/vectors.sh" --no-install 1 50000
