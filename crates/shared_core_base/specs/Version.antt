@@ -1,5 +1,5 @@
 -- The versions of the protocol, and the content types that name them.
-use Rattle.std.specs.Prelude.{◌≡◌, ◌≢◌, ⊤, ℕ, List, ◌++◌, codes, decimal, true, false, Result, Ok, Err, nat_eq}
+use Rattle.std.specs.Prelude.{◌≡◌, ◌≢◌, ℕ, List, [], ◌++◌, codes, decimal, true, false, Result, Ok, Err, nat_eq}
 use Rattle.std.specs.List.{starts_with}
 use Rattle.std.specs.String.{string_bytes}
 use Rattle.shared_core_base.specs.declared.version.Version.{Version}
@@ -31,12 +31,12 @@ content_type_of version = restate_content_types ++ (codes "v" ++ decimal (versio
 abbrev pub NamesNoVersion : List ℕ → Type 0
 NamesNoVersion text = (version : Version) → text ≢ content_type_of version
 
--- A refused text comes back: in the error for the content types of the protocol where it begins as these do, else in the other, unless there
--- was no memory to keep it.
+-- A refused text comes back: in the error for the content types of the protocol where it begins as these do, else in the other, unless it is
+-- not empty and there was no memory to keep it.
 abbrev pub RefusesContentType : List ℕ → ContentTypeError → Type 0
 RefusesContentType text (RestateContentType kept) = (starts_with nat_eq text restate_content_types ≡ true) × (string_bytes kept ≡ text)
 RefusesContentType text (OtherContentType kept) = (starts_with nat_eq text restate_content_types ≡ false) × (string_bytes kept ≡ text)
-RefusesContentType text OutOfMemory = ⊤
+RefusesContentType text OutOfMemory = text ≢ []
 
 -- Reading a text answers the version whose content type it is, and refuses the text of no version.
 abbrev pub ReadsVersion : List ℕ → Result Version ContentTypeError → Type 0
@@ -48,3 +48,12 @@ abbrev pub content_type_error_code : ContentTypeError → ℕ
 content_type_error_code (RestateContentType kept) = 415
 content_type_error_code (OtherContentType kept) = 415
 content_type_error_code OutOfMemory = 500
+
+-- The text of a refusal, with the text that was refused.
+abbrev pub content_type_error_text : ContentTypeError → List ℕ
+content_type_error_text (RestateContentType kept) = codes "unsupported protocol version '" ++ (string_bytes kept ++ codes "'")
+content_type_error_text (OtherContentType kept) =
+    codes "unrecognized content-type '"
+    ++ (string_bytes kept
+    ++ codes "', this is not a restate protocol content type. Make sure you're invoking the service though restate-server, rather than directly.")
+content_type_error_text OutOfMemory = codes "out of memory"

@@ -8,5 +8,6 @@ pub mod fmt;
 pub mod header;
 pub mod headers;
 pub mod laws;
+pub mod text;
 pub mod values;
 pub mod version;

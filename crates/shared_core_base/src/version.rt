@@ -1,12 +1,13 @@
 //! The versions of the protocol, and the content types that name them.
 ghost use Rattle.std.specs.Prelude.{◌≡◌, IfOk, Some};
-ghost use Rattle.shared_core_base.specs.Version.{content_type_of, ReadsVersion, RefusesContentType, content_type_error_code};
+ghost use Rattle.shared_core_base.specs.Version.{content_type_of, ReadsVersion, RefusesContentType, content_type_error_code, content_type_error_text};
 ghost use Rattle.shared_core_base.specs.Error.{IsErrorOf};
 
 use crate::error::{Error, InvocationErrorCode, OutOfMemory, codes, error_of};
+use crate::text::copy_text;
 use std::alloc::Global;
-use std::fmt;
 use std::fmt::Display;
+use std::{error, fmt};
 
 /// A version of the protocol, ordered by its number. The first that is still spoken is V5.
 #[derive(Clone, Copy, Debug, PartialEq, Eq, PartialOrd, Ord)]
@@ -60,7 +61,8 @@ impl Version {
     /// Reads the content type of a version.
     ///
     /// A text that names no version is refused, and comes back in the error: `RestateContentType` where it begins as a
-    /// content type of the protocol does, else `OtherContentType`. `OutOfMemory` comes only where such a text cannot be kept.
+    /// content type of the protocol does, else `OtherContentType`. `OutOfMemory` comes only where such a text cannot be kept,
+    /// and never for an empty one.
     #[tactic(auto, using(std::proofs::lemmas::Fmt::decimal_digit))]
     pub fn from_str(alloc: Global, text: &str) -> Result<Version, ContentTypeError>
         ensures { ReadsVersion text.now result }
@@ -85,7 +87,7 @@ impl Version {
 fn refusal(alloc: Global, text: &str) -> ContentTypeError
     ensures { RefusesContentType text.now result }
 {
-    match String::from_str(alloc, text) {
+    match copy_text(alloc, text) {
         Ok(kept) => {
             if text.starts_with(RESTATE_CONTENT_TYPES) {
                 ContentTypeError::RestateContentType(kept)
@@ -107,16 +109,13 @@ impl Display for Version {
 }
 
 /// Why a content type names no version that is known here.
-#[derive(Debug, Drop, thiserror::Error)]
+#[derive(Debug, Drop)]
 pub enum ContentTypeError {
     /// The text is a content type of the protocol, of a version that is not known here.
-    #[error("unsupported protocol version '{0}'")]
     RestateContentType(String),
     /// The text is no content type of the protocol.
-    #[error("unrecognized content-type '{0}', this is not a restate protocol content type. Make sure you're invoking the service though restate-server, rather than directly.")]
     OtherContentType(String),
     /// The text names no version, and a request for memory to keep it was refused.
-    #[error("out of memory")]
     OutOfMemory,
 }
 
@@ -135,8 +134,28 @@ impl ContentTypeError {
 
     /// The error with this code and this text.
     pub fn to_error(&self, alloc: Global) -> Result<Error, OutOfMemory>
-        ensures { IfOk result (IsErrorOf (content_type_error_code self.now) (⟦<ContentTypeError as Display>⟧.output self.now)) }
+        ensures { IfOk result (IsErrorOf (content_type_error_code self.now) (Some (content_type_error_text self.now))) }
     {
         error_of(alloc, self.code(), self)
     }
 }
+
+/// Prints the text that was refused, and why.
+impl Display for ContentTypeError {
+    ghost output = { λ error. Some (content_type_error_text error) };
+
+    fn fmt<W: fmt::Write>(&self, f: &mut fmt::Formatter<W>) -> fmt::Result {
+        match self {
+            ContentTypeError::RestateContentType(kept) => {
+                write!(f, "unsupported protocol version '{kept}'")
+            }
+            ContentTypeError::OtherContentType(kept) => write!(
+                f,
+                "unrecognized content-type '{kept}', this is not a restate protocol content type. Make sure you're invoking the service though restate-server, rather than directly."
+            ),
+            ContentTypeError::OutOfMemory => f.write_str("out of memory"),
+        }
+    }
+}
+
+impl error::Error for ContentTypeError {}
