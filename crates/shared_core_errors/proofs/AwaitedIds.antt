@@ -4,7 +4,7 @@ use Rattle.std.proofs.lemmas.Bool.{cases_Bool}
 use Rattle.std.proofs.lemmas.Cmp.{eq_by_cmp_equiv}
 use Rattle.std.proofs.lemmas.List.Folds.{flat_map-map}
 use Rattle.std.proofs.lemmas.List.{length-map}
-use Rattle.std.proofs.lemmas.List.Sorted.{list_any-IsPermutation}
+use Rattle.std.proofs.lemmas.List.Sorted.{list_any-IsPermutation, IsPermutation-refl}
 use Rattle.std.proofs.lemmas.Map.Lookups.{btree_set_from_contains, exact_bytes}
 use Rattle.std.proofs.Math.ListN.{get_or-map}
 use Rattle.std.proofs.lemmas.Map.Keys.{apart_from_distinct, IsDistinct-IsPermutation, sorted_from_all_adjacent}
@@ -82,6 +82,13 @@ in_order keys xs same sorted distinct = record {
   same = same;
   ascending = ascending xs sorted (IsDistinct-IsPermutation id_eq id_eq_flips keys xs same distinct);
 }
+
+-- no ids are in order
+pub none_in_order : (keys xs : List Id) → length keys ≡ 0 → xs ≡ [] → IsInOrder keys xs
+unfolding IsStrictlySortedBy
+none_in_order [] [] none empty = record { same = IsPermutation-refl []; ascending = tt }
+none_in_order [] (x ∷ xs) none empty = absurd (cc)
+none_in_order (key ∷ keys) xs none empty = absurd (cc)
 
 -- ---- sets with the same ids stand in the same order
 

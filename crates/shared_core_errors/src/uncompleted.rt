@@ -1,5 +1,5 @@
 //! An await that the journal cannot replay.
-ghost use Rattle.std.specs.Prelude.{◌≡◌, IfOk, Some};
+ghost use Rattle.std.specs.Prelude.{◌≡◌, [], IfOk, IsOk, Some};
 ghost use Rattle.std.specs.Cmp.Lexicographic.{slice_cmp};
 ghost use Rattle.std.specs.Fmt.{WritesOnOk};
 ghost use Rattle.std.specs.HashMap.{get};
@@ -28,7 +28,8 @@ pub struct UncompletedDoProgressDuringReplay {
 }
 
 impl UncompletedDoProgressDuringReplay {
-    /// The awaited ids, and what is known of some of them. `OutOfMemory` where there is no memory to put them in order.
+    /// The awaited ids, and what is known of some of them. `OutOfMemory` where there is no memory to put them in order, and never of no
+    /// ids.
     pub fn new(
         alloc: Global,
         notification_ids: HashSet<NotificationId>,
@@ -36,9 +37,9 @@ impl UncompletedDoProgressDuringReplay {
     ) -> Result<UncompletedDoProgressDuringReplay, OutOfMemory>
         ensures ids { IfOk result (λ error. IsInOrder notification_ids.keys error.notification_ids.items) }
         ensures metadata { IfOk result (λ error. error.metadata ≡ metadata) }
+        ensures succeeds { notification_ids.keys ≡ [] → IsOk result }
     {
-        let mut ordered: Vec<NotificationId> = notification_ids.into_iter().collect(alloc)?;
-        ordered.sort_unstable_by(compare_ids);
+        let ordered = ids_in_order(alloc, notification_ids)?;
         Ok(UncompletedDoProgressDuringReplay {
             notification_ids: ordered,
             metadata,
@@ -59,6 +60,22 @@ impl UncompletedDoProgressDuringReplay {
     {
         error_of(alloc, self.code(), self)
     }
+}
+
+/// The ids in the order in which they print. No ids take no memory.
+fn ids_in_order(
+    alloc: Global,
+    ids: HashSet<NotificationId>,
+) -> Result<Vec<NotificationId>, OutOfMemory>
+    ensures ids { IfOk result (λ ordered. IsInOrder ids.keys ordered.items) }
+    ensures empty { ids.keys ≡ [] → IsOk result }
+{
+    if ids.is_empty() {
+        return Ok(Vec::new(alloc));
+    }
+    let mut ordered: Vec<NotificationId> = ids.into_iter().collect(alloc)?;
+    ordered.sort_unstable_by(compare_ids);
+    Ok(ordered)
 }
 
 /// The order in which awaited ids print.

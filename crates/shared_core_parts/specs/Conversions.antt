@@ -1,6 +1,5 @@
 -- What the messages and the values of the layer above become in each other.
-use Rattle.std.specs.Prelude.{◌≡◌, ℕ, ◌%◌, ◌^◌, List, map, String}
-use Rattle.std.specs.Cow.{IsOwnedStr}
+use Rattle.std.specs.Prelude.{◌≡◌, ℕ, ◌%◌, ◌^◌, List, [], map, String}
 use Rattle.std.specs.String.{string_bytes}
 use Rattle.std.specs.declared.alloc.Global.{Global}
 use Rattle.std.specs.declared.borrow.CowStr.{CowStr}
@@ -50,9 +49,14 @@ IsOwnedTextOf (Borrowed text) owned = string_bytes owned ≡ text.now
 abbrev pub IsHeaderOf : RootHeader → Header → Type 0
 IsHeaderOf root header = IsOwnedTextOf root.key header.key × IsOwnedTextOf root.value header.value
 
--- Both texts of a header of the layer above are owned.
-abbrev pub OwnsTexts : RootHeader → Type 0
-OwnsTexts root = IsOwnedStr root.key × IsOwnedStr root.value
+-- The text is owned or empty, so that to own it takes no memory.
+abbrev pub NeedsNoCopy : CowStr Global → Type 0
+NeedsNoCopy (Owned text) = Unit {0}
+NeedsNoCopy (Borrowed text) = text.now ≡ []
+
+-- Each text of a header of the layer above is owned or empty.
+abbrev pub NeedsNoCopies : RootHeader → Type 0
+NeedsNoCopies root = NeedsNoCopy root.key × NeedsNoCopy root.value
 
 -- The value is that of a result: the same variant with the same contents, a failure as a terminal one, and each key of a state as text.
 abbrev pub IsValueOf : Result → Value → Type 0
@@ -63,9 +67,10 @@ IsValueOf (result.InvocationId id) found = found ≡ value.InvocationId id
 IsValueOf (result.StateKeys keys) (value.StateKeys texts) = map string_bytes texts.items ≡ map lossy_text keys.keys.items
 IsValueOf other found = ⊥
 
--- The result is one whose value takes no memory: nothing, a value or the id of an invocation.
+-- The result is one whose value takes no memory: nothing, a value, the id of an invocation, a failure without metadata, or no keys.
 abbrev pub TakesNoMemory : Result → Type 0
 TakesNoMemory (result.Void void) = Unit {0}
 TakesNoMemory (result.Value bytes) = Unit {0}
+TakesNoMemory (result.Failure failure) = failure.metadata.items ≡ []
 TakesNoMemory (result.InvocationId id) = Unit {0}
-TakesNoMemory other = ⊥
+TakesNoMemory (result.StateKeys keys) = keys.keys.items ≡ []

@@ -1,8 +1,7 @@
 //! What messages and the values of the layer above become in each other.
 
-ghost use Rattle.std.specs.Prelude.{◌≡◌, IfOk, IsOk};
-ghost use Rattle.std.specs.Cow.{IsOwnedStr};
-ghost use Rattle.shared_core_parts.specs.Conversions.{failure_contents, terminal_contents, terminal_contents_of, root_header_of, IsOwnedTextOf, IsHeaderOf, OwnsTexts};
+ghost use Rattle.std.specs.Prelude.{◌≡◌, [], IfOk, IsOk, map};
+ghost use Rattle.shared_core_parts.specs.Conversions.{failure_contents, terminal_contents, terminal_contents_of, root_header_of, IsOwnedTextOf, IsHeaderOf, NeedsNoCopy, NeedsNoCopies};
 
 use crate::failure::Failure;
 use crate::failure_metadata::FailureMetadata;
@@ -10,6 +9,7 @@ use crate::header::Header;
 use crate::value::Value;
 use bytes::Bytes;
 use shared_core_base::error::OutOfMemory;
+use shared_core_base::text::copy_text;
 use shared_core_base::values;
 use shared_core_base::values::TerminalFailure;
 use std::alloc::Global;
@@ -17,15 +17,12 @@ use std::borrow::CowStr;
 
 impl Failure {
     /// The failure with the code, the message and the metadata of a terminal one. Texts are moved. `OutOfMemory` where there is none for the
-    /// list of the metadata.
+    /// list of the metadata, and never where there is no metadata.
     pub fn from_terminal(alloc: Global, terminal: TerminalFailure) -> Result<Failure, OutOfMemory>
-        ensures { IfOk result (λ failure. failure_contents failure ≡ terminal_contents terminal) }
+        ensures contents { IfOk result (λ failure. failure_contents failure ≡ terminal_contents terminal) }
+        ensures succeeds { terminal.metadata.items ≡ [] → IsOk result }
     {
-        let metadata = terminal
-            .metadata
-            .into_iter()
-            .map(|(key, value)| FailureMetadata { key, value })
-            .collect(alloc)?;
+        let metadata = entries_of_pairs(alloc, terminal.metadata)?;
         Ok(Failure {
             code: u32::from(terminal.code),
             message: terminal.message,
@@ -34,15 +31,12 @@ impl Failure {
     }
 
     /// The terminal failure with the low 16 bits of the code, the message and the metadata. Texts are moved. `OutOfMemory` where there is none
-    /// for the list of the metadata.
+    /// for the list of the metadata, and never where there is no metadata.
     pub fn into_terminal(self, alloc: Global) -> Result<TerminalFailure, OutOfMemory>
-        ensures { IfOk result (λ terminal. terminal_contents terminal ≡ terminal_contents_of self) }
+        ensures contents { IfOk result (λ terminal. terminal_contents terminal ≡ terminal_contents_of self) }
+        ensures succeeds { self.metadata.items ≡ [] → IsOk result }
     {
-        let metadata = self
-            .metadata
-            .into_iter()
-            .map(|entry| (entry.key, entry.value))
-            .collect(alloc)?;
+        let metadata = pairs_of_entries(alloc, self.metadata)?;
         Ok(TerminalFailure {
             code: (self.code & 0xFFFF) as u16,
             message: self.message,
@@ -51,12 +45,48 @@ impl Failure {
     }
 }
 
+/// The entries of pairs of a key and a value, moved. A list of none takes no memory.
+fn entries_of_pairs(
+    alloc: Global,
+    pairs: Vec<(String, String)>,
+) -> Result<Vec<FailureMetadata>, OutOfMemory>
+    ensures ok { IfOk result (λ entries. map (λ entry. (entry.key, entry.value)) entries.items ≡ pairs.items) }
+    ensures empty { pairs.items ≡ [] → IsOk result }
+{
+    if pairs.is_empty() {
+        return Ok(Vec::new(alloc));
+    }
+    let entries = pairs
+        .into_iter()
+        .map(|(key, value)| FailureMetadata { key, value })
+        .collect(alloc)?;
+    Ok(entries)
+}
+
+/// The pairs of a key and a value of entries, moved. A list of none takes no memory.
+fn pairs_of_entries(
+    alloc: Global,
+    entries: Vec<FailureMetadata>,
+) -> Result<Vec<(String, String)>, OutOfMemory>
+    ensures ok { IfOk result (λ pairs. pairs.items ≡ map (λ entry. (entry.key, entry.value)) entries.items) }
+    ensures empty { entries.items ≡ [] → IsOk result }
+{
+    if entries.is_empty() {
+        return Ok(Vec::new(alloc));
+    }
+    let pairs = entries
+        .into_iter()
+        .map(|entry| (entry.key, entry.value))
+        .collect(alloc)?;
+    Ok(pairs)
+}
+
 impl Header {
     /// The header with the key and the value of one of the layer above. A text that is owned is moved, and one that is borrowed is copied.
-    /// `OutOfMemory` where there is none for a copy.
+    /// `OutOfMemory` where there is none for a copy, and never for a copy of an empty text.
     pub fn from_root(alloc: Global, root: values::Header) -> Result<Header, OutOfMemory>
         ensures ok { IfOk result (IsHeaderOf root) }
-        ensures succeeds { OwnsTexts root → IsOk result }
+        ensures succeeds { NeedsNoCopies root → IsOk result }
     {
         Ok(Header {
             key: owned_text(alloc, root.key)?,
@@ -68,11 +98,11 @@ impl Header {
 /// The text itself where it is owned, else a copy.
 fn owned_text(alloc: Global, text: CowStr<'static>) -> Result<String, OutOfMemory>
     ensures ok { IfOk result (IsOwnedTextOf text.entry) }
-    ensures succeeds { IsOwnedStr text.entry → IsOk result }
+    ensures succeeds { NeedsNoCopy text.entry → IsOk result }
 {
     match text {
         CowStr::Owned(owned) => Ok(owned),
-        CowStr::Borrowed(borrowed) => Ok(String::from_str(alloc, borrowed)?),
+        CowStr::Borrowed(borrowed) => copy_text(alloc, borrowed),
     }
 }
 

@@ -34,7 +34,7 @@ impl NotificationResult {
     }
 
     /// The value that it brings: a failure as `Failure::into_terminal` has it, the keys of a state as text, with U+FFFD for each piece that is
-    /// not UTF-8, and all else as it is. `OutOfMemory` comes of failures and of keys alone.
+    /// not UTF-8, and all else as it is. `OutOfMemory` comes of failures with metadata and of keys alone.
     pub fn into_value(self, alloc: Global) -> Result<values::Value, OutOfMemory>
         ensures ok { IfOk result (IsValueOf self) }
         ensures succeeds { TakesNoMemory self → IsOk result }

@@ -1,6 +1,6 @@
 //! How messages print.
 
-ghost use Rattle.std.specs.Prelude.{◌≡◌, Some, IfOk, map};
+ghost use Rattle.std.specs.Prelude.{◌≡◌, [], Some, IfOk, IsOk, map};
 ghost use Rattle.std.specs.Fmt.{WritesOnOk, comma_space};
 ghost use Rattle.std.specs.List.{join_by};
 ghost use Rattle.std.specs.String.{string_bytes};
@@ -113,9 +113,10 @@ fn write_key<W: fmt::Write>(f: &mut fmt::Formatter<W>, key: &Bytes) -> fmt::Resu
     write!(f, "'{key}'")
 }
 
-/// The texts of state keys, in order, with U+FFFD for each piece of a key that is not UTF-8.
+/// The texts of state keys, in order, with U+FFFD for each piece of a key that is not UTF-8. A list of none takes no memory.
 pub(crate) fn texts_of_keys(alloc: Global, keys: &[Bytes]) -> Result<Vec<String>, AllocError>
-    ensures { IfOk result (λ texts. map string_bytes texts.items ≡ map lossy_text keys.now) }
+    ensures texts { IfOk result (λ texts. map string_bytes texts.items ≡ map lossy_text keys.now) }
+    ensures empty { keys.now ≡ [] → IsOk result }
 {
     let mut texts = Vec::with_capacity(alloc, keys.len())?;
     for key in keys {
