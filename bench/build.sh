@@ -25,7 +25,7 @@ quietly() {
 }
 
 if command -v python3 > /dev/null; then
-  quietly python3 records.py --check || exit 1
+  quietly python3 ../tools/generate.py --check peer || exit 1
 fi
 quietly sh ../scripts/static_library.sh || exit 1
 JOURNAL_FFI=$(folder ../crates/journal_ffi/out/libjournal_ffi.a) || exit 1

@@ -19,25 +19,7 @@ if ! sh install.sh $option; then
   exit 0
 fi
 
-work=$(mktemp -d) || exit 1
-trap 'rm -rf "$work"' EXIT
-passed=0
-failed=0
-# stage COMMAND..: runs it, shows what it prints and adds its last 'N passed, M failed' to the counts
-stage() {
-  "$@" > "$work/log"
-  status=$?
-  cat "$work/log"
-  counts=$(awk '/^[0-9]+ passed, [0-9]+ failed$/ { line = $0 } END { print line }' "$work/log")
-  if [ -n "$counts" ]; then
-    passed=$((passed + $(echo "$counts" | awk '{ print $1 }')))
-    failed=$((failed + $(echo "$counts" | awk '{ print $3 }')))
-  fi
-  if [ -z "$counts" ] || { [ "$status" -ne 0 ] && [ "${counts##*, }" = '0 failed' ]; }; then
-    echo "failed: $*, status $status"
-    failed=$((failed + 1))
-  fi
-}
+. ../scripts/checks/lib.sh
 
 if ! cargo build --release --bin agree --bin vectors > "$work/log" 2>&1; then
   cat "$work/log"
@@ -45,12 +27,8 @@ if ! cargo build --release --bin agree --bin vectors > "$work/log" 2>&1; then
   exit 1
 fi
 stage target/release/agree --vectors ../conformance/*.txt
-stage target/release/vectors --check ../conformance
 if command -v python3 > /dev/null; then
-  export PYTHONDONTWRITEBYTECODE=1
-  stage python3 records.py --check
-  stage python3 ../conformance/long.py --check
-  stage python3 ../scripts/vectors.py --check
+  stage python3 ../tools/generate.py --check random_vectors peer long_vectors record_vectors
 else
   echo "not run: there is no python3"
 fi
@@ -63,5 +41,4 @@ else
   failed=$((failed + 1))
 fi
 
-echo "$passed passed, $failed failed"
-[ "$failed" -eq 0 ]
+finish

@@ -334,7 +334,7 @@ same "proto/journal.proto and the members of oneofs of $surface" "$work/values" 
 
 # The last version: that of the library, those that callers from C, the programs and the conformance lines can ask for, and what pages and comments say.
 last=$(sed -n '/fn maximum_supported_version/,/^    }$/s/^        Version::V\([0-9]*\)$/\1/p' crates/shared_core_base/src/version.rt)
-for place in include/pendratsoa.h examples/python/pendratsoa.py scripts/vectors.py crates/conformance/src/cases.rt crates/journal_calls/src/answer.rt \
+for place in include/pendratsoa.h examples/python/pendratsoa.py tools/generators/record_vectors.py crates/conformance/src/cases.rt crates/journal_calls/src/answer.rt \
   crates/journal_calls/specs/Answers.antt crates/journal_diff/src/options.rt crates/journal_dump/src/command_line.rt; do
   echo "$place $last" >> "$work/last"
   echo "$place $(grep -oE 'Version::V[0-9]+|Some V[0-9]+|LAST_VERSION (= )?[0-9]+' "$place" | grep -oE '[0-9]+$' | sort -n | tail -n 1)" >> "$work/asked"

@@ -1,8 +1,7 @@
 //! Writes conformance lines: random cases with the answers of the peer and of the rules.
 //!
 //! - vectors [SEED [COUNT]]: to standard output, so many;
-//! - vectors --write FOLDER: the files of random cases that conformance/ has;
-//! - vectors --check FOLDER: compares these files with what it would write. The last line is 'N passed, M failed', of files.
+//! - vectors --write FOLDER: the files of random cases that conformance/ has, for tools/generate.py.
 //!
 //! Where the two readers differ, and not as is known, the case is shown on standard error and the status is 1. How often they differed as is
 //! known is told there too.
@@ -51,7 +50,7 @@ impl fmt::Display for Failed {
 }
 
 /// Writes so many random cases to standard output.
-fn print(seed: u64, count: u64) -> Result<bool, Failed> {
+fn print(seed: u64, count: u64) -> Result<(), Failed> {
     let mut out = BufWriter::new(io::stdout().lock());
     let mut departures = 0;
     for case in 0..count {
@@ -62,31 +61,17 @@ fn print(seed: u64, count: u64) -> Result<bool, Failed> {
     }
     out.flush()?;
     tell(departures);
-    Ok(true)
+    Ok(())
 }
 
 /// Writes the files of a folder.
-fn write(folder: &Path) -> Result<bool, Failed> {
+fn write(folder: &Path) -> Result<(), Failed> {
     let files = cases::files()?;
     for file in &files {
         fs::write(folder.join(file.name), &file.text)?;
     }
     tell(files.iter().map(|file| file.departures).sum());
-    Ok(true)
-}
-
-/// Whether the files of a folder are what would be written.
-fn check(folder: &Path) -> Result<bool, Failed> {
-    let files = cases::files()?;
-    let mut stale = 0;
-    for file in &files {
-        if !matches!(fs::read_to_string(folder.join(file.name)), Ok(text) if text == file.text) {
-            println!("failed: {} is not what vectors writes", file.name);
-            stale += 1;
-        }
-    }
-    println!("{} passed, {stale} failed", files.len() - stale);
-    Ok(stale == 0)
+    Ok(())
 }
 
 fn tell(departures: usize) {
@@ -94,11 +79,10 @@ fn tell(departures: usize) {
 }
 
 /// Does what the command line asks for, if it asks for anything.
-fn run(words: &[&str]) -> Option<Result<bool, Failed>> {
+fn run(words: &[&str]) -> Option<Result<(), Failed>> {
     Some(match words {
         [] => print(SEED, COUNT),
         ["--write", folder] => write(Path::new(folder)),
-        ["--check", folder] => check(Path::new(folder)),
         [seed] => print(seed.parse().ok()?, COUNT),
         [seed, count] => print(seed.parse().ok()?, count.parse().ok()?),
         _ => return None,
@@ -110,13 +94,10 @@ fn main() -> ExitCode {
     let words: Vec<&str> = words.iter().map(String::as_str).collect();
     match run(&words) {
         None => {
-            eprintln!(
-                "usage: vectors [SEED [COUNT]] | vectors --write FOLDER | vectors --check FOLDER"
-            );
+            eprintln!("usage: vectors [SEED [COUNT]] | vectors --write FOLDER");
             ExitCode::from(2)
         }
-        Some(Ok(true)) => ExitCode::SUCCESS,
-        Some(Ok(false)) => ExitCode::FAILURE,
+        Some(Ok(())) => ExitCode::SUCCESS,
         Some(Err(failed)) => {
             eprintln!("failed: {failed}");
             ExitCode::FAILURE

@@ -15,7 +15,7 @@ pub record CommandFields : Type 0 where
   -- printed in this order under these names, where they differ
   pub printed : List (ℕ × List ℕ)
 
--- The commands, by their schemas. The code of a command in this crate is written from its entry (scripts/records.py).
+-- The commands, by their schemas. The code of a command in this crate is written from its entry (tools/generate.py).
 abbrev pub commands : List (ℕ × CommandFields)
 commands = (
   schema.input_command,

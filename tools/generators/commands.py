@@ -1,20 +1,23 @@
-"""Writes how the commands of proto/journal.proto are compared and how their differences are printed, from the entries of
-crates/shared_core_compare/specs/Commands.antt: a part of scripts/records.py.
+"""How the commands of proto/journal.proto are compared, and how their differences are printed.
 
-One file a command, one for each oneof that several commands share, the root file of the crate, and for a command with two or more
-printed lines the proof that they follow each other.
+One file a command, one for each oneof that several commands share, the root file of the crate, and for a command with two or more printed
+lines the proof that they follow each other.
 """
-import pathlib
 import re
 import sys
 
-from journal import OneOf, camel, snake
+from . import ROOT, laid_out
+from .proto import OneOf, camel, messages, snake
+from .records import COMMAND_CRATES, CRATES, missing, schema_name, shared_oneofs  # noqa: F401
 
 CRATE = "shared_core_compare"
-FOLDER = pathlib.Path(__file__).resolve().parent.parent / "crates" / CRATE
+FOLDER = ROOT / "crates" / CRATE
 ENTRIES = FOLDER / "specs" / "Commands.antt"
 
-ABOUT = "Commands compared: their names, whether two are the same but for what replay may change, and how they differ."
+ABOUT = "How commands are compared and printed, in Rattle."
+SOURCE = "crates/shared_core_compare/specs/Commands.antt"
+
+HEADING = "Commands compared: their names, whether two are the same but for what replay may change, and how they differ."
 
 # Modules that are written by hand, and whether other crates see them. What is written holds impls alone, which need no name.
 BY_HAND = {"difference": True, "equality": True, "laws": True, "name": True, "printed": False}
@@ -46,7 +49,7 @@ class Entry:
 
 
 def refuse(text):
-    sys.exit(f"commands.py: {ENTRIES.relative_to(FOLDER.parent.parent)}: {text}")
+    sys.exit(f"generate.py: {SOURCE}: {text}")
 
 
 def entries():
@@ -125,7 +128,7 @@ class Command:
         return [self.row(number) for number, _ in self.entry.printed]
 
 
-def commands(crates, table, schema_name):
+def commands(crates, table):
     """The commands of some crates, each with its entry."""
     found = entries()
     in_order = []
@@ -343,35 +346,43 @@ def answers(command):
     )
 
 
-def write_crate(folder, crates, table, schema_name, shared_oneofs):
-    """Writes the files of the crate into a folder, not yet laid out: for the commands of some crates, with the oneofs that they share."""
-    sources = folder / "src"
-    sources.mkdir(parents=True)
+def texts():
+    """The files of the crate by their paths, not yet laid out."""
+    crates = {name: CRATES[name][1] for name in COMMAND_CRATES}
+    table = {message.name: message for message in messages()}
+    sources = f"crates/{CRATE}/src"
+    found = {}
     modules = dict(BY_HAND)
-    if not (FOLDER / "src" / "laws.rt").exists():
-        del modules["laws"]
     homes = {}
     for crate in crates:
         for module, enum, _, oneof, users in shared_oneofs(crate, table):
             for user, name in users:
                 homes.setdefault(user, {})[name] = (crate, module, enum, oneof)
     printed = {}
-    for command in commands(crates, table, schema_name):
+    for command in commands(crates, table):
         shared = homes.get(command.message.name, {})
-        (sources / f"{command.module}.rt").write_text(write_command(command, shared))
+        found[f"{sources}/{command.module}.rt"] = write_command(command, shared)
         modules[command.module] = False
         for row in command.printed():
             if row.name in shared:
                 crate, module, enum, oneof = shared[row.name]
                 printed[module] = (f"{crate}::{module}", enum), oneof
         if len(command.printed()) > 1:
-            proofs = folder / "proofs" / command.module / f"{command.message.name}CommandMessageHeaderDiff" / "write_lines"
-            proofs.mkdir(parents=True)
-            (proofs / "Answers.antt").write_text(answers(command))
+            proofs = f"crates/{CRATE}/proofs/{command.module}/{command.message.name}CommandMessageHeaderDiff/write_lines"
+            found[f"{proofs}/Answers.antt"] = answers(command)
     for module, (path, oneof) in printed.items():
         source = Source(f"`{path[1]}` printed.")
         write_printed_oneof(source, path, oneof)
-        (sources / f"{module}.rt").write_text(source.text())
+        found[f"{sources}/{module}.rt"] = source.text()
         modules[module] = False
     declared = "".join(f"{'pub ' if seen else ''}mod {module};\n" for module, seen in sorted(modules.items()))
-    (sources / "lib.rt").write_text(f"//! {ABOUT}\n#![tactic(auto)]\n\n{declared}")
+    found[f"{sources}/lib.rt"] = f"//! {HEADING}\n#![tactic(auto)]\n\n{declared}"
+    return found
+
+
+def paths():
+    return list(texts())
+
+
+def files():
+    return laid_out(texts())

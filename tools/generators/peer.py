@@ -1,22 +1,18 @@
-"""Writes the peer's records and tables as Rust: bench/records.py [--check]
+"""The peer's records and tables, which stand over prost.
 
-src/records.rs has the records of proto/journal.proto as prost-build would write them, with shared buffers for `bytes`. src/table.rs has what
-tells them apart by number: the fields of each schema, the code of each message type, and macros that lead from a number to the record.
-src/json.rs has how serde writes the records, in proto3's JSON form.
-Schemas are numbered as in the list `schemas` of crates/shared_core_record/specs/Table.antt, and codes are those of
-crates/shared_core_base/specs/MessageType.antt. With --check nothing is written; the status is 1 where a file is not up to date.
+bench/src/records.rs has the records of proto/journal.proto as prost-build would write them, with shared buffers for `bytes`. table.rs has
+what tells them apart by number: the fields of each schema, the code of each message type, and macros that lead from a number to the record.
+json.rs has how serde writes the records, in proto3's JSON form. Schemas are numbered as in the list `schemas` of
+crates/shared_core_record/specs/Table.antt, and codes are those of crates/shared_core_base/specs/MessageType.antt.
 """
-import pathlib
 import re
-import sys
 
-BENCH = pathlib.Path(__file__).resolve().parent
-ROOT = BENCH.parent
-sys.dont_write_bytecode = True
-sys.path.insert(0, str(ROOT / "scripts"))
+from . import ROOT, missing  # noqa: F401
+from .json_names import json_name
+from .proto import PROTO, OneOf, camel, messages, snake
 
-from journal import PROTO, OneOf, camel, messages, snake  # noqa: E402
-from json_names import json_name  # noqa: E402
+ABOUT = "The records and the tables of the peer, in Rust."
+SOURCE = "proto/journal.proto"
 
 SCHEMAS = ROOT / "crates" / "shared_core_record" / "specs" / "Table.antt"
 TYPES = ROOT / "crates" / "shared_core_base" / "specs" / "MessageType.antt"
@@ -116,7 +112,7 @@ class Records:
 def records(text):
     """The source of src/records.rs."""
     writer = Records(enum_names(text))
-    parts = ["//! The records of proto/journal.proto for prost. Written by records.py.\n"]
+    parts = ["//! The records of proto/journal.proto for prost.\n"]
     parts += [enumeration(name, constants) for name, constants in enums(text)]
     parts += [writer.message(message) for message in messages(text)]
     return "\n".join(parts)
@@ -165,7 +161,7 @@ def least_number(row):
 def json(text):
     """The source of src/json.rs."""
     parts = [
-        "//! How serde writes the records, in proto3's JSON form. Written by records.py.\n",
+        "//! How serde writes the records, in proto3's JSON form.\n",
         "use serde::ser::{Serialize, SerializeMap, Serializer};\n",
         "use crate::dump::{Base64, Base64List, Quoted};\nuse crate::records::*;\n",
     ]
@@ -251,7 +247,7 @@ def table(text):
         for name, code in types
     )
     parts = [
-        "//! The schemas and the message types by their numbers. Written by records.py.\n",
+        "//! The schemas and the message types by their numbers.\n",
         "use crate::schema::{Field, Kind::*, Label::*, MessageType, Schema};\n",
         f"/// The schemas, each at its number.\npub static SCHEMAS: [Schema; {len(names)}] = [\n{schemas}];\n",
         f"/// The message types that have a name.\npub static TYPES: [MessageType; {len(types)}] = [\n{codes}];\n",
@@ -272,22 +268,6 @@ def table(text):
     return "\n".join(parts)
 
 
-def main():
+def files():
     text = PROTO.read_text()
-    sources = {"records.rs": records(text), "json.rs": json(text), "table.rs": table(text)}
-    check = sys.argv[1:] == ["--check"]
-    stale = 0
-    for name, source in sources.items():
-        path = BENCH / "src" / name
-        if not check:
-            path.write_text(source)
-        elif not path.exists() or path.read_text() != source:
-            print(f"failed: bench/src/{name} is not what bench/records.py writes")
-            stale += 1
-    if check:
-        print(f"{len(sources) - stale} passed, {stale} failed")
-    return 1 if stale else 0
-
-
-if __name__ == "__main__":
-    sys.exit(main())
+    return {"bench/src/records.rs": records(text), "bench/src/json.rs": json(text), "bench/src/table.rs": table(text)}

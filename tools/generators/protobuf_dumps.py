@@ -1,13 +1,12 @@
 """Streams and their dumps, with protobuf's own JSON printer as the judge:
 
-    dump_lines.py --write            writes the stored run of journal_dump, crates/journal_dump/stdin and stdout, and conformance/json/records.txt
-    dump_lines.py --check            whether they are up to date
-    dump_lines.py --random SEED COUNT PROGRAM [WORD..]
-                                     COUNT random payloads of each message type in one stream, dumped by the program and printed by protobuf
+    protobuf_dumps.py --write FOLDER     writes the stored run of journal_dump and the JSON of each message below a folder, for tools/generate.py
+    protobuf_dumps.py --random SEED COUNT PROGRAM [WORD..]
+                                         COUNT random payloads of each message type in one stream, dumped by the program and printed by protobuf
 
 It needs protoc and python3's protobuf (Debian's protobuf-compiler and python3-protobuf). Nothing of this project's own code takes part: payloads are
 those of conformance/records.txt, which protoc made, and what protobuf makes of random values; a type's code is that of proto/types.txt. The last
-line of --check and --random is 'N passed, M failed'.
+line of --random is 'N passed, M failed'.
 """
 import base64
 import json
@@ -20,13 +19,11 @@ import tempfile
 from google.protobuf import json_format
 from google.protobuf.descriptor import FieldDescriptor
 
-ROOT = pathlib.Path(__file__).resolve().parent.parent
-RUN = ROOT / "crates" / "journal_dump"
+ROOT = pathlib.Path(__file__).resolve().parents[2]
 RECORDS = ROOT / "conformance" / "records.txt"
-JSON = ROOT / "conformance" / "json" / "records.txt"
 
 HEAD = """# The JSON of each message: with every field present, with each member of its oneofs in turn, and with nothing present. The payloads are those of
-# conformance/records.txt, which are protoc's; the JSON is protobuf's own. Written by scripts/dump_lines.py.
+# conformance/records.txt, which are protoc's; the JSON is protobuf's own.
 """
 
 
@@ -216,19 +213,18 @@ def main():
     words = sys.argv[1:]
     if words[:1] == ["--random"] and len(words) >= 4:
         return dump_random(kinds, int(words[1]), int(words[2]), words[3:])
-    if words not in (["--write"], ["--check"]):
+    if words[:1] != ["--write"] or len(words) != 2:
         sys.exit(__doc__)
     given, wanted = stored(kinds)
-    files = {RUN / "stdin": given, RUN / "stdout": wanted.encode(), JSON: json_lines(kinds).encode()}
-    stale = [path for path, data in files.items() if not path.exists() or path.read_bytes() != data]
-    for path in stale:
-        if words == ["--write"]:
-            path.write_bytes(files[path])
-        else:
-            print(f"failed: {path.relative_to(ROOT)} is not what scripts/dump_lines.py writes")
-    if words == ["--check"]:
-        print(f"{len(files) - len(stale)} passed, {len(stale)} failed")
-        return 1 if stale else 0
+    files = {
+        "crates/journal_dump/stdin": given,
+        "crates/journal_dump/stdout": wanted.encode(),
+        "conformance/json/records.txt": json_lines(kinds).encode(),
+    }
+    for path, data in files.items():
+        target = pathlib.Path(words[1]) / path
+        target.parent.mkdir(parents=True, exist_ok=True)
+        target.write_bytes(data)
     return 0
 
 

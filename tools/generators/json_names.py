@@ -1,26 +1,21 @@
-"""Writes the fields of the protocol's messages as JSON names them: scripts/json_names.py [--check]
-
-From proto/journal.proto, in the order of the schemas of shared_core_record: the table of names that the contracts of journal_json cite, and
-the table that the program goes by, which is proved to be the same. With --check nothing is written; the status is 1 where a file is not up to
-date.
+"""The fields of the protocol's messages as JSON names them, in the order of the schemas of shared_core_record: the table of names that the
+contracts of journal_json cite, and the table that the program goes by, which is proved to be the same.
 """
-import pathlib
 import re
-import sys
-import tempfile
 
-from journal import OneOf, messages
-from records import lay_out
+from . import ROOT, laid_out
+from .proto import OneOf, messages
+from .records import missing  # noqa: F401
 
-ROOT = pathlib.Path(__file__).resolve().parent.parent
-CRATE = ROOT / "crates" / "journal_json"
+ABOUT = "The names of fields in JSON, for contracts and for the program."
+SOURCE = "proto/journal.proto"
+
 TABLE = ROOT / "crates" / "shared_core_record" / "specs" / "Table.antt"
 
 KINDS = {"u32": "U32", "u64": "U64", "bool": "Boolean", "enum": "Enumeration", "text": "Text", "bytes": "ByteString"}
 
 NAMES = """\
--- The names that the fields of the protocol's messages have in JSON: those of proto/journal.proto in lower camel case. Written by
--- scripts/json_names.py.
+-- The names that the fields of the protocol's messages have in JSON: those of proto/journal.proto in lower camel case.
 use Rattle.std.specs.Prelude.{ℕ, List, [], ◌∷◌, codes}
 
 -- The numbers and names of the fields of each schema, in the order of the table.
@@ -29,7 +24,7 @@ names =
 """
 
 SCHEMAS = """\
-//! The fields of each schema, in the order of the table. Written by scripts/json_names.py.
+//! The fields of each schema, in the order of the table.
 
 use crate::fields::{Field, Kind};
 
@@ -54,8 +49,8 @@ def kind_of(field, places):
     return f"Kind::Message({places[field.message]})" if field.kind == "message" else f"Kind::{KINDS[field.kind]}"
 
 
-def write_crate(folder):
-    """Writes both tables into a folder like that of the crate."""
+def texts():
+    """Both tables, not yet laid out."""
     order = re.findall(r"^    -- (\w+)$", TABLE.read_text(), re.M)
     places = {name: place for place, name in enumerate(order)}
     found = {message.name: message for message in messages()}
@@ -72,33 +67,15 @@ def write_crate(folder):
             for field in fields
         ]
         schemas.append(f"    // {name}\n    &[{', '.join(listed)}],\n")
-    for part in ("specs", "src"):
-        (folder / part).mkdir(parents=True)
-    (folder / "specs" / "Names.antt").write_text(NAMES + "".join(names) + "    ∷ []\n")
-    (folder / "src" / "schemas.rt").write_text(
-        f"{SCHEMAS}pub static SCHEMAS: [&[Field]; {len(order)}] = [\n" + "".join(schemas) + "];\n"
-    )
+    return {
+        "crates/journal_json/specs/Names.antt": NAMES + "".join(names) + "    ∷ []\n",
+        "crates/journal_json/src/schemas.rt": f"{SCHEMAS}pub static SCHEMAS: [&[Field]; {len(order)}] = [\n" + "".join(schemas) + "];\n",
+    }
 
 
-def main():
-    check = "--check" in sys.argv[1:]
-    stale = []
-    with tempfile.TemporaryDirectory() as work:
-        folder = pathlib.Path(work) / "journal_json"
-        write_crate(folder)
-        files = sorted(file for file in folder.rglob("*") if file.is_file())
-        lay_out(files)
-        for file in files:
-            target = CRATE / file.relative_to(folder)
-            text = file.read_text()
-            if not target.exists() or target.read_text() != text:
-                stale.append(target.relative_to(ROOT))
-                if not check:
-                    target.write_text(text)
-    for path in stale:
-        print(f"failed: {path} is not what scripts/json_names.py writes" if check else f"wrote {path}")
-    return 1 if check and stale else 0
+def paths():
+    return list(texts())
 
 
-if __name__ == "__main__":
-    sys.exit(main())
+def files():
+    return laid_out(texts())

@@ -1,30 +1,29 @@
-"""Writes conformance/records.txt, with protoc as the encoder: scripts/vectors.py [--check]
+"""The names of fields as test vectors, conformance/records.txt, with protoc as the encoder.
 
-For each message there is a value with every row present and each field a value of its own; of a oneof it has one member, and there is a value
-for each. Then comes the value of which nothing is present. A line names a message, the bytes that protoc (Debian's protobuf-compiler) makes out
-of proto/journal.proto and a text that names the fields, and the value as Rust's derived Debug prints it, made of the same names and values.
-Behind these lines stand the frames of the same values, where the message is that of a type: at version 8, and where an earlier version writes it
-otherwise at each; a type's code is read from conformance/frames.txt. Nothing of this project's own code takes part.
-
-With --check nothing is written; the last line is 'N passed, M failed', and the status 1 where the file is not what would be written. It says
-'not run' where there is no protoc.
+For each message there is a value with every row present and each field a value of its own; of a oneof it has one member, and there is a
+value for each. Then comes the value of which nothing is present. A line names a message, the bytes that protoc (Debian's protobuf-compiler)
+makes out of proto/journal.proto and a text that names the fields, and the value as Rust's derived Debug prints it, made of the same names and
+values. Behind these lines stand the frames of the same values, where the message is that of a type: at version 8, and where an earlier
+version writes it otherwise at each; a type's code is read from conformance/frames.txt. Nothing of this project's own code takes part.
 """
-import pathlib
 import re
 import shutil
 import subprocess
-import sys
 
-from journal import PROTO, OneOf, camel, messages
+from . import ROOT
+from .proto import PROTO, OneOf, camel, messages
+
+ABOUT = "Test vectors of each message, by protoc."
+SOURCE = "proto/journal.proto, by protoc"
 
 PACKAGE = "pendratsoa.journal"
-FOLDER = pathlib.Path(__file__).resolve().parent.parent / "conformance"
-FILE = FOLDER / "records.txt"
+FOLDER = ROOT / "conformance"
+FILE = "conformance/records.txt"
 
 HEAD = """\
 # The names of fields: for each message a value with every field present and each another, with each member of its oneofs in turn, and the
-# value of which nothing is present; and the frames of the first, where the message is that of a type. Written by scripts/vectors.py; the
-# payloads are those of protoc.
+# value of which nothing is present; and the frames of the first, where the message is that of a type. The payloads are
+# those of protoc.
 """
 
 # The versions at which the frames of a message stand: the last, and all where an earlier one writes it otherwise.
@@ -172,20 +171,13 @@ def records():
     return "".join(parts)
 
 
-def check():
-    """Whether the file is what would be written."""
-    if not shutil.which("protoc"):
-        print("not run: there is no protoc")
-        print("0 passed, 0 failed")
-        return True
-    same = FILE.exists() and FILE.read_text(encoding="utf-8") == records()
-    if not same:
-        print("failed: conformance/records.txt is not what scripts/vectors.py writes")
-    print("1 passed, 0 failed" if same else "0 passed, 1 failed")
-    return same
+def missing():
+    return None if shutil.which("protoc") else "there is no protoc"
 
 
-if __name__ == "__main__":
-    if sys.argv[1:] == ["--check"]:
-        sys.exit(0 if check() else 1)
-    FILE.write_text(records(), encoding="utf-8")
+def paths():
+    return [FILE]
+
+
+def files():
+    return {FILE: records()}

@@ -1,26 +1,24 @@
-"""Writes conformance/comparisons.txt: scripts/compare.py [--check]
+"""Commands compared, conformance/comparisons.txt.
 
 Each line compares two commands, the one that was recorded and the one that the code makes now. Which fields count, which are printed and
 how is said here once more, from the protocol's description alone: neither the library nor the tables that its contracts cite take part. The
 payloads are put together from the fields of proto/journal.proto. Where a text stands beside a case, it was written by hand, and has to be
 the one that comes of the tables.
-
-With --check nothing is written; the last line is 'N passed, M failed', and the status 1 where the file is not what would be written.
 """
-import pathlib
 import re
 import sys
 
-from journal import OneOf, messages
+from . import ROOT, missing  # noqa: F401
+from .proto import OneOf, messages
 
-FOLDER = pathlib.Path(__file__).resolve().parent.parent / "conformance"
-FILE = FOLDER / "comparisons.txt"
-PAGE = FOLDER / "README.md"
+ABOUT = "Test vectors of commands compared."
+SOURCE = "tools/generators/comparisons.py"
+
+PAGE = ROOT / "conformance" / "README.md"
 
 HEAD = """\
 # Commands compared: the one that was recorded with the one that the code makes now. Above each line stands what it is, and the text of the
-# difference, where there is one; characters that do not print are escaped there, and spaces at the end left out. Written by
-# scripts/compare.py.
+# difference, where there is one; characters that do not print are escaped there, and spaces at the end left out.
 """
 
 INDENTATION = "   "
@@ -124,7 +122,7 @@ def payload(rows, message):
     """The one canonical payload: two messages are the same exactly if theirs are."""
     unknown = set(message) - {row.name for row in rows}
     if unknown:
-        sys.exit(f"compare.py: no such fields: {unknown}")
+        sys.exit(f"generate.py: comparisons: no such fields: {unknown}")
     return b"".join(row_payload(row, message.get(row.name)) for row in rows)
 
 
@@ -285,9 +283,9 @@ def case(about, command, actual, expected, answers=None, text=None, spelled=(Non
     found = [sameness(command, actual, expected, ignore_payloads) for ignore_payloads in (False, True)]
     lines = difference(command, actual, expected)
     if answers is not None and found != answers.split():
-        sys.exit(f"compare.py: {about}: {found}, and not {answers}")
+        sys.exit(f"generate.py: comparisons: {about}: {found}, and not {answers}")
     if text is not None and lines != text:
-        sys.exit(f"compare.py: {about}: {lines!r}, and not {text!r}")
+        sys.exit(f"generate.py: comparisons: {about}: {lines!r}, and not {text!r}")
     payloads = [
         given if given is not None else payload(rows_of(command), message) for message, given in zip((actual, expected), spelled)
     ]
@@ -908,19 +906,11 @@ def said_on_the_page():
         yield "what is printed"
 
 
-def main():
-    text = comparisons()
+def paths():
+    return ["conformance/comparisons.txt"]
+
+
+def files():
     for what in said_on_the_page():
-        sys.exit(f"compare.py: conformance/README.md says otherwise {what}")
-    if sys.argv[1:] != ["--check"]:
-        FILE.write_text(text, encoding="utf-8")
-        return 0
-    same = FILE.exists() and FILE.read_text(encoding="utf-8") == text
-    if not same:
-        print("failed: conformance/comparisons.txt is not what scripts/compare.py writes")
-    print("1 passed, 0 failed" if same else "0 passed, 1 failed")
-    return 0 if same else 1
-
-
-if __name__ == "__main__":
-    sys.exit(main())
+        sys.exit(f"generate.py: comparisons: conformance/README.md says otherwise {what}")
+    return {path: comparisons() for path in paths()}

@@ -2,10 +2,11 @@
 
 Only what that file uses of the language is read: messages of fields and oneofs, one a line, and enums.
 """
-import pathlib
 import re
 
-PROTO = pathlib.Path(__file__).resolve().parent.parent / "proto" / "journal.proto"
+from . import ROOT
+
+PROTO = ROOT / "proto" / "journal.proto"
 
 SCALARS = {"uint32": "u32", "uint64": "u64", "bool": "bool", "string": "text", "bytes": "bytes"}
 

@@ -1,12 +1,11 @@
-"""Writes the lines that are too long to write by hand, levels.txt and long.txt: python3 conformance/long.py [--check]
+"""The lines that are too long to write by hand, conformance/levels.txt and long.txt.
 
-What a payload means follows from how it is put together here; no reader of payloads takes part. With --check nothing is written; the last
-line is 'N passed, M failed', of files.
+What a payload means follows from how it is put together here; no reader of payloads takes part.
 """
-import pathlib
-import sys
+from . import missing  # noqa: F401
 
-FOLDER = pathlib.Path(__file__).resolve().parent
+ABOUT = "Test vectors that are long."
+SOURCE = "tools/generators/long_vectors.py"
 
 MALFORMED = "malformed"
 
@@ -202,7 +201,7 @@ def lengths():
 
 
 def text(title, *makers):
-    parts = [f"# {title} Written by long.py.\n"]
+    parts = [f"# {title}\n"]
     for make in makers:
         for part in make():
             parts.append(f"\n{part}\n" if part.startswith("#") else part)
@@ -211,7 +210,7 @@ def text(title, *makers):
 
 def files():
     return {
-        "levels.txt": text(
+        "conformance/levels.txt": text(
             "Levels: a payload's records stand on level 0, those of a message or a group one level deeper, and level 100 is the last.",
             chains_of_futures,
             groups_of_an_unknown_field,
@@ -220,23 +219,5 @@ def files():
             merged_chains,
             frames_of_chains,
         ),
-        "long.txt": text("Long values, and many of them.", lengths),
+        "conformance/long.txt": text("Long values, and many of them.", lengths),
     }
-
-
-def main():
-    stale = 0
-    for name, lines in files().items():
-        path = FOLDER / name
-        if sys.argv[1:] != ["--check"]:
-            path.write_text(lines, encoding="utf-8")
-        elif not path.exists() or path.read_text(encoding="utf-8") != lines:
-            print(f"failed: conformance/{name} is not what conformance/long.py writes")
-            stale += 1
-    if sys.argv[1:] == ["--check"]:
-        print(f"{len(files()) - stale} passed, {stale} failed")
-    return 1 if stale else 0
-
-
-if __name__ == "__main__":
-    sys.exit(main())

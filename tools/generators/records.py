@@ -1,19 +1,16 @@
-"""Writes the records of proto/journal.proto as Rattle source, as prost-build does for Rust: scripts/records.py [--check] [CRATE..]
+"""The records of proto/journal.proto as Rattle source, as prost-build writes them for Rust.
 
-One file a message, in the crates below, laid out as `rt fmt` does; a file whose text stays is not touched. With --check nothing is
-written; the status is 1 where a file is not up to date. Future alone is written by hand, since it leads back to itself and so has a
-form of its own. How commands are compared is written by scripts/commands.py, for the crate shared_core_compare.
+One file a message, in the crates below, laid out as `rt fmt` does. Future alone is written by hand, since it leads back to itself and so has a
+form of its own.
 """
-import pathlib
-import subprocess
-import sys
-import tempfile
+import shutil
 import textwrap
 
-import commands
-from journal import OneOf, camel, messages, snake
+from . import laid_out
+from .proto import OneOf, camel, messages, snake
 
-ROOT = pathlib.Path(__file__).resolve().parent.parent / "crates"
+ABOUT = "The records of the messages in Rattle."
+SOURCE = "proto/journal.proto"
 
 # The crate of the messages that stand in others, which are no messages of a type. Its lib.rt is written by hand.
 PARTS_CRATE = "shared_core_parts"
@@ -503,12 +500,12 @@ def shared_oneofs(crate, table):
     return found
 
 
-def write_crate(crate, folder):
-    """Writes the files of a crate into a folder, not yet laid out."""
+def crate_files(crate):
+    """The files of a crate by their paths, not yet laid out."""
     about, names = CRATES[crate]
     table = {message.name: message for message in messages()}
-    folder = folder / "src"
-    folder.mkdir(parents=True)
+    folder = f"crates/{crate}/src"
+    files = {}
     homes = {}
     modules = []
     for module, enum, text, oneof, users in shared_oneofs(crate, table):
@@ -516,7 +513,7 @@ def write_crate(crate, folder):
             homes.setdefault(user, {})[field] = (module, enum)
         source = Source(crate, text)
         write_oneof(source, module, enum, oneof, text)
-        (folder / f"{module}.rt").write_text(source.text().rstrip("\n") + "\n")
+        files[f"{folder}/{module}.rt"] = source.text().rstrip("\n") + "\n"
         modules.append(module)
     for name in names:
         message = table[name]
@@ -539,56 +536,29 @@ def write_crate(crate, folder):
         if shows:
             head, rest = text.split("\n\nuse ", 1)
             text = f"{head}\n\n{shows}\nuse {rest}"
-        (folder / f"{module}.rt").write_text(text)
+        files[f"{folder}/{module}.rt"] = text
         modules.append(module)
     if crate == PARTS_CRATE:
-        return
+        return files
     modules += BY_HAND.get(crate, [])
     lib = f"//! {about}\n#![tactic(auto)]\n\n" + "".join(f"pub mod {module};\n" for module in sorted(modules))
     lib += "\n" + "".join(f"pub use crate::{snake(name)}::{name};\n" for name in sorted(names, key=snake))
-    (folder / "lib.rt").write_text(lib)
+    files[f"{folder}/lib.rt"] = lib
+    return files
 
 
-def lay_out(files):
-    """Gives files the layout of `rt fmt`. That formats a whole crate, so the program behind it is called; it lies in the folder of `rt doc`."""
-    try:
-        page = subprocess.run(["rt", "doc"], check=True, capture_output=True, text=True).stdout.strip()
-    except FileNotFoundError:
-        sys.exit("records.py: there is no rt, which lays the files out")
-    subprocess.run([pathlib.Path(page).parent / "bin" / "rattle", "fmt", "--write", *files], check=True)
+def texts():
+    """The files of all crates, not yet laid out."""
+    return {path: text for crate in CRATES for path, text in crate_files(crate).items()}
 
 
-def main():
-    words = sys.argv[1:]
-    check = "--check" in words
-    known = [*CRATES, commands.CRATE]
-    crates = [word for word in words if word != "--check"] or known
-    if unknown := [crate for crate in crates if crate not in known]:
-        sys.exit(f"records.py: no crate of written records: {' '.join(unknown)}")
-    stale = []
-    with tempfile.TemporaryDirectory() as work:
-        for crate in crates:
-            folder = pathlib.Path(work) / crate
-            if crate == commands.CRATE:
-                compared = {name: CRATES[name][1] for name in COMMAND_CRATES}
-                table = {message.name: message for message in messages()}
-                commands.write_crate(folder, compared, table, schema_name, shared_oneofs)
-            else:
-                write_crate(crate, folder)
-        files = sorted(file for file in pathlib.Path(work).rglob("*") if file.suffix in (".rt", ".antt"))
-        lay_out(files)
-        for file in files:
-            target = ROOT / file.relative_to(work)
-            text = file.read_text()
-            if not target.exists() or target.read_text() != text:
-                stale.append(target.relative_to(ROOT.parent))
-                if not check:
-                    target.parent.mkdir(parents=True, exist_ok=True)
-                    target.write_text(text)
-    for path in stale:
-        print(f"failed: {path} is not what scripts/records.py writes" if check else f"wrote {path}")
-    return 1 if check and stale else 0
+def missing():
+    return None if shutil.which("rt") else "there is no rt, which lays the files out"
 
 
-if __name__ == "__main__":
-    sys.exit(main())
+def paths():
+    return list(texts())
+
+
+def files():
+    return laid_out(texts())

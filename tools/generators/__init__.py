@@ -1,0 +1,33 @@
+"""What the generators share.
+
+A generator is a module of this package with a line on what it makes (ABOUT), where that comes from (SOURCE), and two functions:
+missing(), which says what has to be there and is not, or None, and files(), the text or the bytes of each file by its path from the
+root, without the first line that says who made it. What cannot be known of the paths without the tools is said by paths().
+"""
+import pathlib
+import subprocess
+import tempfile
+
+ROOT = pathlib.Path(__file__).resolve().parents[2]
+
+
+def missing():
+    """Nothing has to be there but Python."""
+    return None
+
+
+def rattle():
+    """The program that lays files out. `rt fmt` formats a whole crate; what it calls lies in the folder of `rt doc`."""
+    page = subprocess.run(["rt", "doc"], check=True, capture_output=True, text=True).stdout.strip()
+    return pathlib.Path(page).parent / "bin" / "rattle"
+
+
+def laid_out(texts):
+    """Files in the layout of `rt fmt`, by their paths."""
+    with tempfile.TemporaryDirectory() as work:
+        for path, text in texts.items():
+            place = pathlib.Path(work) / path
+            place.parent.mkdir(parents=True, exist_ok=True)
+            place.write_text(text)
+        subprocess.run([rattle(), "fmt", "--write", *(pathlib.Path(work) / path for path in texts)], check=True)
+        return {path: (pathlib.Path(work) / path).read_text() for path in texts}

@@ -1,0 +1,38 @@
+"""The stored run of journal_dump and the JSON of each message, with protobuf's own printer as the judge: protobuf_dumps.py makes them, in a
+Python that has protobuf."""
+import pathlib
+import shutil
+import subprocess
+import sys
+import tempfile
+
+from . import ROOT
+
+ABOUT = "The stored run of journal_dump, and the JSON of each message."
+SOURCE = "conformance/records.txt, by protobuf"
+
+MAKER = pathlib.Path(__file__).with_name("protobuf_dumps.py")
+
+
+def interpreter():
+    """A Python that has protobuf, or None: this one, or the one of the distribution."""
+    for python in (sys.executable, "/usr/bin/python3"):
+        if shutil.which(python) and subprocess.run([python, "-c", "import google.protobuf"], capture_output=True).returncode == 0:
+            return python
+    return None
+
+
+def missing():
+    if not shutil.which("protoc"):
+        return "there is no protoc"
+    return None if interpreter() else "there is no protobuf for Python (python3-protobuf)"
+
+
+def paths():
+    return ["crates/journal_dump/stdin", "crates/journal_dump/stdout", "conformance/json/records.txt"]
+
+
+def files():
+    with tempfile.TemporaryDirectory() as work:
+        subprocess.run([interpreter(), "-B", MAKER, "--write", work], check=True)
+        return {path: (pathlib.Path(work) / path).read_bytes() for path in paths()}

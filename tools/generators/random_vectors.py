@@ -1,0 +1,33 @@
+"""Random cases with the answers of prost and of the rules, conformance/random_*.txt, which a program of bench/ writes."""
+import pathlib
+import subprocess
+import tempfile
+
+from . import ROOT
+
+ABOUT = "Test vectors at random, by prost."
+SOURCE = "bench/src/cases.rs, by prost"
+
+BENCH = ROOT / "bench"
+PROGRAM = BENCH / "target" / "release" / "vectors"
+
+
+def missing(is_named):
+    """It takes a minute to build the program, so it has to be named, or built already."""
+    if not is_named and not PROGRAM.exists():
+        return f"{PROGRAM.relative_to(ROOT)} is not built; 'generate.py random_vectors' builds it"
+    ready = subprocess.run(["sh", "install.sh", "--no-install"], cwd=BENCH, capture_output=True, text=True)
+    if ready.returncode != 0:
+        return ready.stdout.strip().removeprefix("not run: ")
+    return None
+
+
+def paths():
+    return [str(file.relative_to(ROOT)) for file in (ROOT / "conformance").glob("random_*.txt")]
+
+
+def files():
+    subprocess.run(["cargo", "build", "--quiet", "--release", "--bin", "vectors"], cwd=BENCH, check=True)
+    with tempfile.TemporaryDirectory() as work:
+        subprocess.run([PROGRAM, "--write", work], check=True, stderr=subprocess.DEVNULL)
+        return {f"conformance/{file.name}": file.read_bytes() for file in pathlib.Path(work).iterdir()}
