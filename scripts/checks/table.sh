@@ -394,4 +394,9 @@ same "the calls and the list of tests/c/hostile_calls.c" "$work/values" "$work/l
 awk -F'|' '/^## / { inside = /^## journal_ffi:/ } inside && /^\| / { print $(NF - 1) }' docs/PROOFS.md | grep -o '`journal_[a-z_]*`' | tr -d '`' | grep -v '^journal_calls$' | sort -u > "$work/lines"
 same "the calls and the promises of docs/PROOFS.md" "$work/values" "$work/lines"
 
+# Each crate has a sentence in crates/README.md, in the order of crates.txt.
+sed -n 's/^\([a-z_]*\)[a-z ]*:.*/\1/p' crates.txt > "$work/values"
+sed -n 's/^| `\([a-z_]*\)` |.*/\1/p' crates/README.md > "$work/lines"
+same "crates.txt and crates/README.md" "$work/values" "$work/lines"
+
 finish

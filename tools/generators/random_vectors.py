@@ -12,10 +12,16 @@ BENCH = ROOT / "bench"
 PROGRAM = BENCH / "target" / "release" / "vectors"
 
 
+def is_built():
+    """Whether the program stands, and no source is newer."""
+    sources = [BENCH / "Cargo.toml", *(BENCH / "src").rglob("*.rs")]
+    return PROGRAM.exists() and all(file.stat().st_mtime <= PROGRAM.stat().st_mtime for file in sources)
+
+
 def missing(is_named):
     """It takes a minute to build the program, so it has to be named, or built already."""
-    if not is_named and not PROGRAM.exists():
-        return f"{PROGRAM.relative_to(ROOT)} is not built; 'generate.py random_vectors' builds it"
+    if not is_named and not is_built():
+        return f"{PROGRAM.relative_to(ROOT)} is not built, or older than a source; 'generate.py random_vectors' builds it"
     ready = subprocess.run(["sh", "install.sh", "--no-install"], cwd=BENCH, capture_output=True, text=True)
     if ready.returncode != 0:
         return ready.stdout.strip().removeprefix("not run: ")

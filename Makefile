@@ -1,0 +1,32 @@
+# A front for the scripts, which say more with --help: no rule of it does anything else.
+.PHONY: help quick test check generate install uninstall bench
+
+help:
+	@echo 'make quick                  what can be known in two minutes, without a proof (sh scripts/test.sh --quick)'
+	@echo 'make test                   the gate: every proof, test and check, more than an hour (sh scripts/test.sh)'
+	@echo 'make check [NAME=dump]      lists the checks, or runs those that are named, or all (sh scripts/check.sh)'
+	@echo 'make generate [NAME=..]     makes the files that are not written by hand (python3 tools/generate.py)'
+	@echo 'make install PREFIX=..      puts the library for C below a folder (sh scripts/install.sh)'
+	@echo 'make uninstall PREFIX=..    takes it away again'
+	@echo 'make bench [NAME=speed]     lists what is measured, or measures it (sh scripts/bench.sh)'
+
+quick:
+	sh scripts/test.sh --quick $(NAME)
+
+test:
+	sh scripts/test.sh
+
+check:
+	sh scripts/check.sh $(NAME)
+
+generate:
+	python3 tools/generate.py $(NAME)
+
+install:
+	sh scripts/install.sh '$(PREFIX)'
+
+uninstall:
+	sh scripts/install.sh --uninstall '$(PREFIX)'
+
+bench:
+	sh scripts/bench.sh $(NAME)
