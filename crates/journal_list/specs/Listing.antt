@@ -39,3 +39,9 @@ printed_of (Err OutOfMemory) = Err print_error.OutOfMemory
 -- What was written of the bytes that were read is the lines of their items, as far as the result says; no item is too long for its line.
 abbrev pub IsListed : Version → Result (Unit {0}) ListError → List ℕ → List ℕ → Option (List ℕ) → Type 0
 IsListed version result read written left = ArePrinted (λ at. line_of) (λ at. rest_line) (λ item. ⊥) version (printed_of result) read written left
+
+-- The text of an error.
+abbrev pub error_text : ListError → List ℕ
+error_text Input = codes "input failed"
+error_text Output = codes "output failed"
+error_text OutOfMemory = codes "out of memory"

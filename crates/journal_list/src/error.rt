@@ -1,5 +1,8 @@
 //! Why a listing ended before its last line.
 
+use std::error::Error;
+use std::fmt;
+
 /// Why a listing ended before its last line.
 #[derive(Clone, Copy, Debug, PartialEq, Eq, Drop)]
 pub enum ListError {
@@ -10,3 +13,20 @@ pub enum ListError {
     /// There is no memory for a piece, a payload or a line.
     OutOfMemory,
 }
+
+impl fmt::Display for ListError {
+    ghost use Rattle.std.specs.Prelude.{Some};
+    ghost use Rattle.journal_list.specs.Listing.{error_text};
+
+    ghost output = { λ error. Some (error_text error) };
+
+    fn fmt<W: fmt::Write>(&self, f: &mut fmt::Formatter<W>) -> fmt::Result {
+        f.write_str(match self {
+            ListError::Input => "input failed",
+            ListError::Output => "output failed",
+            ListError::OutOfMemory => "out of memory",
+        })
+    }
+}
+
+impl Error for ListError {}
