@@ -6,6 +6,10 @@ use Rattle.shared_core_base.specs.CommandType.{message_type_text}
 use Rattle.shared_core_base.specs.MessageType.{debug_name_of, unknown_type_text}
 use Rattle.shared_core_errors.specs.Mismatch.{mismatch_head, command_type_mismatch_text}
 use Rattle.shared_core.specs.declared.encoding.error.DecodingError.{DecodingError}
+use Rattle.shared_core.specs.declared.encoding.error.PiecesError.{PiecesError}
+use Rattle.shared_core.specs.declared.encoding.error.PiecesError.TheVariants as pieces
+use Rattle.shared_core.specs.declared.encoding.error.PushError.{PushError}
+use Rattle.shared_core.specs.declared.encoding.error.PushError.TheVariants as push
 use Rattle.shared_core.specs.declared.encoding.error.DecodingError.TheVariants.{DecodeMessage, UnexpectedMessageType, MissingField, UnknownMessageType, SkippedMessage, OutOfMemory}
 
 -- The text of a mismatch of two commands of a type at a command index, with their difference.
@@ -37,3 +41,13 @@ decoding_error_code (MissingField expected field) = 500
 decoding_error_code (UnknownMessageType unknown) = 500
 decoding_error_code (SkippedMessage code payload) = 500
 decoding_error_code OutOfMemory = 500
+
+-- The text of a piece that was not taken.
+abbrev pub push_error_text : PushError → List ℕ
+push_error_text (push.OutOfMemory back) = codes "out of memory"
+push_error_text (push.TooLong back) = codes "more than 2^64 - 1 bytes are pending"
+
+-- The text of a list of pieces that was not decoded.
+abbrev pub pieces_error_text : PiecesError → List ℕ
+pieces_error_text pieces.TooLong = codes "the pieces have more than 2^64 - 1 bytes"
+pieces_error_text pieces.OutOfMemory = codes "out of memory"

@@ -77,6 +77,10 @@ abbrev pub HasPayload : Item → Type 0
 HasPayload (Unknown code) = ⊥
 HasPayload item = Unit {0}
 
+-- A whole item with a payload is next.
+abbrev pub PayloadIsNext : Version → List ℕ → Type 0
+PayloadIsNext version bytes = (item : Item) × (rest : List ℕ) × TakesItem version bytes item rest × HasPayload item
+
 -- What an answer says of the bytes before the call, and what it leaves of them: the next message, taken; no item, where none is
 -- whole; an unknown code, whose eight bytes are taken; a skipped message, taken; or want of memory where a whole message or a skipped
 -- one is next, and all bytes are left.
@@ -85,8 +89,7 @@ AnswersNext version old (Ok (Some message)) new = TakesItem version old (Message
 AnswersNext version old (Ok None) new = NoItemBegins version old × (new ≡ old)
 AnswersNext version old (Err (UnknownMessageType unknown)) new = TakesItem version old (Unknown unknown.0) new
 AnswersNext version old (Err (SkippedMessage code payload)) new = TakesItem version old (Skipped code payload) new
-AnswersNext version old (Err OutOfMemory) new =
-    (new ≡ old) × (item : Item) × (rest : List ℕ) × TakesItem version old item rest × HasPayload item
+AnswersNext version old (Err OutOfMemory) new = (new ≡ old) × PayloadIsNext version old
 AnswersNext version old (Err other) new = ⊥
 
 -- Every answer but that no item is whole and that memory is wanting leaves at least eight bytes fewer.

@@ -84,7 +84,7 @@ fn take_payload(
 impl Decoder {
     ghost use Rattle.std.specs.Prelude.{◌≡◌, ◌+◌, ◌≤◌, ◌++◌, [], length, OnOk, OnErr, IfOk, IfErr, IsOk, MatchOption, None, Ok};
     ghost use Rattle.shared_core_base.specs.Version.{version_number};
-    ghost use Rattle.shared_core.specs.Items.{AnswersNext, NoItemBegins, RefusesPiece, TakesEight, TakesItem};
+    ghost use Rattle.shared_core.specs.Items.{AnswersNext, NoItemBegins, PayloadIsNext, RefusesPiece, TakesEight, TakesItem};
 
     /// A decoder of this version, which is at least V5, before any byte has come. It takes no memory.
     pub fn new(alloc: Global, version: Version) -> Decoder
@@ -176,13 +176,14 @@ impl Decoder {
     }
 
     /// The next item, of any kind, or `None` exactly where no whole one remains: what `consume_next` answers, for a caller
-    /// to whom an unknown header or a skipped message is an item like any other. Want of memory takes nothing.
+    /// to whom an unknown header or a skipped message is an item like any other. Want of memory takes nothing, and comes only
+    /// where a whole payload is to be taken.
     pub fn next_item(&mut self) -> Result<Option<Item>, AllocError>
         ensures taken { IfOk result (λ found. MatchOption found
             (NoItemBegins self.old.version self.old.bytes × (self.new.bytes ≡ self.old.bytes)
             × (length self.new.bytes ≤ 4294967302))
             (λ item. TakesItem self.old.version self.old.bytes item self.new.bytes)) }
-        ensures refused { OnErr result (self.new.bytes ≡ self.old.bytes) }
+        ensures refused { OnErr result ((self.new.bytes ≡ self.old.bytes) × PayloadIsNext self.old.version self.old.bytes) }
         ensures shorter { IfOk result (λ found. IfSome found (λ item. length self.new.bytes + 8 ≤ length self.old.bytes)) }
         ensures version { self.new.version ≡ self.old.version }
     {

@@ -104,26 +104,56 @@ impl fmt::Display for DecodingError {
 impl Error for DecodingError {}
 
 /// Why a piece was not taken. The piece comes back.
-#[derive(Debug, Drop, thiserror::Error)]
+#[derive(Debug, Drop)]
 pub enum PushError {
     /// There is no memory for one more segment.
-    #[error("out of memory")]
     OutOfMemory(Bytes),
     /// The pending bytes would be more than 2^64 - 1.
-    #[error("more than 2^64 - 1 bytes are pending")]
     TooLong(Bytes),
 }
 
+/// Says which of the two it is.
+impl fmt::Display for PushError {
+    ghost use Rattle.std.specs.Prelude.{Some};
+    ghost use Rattle.shared_core.specs.Errors.{push_error_text};
+
+    ghost output = { λ error. Some (push_error_text error) };
+
+    fn fmt<W: fmt::Write>(&self, f: &mut fmt::Formatter<W>) -> fmt::Result {
+        match self {
+            PushError::OutOfMemory(_) => f.write_str("out of memory"),
+            PushError::TooLong(_) => f.write_str("more than 2^64 - 1 bytes are pending"),
+        }
+    }
+}
+
+impl Error for PushError {}
+
 /// Why a list of pieces was not decoded.
-#[derive(Debug, Drop, thiserror::Error)]
+#[derive(Debug, Drop)]
 pub enum PiecesError {
     /// The joined pieces are more than 2^64 - 1 bytes.
-    #[error("the pieces have more than 2^64 - 1 bytes")]
     TooLong,
     /// There is no memory for the list of items, a segment or a payload.
-    #[error("out of memory")]
     OutOfMemory,
 }
+
+/// Says which of the two it is.
+impl fmt::Display for PiecesError {
+    ghost use Rattle.std.specs.Prelude.{Some};
+    ghost use Rattle.shared_core.specs.Errors.{pieces_error_text};
+
+    ghost output = { λ error. Some (pieces_error_text error) };
+
+    fn fmt<W: fmt::Write>(&self, f: &mut fmt::Formatter<W>) -> fmt::Result {
+        match self {
+            PiecesError::TooLong => f.write_str("the pieces have more than 2^64 - 1 bytes"),
+            PiecesError::OutOfMemory => f.write_str("out of memory"),
+        }
+    }
+}
+
+impl Error for PiecesError {}
 
 impl From<AllocError> for PiecesError {
     ghost use Rattle.std.specs.Prelude.{◌≡◌};

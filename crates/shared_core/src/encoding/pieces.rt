@@ -1,5 +1,5 @@
 //! The items of a whole stream.
-ghost use Rattle.std.specs.Prelude.{◌≡◌, ◌+◌, ◌++◌, ◌^◌, ◌≤◌, List, ℕ, length, IfOk, OnOk, IsErrOf};
+ghost use Rattle.std.specs.Prelude.{◌≡◌, ◌+◌, ◌++◌, ◌^◌, ◌≤◌, List, [], ℕ, length, IfOk, IsOk, OnOk, IsErrOf};
 ghost use Rattle.std.specs.List.{concat};
 ghost use Rattle.shared_core_base.specs.Version.{version_number};
 ghost use Rattle.shared_core.specs.Items.{NoItemBegins, IsItemsThen, SplitsInto, BeginsWithWritten};
@@ -13,7 +13,8 @@ use std::alloc::Global;
 /// stream is cut, the list is the items of the joined pieces, and the decoder holds the rest, which no item begins.
 ///
 /// Whatever items were written at the front of the stream, the list begins with them. The version is at least V5.
-/// `TooLong` comes only where the joined pieces are more than 2^64 - 1 bytes. The pieces are shared and not copied.
+/// `TooLong` comes only where the joined pieces are more than 2^64 - 1 bytes. A list of no pieces takes no memory. The
+/// pieces are shared and not copied.
 pub fn decode_pieces(
     alloc: Global,
     version: Version,
@@ -24,6 +25,7 @@ pub fn decode_pieces(
     ensures written { IfOk result (λ answer. BeginsWithWritten version (concat pieces.now) answer.0.items) }
     ensures version { IfOk result (λ answer. answer.1.version ≡ version) }
     ensures too_long { IsErrOf result PiecesError.TooLong → 2 ^ 64 ≤ length (concat pieces.now) }
+    ensures none { pieces.now ≡ [] → IsOk result }
 {
     let mut decoder = Decoder::new(alloc, version);
     let mut items = Vec::new(alloc);

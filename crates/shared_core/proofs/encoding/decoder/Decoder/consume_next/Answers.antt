@@ -16,11 +16,13 @@ returns-in_default-take_payload-clause-next c =
     let skips : skips_unknown c.args.self.now.version ≡ true = ap (λ (u : Unread). skips_unknown u.version) (sym c.self.view_is) ∙ sym c.skips_unknown.ensures ∙ c.if-not-skips_unknown.false in
     let refused = c.in_default-take_payload.ensures.refused in (
       rw (refused.1, refused.2) (c.hold_head.ensures.same ∙ ap (λ u. u.bytes) c.self.view_is),
-      _,
-      _,
-      takes_announced _ _ _ _ _ c.in-Some.ensures.held.1 (sym (ap (λ u. u.bytes) c.self.view_is) ∙ c.in-Some.ensures.held.2) c.from_be_bytes-word.ensures
-          _ _ _ _ (announces_skipped _ _ _ _ c.in-Err.ensures.0 c.in-Err.ensures.1 skips (and_mask c.from_be_bytes-word.result 32)) refused.0 refl refl,
-      tt,
+      (
+        _,
+        _,
+        takes_announced _ _ _ _ _ c.in-Some.ensures.held.1 (sym (ap (λ u. u.bytes) c.self.view_is) ∙ c.in-Some.ensures.held.2) c.from_be_bytes-word.ensures
+            _ _ _ _ (announces_skipped _ _ _ _ c.in-Err.ensures.0 c.in-Err.ensures.1 skips (and_mask c.from_be_bytes-word.result 32)) refused.0 refl refl,
+        tt,
+      ),
     )
 
 pub returns-in_default-skipped-clause-next : goal.returns-in_default-skipped-clause-next
@@ -43,11 +45,13 @@ pub returns-in_default-take_payload-2-clause-next : goal.returns-in_default-take
 returns-in_default-take_payload-2-clause-next c =
     let refused = c.in_default-take_payload-2.ensures.refused in (
       rw (refused.1, refused.2) (c.hold_head.ensures.same ∙ ap (λ u. u.bytes) c.self.view_is),
-      _,
-      _,
-      takes_announced _ _ _ _ _ c.in-Some.ensures.held.1 (sym (ap (λ u. u.bytes) c.self.view_is) ∙ c.in-Some.ensures.held.2) c.from_be_bytes-word.ensures
-          _ _ _ _ (announces_message _ _ _ _ c.in-Ok.ensures c.message_length-length.ensures) refused.0 refl refl,
-      tt,
+      (
+        _,
+        _,
+        takes_announced _ _ _ _ _ c.in-Some.ensures.held.1 (sym (ap (λ u. u.bytes) c.self.view_is) ∙ c.in-Some.ensures.held.2) c.from_be_bytes-word.ensures
+            _ _ _ _ (announces_message _ _ _ _ c.in-Ok.ensures c.message_length-length.ensures) refused.0 refl refl,
+        tt,
+      ),
     )
 
 pub returns-in_default-taken-clause-next : goal.returns-in_default-taken-clause-next
