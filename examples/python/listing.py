@@ -1,9 +1,10 @@
 """Lists the stream that comes on the standard input as examples/c/listing.c does: listing.py [VERSION]"""
 
+import os
 import sys
-from typing import List, Optional
+from typing import Iterator, List, Optional
 
-from pendratsoa import Malformed, Message, OutOfMemory, Stream, UnknownCode, Item
+from pendratsoa import Item, Malformed, Message, Stream, UnknownCode
 
 PIECE = 4096
 CALLS = ("CallCommand", "OneWayCallCommand")
@@ -33,23 +34,40 @@ def line(item: Item) -> str:
     return " ".join(words)
 
 
+class InputFailed(Exception):
+    """The standard input cannot be read."""
+
+
+def pieces() -> Iterator[bytes]:
+    """The standard input, piece by piece."""
+    try:
+        with open(0, "rb", closefd=False) as stdin:
+            yield from iter(lambda: stdin.read(PIECE), b"")
+    except OSError as error:
+        raise InputFailed from error
+
+
 def main(words: List[str]) -> Optional[str]:
+    """Lists the stream, and answers what fails, if anything does."""
     if words not in ([], *([str(version)] for version in range(5, 10))):
         print("usage: listing.py [5..9]", file=sys.stderr)
         sys.exit(2)
     stream = Stream(int(words[0]) if words else 8)
     try:
-        while True:
-            piece = sys.stdin.buffer.read(PIECE)
-            if not piece:
-                break
+        for piece in pieces():
             stream.feed(piece)
             for item in stream:
                 print(line(item))
         print(f"rest {stream.rest}")
         sys.stdout.flush()
-    except OutOfMemory:
+    except MemoryError:
         return "listing.py: out of memory"
+    except InputFailed:
+        return "listing.py: input failed"
+    except OSError:
+        # what Python still holds would fail once more where it ends
+        os.dup2(os.open(os.devnull, os.O_WRONLY), sys.stdout.fileno())
+        return "listing.py: output failed"
     return None
 
 

@@ -6,8 +6,9 @@
         if isinstance(item, Message):
             print(item.type, item.json())
 
-What a call refuses is an exception below `JournalError`. The library is the file that PENDRATSOA_LIBRARY names, or else what the system
-finds as libpendratsoa.so.0. Functions may be called from any thread, a `Stream` from one at a time.
+What a call refuses is an exception below `JournalError`. The library is the file that PENDRATSOA_LIBRARY names, or
+else what the system finds as libpendratsoa.so.0. Functions may be called from any thread, a `Stream` from one at a
+time.
 """
 
 from __future__ import annotations
@@ -99,8 +100,8 @@ class VerdictKind(IntEnum):
 
 
 class Notification(NamedTuple):
-    """The id and the result of a notification. The result is the canonical payload of a Value, a Failure or StateKeys, or the text of an
-    invocation id."""
+    """The id and the result of a notification. The result is the canonical payload of a Value, a Failure or StateKeys,
+    or the text of an invocation id."""
 
     id_kind: IdKind
     id: Union[int, str]
@@ -109,7 +110,8 @@ class Notification(NamedTuple):
 
 
 class Verdict(NamedTuple):
-    """How two journals compare: the index of the command at which they part, or how many they have, and the text of a mismatch."""
+    """How two journals compare: the index of the command at which they part, or how many they have, and the text of a
+    mismatch."""
 
     kind: VerdictKind
     index: int
@@ -170,8 +172,8 @@ Item = Union[Message, UnknownCode, Skipped]
 
 
 class Stream:
-    """A stream of a version from 5 to 9, which comes in pieces of any size. Each loop over it goes on where the one before stopped, and
-    ends where no whole item is left."""
+    """A stream of a version from 5 to 9, which comes in pieces of any size. Each loop over it goes on where the one
+    before stopped, and ends where no whole item is left."""
 
     def __init__(self, version: int = 8) -> None:
         self.version = version
@@ -185,7 +187,8 @@ class Stream:
         if self._begin > len(self._bytes) // 2:
             del self._bytes[: self._begin]
             self._begin = 0
-        self._bytes += memoryview(data)
+        view = memoryview(data)
+        self._bytes += view if view.c_contiguous else view.tobytes()
 
     @property
     def rest(self) -> int:
@@ -238,7 +241,10 @@ def type_code(name: str) -> int:
 
 
 def header(version: int, code: int, payload_length: int) -> bytes:
-    """The eight bytes in front of a payload of a length."""
+    """The eight bytes in front of a payload of a length. `TooLong` past 4,294,967,295 bytes; a length below 0 is a
+    `ValueError`."""
+    if payload_length < 0:
+        raise ValueError("a length is not negative")
     return _written(_library.journal_header, _u32(version), _u16(code), _u32(payload_length, TooLong))
 
 
@@ -274,12 +280,13 @@ def notification(code: int, payload: BytesLike) -> Notification:
     kind, number, name_length, result_kind = numbers
     name, result = found[:name_length], found[name_length:]
     id_kind = IdKind(kind)
-    return Notification(id_kind, name.decode() if id_kind is IdKind.SIGNAL_NAME else number, ResultKind(result_kind), result)
+    id_ = name.decode() if id_kind is IdKind.SIGNAL_NAME else number
+    return Notification(id_kind, id_, ResultKind(result_kind), result)
 
 
 def header_eq(code: int, first: BytesLike, second: BytesLike, ignore_payloads: bool = False) -> bool:
     """Whether two commands of a type are the same for a replay."""
-    return _answer(_library.journal_header_eq(_u16(code), *_slice(first), *_slice(second), ignore_payloads)) == 1
+    return _answer(_library.journal_header_eq(_u16(code), *_slice(first), *_slice(second), bool(ignore_payloads))) == 1
 
 
 def difference(code: int, first: BytesLike, second: BytesLike) -> str:
@@ -290,9 +297,9 @@ def difference(code: int, first: BytesLike, second: BytesLike) -> str:
 def compare_journals(version: int, recorded: BytesLike, replayed: BytesLike, ignore_payloads: bool = False) -> Verdict:
     """Compares a recorded journal with one that is replayed, command by command."""
     numbers = (ctypes.c_uint64 * 2)()
-    text = _written(
-        _library.journal_verdict, _u32(version), *_slice(recorded), *_slice(replayed), ignore_payloads, numbers, len(numbers)
-    )
+    flag = bool(ignore_payloads)
+    journals = (*_slice(recorded), *_slice(replayed))
+    text = _written(_library.journal_verdict, _u32(version), *journals, flag, numbers, len(numbers))
     kind, index = numbers
     return Verdict(VerdictKind(kind), index, text.decode())
 
@@ -349,9 +356,9 @@ def _slice(data: BytesLike) -> Tuple[bytes, int]:
 
 
 def _answer(answer: int) -> int:
-    """An answer that is no refusal."""
+    """An answer that is no refusal. A later library may have refusals of other numbers."""
     if answer < 0:
-        refusal = REFUSALS[answer]
+        refusal = REFUSALS.get(answer, JournalError)
         raise refusal(refusal.__doc__)
     return answer
 

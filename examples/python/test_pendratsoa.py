@@ -1,10 +1,17 @@
 """Tests of the module: python3 -m unittest, in this folder."""
 
+import array
+import contextlib
+import io
 import pathlib
 import re
+import sys
 import threading
+import tracemalloc
 import unittest
+from unittest import mock
 
+import listing
 import pendratsoa
 from pendratsoa import IdKind, Message, Notification, ResultKind, Skipped, Stream, UnknownCode, Verdict, VerdictKind
 
@@ -18,6 +25,8 @@ SET_STATE_COMMAND = 0x0403
 CALL_COMPLETION = 0x800D
 SIGNAL_NOTIFICATION = 0xFBFF
 CUSTOM_ENTRY = 0xFC01
+PROPOSE_RUN_COMPLETION = 0x0005
+SUSPENSION = 0x0001
 CALL_COMMAND_MESSAGE = 33
 
 # an input with the value "input", eight bytes of code 8, and a message of 20 bytes that is not all there
@@ -73,6 +82,41 @@ class TestNames(unittest.TestCase):
         ):
             self.assertRaises(pendratsoa.Unknown, call)
 
+    def test_no_number_wraps(self):
+        # each is the number of something once 2^16 or 2^32 is added or taken away
+        code, version, schema = CALL_COMMAND - (1 << 16), 8 - (1 << 32), 13 - (1 << 32)
+        for call in (
+            lambda: pendratsoa.type_name(code),
+            lambda: pendratsoa.schema(8, code),
+            lambda: pendratsoa.schema(version, CALL_COMMAND),
+            lambda: pendratsoa.header(8, code, 0),
+            lambda: pendratsoa.header(version, CALL_COMMAND, 0),
+            lambda: pendratsoa.frame(8, code, b""),
+            lambda: pendratsoa.frame(version, CALL_COMMAND, b""),
+            lambda: pendratsoa.notification(CALL_COMPLETION - (1 << 16), bytes.fromhex("08012200")),
+            lambda: pendratsoa.header_eq(code, b"", b""),
+            lambda: pendratsoa.difference(code, b"", b""),
+            lambda: pendratsoa.is_well_formed(schema, b""),
+            lambda: pendratsoa.canonical(schema, b""),
+            lambda: pendratsoa.merge(schema, b"", b""),
+            lambda: pendratsoa.to_json(schema, b""),
+            lambda: pendratsoa.compare_journals(version, b"", b""),
+            lambda: Stream(version),
+        ):
+            self.assertRaises(pendratsoa.Unknown, call)
+
+    def test_lengths_of_a_header(self):
+        self.assertEqual(pendratsoa.header(8, CALL_COMMAND, (1 << 32) - 1), bytes.fromhex("040d0000ffffffff"))
+        self.assertRaises(pendratsoa.TooLong, pendratsoa.header, 8, CALL_COMMAND, 1 << 32)
+        with self.assertRaises(ValueError) as negative:
+            pendratsoa.header(8, CALL_COMMAND, -1)
+        self.assertNotIsInstance(negative.exception, pendratsoa.JournalError)
+
+    def test_a_refusal_of_a_later_library(self):
+        with self.assertRaises(pendratsoa.JournalError) as later:
+            pendratsoa._answer(min(pendratsoa.REFUSALS) - 1)
+        self.assertIs(type(later.exception), pendratsoa.JournalError)
+
 
 class TestStream(unittest.TestCase):
     EXPECTED = [Message(8, 0x0400, INPUT[8:], False), UnknownCode(8, 8)]
@@ -86,6 +130,26 @@ class TestStream(unittest.TestCase):
                 found += stream
             self.assertEqual(found, self.EXPECTED)
             self.assertEqual(stream.rest, 8)
+
+    def test_what_is_used_up_is_let_go_of(self):
+        stream = Stream()
+        tracemalloc.start()
+        found = 0
+        for _ in range(1000):
+            stream.feed(INPUT * 100)
+            found += sum(1 for _ in stream)
+        _, peak = tracemalloc.get_traced_memory()
+        tracemalloc.stop()
+        self.assertEqual((found, stream.rest), (100_000, 0))
+        # 1.7 MB came
+        self.assertLess(peak, 100_000)
+
+    def test_any_view_of_bytes(self):
+        doubled = bytes(byte for byte in STREAM for _ in range(2))
+        for data in (memoryview(b"front" + STREAM + b"end")[5:-3], memoryview(doubled)[::2], array.array("B", STREAM)):
+            stream = Stream()
+            stream.feed(data)
+            self.assertEqual((list(stream), stream.rest), (self.EXPECTED, 8))
 
     def test_version_9_skips_a_message_with_its_payload(self):
         stream = Stream(9)
@@ -109,6 +173,17 @@ class TestStream(unittest.TestCase):
         self.assertEqual((call.json()["serviceName"], call.json()["handlerName"]), ("Greeter", "greet"))
         self.assertEqual(call.frame(), pendratsoa.header(8, CALL_COMMAND, len(call.payload)) + call.payload)
         self.assertEqual(call.canonical(), call.payload)
+
+    def test_a_frame_of_its_own_version_and_of_another(self):
+        proposal = bytes.fromhex("0801720178")
+        for own, other, flags in ((6, 7, "00"), (7, 6, "80"), (9, 5, "80")):
+            message = Message(own, PROPOSE_RUN_COMPLETION, proposal, False)
+            self.assertEqual(message.frame(), bytes.fromhex(f"0005{flags}0000000005") + proposal)
+            flags = "80" if flags == "00" else "00"
+            self.assertEqual(message.frame(other), bytes.fromhex(f"0005{flags}0000000005") + proposal)
+
+    def test_the_schema_of_its_own_version(self):
+        self.assertEqual([Message(version, SUSPENSION, b"", False).schema for version in (6, 7)], [12, 11])
 
     def test_custom_entry(self):
         entry = Message(8, CUSTOM_ENTRY, b"\xff", False)
@@ -138,6 +213,20 @@ class TestPayloads(unittest.TestCase):
         self.assertEqual(pendratsoa.canonical(13, payload), payload)
         self.assertEqual(pendratsoa.to_json(13, bytearray(payload)), '{"message":"' + text.decode() + '"}')
 
+    def test_any_view_of_bytes(self):
+        payload = bytes.fromhex("08010a0202030804")
+        doubled = bytes(byte for byte in payload for _ in range(2))
+        for data in (
+            bytearray(payload),
+            memoryview(b"front" + payload + b"end")[5:-3],
+            memoryview(doubled)[::2],
+            memoryview(payload[::-1])[::-1],
+            memoryview(payload).cast("B", (2, 4)),
+            array.array("I", [int.from_bytes(payload[at : at + 4], sys.byteorder) for at in (0, 4)]),
+        ):
+            self.assertEqual(pendratsoa.canonical(12, data), bytes.fromhex("0a0401020304"))
+            self.assertEqual(pendratsoa.merge(12, b"", data), bytes.fromhex("0a0401020304"))
+
     def test_malformed(self):
         for call in (pendratsoa.canonical, pendratsoa.to_json):
             self.assertRaises(pendratsoa.Malformed, call, 13, b"\x12")
@@ -162,6 +251,32 @@ class TestNotifications(unittest.TestCase):
             Notification(IdKind.SIGNAL_NAME, "a\u00e9", ResultKind.VOID, b""),
         )
 
+    def test_each_id(self):
+        for payload, kind, number in (
+            ("10112200", IdKind.SIGNAL_ID, 17),
+            ("1a002200", IdKind.SIGNAL_NAME, ""),
+            ("1a0473746f702200", IdKind.SIGNAL_NAME, "stop"),
+            ("08002200", IdKind.COMPLETION_ID, 0),
+        ):
+            found = pendratsoa.notification(SIGNAL_NOTIFICATION, bytes.fromhex(payload))
+            self.assertEqual(found, Notification(kind, number, ResultKind.VOID, b""))
+            self.assertIs(type(found.id), type(number))
+
+    def test_each_result(self):
+        for kind, result, expected in (
+            (ResultKind.VOID, "2200", ""),
+            (ResultKind.VALUE, "2a030a0178", "0a0178"),
+            (ResultKind.FAILURE, "3203088500", "0805"),
+            (ResultKind.INVOCATION_ID, "820103696e76", "696e76"),
+            (ResultKind.STATE_KEYS, "8a01030a0161", "0a0161"),
+        ):
+            for name in ("", "73746f70"):
+                payload = bytes.fromhex(f"1a{len(name) // 2:02x}{name}{result}")
+                self.assertEqual(
+                    pendratsoa.notification(SIGNAL_NOTIFICATION, payload),
+                    Notification(IdKind.SIGNAL_NAME, bytes.fromhex(name).decode(), kind, bytes.fromhex(expected)),
+                )
+
     def test_without_id_or_result(self):
         self.assertRaises(pendratsoa.NoId, pendratsoa.notification, SIGNAL_NOTIFICATION, b"\x22\x00")
         self.assertRaises(pendratsoa.NoResult, pendratsoa.notification, SIGNAL_NOTIFICATION, b"\x10\x11")
@@ -175,6 +290,7 @@ class TestComparisons(unittest.TestCase):
         self.assertTrue(pendratsoa.header_eq(SET_STATE_COMMAND, self.FIRST, self.FIRST))
         self.assertFalse(pendratsoa.header_eq(SET_STATE_COMMAND, self.FIRST, self.SECOND))
         self.assertTrue(pendratsoa.header_eq(SET_STATE_COMMAND, self.FIRST, self.SECOND, ignore_payloads=True))
+        self.assertTrue(pendratsoa.header_eq(SET_STATE_COMMAND, self.FIRST, self.SECOND, ignore_payloads=1 << 32))
         self.assertEqual(pendratsoa.difference(SET_STATE_COMMAND, self.FIRST, self.SECOND), "\n   value: '1' != '2'")
         self.assertEqual(pendratsoa.difference(SET_STATE_COMMAND, self.FIRST, self.FIRST), "")
 
@@ -183,6 +299,21 @@ class TestComparisons(unittest.TestCase):
         self.assertEqual((verdict.kind, verdict.index), (VerdictKind.HEADER_MISMATCH, 1))
         self.assertIn("value: '1' != '2'", verdict.text)
         self.assertEqual(pendratsoa.compare_journals(8, RECORDED, REPLAYED, True), Verdict(VerdictKind.SAME, 4, ""))
+
+
+class TestListing(unittest.TestCase):
+    def test_what_fails_is_its_answer(self):
+        written = io.StringIO()
+        with mock.patch.object(listing, "pieces", return_value=[STREAM]), contextlib.redirect_stdout(written):
+            self.assertIsNone(listing.main([]))
+        self.assertEqual(written.getvalue(), "InputCommand 9\nunknown 0x8\nrest 8\n")
+        for error, answer in (
+            (pendratsoa.OutOfMemory(), "listing.py: out of memory"),
+            (MemoryError(), "listing.py: out of memory"),
+            (listing.InputFailed(), "listing.py: input failed"),
+        ):
+            with mock.patch.object(listing, "pieces", side_effect=error):
+                self.assertEqual(listing.main([]), answer)
 
 
 class TestThreads(unittest.TestCase):

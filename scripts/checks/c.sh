@@ -134,6 +134,17 @@ listed 'a recorded journal' examples/recorded 8
 grep -qx 'CallCommand 27 "Greeter" "greet"' "$work/out"
 outcome 'the names of a call' $?
 listed 'an unknown type' examples/unknown_type 9
+# names whose lengths take two and three bytes as varints
+{
+  printf '\004\015\000\000\000\000\116\357\012\310\001'
+  awk 'BEGIN { while (i++ < 200) printf "a" }'
+  printf '\022\240\234\001'
+  awk 'BEGIN { while (i++ < 20000) printf "b" }'
+} > "$work/long"
+listed 'long names' "$work/long" 8
+awk 'BEGIN { while (i++ < 200) a = a "a"; for (i = 0; i < 20000; i++) b = b "b"
+  printf "CallCommand 20207 \"%s\" \"%s\"\nrest 0\n", a, b }' > "$work/wanted"
+same 'the names of a call with long names' "$work/wanted" "$work/out"
 for kind in random mixed skipped; do
   LC_ALL=C awk -v kind=$kind -v size=200000 -v seed=7 -f scripts/checks/write_stream.awk proto/types.txt > "$work/$kind"
   version=8
@@ -144,14 +155,40 @@ printf '\004\015\000\000\000\000\000\002\012\001' > "$work/malformed"
 "$work/static" < "$work/malformed" > "$work/out" 2> "$work/err"
 [ "$(sed 1q "$work/out")" = 'CallCommand 2 malformed' ]
 outcome 'a malformed call' $?
-"$work/static" 10 < examples/replay > "$work/out" 2> "$work/err"
-[ $? -eq 2 ] && [ ! -s "$work/out" ]
-outcome 'a version that is not spoken' $?
-if [ -c /dev/full ]; then
-  "$work/static" < examples/replay > /dev/full 2> "$work/err"
-  [ $? -eq 1 ] && [ "$(cat "$work/err")" = 'listing: output failed' ]
-  outcome 'a full output' $?
-fi
+# fails NAME STATUS LISTING WORDS: how a listing ended that has to fail with this status, and what it says then
+fails() {
+  [ "$status" -eq "$2" ] && [ "$(cat "$work/err")" = "$3: $4" ]
+  outcome "$1: $3" $?
+}
+
+# Both examples have to say that the words are wrong, that the input cannot be read, and that the output is full.
+for listing in listing listing.py; do
+  case $listing in
+    listing) set -- "$work/static" ;;
+    *) [ -n "$python" ] || break; set -- "$python" examples/python/listing.py ;;
+  esac
+  for words in 10 4 '8 8' x; do
+    # shellcheck disable=SC2086 # the words are split
+    "$@" $words < examples/replay > "$work/out" 2> "$work/err"
+    status=$?
+    [ ! -s "$work/out" ] || status=0
+    fails "the words '$words'" 2 usage "$listing [5..9]"
+  done
+  "$@" > "$work/out" 2> "$work/err" <&-
+  status=$?
+  fails 'an input that is closed' 1 "$listing" 'input failed'
+  if [ -c /dev/full ]; then
+    "$@" < examples/replay > /dev/full 2> "$work/err"
+    status=$?
+    fails 'a full output' 1 "$listing" 'output failed'
+  fi
+done
+status=
+# Python itself refuses to start on a folder
+"$work/static" < "$work" > "$work/out" 2> "$work/err"
+status=$?
+fails 'an input that is a folder' 1 listing 'input failed'
+status=
 
 # The module, and the conformance lines by it.
 if [ -n "$python" ]; then
