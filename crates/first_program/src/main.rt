@@ -1,54 +1,75 @@
-//! The program of the README: a command is recorded, and replayed from a stream that comes in pieces.
+//! The program of the README: it reads a stream, changes one command, and writes the stream again.
 #![tactic(auto)]
 
 use anyhow::Result;
 use bytes::Bytes;
-use shared_core::encoding::{Decoder, Encoder};
-use shared_core::errors::CommandMismatchError;
-use shared_core::messages::{CommandMessageHeaderEq, SetStateCommandMessage, Value};
+use shared_core::encoding::{Decoder, Encoder, RawMessage};
+use shared_core::header::MessageType;
+use shared_core::messages::{SetStateCommandMessage, StartMessage, Value};
 use shared_core::version::Version;
 use shared_core::wire::WireRecord;
 use std::alloc::Global;
 
-/// The command that sets the state `count`.
-fn set_count(alloc: Global, count: &'static [u8]) -> SetStateCommandMessage {
-    let mut command = SetStateCommandMessage::empty(alloc);
-    command.key = Bytes::from_static(b"count");
-    command.value = Some(Value {
-        content: Bytes::from_static(count),
-    });
-    command
+/// A value of these bytes.
+fn value(content: &'static [u8]) -> Option<Value> {
+    Some(Value {
+        content: Bytes::from_static(content),
+    })
 }
 
-/// Compares each recorded command with the one that the code makes now.
-fn replay(rt: &HostRuntime, decoder: &mut Decoder) -> Result<()> {
-    let alloc = rt.alloc();
-    for index in 0..i64::MAX {
-        let Some(message) = decoder.consume_next()? else {
-            break;
-        };
-        // where the message is of another type, the error says this index
-        let recorded: SetStateCommandMessage = message.decode_to(alloc, index)?;
-        let now = set_count(alloc, b"2");
-        if recorded.header_eq(&now, false) {
-            println!(rt; "command {index} is the same")?;
-        } else {
-            let mismatch = CommandMismatchError::new(index, recorded, now);
-            println!(rt; "{mismatch}")?;
-        }
+/// A stream of two messages: the start, and a command that sets the state `count` to 1.
+fn recorded(alloc: Global) -> Result<Vec<u8>> {
+    let encoder = Encoder::new(Version::V8);
+    let mut command = SetStateCommandMessage::empty(alloc);
+    command.key = Bytes::from_static(b"count");
+    command.value = value(b"1");
+    let mut stream = Vec::new(alloc);
+    encoder.encode_into(&StartMessage::empty(alloc), &mut stream)?;
+    encoder.encode_into(&command, &mut stream)?;
+    Ok(stream)
+}
+
+/// Appends a message to `out`: every other one as it came, the command that sets a state with the value 2.
+fn copy_changed(alloc: Global, message: &RawMessage, index: i64, out: &mut Vec<u8>) -> Result<()> {
+    if message.ty() != MessageType::SetStateCommand {
+        out.extend_from_slice(&u64::from(message.header()).to_be_bytes())?;
+        out.extend_from_slice(message.payload().as_slice())?;
+        return Ok(());
     }
-    println!(rt; "{} bytes are in no message", decoder.pending())?;
+    // where the message were of another type, the error would say this index
+    let mut command: SetStateCommandMessage = message.decode_to(alloc, index)?;
+    command.value = value(b"2");
+    Encoder::new(Version::V8).encode_into(&command, out)?;
     Ok(())
+}
+
+/// Reads a stream and writes it again, with each state set to 2.
+fn change(rt: &HostRuntime, decoder: &mut Decoder) -> Result<Vec<u8>> {
+    let mut changed = Vec::new(rt.alloc());
+    let mut index: i64 = 0;
+    while let Some(message) = decoder.consume_next()? {
+        println!(rt; "{}: {} bytes", message.ty(), message.payload().len())?;
+        copy_changed(rt.alloc(), &message, index, &mut changed)?;
+        index = index.wrapping_add(1);
+    }
+    Ok(changed)
 }
 
 fn main(rt: HostRuntime) -> Result<()> {
     let alloc = rt.alloc();
-    let frame = Encoder::new(Version::V8).encode(alloc, &set_count(alloc, b"1"))?;
+    let stream = Bytes::from_vec(recorded(alloc)?)?;
 
-    // the stream may come in any pieces
-    let half = frame.len() / 2;
+    // a stream may come in chunks of any size
+    let half = stream.len() / 2;
     let mut decoder = Decoder::new(alloc, Version::V8);
-    decoder.push(frame.slice(..half)?)?;
-    decoder.push(frame.slice(half..)?)?;
-    replay(&rt, &mut decoder)
+    decoder.push(stream.slice(..half)?)?;
+    decoder.push(stream.slice(half..)?)?;
+
+    let changed = change(&rt, &mut decoder)?;
+    println!(rt;
+        "{} bytes written, {} in no message",
+        changed.len(),
+        decoder.pending()
+    )?;
+    Ok(())
 }
