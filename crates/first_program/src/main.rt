@@ -46,11 +46,12 @@ fn copy_changed(alloc: Global, message: &RawMessage, index: i64, out: &mut Vec<u
 /// Reads a stream and writes it again, with each state set to 2.
 fn change(rt: &HostRuntime, decoder: &mut Decoder) -> Result<Vec<u8>> {
     let mut changed = Vec::new(rt.alloc());
-    let mut index: i64 = 0;
-    while let Some(message) = decoder.consume_next()? {
+    for index in 0..i64::MAX {
+        let Some(message) = decoder.consume_next()? else {
+            break;
+        };
         println!(rt; "{}: {} bytes", message.ty(), message.payload().len())?;
         copy_changed(rt.alloc(), &message, index, &mut changed)?;
-        index = index.wrapping_add(1);
     }
     Ok(changed)
 }
