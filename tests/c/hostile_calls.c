@@ -10,9 +10,12 @@
  * - a refused request for memory is JOURNAL_OUT_OF_MEMORY, and a call without that refusal asks for none;
  * - no memory is held.
  *
+ * Every fourth case is made on purpose, by turns, for a kind of answer of a call: each refusal that it lists but JOURNAL_TOO_LONG, each
+ * kind of item, id with result and verdict, and the rest of what it answers. Of 10,000 calls and more, whatever the seed, each kind has to
+ * have been answered; one that was not is named.
+ *
  * Each thread makes the same calls, COUNT at least, and has to have the same answers. With --heap the slices are blocks of malloc of
- * exactly their length, for valgrind to watch. Of 100,000 calls and more, each has to have answered, and to have been refused in each way
- * that it lists but JOURNAL_TOO_LONG.
+ * exactly their length, for valgrind to watch.
  *
  * It is linked with the static library and --wrap of malloc, realloc and free; scripts/checks/c.sh does so.
  */
@@ -83,29 +86,33 @@ enum call {
 #define NO_ROOM BIT(JOURNAL_NO_ROOM)
 #define TOO_LONG BIT(JOURNAL_TOO_LONG)
 
+/* The most kinds of answers that are no refusals: an id of each kind with a result of each kind. */
+#define KINDS 15
+
 static const struct {
     const char *name;
     int inputs;
     size_t numbers;
     int writes;
     unsigned refusals;
+    int kinds;
 } listed[CALLS] = {
-    [LIBRARY_VERSION] = {"journal_library_version", 0, 0, 1, 0},
-    [SCHEMA] = {"journal_schema", 0, 0, 0, UNKNOWN},
-    [TYPE_NAME] = {"journal_type_name", 0, 0, 1, UNKNOWN},
-    [TYPE_CODE] = {"journal_type_code", 1, 0, 0, UNKNOWN},
-    [NEXT] = {"journal_next", 1, JOURNAL_ITEM_NUMBERS, 0, UNKNOWN | NO_ROOM},
-    [HEADER] = {"journal_header", 0, 0, 1, UNKNOWN},
-    [FRAME] = {"journal_frame", 1, 0, 1, UNKNOWN | MALFORMED | MEMORY | TOO_LONG},
-    [IS_WELL_FORMED] = {"journal_is_well_formed", 1, 0, 0, UNKNOWN | MEMORY},
-    [CANONICAL] = {"journal_canonical", 1, 0, 1, UNKNOWN | MALFORMED | MEMORY | TOO_LONG},
-    [MERGE] = {"journal_merge", 2, 0, 1, UNKNOWN | MALFORMED | MEMORY | TOO_LONG},
-    [JSON] = {"journal_json", 1, 0, 1, UNKNOWN | MALFORMED | MEMORY | TOO_LONG},
+    [LIBRARY_VERSION] = {"journal_library_version", 0, 0, 1, 0, 1},
+    [SCHEMA] = {"journal_schema", 0, 0, 0, UNKNOWN, 1},
+    [TYPE_NAME] = {"journal_type_name", 0, 0, 1, UNKNOWN, 1},
+    [TYPE_CODE] = {"journal_type_code", 1, 0, 0, UNKNOWN, 1},
+    [NEXT] = {"journal_next", 1, JOURNAL_ITEM_NUMBERS, 0, UNKNOWN | NO_ROOM, 4},
+    [HEADER] = {"journal_header", 0, 0, 1, UNKNOWN, 1},
+    [FRAME] = {"journal_frame", 1, 0, 1, UNKNOWN | MALFORMED | MEMORY | TOO_LONG, 1},
+    [IS_WELL_FORMED] = {"journal_is_well_formed", 1, 0, 0, UNKNOWN | MEMORY, 2},
+    [CANONICAL] = {"journal_canonical", 1, 0, 1, UNKNOWN | MALFORMED | MEMORY | TOO_LONG, 1},
+    [MERGE] = {"journal_merge", 2, 0, 1, UNKNOWN | MALFORMED | MEMORY | TOO_LONG, 1},
+    [JSON] = {"journal_json", 1, 0, 1, UNKNOWN | MALFORMED | MEMORY | TOO_LONG, 1},
     [NOTIFICATION] = {"journal_notification", 1, JOURNAL_NOTIFICATION_NUMBERS, 1,
-                      UNKNOWN | MALFORMED | MEMORY | TOO_LONG | NO_ROOM | BIT(JOURNAL_NO_ID) | BIT(JOURNAL_NO_RESULT)},
-    [HEADER_EQ] = {"journal_header_eq", 2, 0, 0, UNKNOWN | MALFORMED | MEMORY},
-    [DIFFERENCE] = {"journal_difference", 2, 0, 1, UNKNOWN | MALFORMED | MEMORY},
-    [VERDICT] = {"journal_verdict", 2, JOURNAL_VERDICT_NUMBERS, 1, UNKNOWN | MEMORY | NO_ROOM},
+                      UNKNOWN | MALFORMED | MEMORY | TOO_LONG | NO_ROOM | BIT(JOURNAL_NO_ID) | BIT(JOURNAL_NO_RESULT), KINDS},
+    [HEADER_EQ] = {"journal_header_eq", 2, 0, 0, UNKNOWN | MALFORMED | MEMORY, 2},
+    [DIFFERENCE] = {"journal_difference", 2, 0, 1, UNKNOWN | MALFORMED | MEMORY, 1},
+    [VERDICT] = {"journal_verdict", 2, JOURNAL_VERDICT_NUMBERS, 1, UNKNOWN | MEMORY | NO_ROOM, 7},
 };
 
 /* Bytes that are made up, before they are handed over. */
@@ -145,7 +152,9 @@ struct work {
     long calls;
     long cases;
     uint64_t digest;
+    long turn;
     long answers[CALLS][REFUSALS];
+    long kinds[CALLS][KINDS];
     uint8_t *regions[PLACES];
     struct slice slices[PLACES];
     uint64_t numbers[JOURNAL_ITEM_NUMBERS];
@@ -440,6 +449,17 @@ static int64_t make(const struct request *r, const struct slice *slices) {
     }
 }
 
+/* Which of its kinds the answer of a call is that is no refusal. */
+static int kind_of(enum call call, int64_t answer, const uint64_t *numbers) {
+    switch (call) {
+    case NEXT: return answer > 0 ? JOURNAL_SKIPPED + 1 : (int)numbers[JOURNAL_ITEM_KIND];
+    case IS_WELL_FORMED: case HEADER_EQ: return (int)answer;
+    case NOTIFICATION: return (int)(5 * numbers[JOURNAL_NOTIFICATION_ID] + numbers[JOURNAL_NOTIFICATION_RESULT]);
+    case VERDICT: return (int)numbers[JOURNAL_VERDICT_KIND];
+    default: return 0;
+    }
+}
+
 /* Makes a call with so much room, looks at all that the header says of any call, and keeps what was written. */
 static int64_t called(struct work *work, const struct request *request, size_t room, size_t numbers_room, long refuse) {
     enum call call = request->call;
@@ -467,7 +487,6 @@ static int64_t called(struct work *work, const struct request *request, size_t r
     if (answer >= 0) {
         written = listed[call].writes && (uint64_t)answer <= room ? (size_t)answer : 0;
         numbers = call == NEXT && answer > 0 ? 0 : listed[call].numbers;
-        work->answers[call][0]++;
     } else if (answer <= -REFUSALS || !(listed[call].refusals & BIT(answer))) {
         wrong(work, request, "a refusal that the header does not list", answer);
     } else {
@@ -498,6 +517,13 @@ static int64_t called(struct work *work, const struct request *request, size_t r
     if (numbers > 0) {
         memcpy(work->numbers, work->slices[NUMBERS].at, 8 * numbers);
         digest(work, work->numbers, 8 * numbers);
+    }
+    if (answer >= 0) {
+        int kind = kind_of(call, answer, work->numbers);
+        if (kind < 0 || kind >= listed[call].kinds) {
+            wrong(work, request, "an answer of no kind that the header lists", answer);
+        }
+        work->kinds[call][kind]++;
     }
     if (written > 0) {
         memcpy(work->written, work->slices[OUT].at, written);
@@ -583,6 +609,136 @@ static void make_request(struct work *work, struct request *request) {
     }
 }
 
+/* Cases that are made for a kind of answer. */
+
+static void put_text(struct source *source, const char *text, size_t length) {
+    source->length = 0;
+    put(source, text, length);
+}
+
+/* Literal bytes, which may hold zeros. */
+#define PUT(source, text) put_text(source, text, sizeof(text) - 1)
+
+#define SET_STATE_COMMAND 0x0403
+#define CALL_COMMAND 0x040D
+#define CALL_SCHEMA 33
+#define A_CALL "\x22\x06\x0A\x01k\x12\x01v"
+#define NO_PAYLOAD "\x07"
+
+/* Puts a message of a payload behind a stream. */
+static void put_message(struct source *stream, uint16_t code, const char *payload, size_t length) {
+    const uint8_t header[8] = {(uint8_t)(code >> 8), (uint8_t)code, 0, 0, 0, 0, 0, (uint8_t)length};
+    put(stream, header, sizeof header);
+    put(stream, payload, length);
+}
+
+/* Two journals whose verdict is of a kind, behind commands that are the same. */
+static void put_journals(struct work *work, struct source *sources, int kind) {
+    struct source *recorded = &sources[0], *replayed = &sources[1];
+
+    recorded->length = replayed->length = 0;
+    for (uint32_t count = below(work, 3); count > 0; count--) {
+        put_message(recorded, CALL_COMMAND, A_CALL, sizeof A_CALL - 1);
+    }
+    *replayed = *recorded;
+    if (kind == JOURNAL_BAD_RECORDED) {
+        put_message(recorded, SET_STATE_COMMAND, NO_PAYLOAD, 1);
+    } else if (kind != JOURNAL_RECORDED_ENDED) {
+        put_message(recorded, SET_STATE_COMMAND, "\x0A\x01k", 3);
+    }
+    switch (kind) {
+    case JOURNAL_REPLAYED_ENDED: break;
+    case JOURNAL_TYPE_MISMATCH: put_message(replayed, CALL_COMMAND, A_CALL, sizeof A_CALL - 1); break;
+    case JOURNAL_HEADER_MISMATCH: put_message(replayed, SET_STATE_COMMAND, "\x0A\x01l", 3); break;
+    case JOURNAL_BAD_REPLAYED: put_message(replayed, SET_STATE_COMMAND, NO_PAYLOAD, 1); break;
+    default: put_message(replayed, SET_STATE_COMMAND, "\x0A\x01k", 3); break;
+    }
+}
+
+/* A notification with an id and a result of these kinds, or without where there is no such kind. */
+static void put_notification(struct source *source, int id, int result) {
+    static const struct { const char *bytes; size_t length; } ids[] = {{"\x08\x01", 2}, {"\x10\x11", 2}, {"\x1A\x04stop", 6}},
+        results[] = {{"\x22\x00", 2}, {"\x2A\x03\x0A\x01x", 5}, {"\x32\x02\x08\x05", 4}, {"\x82\x01\x03inv", 6},
+                     {"\x8A\x01\x03\x0A\x01k", 6}};
+    source->length = 0;
+    if (id < 3) {
+        put(source, ids[id].bytes, ids[id].length);
+    }
+    if (result < 5) {
+        put(source, results[result].bytes, results[result].length);
+    }
+}
+
+/* Makes a request of the one that is there whose answer is of a kind, or this refusal where that is not 0. */
+static void make_wanted(struct work *work, struct request *request, int kind, int refusal) {
+    struct source *first = &request->source[0], *second = &request->source[1];
+    enum call call = request->call;
+
+    request->version = JOURNAL_FIRST_VERSION + below(work, JOURNAL_LAST_VERSION - JOURNAL_FIRST_VERSION + 1);
+    request->schema = CALL_SCHEMA;
+    request->code = call == NOTIFICATION ? (uint16_t)(0x8000 + below(work, 0x7C00)) : CALL_COMMAND;
+    first->length = second->length = 0;
+    if (listed[call].inputs > 0) {
+        PUT(first, A_CALL);
+    }
+    switch (call) {
+    case TYPE_CODE:
+        PUT(first, "CallCommand");
+        break;
+    case NEXT:
+        first->length = 0;
+        if (kind == JOURNAL_MESSAGE) {
+            put_message(first, CALL_COMMAND, A_CALL, sizeof A_CALL - 1);
+        } else {
+            put_message(first, 8, A_CALL, sizeof A_CALL - 1);
+            request->version = kind == JOURNAL_SKIPPED ? 9 : 5 + below(work, 4);
+        }
+        first->length = kind > JOURNAL_SKIPPED ? below(work, 8) : first->length;
+        break;
+    case NOTIFICATION:
+        put_notification(first, refusal == JOURNAL_NO_ID ? 3 : kind / 5, refusal == JOURNAL_NO_RESULT ? 5 : kind % 5);
+        break;
+    case VERDICT:
+        put_journals(work, request->source, refusal == JOURNAL_OUT_OF_MEMORY ? JOURNAL_HEADER_MISMATCH : kind);
+        break;
+    case MERGE: case HEADER_EQ: case DIFFERENCE:
+        PUT(second, A_CALL);
+        break;
+    default:
+        break;
+    }
+    if (refusal == JOURNAL_MALFORMED || (call == IS_WELL_FORMED && !refusal && kind == 0)) {
+        put_byte(listed[call].inputs > 1 && one_of(work, 2) ? second : first, 0x07);
+    }
+    if (call == HEADER_EQ && !refusal && kind == 0) {
+        PUT(first, "\x0A\x01s");
+    }
+    if (refusal == JOURNAL_UNKNOWN) {
+        request->version = one_of(work, 2) ? below(work, JOURNAL_FIRST_VERSION) : JOURNAL_LAST_VERSION + 1 + below(work, 300);
+        request->schema = JOURNAL_SCHEMAS + below(work, 300);
+        request->code = call == NOTIFICATION ? CALL_COMMAND : call == TYPE_NAME ? 0x0004 : 0x8002;
+        if (call == TYPE_CODE) {
+            PUT(first, "callCommand");
+        }
+    }
+}
+
+/* The next kind of an answer in turn, which is made on purpose: of a call, and a refusal where that is not 0. */
+static void next_turn(struct work *work, struct request *request, int *refusal) {
+    for (;;) {
+        long turn = work->turn++ % (CALLS * (KINDS + REFUSALS));
+        int kind = (int)(turn % (KINDS + REFUSALS));
+
+        request->call = (enum call)(turn / (KINDS + REFUSALS));
+        *refusal = kind < KINDS ? 0 : KINDS - kind;
+        if (*refusal == 0 ? kind < listed[request->call].kinds
+                          : (listed[request->call].refusals & ~TOO_LONG & BIT(*refusal)) != 0) {
+            make_wanted(work, request, *refusal ? 0 : kind, *refusal);
+            return;
+        }
+    }
+}
+
 /* Room for an answer, or none where no region is so long. */
 static size_t room_for(int64_t answer) {
     return answer <= REGION - GUARD ? (size_t)answer : 0;
@@ -593,8 +749,12 @@ static void try_case(struct work *work, struct request *request) {
     enum call call;
     size_t numbers, room;
     int64_t answer;
+    int refusal = 0;
 
     make_request(work, request);
+    if (work->cases % 4 == 0) {
+        next_turn(work, request, &refusal);
+    }
     call = request->call;
     numbers = listed[call].numbers;
     room = listed[call].writes ? 1024 : 0;
@@ -620,7 +780,7 @@ static void try_case(struct work *work, struct request *request) {
             again(work, request, answer, listed[call].writes ? room_for(answer) : 0, numbers + 1 + below(work, 4));
         }
     }
-    if ((listed[call].refusals & MEMORY) && one_of(work, 4)) {
+    if ((listed[call].refusals & MEMORY) && (refusal == JOURNAL_OUT_OF_MEMORY || one_of(work, 4))) {
         long refuse = 0;
         do {
             refuse++;
@@ -706,10 +866,15 @@ int main(int argc, char **argv) {
     }
     for (int call = 0; call < CALLS; call++) {
         memory += works[0].answers[call][-JOURNAL_OUT_OF_MEMORY];
-        for (int refusal = 0; refusal < REFUSALS; refusal++) {
-            int is_listed = refusal == 0 || (listed[call].refusals & ~TOO_LONG) >> refusal & 1;
-            if (works[0].count >= 100000 && is_listed && works[0].answers[call][refusal] == 0) {
-                printf("wrong: %s never answered %s%d\n", listed[call].name, refusal ? "-" : "at least ", refusal);
+        for (int refusal = 1; works[0].count >= 10000 && refusal < REFUSALS; refusal++) {
+            if ((listed[call].refusals & ~TOO_LONG) >> refusal & 1 && works[0].answers[call][refusal] == 0) {
+                printf("wrong: %s never answered -%d\n", listed[call].name, refusal);
+                failed++;
+            }
+        }
+        for (int kind = 0; works[0].count >= 10000 && kind < listed[call].kinds; kind++) {
+            if (works[0].kinds[call][kind] == 0) {
+                printf("wrong: %s never had an answer of kind %d\n", listed[call].name, kind);
                 failed++;
             }
         }
