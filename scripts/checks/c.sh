@@ -93,6 +93,17 @@ grep -o '^#define JOURNAL_[A-Z_]* (-[0-9])' include/pendratsoa.h | sed 's/#defin
 sed -n 's/^| \(-[0-9]\) | `\(JOURNAL_[A-Z_]*\)` .*/\1 \2/p' docs/C.md > "$work/out"
 same 'the refusals of docs/C.md' "$work/wanted" "$work/out"
 
+# Each constant of the header beside the library's answers, and none of them left out.
+wrapped=-Wl,--wrap=malloc,--wrap=realloc
+# shellcheck disable=SC2086 # the flags are split
+case_of 'constants.c' cc -std=c99 -Wall -Wextra -Wpedantic -Werror -I "$prefix/include" tests/c/constants.c \
+  "$prefix/lib/libpendratsoa.a" $wrapped -o "$work/constants"
+"$work/constants" > "$work/out" 2> "$work/err"
+outcome 'the constants of the header' $?
+sort -u "$work/out" > "$work/names"
+sed -n 's/^#define \(JOURNAL_[A-Z_]*\) .*/\1/p' include/pendratsoa.h | sort > "$work/wanted"
+same 'the constants that tests/c/constants.c reads' "$work/wanted" "$work/names"
+
 # The example in C, without a warning of any compiler that is there, and with each library.
 strict='-Wall -Wextra -Wpedantic -Wconversion -Werror -O2'
 for compiler in 'cc -std=c99' 'cc -std=c17' 'c++ -x c++ -std=c++11' 'clang -std=c99' 'clang++ -x c++ -std=c++17'; do
