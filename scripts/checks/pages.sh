@@ -8,6 +8,7 @@ set -u
 cd "$(dirname "$0")/../.." || exit 1
 . scripts/checks/lib.sh
 
+folders='bench|conformance|crates|docs|examples|include|proto|python|scripts|tests|tools'
 pages=$(find . -name '*.md' -not -path '*/out/*' -not -path '*/target/*' | sed 's|^\./||' | sort)
 
 # missing PAGE WHAT
@@ -20,8 +21,14 @@ missing() {
 for page in $pages; do
   folder=$(dirname "$page")
   {
-    awk '{ while (match($0, /\]\([^)#: ]+[)#]/)) { print "link " substr($0, RSTART + 2, RLENGTH - 3); $0 = substr($0, RSTART + RLENGTH) } }' "$page"
-    awk -v RS='`' 'NR % 2 == 0 && /^(bench|conformance|crates|docs|examples|proto|python|scripts|tests|tools)\/[A-Za-z0-9_.\/-]+$/ { print "path " $0 }' "$page"
+    awk '{
+      while (match($0, /\]\([^)#: ]+[)#]/)) {
+        print "link " substr($0, RSTART + 2, RLENGTH - 3)
+        $0 = substr($0, RSTART + RLENGTH)
+      }
+    }' "$page"
+    awk -v RS='`' -v folders="$folders" '
+      NR % 2 == 0 && $0 ~ "^(" folders ")/[A-Za-z0-9_./-]+$" { print "path " $0 }' "$page"
   } | sort -u > "$work/targets"
   while read -r kind target; do
     case $kind in
@@ -42,12 +49,16 @@ for page in $pages; do
   [ "$page" != conformance/README.md ] || continue
   sed -n 's/^    \(\(payload\|merge\|frame\|stream\|record\|compare\) .* = .*\)$/\1/p' "$page" > "$work/worked"
   while read -r line; do
-    if grep -qxF -- "$line" "$work/lines"; then passed=$((passed + 1)); else missing "$page" "no line of conformance/: $line"; fi
+    if grep -qxF -- "$line" "$work/lines"; then
+      passed=$((passed + 1))
+    else
+      missing "$page" "no line of conformance/: $line"
+    fi
   done < "$work/worked"
 done
 
-# test vectors of each rule: `FILE, N: BEGINNING` in a page names the N lines of FILE under the one heading that begins so, and every heading
-# of the files that are not written at random is named
+# test vectors of each rule: `FILE, N: BEGINNING` in a page names the N lines of FILE under the one heading that begins
+# so, and every heading of the files that are not written at random is named
 for file in payloads merging levels hostile worked streams frames long; do
   awk -v file="$file.txt" '
     function leave() { if (count > 0) print file "|" count "|" heading; heading = ""; count = 0 }
@@ -62,10 +73,16 @@ awk -F'|' '
   {
     found = 0
     for (i = 1; i <= named; i++)
-      if (file[i] == $1 && index($3, beginning[i]) == 1) { seen[i]++; found++; if (count[i] != $2) print count[i] " lines in " $1 " where there are " $2 ": " beginning[i] }
+      if (file[i] == $1 && index($3, beginning[i]) == 1) {
+        seen[i]++
+        found++
+        if (count[i] != $2) print count[i] " lines in " $1 " where there are " $2 ": " beginning[i]
+      }
     if (found == 0) print "no rule names the lines in " $1 ": " $3
   }
-  END { for (i = 1; i <= named; i++) if (seen[i] != 1) print seen[i] + 0 " headings in " file[i] " begin: " beginning[i] }' "$work/named" "$work/headings" > "$work/wrong"
+  END {
+    for (i = 1; i <= named; i++) if (seen[i] != 1) print seen[i] + 0 " headings in " file[i] " begin: " beginning[i]
+  }' "$work/named" "$work/headings" > "$work/wrong"
 while IFS= read -r line; do
   missing docs/PAYLOADS.md "$line"
 done < "$work/wrong"
@@ -85,38 +102,70 @@ else
   missing README.md 'its page of code is not part of crates/first_program/src/main.rt'
 fi
 
+# what the page of a crate quotes of code is there, line by line
+find crates -name '*.rt' -not -path '*/out/*' -exec cat {} + | sed 's/^ *//' > "$work/code"
+for page in crates/*/README.md; do
+  awk '/^```rust$/ { inside = 1; next } /^```$/ { inside = 0 } inside' "$page" | sed 's/^ *//' > "$work/quoted"
+  while IFS= read -r line; do
+    if grep -qxF -- "$line" "$work/code"; then passed=$((passed + 1)); else missing "$page" "no such line of code: $line"; fi
+  done < "$work/quoted"
+done
+
 # the dump of README.md is that which the program is checked against
 sed -n 's/^    \({"offset":.*\)$/\1/p' README.md > "$work/shown"
 while IFS= read -r line; do
-  if grep -qF -- "='$line'" scripts/checks/dump.sh; then passed=$((passed + 1)); else missing README.md "scripts/checks/dump.sh does not want: $line"; fi
+  if grep -qF -- "='$line'" scripts/checks/dump.sh; then
+    passed=$((passed + 1))
+  else
+    missing README.md "scripts/checks/dump.sh does not want: $line"
+  fi
 done < "$work/shown"
 
-# names behind promises: each `Name` or `path::name` of a table's last column is a word of the code or the definitions of the crate in the heading, of
-# one that it stands on, or of one that the column names
+# names behind promises: each `Name` or `path::name` of a table's last column is a word of the code or the definitions
+# of the crate in the heading, of one that it stands on, or of one that the column names; or it is a crate
+for crate in crates/*/; do
+  crate=${crate#crates/}
+  crate=${crate%/}
+  find "crates/$crate/src" "crates/$crate/specs" \( -name '*.rt' -o -name '*.antt' \) -exec cat {} + 2> "$err" |
+    grep -oE '[A-Za-z_0-9]+' | LC_ALL=C sort -u | sed "s/^/$crate /"
+done > "$work/words"
+sed -n 's/^\([a-z_]*\)[a-z ]*: */\1 /p' crates.txt > "$work/crates"
 for page in README.md docs/PROOFS.md; do
-  [ -e "$page" ] || continue
   awk -F'|' '
-    /^##/ { crate = ""; name = $0; sub(/^##+ /, "", name); sub(/[:,].*/, "", name); if (name ~ /^[a-z_]+$/) crate = name }
+    /^##/ {
+      crate = ""
+      name = $0
+      sub(/^##+ /, "", name)
+      sub(/[:,].*/, "", name)
+      if (name ~ /^[a-z_]+$/) crate = name
+    }
     /^\| / && crate != "" && NF >= 4 {
       count = split($(NF - 1), words, "`")
       names = ""
-      for (i = 2; i <= count; i += 2) { word = words[i]; sub(/[<( ].*/, "", word); sub(/^.*::/, "", word); if (word ~ /^[A-Za-z_0-9]+$/) names = names " " word }
+      for (i = 2; i <= count; i += 2) {
+        word = words[i]
+        sub(/[<( ].*/, "", word)
+        sub(/^.*::/, "", word)
+        if (word ~ /^[A-Za-z_0-9]+$/) names = names " " word
+      }
       print crate names
     }' "$page" > "$work/promises"
-  while read -r crate names; do
-    below=$(sed -n "s/^$crate[a-z ]*: *//p" crates.txt)
-    for place in $crate $below $names; do
-      [ ! -d "crates/$place/src" ] || echo "crates/$place/src"
-      [ ! -d "crates/$place/specs" ] || echo "crates/$place/specs"
-    done > "$work/places"
-    for name in $names; do
-      if [ -d "crates/$name" ] || xargs grep -rqw --include='*.rt' --include='*.antt' -e "$name" < "$work/places"; then
-        passed=$((passed + 1))
-      else
-        missing "$page" "$name is not in crates/$crate"
-      fi
-    done
-  done < "$work/promises"
+  awk '
+    FILENAME == ARGV[1] { below[$1] = $0; next }
+    FILENAME == ARGV[2] { found[$1, $2]; crates[$1]; next }
+    {
+      places = split(below[$1] " " $0, place, " ")
+      for (i = 2; i <= NF; i++) {
+        is_there = $i in crates
+        for (at = 1; at <= places && !is_there; at++) is_there = (place[at], $i) in found
+        print is_there ? "there" : $i " is not in crates/" $1
+      }
+    }' "$work/crates" "$work/words" "$work/promises" > "$work/names"
+  passed=$((passed + $(grep -cx there "$work/names")))
+  grep -vx there "$work/names" > "$work/wrong"
+  while IFS= read -r line; do
+    missing "$page" "$line"
+  done < "$work/wrong"
 done
 
 finish
