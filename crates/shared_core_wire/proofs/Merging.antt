@@ -1,4 +1,4 @@
--- One record list after another, laid over a value, is the joined list laid over it.
+-- Merging one record list after another into a value is merging the joined list.
 use Rattle.std.proofs.Common.{◌≡◌, ℕ, zero, suc, List, [], ◌∷◌, ◌++◌, Bool, true, false, cond, refl, sym, ap, subst, ◌∙◌, Option, Some, None, append-nil, eqb, eq-eqb}
 use Rattle.std.proofs.lemmas.Bool.{eqb-true}
 use Rattle.std.specs.List.{list_all}
@@ -99,7 +99,7 @@ module _ (table : ℕ → List Row) (overlay_nested : NestedOverlay) (accepts_ne
         by_test ih true e = all_numbered_accepted k (r ∷ rs) e h
         by_test ih false e = ih
 
-    -- over a member, what comes behind the run; the last of xs has the number k too
+    -- into a member, what comes after the run; the last of xs has the number k too
     member_over_same : (p : Part) (xs ys : List FieldRecord) (k : ℕ) → list_all (accepts_in_row accepts_nested (OneOf ms)) xs ≡ true → list_all (accepts_in_row accepts_nested (OneOf ms)) ys ≡ true → all_numbered k ys ≡ true → member_over table overlay_nested ms p (xs ++ ys) k ≡ member_over table overlay_nested ms (member_over table overlay_nested ms p xs k) ys k
     member_over_same p xs ys k g h a =
         let kind = member_kind ms k in
@@ -175,7 +175,7 @@ module _ (table : ℕ → List Row) (overlay_nested : NestedOverlay) (accepts_ne
       ∙ ap (λ q. cons q (rows_over table overlay_nested rows ps (xs ++ ys))) (row_over-append row p (own_records row xs) (own_records row ys) (own_records_accepted row xs (first_row row rows xs g)) (own_records_accepted row ys (first_row row rows ys h)))
       ∙ ap (cons (row_over table overlay_nested row (row_over table overlay_nested row p (own_records row xs)) (own_records row ys))) (rows_over-append rows ps xs ys (other_rows row rows xs g) (other_rows row rows ys h))
 
--- ---- all levels
+-- ---- any nesting depth
 
 module _ (table : ℕ → List Row) where
   pub accepts_records-append : (left s : ℕ) (xs ys : List FieldRecord) → accepts_records table left s xs ≡ true → accepts_records table left s ys ≡ true → accepts_records table left s (xs ++ ys) ≡ true

@@ -1,4 +1,4 @@
--- Where records and their contents lie.
+-- Where records and their contents are.
 use Rattle.std.proofs.Common.{◌≡◌, ℕ, zero, suc, ◌+◌, ◌-◌, ◌≤◌, List, [], ◌∷◌, ◌++◌, length, take, drop, refl, sym, ap, subst, ◌∙◌, append_assoc, arith, inl, inr}
 use Rattle.std.proofs.lemmas.List.{length-append, take_at, drop_at, take-append-drop}
 use Rattle.shared_core_wire.specs.Grammar.{IsFieldRecord, IsRecordBody, IsGroupContent, IsRecordWithin, FieldRecord, RecordValue, Varint, Fixed64, Length, Group, Fixed32}

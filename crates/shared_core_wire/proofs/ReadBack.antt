@@ -1,4 +1,4 @@
--- What is written canonically is accepted and means the value: one level.
+-- A canonical payload is accepted and means its value: one level of nesting.
 use Rattle.std.proofs.Common.{◌≡◌, ℕ, zero, suc, ◌+◌, ◌-◌, ◌%◌, ◌^◌, ◌<◌, ◌≤◌, List, [], ◌∷◌, ◌++◌, map, length, Bool, true, false, cond, not, ◌&&◌, ◌||◌, refl, sym, ap, subst, ◌∙◌, Some, append_assoc, append-nil, length-append, arith, eqb, ltb, eq-eqb}
 use Rattle.std.proofs.lemmas.Bool.{eqb-true, lt-ltb}
 use Rattle.std.specs.Prelude.{flat_map}
@@ -170,7 +170,7 @@ element_numbers (cons (Member n p) ps) = element_numbers ps
 abbrev small : RecordValue → Bool
 small w = ltb (length (content w)) (2 ^ 64)
 
--- a record's content is no longer than its spelling
+-- a record's content is no longer than its encoding
 content_below : (n : ℕ) (w : RecordValue) → length (content w) ≤ length (record_bytes (record { number = n; value = w }))
 content_below n (Varint m) = omega arith
 content_below n (Fixed64 bytes) = omega arith
@@ -424,7 +424,7 @@ module _ (table : ℕ → List Row) (overlay_nested : NestedOverlay) (accepts_ne
       let x = row_back row p h.0 h.1 (omega arith) e.0 in
       list_all-append (λ (r : FieldRecord). spellable_value r.value) own_part rest ∙ and_join _ _ x.spells (spells_all ps rows h.2 (omega arith) e.1)
 
-  -- what a value's records leave, and that they have a spelling
+  -- what a value's records leave, and that they have an encoding
   pub record LevelBack (rows : List Row) (v : Parts) : Type 0 where
     pub gives : rows_over table overlay_nested rows (empty_value rows) (message_records table v rows) ≡ v
     pub allows : list_all (accepts_record accepts_nested rows) (message_records table v rows) ≡ true

@@ -1,4 +1,4 @@
--- What is written canonically is accepted and means the value: at all levels.
+-- A canonical payload is accepted and means its value: at any nesting depth.
 use Rattle.std.proofs.Common.{◌≡◌, ℕ, zero, suc, ◌^◌, ◌<◌, ◌≤◌, List, [], ◌∷◌, length, true, sym, ap, subst, ◌∙◌, Some, arith, ltb}
 use Rattle.std.proofs.lemmas.Bool.{ltb-true}
 use Rattle.std.specs.List.{list_all}
@@ -17,7 +17,7 @@ use Rattle.shared_core_wire.proofs.Runs.{and_split}
 use Rattle.shared_core_wire.proofs.ReadBack.{level_back}
 
 module _ (table : ℕ → List Row) (schemas : (s : ℕ) → is_schema (table s) ≡ true) where
-  -- what is spelled is read again
+  -- what is encoded is read back
   records_spelled : (left : ℕ) (rs : List FieldRecord) → list_all spellable rs ≡ true → record_list left (record_list_bytes rs) ≡ Some rs
   records_spelled left [] h = records_empty left
   records_spelled left (r ∷ rs) h =
@@ -32,7 +32,7 @@ module _ (table : ℕ → List Row) (schemas : (s : ℕ) → is_schema (table s)
       let found = records_spelled left (message_records table v (table s)) b.spells in
       (ap (some_passes (accepts_records table left s)) found ∙ b.allows, ap (λ o. overlay table left s (empty_value (table s)) (or_empty o)) found ∙ b.gives)
 
-  -- at any level
+  -- at any nesting depth
   pub canonical_back : (left s : ℕ) (v : Parts) → Fits table v (table s) → levels v ≤ left → length (canonical_payload table s v) < 2 ^ 64
       → (accepts_payload table left s (canonical_payload table s v) ≡ true) × (meaning table left s (canonical_payload table s v) ≡ v)
   unfolding accepts_message message_overlay

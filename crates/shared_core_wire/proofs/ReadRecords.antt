@@ -1,4 +1,4 @@
--- What going over the bytes gives.
+-- What reading the records of some bytes gives.
 use Rattle.std.proofs.Common.{◌≡◌, ℕ, zero, suc, ◌+◌, ◌-◌, ◌*◌, ◌<◌, ◌≤◌, ◌⊎◌, List, [], ◌∷◌, ◌++◌, length, drop, map, Option, Some, None, Result, Ok, Err, refl, sym, ap, subst, ◌∙◌, arith, inl, inr}
 use Rattle.std.specs.Prelude.{◌↔◌}
 use Rattle.std.proofs.lemmas.List.{length-append}
@@ -11,7 +11,7 @@ use Rattle.shared_core_wire.specs.ReadRecords.{PlacedRecord, records_past, witho
 use Rattle.shared_core_wire.proofs.Readers.{none_some, record_again, record_reads, record_long}
 use Rattle.shared_core_wire.proofs.Groups.{behind, reads_groups}
 
--- what the bytes from a place of the payload on give, by their spellings
+-- what the bytes from an offset of the payload on give, by their encodings
 abbrev pub ReadsInOrder : (List ℕ → FieldRecord → Type 0) → ℕ → List ℕ → List (Result PlacedRecord WireError) → Type 0
 ReadsInOrder R at_place bytes [] = bytes ≡ []
 ReadsInOrder R at_place bytes (Ok p ∷ items) = (first : List ℕ) × (others : List ℕ) × (bytes ≡ first ++ others) × R first p.field_record
@@ -50,7 +50,7 @@ module _ (one : List ℕ → Option (FieldRecord × List ℕ)) (end : ℕ) where
   read_more (b ∷ bs) text rest r e parts h =
       rw (e, records_past) (ap (λ (xs : List (Result PlacedRecord WireError)). Ok (place end (b ∷ bs) r rest) ∷ xs) (read_over (length bs - length rest) bs ∙ ap (records_past one end 0) (behind b bs text rest parts h)))
 
--- ---- with so many levels left
+-- ---- with a nesting depth
 
 module _ (left : ℕ) where
   abbrev C : List ℕ → Type 0

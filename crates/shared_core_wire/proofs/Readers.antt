@@ -1,4 +1,4 @@
--- What is read at the front is spelled there, and what is spelled is read again, whatever follows.
+-- What is read at the front is encoded there, and what is encoded is read back, whatever follows.
 use Rattle.std.proofs.Common.{◌≡◌, ℕ, zero, suc, ◌+◌, ◌*◌, ◌/◌, ◌%◌, ◌^◌, ◌<◌, ◌≤◌, ◌⊎◌, Bool, true, false, cond, ltb, List, [], ◌∷◌, ◌++◌, length, take, drop, Option, Some, None, refl, sym, ap, subst, ◌∙◌, append_assoc, arith, inl, inr}
 use Rattle.std.specs.Prelude.{◌==◌}
 use Rattle.std.proofs.lemmas.Bool.{lt-ltb, le-ltb, ltb-true, ltb-false, eqb-true}
@@ -6,7 +6,7 @@ use Rattle.std.proofs.lemmas.List.{take_at, drop_at, take-append-drop, length-ap
 use Rattle.shared_core_wire.specs.Grammar.{IsBase128, IsVarint, IsKey, IsRecordBody, IsFieldRecord, RecordValue, Varint, Fixed64, Length, Group, Fixed32, FieldRecord, wire_type}
 use Rattle.shared_core_wire.specs.Reader.{◌>>=◌, varint_within, varint_at, key_at, bytes_at, value_with, record_with}
 
--- the bytes begin with a spelling of x.0, and go on with x.1
+-- the bytes begin with an encoding of x.0, and continue with x.1
 pub record BeginsWith {A : Type 0} (R : List ℕ → A → Type 0) (bytes : List ℕ) (x : A × List ℕ) : Type 0 where
   pub text : List ℕ
   pub parts : bytes ≡ text ++ x.1
@@ -123,7 +123,7 @@ key_reads bytes x e =
 pub key_pos : (text : List ℕ) (number wire : ℕ) → IsKey text number wire → 0 < length text
 key_pos text number wire h = varint_pos text _ h.spelling
 
--- ---- so many bytes
+-- ---- a number of bytes
 
 abbrev pub IsLong : ℕ → List ℕ → List ℕ → Type 0
 IsLong n text x = (text ≡ x) × (length x ≡ n)

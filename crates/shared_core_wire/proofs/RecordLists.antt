@@ -1,4 +1,4 @@
--- The record list of a payload is the one that it spells.
+-- The record list of a payload is the one that it encodes.
 use Rattle.std.proofs.Common.{◌≡◌, ℕ, List, [], ◌++◌, Some, refl, arith}
 use Rattle.std.specs.Prelude.{◌↔◌}
 use Rattle.shared_core_wire.specs.Grammar.{FieldRecord, IsGroupContent, IsRecordWithin, IsRecordListWithin}

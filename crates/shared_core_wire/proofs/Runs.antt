@@ -58,17 +58,17 @@ pub last_run_whole : (k : ℕ) (ys : List FieldRecord) → all_numbered k ys ≡
 last_run_whole k [] h = refl
 last_run_whole k (y ∷ ys) h = ap (λ b. cond b (y ∷ ys) (last_run k ys)) h
 
--- a run that takes all that comes later goes on before it
+-- if all later records have the number, the run goes on into the earlier ones
 pub last_run_on : (k : ℕ) (xs ys : List FieldRecord) → all_numbered k ys ≡ true → last_run k (xs ++ ys) ≡ last_run k xs ++ ys
 last_run_on k [] ys h = last_run_whole k ys h
 last_run_on k (x ∷ xs) ys h = rw (last_run_on k xs ys h, all_numbered-append k xs ys, and-true_is (all_numbered k xs) (all_numbered k ys) h) (cond-append (eqb x.number k && all_numbered k xs) (x ∷ xs) (last_run k xs) ys)
 
--- a run that ends within what comes later
+-- otherwise the run is within the later records
 pub last_run_within : (k : ℕ) (xs ys : List FieldRecord) → all_numbered k ys ≡ false → last_run k (xs ++ ys) ≡ last_run k ys
 last_run_within k [] ys h = refl
 last_run_within k (x ∷ xs) ys h = rw (last_run_within k xs ys h, all_numbered-append k xs ys, and-false_is (all_numbered k xs) (all_numbered k ys) h, and-false_is (eqb x.number k) false refl) refl
 
--- no run where another number is the last
+-- there is no run if the last record has another number
 pub last_run_none : (k : ℕ) (x : FieldRecord) (xs : List FieldRecord) → eqb (last x xs).number k ≡ false → last_run k (x ∷ xs) ≡ []
 last_run_none k x [] h = rw h refl
 last_run_none k x (z ∷ xs) h = rw (last_not k x (z ∷ xs) h) (last_run_none k z xs h)

@@ -7,7 +7,7 @@ use Rattle.shared_core_wire.specs.Reader.{◌>>=◌, varint_at, sequence_past, p
 use Rattle.shared_core_wire.proofs.Readers.{bind_some, some_is, varint_again, varint_reads, varint_pos}
 use Rattle.shared_core_wire.proofs.Groups.{behind}
 
--- one reads what R spells, from the front
+-- one reads what R encodes, from the front
 pub record IsReader {A : Type 0} (R : List ℕ → A → Type 0) (one : List ℕ → Option (A × List ℕ)) : Type 0 where
   pub again : (text rest : List ℕ) (x : A) → R text x → one (text ++ rest) ≡ Some (x, rest)
   pub reads : (bytes : List ℕ) (x : A × List ℕ) → one bytes ≡ Some x → BeginsWith R bytes x

@@ -35,7 +35,7 @@ pub shortest_large : (n : ℕ) → 128 ≤ n → shortest_varint n ≡ (n % 128 
 unfolding shortest_varint
 shortest_large n le = large_within n n (omega arith) le
 
--- ---- it is a spelling
+-- ---- it is an encoding
 
 spells_more : (b : ℕ) (text : List ℕ) (n high : ℕ) → 128 ≤ b → n ≡ b % 128 + 128 * high → IsBase128 text high → IsBase128 (b ∷ text) n
 spells_more b [] n high le e h = absurd h

@@ -1,4 +1,4 @@
--- A payload of a schema whose rows are a template's, read by the template.
+-- A payload of a schema whose rows are a template's, decoded with the template.
 use Rattle.std.proofs.Common.{◌≡◌, ℕ, suc, List, [], ◌∷◌, Bool, true, false, cond, not, ◌&&◌, ◌||◌, refl, sym, ap, subst, ◌∙◌, eqb, eq-eqb}
 use Rattle.std.proofs.lemmas.Bool.{eqb-true}
 use Rattle.std.proofs.Math.Dec.{eqb-suc-suc, eqb-suc-zero, eqb-zero-suc}
@@ -52,7 +52,7 @@ part_over table overlay_nested (row ∷ rows) rs n h = by_test (λ g. part_over 
     by_test later true g = refl
     by_test later false g = later g
 
--- which numbers stand in the row of n
+-- which numbers are in the row of n
 in_row : (rows : List Row) (n m : ℕ) → are_distinct (all_numbers rows) ≡ true → includes (all_numbers rows) n ≡ true → includes (numbers (row_at rows n)) m ≡ (includes (all_numbers rows) m && eqb (row_index rows n) (row_index rows m))
 unfolding row_at
 in_row [] n m d h = absurd cc

@@ -12,7 +12,7 @@ regroup : (low scale b : ℕ) (read : Option (ℕ × List ℕ)) → with_low low
 regroup low scale b (Some x) = ap (λ (n : ℕ). Some (n, x.1)) (omega arith)
 regroup low scale b None = refl
 
--- a byte that goes on
+-- a byte that is not the last
 pub with_low_more : (low scale most i b : ℕ) (bs : List ℕ) → i < most → 128 ≤ b → with_low low scale (varint_within (most - i) (b ∷ bs)) ≡ with_low (low + scale * (b % 128)) (scale * 128) (varint_within (most - (i + 1)) bs)
 unfolding varint_within
 with_low_more low scale most i b bs lt h =

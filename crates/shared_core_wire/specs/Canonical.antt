@@ -1,59 +1,61 @@
--- The one canonical spelling of a value, its size, and its levels.
+-- The canonical encoding of a value, its size, and its nesting depth.
 use Rattle.std.specs.Prelude.{ℕ, suc, ◌+◌, ◌-◌, ◌^◌, max, Bool, false, List, [], ◌∷◌, ◌++◌, map, length, nat_lt, ◌==◌, if◌then◌else◌, flat_map}
 use Rattle.shared_core_wire.specs.Grammar.{RecordValue, Varint, Length, FieldRecord}
 use Rattle.shared_core_wire.specs.Spelling.{shortest_varint, record_list_bytes}
 use Rattle.shared_core_wire.specs.Schema.{Table, Kind, Row, U32, Enumeration, Message, Plain, Optional, Repeated, OneOf, member_kind}
 use Rattle.shared_core_wire.specs.Value.{Part, Parts, Absent, Number, Bytes, Nested, Elements, Member, nil, cons}
 
--- ---- what a row is written by
+-- ---- how a row is written
 
 -- The number of the member that a oneof holds.
 abbrev pub member_number : Part → ℕ
 member_number (Member n p) = n
 member_number p = 0
 
--- The field number by which a row's part is written.
+-- The field number of a row's part; of a oneof, the number of the member that it holds.
 abbrev pub number_of : Row → Part → ℕ
 number_of (Plain n k) p = n
 number_of (Optional n k) p = n
 number_of (Repeated n k) p = n
 number_of (OneOf members) p = member_number p
 
--- The kind by which a row's part is written.
+-- The kind of a row's part; of a oneof, the kind of the member that it holds.
 abbrev pub kind_of : Row → Part → Kind
 kind_of (Plain n k) p = k
 kind_of (Optional n k) p = k
 kind_of (Repeated n k) p = k
 kind_of (OneOf members) p = member_kind members (member_number p)
 
--- The number that is written: a negative enum is sign-extended to 64 bits.
+-- The number that is written for a value: a negative enum is sign-extended to 64 bits.
 abbrev pub written_number : Kind → ℕ → ℕ
 written_number Enumeration n = if nat_lt n (2 ^ 31) then n else n + (2 ^ 64 - 2 ^ 32)
 written_number k n = n
 
--- The rows of a kind's message.
+-- The rows of the message that a kind names; other kinds have none.
 abbrev pub rows_of_kind : Table → Kind → List Row
 rows_of_kind table (Message s) = table s
 rows_of_kind table k = []
 
--- Whether a part is a default: 0, false or empty.
+-- Whether a part is a default value: 0, false or empty.
 abbrev pub is_default : Part → Bool
 is_default (Number n) = n == 0
 is_default (Bytes bytes) = length bytes == 0
 is_default p = false
 
--- The varint of a value that is a number.
+-- The varint of a value that is a number; of any other value, no bytes.
 abbrev pub number_bytes : RecordValue → List ℕ
 number_bytes (Varint n) = shortest_varint n
 number_bytes w = []
 
--- The values of a repeated field as they are written: the numbers of a repeated uint32 as one packed run, where there is one.
+-- The record values that a repeated field is written as: the elements of a repeated uint32 are one packed run, if there
+-- are any.
 abbrev pub packed_values : Kind → List RecordValue → List RecordValue
 packed_values U32 [] = []
 packed_values U32 (w ∷ ws) = Length (flat_map number_bytes (w ∷ ws)) ∷ []
 packed_values k ws = ws
 
--- Which of a part's values are written: not those of a plain default; present optionals, members and elements also where they are defaults.
+-- Which of a part's values are written: a plain field not if it is a default, an optional field, a member and an
+-- element even if it is one.
 abbrev pub written_values : Row → Part → List RecordValue → List RecordValue
 written_values (Plain n k) p ws = if is_default p then [] else ws
 written_values (Optional n k) p ws = ws
@@ -64,11 +66,12 @@ written_values (OneOf members) p ws = ws
 abbrev pub row_records : Row → Part → List RecordValue → List FieldRecord
 row_records row p ws = map (λ w. record { number = number_of row p; value = w }) (written_values row p ws)
 
--- ---- the spelling
+-- ---- the encoding
 
 module _ (table : Table) where
   unfoldable mutual
-    -- The values of a part: one of a number, of bytes, of a message or of a member, and of a repeated field those of each element.
+    -- The record values of a part: one for a number, bytes, a message or a member, and those of each element for a
+    -- repeated field.
     pub part_values : Part → Kind → List RecordValue
     part_values Absent k = []
     part_values (Number n) k = Varint (written_number k n) ∷ []
@@ -77,7 +80,7 @@ module _ (table : Table) where
     part_values (Elements ps) k = element_values ps k
     part_values (Member n p) k = part_values p k
 
-    -- The values of the elements of a repeated field.
+    -- The record values of the elements of a repeated field.
     pub element_values : Parts → Kind → List RecordValue
     element_values nil k = []
     element_values (cons p ps) k = part_values p k ++ element_values ps k
@@ -92,14 +95,14 @@ module _ (table : Table) where
   abbrev pub canonical_payload : ℕ → Parts → List ℕ
   canonical_payload s v = record_list_bytes (message_records v (table s))
 
-  -- How many bytes the canonical payload has.
+  -- The number of bytes of the canonical payload.
   abbrev pub size : ℕ → Parts → ℕ
   size s v = length (canonical_payload s v)
 
--- ---- levels
+-- ---- nesting depth
 
 unfoldable mutual
-  -- How many levels a part takes: a message one more than its parts.
+  -- The nesting depth of a part: for a message, one more than that of its parts.
   pub part_levels : Part → ℕ
   part_levels Absent = 0
   part_levels (Number n) = 0
@@ -108,7 +111,7 @@ unfoldable mutual
   part_levels (Elements ps) = levels ps
   part_levels (Member n p) = part_levels p
 
-  -- The levels of a message below its own: the greatest of its parts.
+  -- The nesting depth within a message: the greatest of its parts.
   pub levels : Parts → ℕ
   levels nil = 0
   levels (cons p ps) = max (part_levels p) (levels ps)

@@ -1,4 +1,4 @@
--- A small table of schemas, by which the definitions are tried on payloads that were worked out by hand.
+-- A small table of schemas, on which hand-checked payloads test the definitions.
 use Rattle.std.specs.Prelude.{◌≡◌, ℕ, zero, suc, true, false, List, [], ◌∷◌, ◌++◌, length, ◌+◌, ◌-◌, ◌*◌, nat_lt, if◌then◌else◌}
 use Rattle.shared_core_wire.specs.Spelling.{shortest_varint}
 use Rattle.shared_core_wire.specs.Schema.{Table, table_of, Row, U32, U64, Enumeration, Text, ByteString, Message, Plain, Optional, Repeated, OneOf}
@@ -81,11 +81,11 @@ keys_completion = 16
 abbrev pub text_completion : ℕ
 text_completion = 17
 
--- A template, by which completions and signals are read.
+-- A template of which completions and signals are schemas.
 abbrev pub template : ℕ
 template = 18
 
--- These schemas.
+-- All of these schemas.
 abbrev pub schemas : List (List Row)
 schemas =
     []
@@ -136,9 +136,9 @@ a_future completions signals names nested = cons (Elements (numbers_of completio
 abbrev pub completions_alone : List ℕ → Parts
 completions_alone completions = cons (Elements (numbers_of completions)) (two (Elements nil) (Elements nil))
 
--- ---- what is said of a payload
+-- ---- statements about a payload
 
--- The payload is accepted for the schema, and means this.
+-- The payload is accepted for the schema, and means this value.
 abbrev pub Means : ℕ → List ℕ → Parts → Type 0
 Means s payload v = (accepts_payload examples 100 s payload ≡ true) × (meaning examples 100 s payload ≡ v)
 
@@ -150,11 +150,11 @@ IsAccepted s payload = accepts_payload examples 100 s payload ≡ true
 abbrev pub IsMalformed : ℕ → List ℕ → Type 0
 IsMalformed s payload = accepts_payload examples 100 s payload ≡ false
 
--- The payload laid over the first value leaves the second.
+-- Merging the payload into the first value gives the second.
 abbrev pub Merges : ℕ → Parts → List ℕ → Parts → Type 0
 Merges s v payload w = overlay_payload examples 100 s v payload ≡ w
 
--- The canonical payload of the value.
+-- This is the canonical payload of the value.
 abbrev pub IsWrittenAs : ℕ → Parts → List ℕ → Type 0
 IsWrittenAs s v payload = canonical_payload examples s v ≡ payload
 
@@ -171,16 +171,16 @@ hex (a ∷ []) = []
 hex (a ∷ b ∷ []) = (digit a * 16 + digit b) ∷ []
 hex (a ∷ b ∷ space ∷ cs) = (digit a * 16 + digit b) ∷ hex cs
 
--- A byte so many times.
+-- A byte, n times.
 abbrev pub repeated_byte : ℕ → ℕ → List ℕ
 repeated_byte zero b = []
 repeated_byte (suc n) b = b ∷ repeated_byte n b
 
--- So many messages, each in a field of number 4 of the one before, the last one with this content.
+-- n messages, each in field 4 of the one before; the last one has this content.
 abbrev pub nested_messages : ℕ → List ℕ → List ℕ
 nested_messages zero innermost = innermost
 nested_messages (suc n) innermost = 34 ∷ (shortest_varint (length (nested_messages n innermost)) ++ nested_messages n innermost)
 
--- So many groups of number 9, each in the one before.
+-- n groups of number 9, each in the one before.
 abbrev pub nested_groups : ℕ → List ℕ
 nested_groups n = repeated_byte n 75 ++ repeated_byte n 76

@@ -1,4 +1,4 @@
--- Which values a schema has.
+-- Which values fit a schema.
 use Rattle.std.specs.Prelude.{◌≡◌, ◌<◌, ℕ, ◌^◌, Bool, true, false, ◌&&◌, List, [], ◌∷◌}
 use Rattle.std.specs.Str.{is_utf8}
 use Rattle.shared_core_wire.specs.Schema.{Table, Kind, Row, U32, U64, Boolean, Enumeration, Text, ByteString, Message, Plain, Optional, Repeated, OneOf, numbers, includes}
@@ -12,7 +12,7 @@ is_single (Bytes bytes) = true
 is_single (Nested ps) = true
 is_single p = false
 
--- Whether a part is such as the row's presence allows.
+-- Whether a part has a shape that the row's presence allows.
 abbrev pub has_shape : Row → Part → Bool
 has_shape (Plain n k) p = is_single p
 has_shape (Optional n k) Absent = true
@@ -23,7 +23,7 @@ has_shape (OneOf members) Absent = true
 has_shape (OneOf members) (Member n p) = includes (numbers (OneOf members)) n && is_single p
 has_shape (OneOf members) p = false
 
--- The number is one of the kind.
+-- The number is in the range of the kind.
 abbrev pub NumberFits : Kind → ℕ → Type 0
 NumberFits U32 n = n < 2 ^ 32
 NumberFits U64 n = n < 2 ^ 64
@@ -31,7 +31,7 @@ NumberFits Boolean n = n < 2
 NumberFits Enumeration n = n < 2 ^ 32
 NumberFits k n = ⊥
 
--- The bytes are some of the kind: a text is UTF-8.
+-- The bytes are valid for the kind: a string is UTF-8.
 abbrev pub BytesFit : Kind → List ℕ → Type 0
 BytesFit Text bytes = is_utf8 bytes ≡ true
 BytesFit ByteString bytes = Unit {0}
@@ -39,7 +39,7 @@ BytesFit k bytes = ⊥
 
 module _ (table : Table) where
   unfoldable mutual
-    -- What the part holds is of the kind.
+    -- The part holds a value of the kind.
     pub PartFits : Part → Kind → Type 0
     PartFits Absent k = Unit {0}
     PartFits (Number n) k = NumberFits k n
@@ -54,7 +54,8 @@ module _ (table : Table) where
     ElementsFit nil k = Unit {0}
     ElementsFit (cons p ps) k = (is_single p ≡ true) × PartFits p k × ElementsFit ps k
 
-    -- The value fits the schema: it has one part for each row, such as the row allows and of its kind.
+    -- The value fits the schema: it has one part for each row, with a shape that the row allows and a value of its
+    -- kind.
     pub Fits : Parts → List Row → Type 0
     Fits nil [] = Unit {0}
     Fits nil (row ∷ rows) = ⊥

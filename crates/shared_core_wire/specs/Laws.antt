@@ -9,32 +9,35 @@ use Rattle.shared_core_wire.specs.Overlay.{overlay, overlay_payload, meaning}
 use Rattle.shared_core_wire.specs.Canonical.{canonical_payload, size, levels}
 use Rattle.shared_core_wire.specs.Fitting.{Fits}
 
--- Each number of the table has a schema; a message kind names one of them, since the table has rows at every number.
+-- Every entry of the table is a valid schema; a message kind names one of them, since the table has an entry at every
+-- number.
 abbrev pub AreSchemas : Table → Type 0
 AreSchemas table = (s : ℕ) → is_schema (table s) ≡ true
 
--- The table of a list of schemas has schemas alone.
+-- If every schema of a list is valid, every entry of the list's table is.
 abbrev pub ListedSchemasLaw : List (List Row) → Type 0
 ListedSchemasLaw schemas = list_all is_schema schemas ≡ true → AreSchemas (table_of schemas)
 
--- The value fits the schema s, has at most so many levels, and its size is below 2 ^ 64, as the length of any slice is.
+-- The value fits the schema s, its nesting depth is at most `left`, and its size is below 2 ^ 64, as the length of any
+-- slice is.
 abbrev pub IsWritable : Table → ℕ → ℕ → Parts → Type 0
 IsWritable table left s v = Fits table v (table s) × (levels v ≤ left) × (size table s v < 2 ^ 64)
 
--- A payload is accepted exactly if it is the spelling of records each of which the schema accepts.
+-- A payload is accepted if and only if it encodes a record list whose records the schema accepts.
 abbrev pub AcceptanceLaw : Table → Type 0
 AcceptanceLaw table = (left s : ℕ) (bytes : List ℕ)
     → (accepts_payload table left s bytes ≡ true)
     ↔ ((rs : List FieldRecord) × IsRecordListWithin left bytes rs × (accepts_records table left s rs ≡ true))
 
--- Laying a list over any value, and one more record over that, is laying the longer list over it.
+-- Merging an accepted list into any value, and then one more accepted record, is merging the longer list, which is
+-- accepted too.
 abbrev pub StepLaw : Table → Type 0
 StepLaw table = (left s : ℕ) (v : Parts) (rs : List FieldRecord) (r : FieldRecord)
     → accepts_records table left s rs ≡ true → accepts_records table left s (r ∷ []) ≡ true
     → (accepts_records table left s (rs ++ r ∷ []) ≡ true)
     × (overlay table left s v (rs ++ r ∷ []) ≡ overlay table left s (overlay table left s v rs) (r ∷ []))
 
--- Accepted payloads may be joined, and laying the joined payload over any value is laying the one and then the other over it.
+-- Accepted payloads can be joined, and merging the joined payload into any value is merging the one and then the other.
 abbrev pub MergeLaw : Table → Type 0
 MergeLaw table = (left s : ℕ) (v : Parts) (a b : List ℕ)
     → accepts_payload table left s a ≡ true → accepts_payload table left s b ≡ true
@@ -47,7 +50,7 @@ ReadBackLaw table = (left s : ℕ) (v : Parts) → IsWritable table left s v
     → (accepts_payload table left s (canonical_payload table s v) ≡ true)
     × (meaning table left s (canonical_payload table s v) ≡ v)
 
--- Two values are equal exactly if their canonical payloads are.
+-- Two values are equal if and only if their canonical payloads are.
 abbrev pub OneSpellingLaw : Table → Type 0
 OneSpellingLaw table = (left s : ℕ) (v w : Parts) → IsWritable table left s v → IsWritable table left s w
     → (v ≡ w) ↔ (canonical_payload table s v ≡ canonical_payload table s w)

@@ -1,4 +1,4 @@
--- What a payload means: a value with a whole record list laid over it, field by field.
+-- What a payload means: a whole record list merged into a value, field by field.
 use Rattle.std.specs.Prelude.{ℕ, zero, suc, ◌%◌, ◌^◌, Bool, List, [], ◌∷◌, map, Option, Some, None, nat_eq, ◌==◌, if◌then◌else◌, filter, flat_map}
 use Rattle.std.specs.List.{list_all}
 use Rattle.shared_core_wire.specs.Grammar.{RecordValue, Varint, Length, FieldRecord, content}
@@ -6,18 +6,18 @@ use Rattle.shared_core_wire.specs.Reader.{packed_numbers, record_list}
 use Rattle.shared_core_wire.specs.Schema.{Table, Kind, Row, U32, U64, Boolean, Enumeration, Message, Plain, Optional, Repeated, OneOf, numbers, includes, member_kind}
 use Rattle.shared_core_wire.specs.Value.{Part, Parts, Absent, Number, Bytes, Nested, Elements, Member, nil, cons, ◌+++◌, one_part, empty_value}
 
--- ---- of a record list
+-- ---- record lists
 
--- The last of x and those behind it.
+-- The last of x and the items after it.
 abbrev pub last : {X : Type 0} → X → List X → X
 last x [] = x
 last x (y ∷ ys) = last y ys
 
--- What the records hold.
+-- The values of the records.
 abbrev pub values : List FieldRecord → List RecordValue
 values rs = map (λ r. r.value) rs
 
--- The bytes behind their lengths, joined.
+-- The joined bytes of the length-delimited values.
 abbrev pub joined_contents : List RecordValue → List ℕ
 joined_contents ws = flat_map content ws
 
@@ -34,9 +34,10 @@ abbrev pub last_run : ℕ → List FieldRecord → List FieldRecord
 last_run n [] = []
 last_run n (r ∷ rs) = if all_numbered n (r ∷ rs) then r ∷ rs else last_run n rs
 
--- ---- of one occurrence
+-- ---- one occurrence
 
--- What a varint says of a field: uint32 and an enum keep the low 32 bits, and a bool is whether it is not 0.
+-- The part that a varint gives to a field: a uint32 and an enum keep the low 32 bits, and a bool is true if the number
+-- is not 0.
 abbrev pub number_part : Kind → ℕ → Part
 number_part U32 n = Number (n % 2 ^ 32)
 number_part U64 n = Number n
@@ -44,7 +45,7 @@ number_part Boolean n = Number (if n == 0 then 0 else 1)
 number_part Enumeration n = Number (n % 2 ^ 32)
 number_part k n = Absent
 
--- What an occurrence says of a field that is no message.
+-- The part that an occurrence gives to a field that is not a message.
 abbrev pub scalar_part : Kind → RecordValue → Part
 scalar_part k (Varint n) = number_part k n
 scalar_part k (Length bytes) = Bytes bytes
@@ -60,7 +61,7 @@ abbrev pub low_numbers : List ℕ → Parts
 low_numbers [] = nil
 low_numbers (n ∷ ns) = cons (Number (n % 2 ^ 32)) (low_numbers ns)
 
--- The elements that a packed run says.
+-- The elements of a packed run.
 abbrev pub packed_elements : Option (List ℕ) → Parts
 packed_elements None = nil
 packed_elements (Some ns) = low_numbers ns
@@ -70,31 +71,32 @@ abbrev pub with_elements : Part → Parts → Part
 with_elements (Elements ps) qs = Elements (ps +++ qs)
 with_elements p qs = p
 
--- What a oneof holds at a member's number.
+-- What a oneof holds at a member's number: the member, if it is the one that is present.
 abbrev pub member_at : ℕ → Part → Part
 member_at n (Member m p) = if nat_eq m n then p else Absent
 member_at n p = Absent
 
 -- ---- field by field
 
--- What bytes that stand as a message of the schema with this number make of a message.
+-- How the bytes of a nested message are merged into a message of the schema with this number.
 abbrev pub NestedOverlay : Type 0
 NestedOverlay = ℕ → Parts → List ℕ → Parts
 
 module _ (table : Table) (nested : NestedOverlay) where
-  -- What the occurrences w and ws of a field that is not repeated say over a part: a message's occurrences mean their joined bytes,
-  -- laid over the message that the part holds or over the empty one; of any other field the last occurrence counts.
+  -- The part of a field that is not repeated, with the occurrences w and ws merged into it: of a message their joined
+  -- bytes are merged into the message that the part holds, or into the empty one; of any other field the last
+  -- occurrence counts.
   abbrev pub singular_of : Kind → Part → RecordValue → List RecordValue → Part
   singular_of (Message s) p w ws = Nested (nested s (message_in (empty_value (table s)) p) (joined_contents (w ∷ ws)))
   singular_of k p w ws = scalar_part k (last w ws)
 
-  -- The part of a field that is not repeated, with its occurrences laid over it; without one it stays.
+  -- The part of a field that is not repeated, with its occurrences merged into it; without any it is unchanged.
   abbrev pub singular_over : Kind → Part → List RecordValue → Part
   singular_over k p [] = p
   singular_over k p (w ∷ ws) = singular_of k p w ws
 
-  -- The elements that one occurrence adds to a repeated field: of a packed run each number, and of a message the meaning of its own bytes
-  -- alone.
+  -- The elements that one occurrence adds to a repeated field: each number of a packed run, or one element; a message
+  -- is the meaning of its own bytes alone.
   abbrev pub elements_of : Kind → RecordValue → Parts
   elements_of U32 (Length bytes) = packed_elements (packed_numbers bytes)
   elements_of (Message s) (Length bytes) = one_part (Nested (nested s (empty_value (table s)) bytes))
@@ -105,59 +107,61 @@ module _ (table : Table) (nested : NestedOverlay) where
   all_elements k [] = nil
   all_elements k (w ∷ ws) = elements_of k w +++ all_elements k ws
 
-  -- The part of a repeated field, with its occurrences laid over it: their elements stand behind its own.
+  -- The part of a repeated field, with its occurrences merged into it: their elements come after its own.
   abbrev pub repeated_over : Kind → Part → List RecordValue → Part
   repeated_over k p [] = p
   repeated_over k p (w ∷ ws) = with_elements p (all_elements k (w ∷ ws))
 
-  -- A oneof's member of number n, the number of its last record: the longest run of that number at the end, laid over the member that the
-  -- part holds where all the oneof's records are of that number, and otherwise over nothing.
+  -- A oneof's member of number n, the number of its last record: the longest run of that number at the end, merged into
+  -- the member of that number that the part holds if all the oneof's records are of that number, and into nothing
+  -- otherwise.
   abbrev pub member_over : List (ℕ × Kind) → Part → List FieldRecord → ℕ → Part
   member_over members p rs n =
       Member n (singular_over (member_kind members n) (if all_numbered n rs then member_at n p else Absent) (values (last_run n rs)))
 
-  -- The part of a oneof, with its records laid over it: it holds the member of its last record; without one it stays.
+  -- The part of a oneof, with its records merged into it: it holds the member of its last record; without any it is
+  -- unchanged.
   abbrev pub oneof_over : List (ℕ × Kind) → Part → List FieldRecord → Part
   oneof_over members p [] = p
   oneof_over members p (r ∷ rs) = member_over members p (r ∷ rs) (last r rs).number
 
-  -- The part of a row, with its own records laid over it.
+  -- The part of a row, with its own records merged into it.
   abbrev pub row_over : Row → Part → List FieldRecord → Part
   row_over (Plain n k) p rs = singular_over k p (values rs)
   row_over (Optional n k) p rs = singular_over k p (values rs)
   row_over (Repeated n k) p rs = repeated_over k p (values rs)
   row_over (OneOf members) p rs = oneof_over members p rs
 
-  -- The parts of a message, with a record list laid over them: over each row's part the records of that row.
+  -- The parts of a message, with a record list merged into them: into each row's part the records of that row.
   abbrev pub rows_over : List Row → Parts → List FieldRecord → Parts
   rows_over [] ps rs = ps
   rows_over (row ∷ rows) nil rs = nil
   rows_over (row ∷ rows) (cons p ps) rs = cons (row_over row p (own_records row rs)) (rows_over rows ps rs)
 
--- ---- at all levels
+-- ---- at any nesting depth
 
 -- The list that was found, or the empty one.
 abbrev pub or_empty : Option (List FieldRecord) → List FieldRecord
 or_empty None = []
 or_empty (Some rs) = rs
 
--- The records of a payload, below which so many levels are left; none where it is no record list.
+-- The records of a payload, which allow `left` levels of nesting; none if it is not a record list.
 abbrev pub payload_records : ℕ → List ℕ → List FieldRecord
 payload_records left bytes = or_empty (record_list left bytes)
 
--- The message v of a record, below which so many levels are left, with bytes that stand as a message laid over it.
+-- The nested message v with bytes merged into it, where the record that holds them allows `left` levels of nesting.
 unfoldable pub message_overlay : Table → ℕ → NestedOverlay
 message_overlay table zero s v bytes = v
 message_overlay table (suc left) s v bytes = rows_over table (message_overlay table left) (table s) v (payload_records left bytes)
 
--- The value v with a whole record list, below whose records so many levels are left, laid over it.
+-- The value v with a whole record list merged into it, whose records allow `left` levels of nesting.
 abbrev pub overlay : Table → ℕ → ℕ → Parts → List FieldRecord → Parts
 overlay table left s v rs = rows_over table (message_overlay table left) (table s) v rs
 
--- The value v with the records of a payload laid over it.
+-- The value v with the records of a payload merged into it.
 abbrev pub overlay_payload : Table → ℕ → ℕ → Parts → List ℕ → Parts
 overlay_payload table left s v bytes = overlay table left s v (payload_records left bytes)
 
--- The meaning of a payload: its records laid over the empty value.
+-- The meaning of a payload: its records merged into the empty value.
 abbrev pub meaning : Table → ℕ → ℕ → List ℕ → Parts
 meaning table left s bytes = overlay_payload table left s (empty_value (table s)) bytes

@@ -1,4 +1,4 @@
--- The records that are read of a payload, one after the other: what reading gives.
+-- The items that reading a payload gives: its records, and at most one error.
 use Rattle.std.specs.Prelude.{◌≡◌, ℕ, zero, suc, ◌+◌, ◌-◌, ◌<◌, ◌≤◌, List, [], ◌∷◌, length, Option, Some, None, Result, Ok, Err}
 use Rattle.std.specs.List.{slice_range}
 use Rattle.shared_core_wire.specs.declared.error.WireError.{WireError}
@@ -6,18 +6,18 @@ use Rattle.shared_core_wire.specs.declared.error.WireError.TheVariants.{Malforme
 use Rattle.shared_core_wire.specs.Grammar.{RecordValue, Varint, Fixed64, Length, Group, Fixed32, FieldRecord}
 use Rattle.shared_core_wire.specs.Reader.{record_at}
 
--- A record, and from where to where its bytes lie in the payload (the byte at `to` is the first behind it).
+-- A record, and where its bytes are in the payload: from an offset to the offset after its last byte.
 pub record PlacedRecord : Type 0 where
   pub field_record : FieldRecord
   pub from : ℕ
   pub to : ℕ
 
--- The bytes are a slice of the payload between two places.
+-- The bytes are a slice of the payload between two offsets.
 abbrev pub IsSliceWithin : List ℕ → ℕ → ℕ → List ℕ → Type 0
 IsSliceWithin payload from to bytes = (start : ℕ) × (from ≤ start) × (start + length bytes ≤ to)
     × (slice_range payload start (start + length bytes) ≡ bytes)
 
--- The slice of a value, where it has one, is a slice of the payload between two places.
+-- The slice of a value, if it has one, is a slice of the payload between two offsets.
 abbrev pub IsValueWithin : List ℕ → ℕ → ℕ → RecordValue → Type 0
 IsValueWithin payload from to (Varint n) = Unit {0}
 IsValueWithin payload from to (Fixed64 bytes) = IsSliceWithin payload from to bytes
@@ -25,9 +25,10 @@ IsValueWithin payload from to (Length bytes) = IsSliceWithin payload from to byt
 IsValueWithin payload from to (Group bytes) = IsSliceWithin payload from to bytes
 IsValueWithin payload from to (Fixed32 bytes) = IsSliceWithin payload from to bytes
 
--- What the bytes of the payload from a place on give, where Spells says which bytes spell a record. Records come in order, the span of
--- each beginning where the one before ended; the slice of its span spells it, and its value's slice is part of that. They end without
--- Malformed at the payload's end. Malformed comes where bytes are left that begin with no record, and nothing comes behind it.
+-- The items that the bytes of the payload from an offset on give, where Spells says which bytes encode a record.
+-- Records come in order, and the span of each begins where the one before ended; the slice of its span encodes it, and
+-- its value's slice is part of that. The list ends without Malformed at the payload's end. Malformed comes where bytes
+-- are left that do not begin with a record, and it is the last item.
 abbrev pub AreRecordsFrom : (List ℕ → FieldRecord → Type 0) → List ℕ → ℕ → List (Result PlacedRecord WireError) → Type 0
 AreRecordsFrom Spells payload place [] = place ≡ length payload
 AreRecordsFrom Spells payload place (Ok r ∷ items) = (r.from ≡ place) × (r.from < r.to) × (r.to ≤ length payload)
@@ -37,12 +38,12 @@ AreRecordsFrom Spells payload place (Ok r ∷ items) = (r.from ≡ place) × (r.
 AreRecordsFrom Spells payload place (Err e ∷ items) = (e ≡ Malformed) × (items ≡ []) × (place < length payload)
     × ((to : ℕ) (r : FieldRecord) → Spells (slice_range payload place to) r → ⊥)
 
--- A record without its place.
+-- A record without its offsets.
 abbrev pub without_place : Result PlacedRecord WireError → Result FieldRecord WireError
 without_place (Ok r) = Ok r.field_record
 without_place (Err e) = Err e
 
--- How many records were read.
+-- The number of records among the items.
 abbrev pub record_count : List (Result PlacedRecord WireError) → ℕ
 record_count [] = 0
 record_count (Ok r ∷ items) = suc (record_count items)
@@ -50,7 +51,8 @@ record_count (Err e ∷ items) = record_count items
 
 -- ---- computed
 
--- What reading gives of some last bytes of a payload of length end, where one reads a record and the next past bytes are passed over first.
+-- The items of the last bytes of a payload of length `end`, where `one` reads a record and the next `past` bytes are
+-- skipped first.
 unfoldable pub records_past : (List ℕ → Option (FieldRecord × List ℕ)) → ℕ → ℕ → List ℕ → List (Result PlacedRecord WireError)
 records_past one end past [] = []
 records_past one end (suc past) (b ∷ bs) = records_past one end past bs
@@ -59,6 +61,6 @@ records_past one end zero (b ∷ bs) = elim (one (b ∷ bs)) [
   | Some r ↦ Ok (record { field_record = r.0; from = end - length (b ∷ bs); to = end - length r.1 }) ∷ records_past one end (length bs - length r.1) bs
 ]
 
--- What reading a payload gives, where so many levels are left below its records.
+-- The items of a payload, whose records allow `left` levels of nesting.
 unfoldable pub read_records : ℕ → List ℕ → List (Result PlacedRecord WireError)
 read_records left payload = records_past (record_at left) (length payload) 0 payload

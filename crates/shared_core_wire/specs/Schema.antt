@@ -3,7 +3,8 @@ use Rattle.std.specs.Prelude.{ℕ, zero, suc, Bool, true, ◌&&◌, not, List, [
 use Rattle.std.specs.List.{list_all, list_any}
 use Rattle.shared_core_wire.specs.Spelling.{is_field_number}
 
--- The kind of a field: uint32, uint64, bool, an enum, string, bytes, or a message of the schema that the table has at a number.
+-- The kind of a field: uint32, uint64, bool, an enum, string, bytes, or a message of the schema that the table has at a
+-- number.
 pub data Kind : Type 0 where
   U32 : Kind
   U64 : Kind
@@ -13,7 +14,8 @@ pub data Kind : Type 0 where
   ByteString : Kind
   Message : ℕ → Kind
 
--- A row of a schema: a field's number and kind by its presence (Optional also for each message field), or a oneof with its members.
+-- A row of a schema: a field's number and kind by its presence (Optional also for each message field), or a oneof with
+-- its members.
 pub data Row : Type 0 where
   Plain : ℕ → Kind → Row
   Optional : ℕ → Kind → Row
@@ -24,7 +26,7 @@ pub data Row : Type 0 where
 abbrev pub Table : Type 0
 Table = ℕ → List Row
 
--- The table of a list of schemas, by their places; at every other number stands a message without fields.
+-- The table of a list of schemas, by their index; every other number has a message without fields.
 abbrev pub table_of : List (List Row) → Table
 table_of [] s = []
 table_of (rows ∷ schemas) zero = rows
@@ -46,7 +48,7 @@ abbrev pub member_kind : List (ℕ × Kind) → ℕ → Kind
 member_kind [] n = ByteString
 member_kind (m ∷ members) n = if nat_eq n m.0 then m.1 else member_kind members n
 
--- Whether no number stands twice.
+-- Whether no number occurs twice.
 abbrev pub are_distinct : List ℕ → Bool
 are_distinct [] = true
 are_distinct (n ∷ ns) = not (includes ns n) && are_distinct ns
@@ -56,6 +58,6 @@ abbrev pub all_numbers : List Row → List ℕ
 all_numbers [] = []
 all_numbers (row ∷ rows) = numbers row ++ all_numbers rows
 
--- Whether the rows are a schema: their numbers are field numbers, and no two fields share one.
+-- Whether the rows are a valid schema: their numbers are field numbers, and no two fields share one.
 abbrev pub is_schema : List Row → Bool
 is_schema rows = list_all is_field_number (all_numbers rows) && are_distinct (all_numbers rows)

@@ -1,21 +1,21 @@
--- The shortest spellings, which canonical payloads are made of.
+-- The shortest encodings, of which canonical payloads are made.
 use Rattle.std.specs.Prelude.{ℕ, zero, suc, ◌+◌, ◌*◌, ◌/◌, ◌%◌, ◌^◌, Bool, ◌&&◌, List, [], ◌∷◌, ◌++◌, length, nat_lt, if◌then◌else◌, flat_map}
 use Rattle.shared_core_wire.specs.Grammar.{Varint, Fixed64, Length, Group, Fixed32, FieldRecord}
 
--- A number in groups of seven bits, where at most so many bytes stand before the last.
+-- A number in groups of seven bits, with at most the given number of bytes before the last.
 unfoldable pub shortest_within : ℕ → ℕ → List ℕ
 shortest_within zero n = n ∷ []
 shortest_within (suc most) n = if nat_lt n 128 then n ∷ [] else (n % 128 + 128) ∷ shortest_within most (n / 128)
 
--- The shortest spelling of a number as a varint; a number without bound takes more bytes in the same manner.
+-- The shortest encoding of a number as a varint; a number of more than 64 bits is encoded in the same manner.
 unfoldable pub shortest_varint : ℕ → List ℕ
 shortest_varint n = shortest_within n n
 
--- The shortest spelling of a key.
+-- The shortest encoding of a key.
 abbrev pub key_bytes : ℕ → ℕ → List ℕ
 key_bytes number wire = shortest_varint (8 * number + wire)
 
--- The spelling of a record whose key, number and length are the shortest.
+-- The encoding of a record whose key, number and length are the shortest.
 abbrev pub record_bytes : FieldRecord → List ℕ
 record_bytes r = elim r.value [
   | Varint n ↦ key_bytes r.number 0 ++ shortest_varint n
@@ -25,7 +25,7 @@ record_bytes r = elim r.value [
   | Fixed32 bytes ↦ key_bytes r.number 5 ++ bytes
 ]
 
--- The spelling of a record list.
+-- The encoding of a record list.
 abbrev pub record_list_bytes : List FieldRecord → List ℕ
 record_list_bytes rs = flat_map record_bytes rs
 

@@ -1,4 +1,4 @@
--- A payload of one schema, read by the template of a view.
+-- A payload of one schema, decoded with the template of a view.
 use Rattle.std.specs.Prelude.{◌≡◌, ℕ, suc, Bool, true, false, not, ◌&&◌, ◌||◌, List, [], ◌∷◌, nat_eq, if◌then◌else◌}
 use Rattle.std.specs.List.{list_all, list_any}
 use Rattle.shared_core_wire.specs.Grammar.{FieldRecord}
@@ -7,7 +7,7 @@ use Rattle.shared_core_wire.specs.Value.{Part, Parts, Absent, nil, cons}
 use Rattle.shared_core_wire.specs.Acceptance.{accepts_payload}
 use Rattle.shared_core_wire.specs.Overlay.{member_at, payload_records, meaning}
 
--- The place of the row that has a number.
+-- The index of the row that has a number.
 abbrev pub row_index : List Row → ℕ → ℕ
 row_index [] n = 0
 row_index (row ∷ rows) n = if includes (numbers row) n then 0 else suc (row_index rows n)
@@ -45,17 +45,18 @@ abbrev pub is_repeated : Row → Bool
 is_repeated (Repeated n k) = true
 is_repeated row = false
 
--- Whether two answers agree.
+-- Whether two booleans are equal.
 abbrev pub agree : Bool → Bool → Bool
 agree true b = b
 agree false b = not b
 
--- Whether two numbers share a row exactly where they share one of the template's.
+-- Whether two numbers share a row if and only if they share one of the template's.
 abbrev pub share_alike : List Row → List Row → ℕ → ℕ → Bool
 share_alike template rows n m = agree (nat_eq (row_index rows n) (row_index rows m)) (nat_eq (row_index template n) (row_index template m))
 
--- Whether the schema's rows are rows of the template, whose rows are oneofs: none of them is repeated, each number is one of the template's,
--- of the same kind, and two numbers share a row exactly where they share one of the template's.
+-- Whether the schema's rows are rows of the template, whose rows are oneofs: none of the schema's rows is repeated,
+-- each of its numbers is in the template with the same kind, and two numbers share a row if and only if they share one
+-- of the template's.
 abbrev pub is_within_template : List Row → List Row → Bool
 is_within_template template rows =
     list_all is_oneof template
@@ -76,12 +77,13 @@ part_at [] v n = Absent
 part_at (row ∷ rows) nil n = Absent
 part_at (row ∷ rows) (cons p ps) n = if includes (numbers row) n then part_in_row row p n else part_at rows ps n
 
--- Whether each record's number is one of the schema's, or none of the template's.
+-- Whether each record's number is in the schema, or not in the template.
 abbrev pub are_apart : List Row → List Row → List FieldRecord → Bool
 are_apart template rows rs = list_all (λ r. includes (all_numbers rows) r.number || not (includes (all_numbers template) r.number)) rs
 
--- A payload that the schema t accepts, whose rows are rows of the template s, is accepted by the template; and at each number of the
--- template that stands in the payload the template holds what t's meaning holds there.
+-- If the rows of the schema t are rows of the template s, and no record that t skips has a number of s, a payload that
+-- t accepts is accepted by the template, which holds at each of its numbers that occurs in the payload what t's meaning
+-- holds there.
 abbrev pub ViewLaw : Table → Type 0
 ViewLaw table = (left s t : ℕ) (payload : List ℕ)
     → is_schema (table s) ≡ true → is_schema (table t) ≡ true → is_within_template (table s) (table t) ≡ true

@@ -1,14 +1,14 @@
-//! Why a payload was not read.
+//! The error type of this crate.
 
 use thiserror::Error;
 
-/// Why a payload was not read.
+/// An error of reading a payload.
 #[derive(Clone, Copy, Debug, PartialEq, Eq, Error)]
 pub enum WireError {
-    /// The bytes spell no record list, or one that isn't well-formed for its schema.
+    /// The bytes are not the encoding of a record list, or the records are not well-formed for the schema.
     #[error("malformed payload")]
     Malformed,
-    /// A request for memory was refused.
+    /// An allocation failed.
     #[error("out of memory")]
     OutOfMemory,
 }

@@ -1,5 +1,5 @@
-//! Payloads that were worked out by hand, by which the definitions of acceptance, meaning and canonical spelling are tried. Each is the
-//! contract of a function that does nothing, and is proved by computing.
+//! Hand-checked payloads, which test the definitions of acceptance, meaning and canonical encoding. Each example is the
+//! contract of a function that does nothing, and is proved by evaluating the definitions.
 
 ghost use Rattle.std.specs.Prelude.{◌≡◌, ℕ, List, [], ◌∷◌, ◌++◌, true, false, codes};
 ghost use Rattle.std.specs.List.{list_all};
@@ -9,29 +9,30 @@ ghost use Rattle.shared_core_wire.specs.Template.{is_within_template};
 ghost use Rattle.shared_core_wire.specs.Examples.{void, value, failure, future, suspension, lists, completion, signal, clear, sleep, options, input, attach, keys_completion, text_completion, template, schemas, examples};
 ghost use Rattle.shared_core_wire.specs.Examples.{a_failure, a_future, completions_alone, two, Means, IsAccepted, IsMalformed, Merges, IsWrittenAs, hex, repeated_byte, nested_messages, nested_groups};
 
-/// Packed and single numbers of a repeated field stand in the order of their records.
+/// The elements of a repeated field are in the order of its records, packed or not.
 pub fn repeated_numbers()
     ensures mixed { Means lists (hex (codes "08 01 0A 02 02 03 08 04"))
         (completions_alone (1 ∷ 2 ∷ 3 ∷ 4 ∷ [])) }
-    // the run isn't filled exactly
+    // the packed run ends within a varint
     ensures unfilled { IsMalformed lists (hex (codes "0A 02 01 80")) }
 {}
 
-/// A oneof holds the member of its last record, whose message is the joined bytes of the last unbroken run.
+/// A oneof holds the member of its last record. A message member is decoded from the joined bytes of the last unbroken
+/// run of its records.
 pub fn oneof_runs()
     ensures run { Means completion (hex (codes "08 01 32 02 08 05 32 03 12 01 78"))
         (two (Number 1) (Member 6 (Nested (a_failure 5 (codes "x"))))) }
-    // a record outside the oneof breaks no run
+    // a record outside the oneof does not break the run
     ensures outside { Means completion (hex (codes "32 02 08 05 08 02 32 03 12 01 78"))
         (two (Number 2) (Member 6 (Nested (a_failure 5 (codes "x"))))) }
-    // another member does
+    // a record of another member does
     ensures broken { Means completion (hex (codes "08 01 32 02 08 05 22 00 32 03 12 01 78"))
         (two (Number 1) (Member 6 (Nested (a_failure 0 (codes "x"))))) }
-    // the joined bytes would be well-formed, but each occurrence is to be so by itself
+    // the joined bytes are well-formed, but each occurrence must be well-formed by itself
     ensures each { IsMalformed completion (hex (codes "08 01 32 01 08 32 01 05")) }
 {}
 
-/// Merging goes on where the value stands.
+/// Payloads merged into values that already hold something.
 pub fn merged_values()
     ensures same { Merges completion (two (Number 0) (Member 6 (Nested (a_failure 5 []))))
         (hex (codes "32 03 12 01 78")) (two (Number 0) (Member 6 (Nested (a_failure 5 (codes "x"))))) }
@@ -47,7 +48,7 @@ pub fn merged_values()
         (hex (codes "0A 02 02 03")) (completions_alone (1 ∷ 2 ∷ 3 ∷ [])) }
 {}
 
-/// Messages within messages merge as their bytes do; elements of a repeated message do not.
+/// A nested message field is merged; the elements of a repeated message field are appended.
 pub fn merged_messages()
     ensures element { Merges suspension (one_part (Nested (a_future (1 ∷ []) [] nil nil)))
         (hex (codes "22 05 22 03 0A 01 02"))
@@ -57,14 +58,15 @@ pub fn merged_messages()
         (hex (codes "22 05 22 03 0A 01 02"))
         (one_part (Nested (a_future (1 ∷ []) [] nil
         (cons (Nested (a_future (2 ∷ []) [] nil nil)) (one_part (Nested (a_future (2 ∷ []) [] nil nil))))))) }
-    // an empty message changes nothing, an empty element is one
+    // an empty message changes nothing; an empty element is appended
     ensures nothing { Merges suspension (one_part (Nested (a_future (1 ∷ []) [] nil nil)))
         (hex (codes "22 00")) (one_part (Nested (a_future (1 ∷ []) [] nil nil))) }
     ensures empty_element { Merges future (a_future (1 ∷ []) [] nil nil)
         (hex (codes "22 00")) (a_future (1 ∷ []) [] nil (one_part (Nested (a_future [] [] nil nil)))) }
 {}
 
-/// Longer varints than needed are accepted, a u32 keeps the low 32 bits, and another wire type than the kind's is malformed.
+/// A varint may be longer than necessary, and a `uint32` keeps its low 32 bits. A record with a wire type other than
+/// its field's is malformed.
 pub fn numbers()
     ensures longer { Means completion (hex (codes "08 81 00")) (two (Number 1) Absent) }
     ensures longer_key { Means completion (hex (codes "88 00 01")) (two (Number 1) Absent) }
@@ -79,26 +81,27 @@ pub fn numbers()
     ensures cut { IsMalformed completion (hex (codes "08")) }
 {}
 
-/// A text must be UTF-8 in each occurrence; the last one counts.
+/// A string must be UTF-8 in each occurrence; the last occurrence is its value.
 pub fn texts()
     ensures not_utf8 { IsMalformed clear (hex (codes "62 01 FF 62 01 61")) }
     ensures last { Means clear (hex (codes "62 01 62 62 01 61")) (one_part (Bytes (codes "a"))) }
 {}
 
-/// The occurrences of a message field mean their joined bytes.
+/// The occurrences of a message field mean what their joined bytes mean.
 pub fn message_fields()
     ensures kept { Means input (hex (codes "72 04 0A 02 69 6E 72 00"))
         (two (Bytes []) (Nested (one_part (Bytes (codes "in"))))) }
     ensures replaced { Means input (hex (codes "72 04 0A 02 69 6E 72 03 0A 01 78"))
         (two (Bytes []) (Nested (one_part (Bytes (codes "x"))))) }
-    // the length passes the end
+    // the length is greater than the number of bytes that are left
     ensures long { IsMalformed input (hex (codes "72 05 0A")) }
     ensures longest { IsMalformed input (114 ∷ (repeated_byte 9 255 ++ 1 ∷ [])) }
 {}
 
-/// A record of no number of the schema is skipped, whatever its wire type; what spells no record is malformed.
+/// A record whose number is not in the schema is skipped, whatever its wire type. Bytes that do not encode a record are
+/// malformed.
 pub fn unknown_records()
-    // the greatest number, and a key past 32 bits
+    // the greatest field number, and a key of more than 32 bits
     ensures greatest { Means void (hex (codes "F8 FF FF FF 0F 00")) nil }
     ensures wide_key { IsMalformed void (hex (codes "80 80 80 80 10 00")) }
     ensures number_zero { IsMalformed void (hex (codes "00 01")) }
@@ -110,11 +113,11 @@ pub fn unknown_records()
     ensures bytes { Means void (hex (codes "0A 01 FF")) nil }
     ensures four_bytes { Means void (hex (codes "7D 01 02 03 04")) nil }
     ensures three_bytes { IsMalformed void (hex (codes "7D 01 02 03")) }
-    // a group where the number is one of the schema's
+    // a group whose number is in the schema
     ensures known_group { IsMalformed value (hex (codes "0B 0C")) }
 {}
 
-/// Level 100 is accepted, level 101 is malformed.
+/// Messages and groups nested 100 deep are accepted; nested 101 deep they are malformed.
 pub fn levels()
     ensures messages { IsAccepted suspension (nested_messages 100 []) }
     ensures more_messages { IsMalformed suspension (nested_messages 101 []) }
@@ -124,7 +127,7 @@ pub fn levels()
     ensures groups_below { IsMalformed suspension (nested_messages 99 (nested_groups 2)) }
 {}
 
-/// Canonical payloads.
+/// Values and their canonical encodings.
 pub fn canonical_payloads()
     ensures empty_message { IsWrittenAs signal
         (two (Member 3 (Bytes (codes "abc"))) (Member 6 (Nested (a_failure 0 []))))
@@ -152,7 +155,7 @@ pub fn canonical_payloads()
         (hex (codes "22 10 12 01 01 22 0B 0A 01 01 12 01 11 1A 03 61 62 63")) }
 {}
 
-/// Which schemas a template reads.
+/// Which schemas are within a template.
 pub fn templates()
     ensures completion { is_within_template (examples template) (examples completion) ≡ true }
     ensures signal { is_within_template (examples template) (examples signal) ≡ true }
@@ -160,11 +163,11 @@ pub fn templates()
     ensures text { is_within_template (examples template) (examples text_completion) ≡ true }
     // other kinds, and a repeated field
     ensures failure { is_within_template (examples template) (examples failure) ≡ false }
-    // a number that is none of the template's
+    // a number that is not in the template
     ensures sleep { is_within_template (examples template) (examples sleep) ≡ false }
 {}
 
-/// The table has schemas alone.
+/// Every schema of the examples is valid.
 pub fn example_schemas()
     ensures { list_all is_schema schemas ≡ true }
 {}

@@ -1,4 +1,4 @@
-//! The payload of a message: its records, and what it means for a schema.
+//! Reading the records of a payload, and the definitions of what a payload means for a schema.
 #![tactic(auto)]
 
 pub mod error;

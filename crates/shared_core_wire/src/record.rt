@@ -6,14 +6,14 @@ ghost use Rattle.shared_core_wire.specs.View.{value_of};
 
 use crate::varint::read_varint;
 
-/// What a record holds. The slices are parts of the payload.
+/// The value of a record. The slices borrow from the payload.
 #[derive(Clone, Copy, Debug, PartialEq, Eq)]
 pub enum WireValue<'a> {
     /// Wire type 0: a varint.
     Varint(u64),
     /// Wire type 1: eight bytes.
     Fixed64(&'a [u8]),
-    /// Wire type 2: the bytes behind their length.
+    /// Wire type 2: the bytes after the length.
     Length(&'a [u8]),
     /// Wire types 3 and 4: the bytes of the records between a group's start and its end.
     Group(&'a [u8]),
@@ -21,8 +21,8 @@ pub enum WireValue<'a> {
     Fixed32(&'a [u8]),
 }
 
-/// Reads a key: its field number, its wire type and the bytes behind it, or None where no key of at most 32 bits with a number of at
-/// least 1 begins the bytes.
+/// Reads a key. Returns its field number, its wire type and the bytes after it, or `None` if the bytes do not begin
+/// with a key of at most 32 bits and a field number of at least 1.
 #[inline(always)]
 #[tactic(auto, unfolding(crate::specs::Reader::key_at))]
 fn read_key(bytes: &[u8]) -> Option<(u32, u8, &[u8])>
@@ -35,7 +35,7 @@ fn read_key(bytes: &[u8]) -> Option<(u32, u8, &[u8])>
     Some(((key / 8) as u32, (key % 8) as u8, rest))
 }
 
-/// Splits off so many bytes, or None where there are fewer.
+/// Splits off the first `len` bytes. Returns `None` if there are fewer.
 #[inline(always)]
 #[tactic(auto, unfolding(crate::specs::Reader::bytes_at))]
 fn read_bytes(len: u64, bytes: &[u8]) -> Option<(&[u8], &[u8])>
@@ -47,7 +47,8 @@ fn read_bytes(len: u64, bytes: &[u8]) -> Option<(&[u8], &[u8])>
     Some(bytes.split_at(len as usize))
 }
 
-/// Reads the value behind a key, and the bytes behind it, where so many levels are left below the record.
+/// Reads the value after a key; groups may be nested `left` deep. Returns the value and the bytes after it, or `None`
+/// if the bytes do not begin with such a value.
 #[inline(always)]
 #[cycle(value)]
 #[tactic(auto, unfolding(crate::specs::Reader::value_with, crate::specs::Reader::group_content_at))]
@@ -74,7 +75,7 @@ fn read_value<'a>(
             Some((WireValue::Length(content), rest))
         }
         3 => {
-            // the group's records would stand below the last level
+            // the group would exceed the nesting depth
             if left == 0 {
                 return None;
             }
@@ -89,7 +90,8 @@ fn read_value<'a>(
     }
 }
 
-/// Reads the content of a group whose start was read, and the bytes behind its end, where so many levels are left below its records.
+/// Reads the content of a group after its start key; groups within it may be nested `left` deep. Returns the content
+/// and the bytes after the end key, or `None` if the content is not records or the group does not end.
 #[cycle(value)]
 #[tactic(auto, using(crate::proofs::GroupLoop::group_ends, crate::proofs::GroupLoop::group_other))]
 fn read_group<'a>(number: u32, bytes: &'a [u8], left: u32) -> Option<(&'a [u8], &'a [u8])>
@@ -111,8 +113,8 @@ fn read_group<'a>(number: u32, bytes: &'a [u8], left: u32) -> Option<(&'a [u8], 
     None
 }
 
-/// Reads a record: its field number, its value and the bytes behind it, where so many levels are left below it, or None where no record
-/// begins the bytes.
+/// Reads a record; groups may be nested `left` deep. Returns its field number, its value and the bytes after it, or
+/// `None` if the bytes do not begin with a record.
 #[inline(always)]
 #[tactic(auto, unfolding(crate::specs::Reader::record_at, crate::specs::Reader::record_with))]
 pub fn read_record(bytes: &[u8], left: u32) -> Option<(u32, WireValue<'_>, &[u8])>

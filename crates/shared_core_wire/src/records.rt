@@ -1,4 +1,4 @@
-//! The records of a payload, one after the other.
+//! An iterator over the records of a payload.
 
 ghost use Rattle.std.specs.Prelude.{◌≡◌, ◌≤◌, ◌-◌, ◌+◌, ◌*◌, ◌↔◌, List, length, map, Ok};
 
@@ -10,20 +10,20 @@ use crate::record::{WireValue, read_record};
 pub struct Record<'a> {
     /// The field number, from 1 to 536,870,911.
     pub number: u32,
-    /// What it holds.
+    /// Its value.
     pub value: WireValue<'a>,
-    /// From where to where its bytes lie in the payload, key included, in bytes.
+    /// Where its bytes are in the payload, key included: the offset of the first byte, and the offset after the last.
     pub span: (usize, usize),
 }
 
-/// The records of a payload, in order. Where bytes are left that begin with no record it gives `WireError::Malformed` once, and then it
-/// ends. It takes no memory, and goes over each byte of a record once.
+/// Iterates over the records of a payload, in order. If the bytes that are left do not begin with a record, it returns
+/// `WireError::Malformed` once, and then it ends. It does not allocate, and makes one pass over the bytes.
 #[derive(Drop)]
 pub struct Records<'a> {
     rest: &'a [u8],
     /// The length of the payload, in bytes.
     end: usize,
-    /// How many levels are left below the records.
+    /// How deep groups may be nested in the records.
     left: u32,
     ghost inside: { length rest.now ≤ end },
 }
@@ -34,21 +34,21 @@ impl<'a> Records<'a> {
     ghost use Rattle.shared_core_wire.specs.RecordsLeft.{records_left};
     ghost use Rattle.shared_core_wire.specs.Places.{EachLies};
 
-    /// The records of a whole payload, which stand at level 0.
+    /// Returns an iterator over the records of a whole payload, at nesting depth 0.
     pub fn new(payload: &'a [u8]) -> Records<'a>
-        // what comes, where it lies, and where it ends
+        // each item, where its bytes are, and how the list ends
         ensures items { AreRecordsFrom (IsRecord 0) payload.now 0 (records_left result) }
-        // it ends without Malformed exactly where the payload is a record list, whose records came
+        // it ends without Malformed if and only if the payload is a record list, and then it returned its records
         ensures complete { (rs : List FieldRecord)
             → IsRecordList 0 payload.now rs ↔ (map without_place (records_left result) ≡ map Ok rs) }
-        // a record takes two bytes at least
+        // a record takes at least two bytes
         ensures few { 2 * record_count (records_left result) ≤ length payload.now }
     {
         Records::at_level(payload, 0)
     }
 
-    /// The records of bytes that stand at a level, from 0 to 100: those of a message field or of a group stand one level deeper than the
-    /// field. Level 100 is the last (this project's own).
+    /// Returns an iterator over the records of bytes at a nesting depth from 0 to 100. The records of a message field
+    /// or of a group are one deeper than the field. Depth 100 is the greatest (this project's own limit).
     pub fn at_level(payload: &'a [u8], level: u32) -> Records<'a>
         requires { level ≤ 100 }
         ensures items { AreRecordsFrom (IsRecord level) payload.now 0 (records_left result) }
@@ -59,15 +59,15 @@ impl<'a> Records<'a> {
         Records::within(payload, 100 - level)
     }
 
-    /// The records of bytes, where so many levels are left below them.
+    /// Returns an iterator over the records of bytes in which groups may be nested `left` deep.
     pub fn within(payload: &'a [u8], left: u32) -> Records<'a>
-        // the same as a function of the payload
+        // the items as a function of the payload
         ensures computed { records_left result ≡ read_records left payload.now }
         ensures items { AreRecordsFrom (IsRecordWithin left) payload.now 0 (records_left result) }
         ensures complete { (rs : List FieldRecord)
             → IsRecordListWithin left payload.now rs ↔ (map without_place (records_left result) ≡ map Ok rs) }
         ensures few { 2 * record_count (records_left result) ≤ length payload.now }
-        // with a Malformed
+        // a Malformed at the end included
         ensures bound { 2 * length (records_left result) ≤ length payload.now + 1 }
         ensures lies { EachLies payload.now (records_left result) }
     {

@@ -1,10 +1,10 @@
-//! Varints (proto3): numbers of 64 bits in one to ten bytes of seven bits each, the least first.
+//! Varints (proto3): a number of 64 bits in one to ten bytes of seven bits each, the least significant first.
 
 ghost use Rattle.std.specs.Prelude.{◌≡◌, ◌≤◌, ◌<◌, ◌+◌, ◌*◌, ◌^◌, length};
 ghost use Rattle.shared_core_wire.specs.Reader.{Gives, varint_at};
 ghost use Rattle.shared_core_wire.specs.Spelling.{shortest_varint};
 
-/// Reads a varint: the number at the front of the bytes and the bytes behind it, or None where no varint begins them.
+/// Reads a varint. Returns its number and the bytes after it, or `None` if the bytes do not begin with a varint.
 #[inline(always)]
 #[tactic(auto, using(crate::proofs::VarintLoop::varint_one))]
 pub fn read_varint(bytes: &[u8]) -> Option<(u64, &[u8])>
@@ -18,7 +18,7 @@ pub fn read_varint(bytes: &[u8]) -> Option<(u64, &[u8])>
     read_long_varint(bytes)
 }
 
-/// Reads a varint of any length.
+/// Reads a varint of any length, as `read_varint` does.
 fn read_long_varint(bytes: &[u8]) -> Option<(u64, &[u8])>
     ensures { Gives (λ x. (x.0, x.1.now)) result (varint_at bytes.now) }
 {
@@ -35,14 +35,14 @@ fn read_long_varint(bytes: &[u8]) -> Option<(u64, &[u8])>
         scale *= 128;
     }
     let (byte, after) = rest.split_first()?;
-    // a tenth byte has the one bit that is left
+    // one of the 64 bits is left for the tenth byte
     if *byte > 1 {
         return None;
     }
     Some((number + scale * *byte as u64, after))
 }
 
-/// How many bytes the shortest varint of a number has.
+/// Returns the number of bytes of the shortest varint of a number.
 #[tactic(auto, using(crate::proofs::Shortest::shortest_large, crate::proofs::Shortest::shortest_small, crate::proofs::Shortest::ten_bytes))]
 pub fn varint_len(number: u64) -> u64
     ensures len { result ≡ length (shortest_varint number) }
