@@ -36,8 +36,8 @@ pub fn write_canonical<M: WireRecord>(
     encode_over(&message, canonical)
 }
 
-/// Writes the canonical payload of a record over what the buffer holds: what `encode_payload_into` does, whose contract does not say that
-/// the value fits its schema.
+/// Writes the canonical payload of a record over what the buffer holds. `encode_payload_into` appends it, and its contract
+/// does not say that the value fits its schema.
 fn encode_over<M: WireRecord>(message: &M, canonical: &mut Vec<u8>) -> Result<(), JsonError>
     ensures written { OnOk result (canonical.new.items ≡ canonical_payload table M.schema (M.parts message.now)) }
     ensures fit { Fits table (M.parts message.now) (table M.schema) }

@@ -38,7 +38,7 @@ pub trait CommandMessageHeaderDiff: WireRecord {
     ghost printed_whole: { is_printed_whole Self.schema ≡ true };
 
     /// Writes a line for each printed field in which this command, the actual one, differs from the expected one: a line feed, the formatter's
-    /// indentation and `field: actual != expected`. It fails where the writer fails; what was written then is a beginning of the lines.
+    /// indentation and `field: actual != expected`. It fails only where the writer fails, which tests show.
     final fn write_diff<W: fmt::Write>(
         &self,
         expected: &Self,

@@ -15,8 +15,9 @@ use shared_core_record::record::WireRecord;
 /// `CompletePromiseCommandMessage` and `CompleteAwakeableCommandMessage` hold. What a signal carries is no payload. (This project's own, as the
 /// Rust has it; the table is `commands`.)
 pub trait CommandMessageHeaderEq: WireRecord {
-    /// Whether the two are the same but for the fields that are never compared and, where payloads are ignored, the bytes of payloads. That a
-    /// payload is there is always compared. It asks for no memory and stops at the first field that differs.
+    /// Whether the two are the same but for the fields that are never compared and, where payloads are ignored, the bytes of
+    /// payloads. Whether a payload with presence is there is always compared. Allocates nothing, and stops at the first field
+    /// that differs.
     fn header_eq(&self, other: &Self, ignore_payload_equality: bool) -> bool
         ensures { IsTrue result ↔ (erased Self.schema ignore_payload_equality (Self.parts self.now)
             ≡ erased Self.schema ignore_payload_equality (Self.parts other.now)) };
