@@ -4,7 +4,8 @@
 #   scripts/install.sh PREFIX              the header, the static and the shared library, and a file for pkg-config
 #   scripts/install.sh --uninstall PREFIX  takes exactly these files away
 #
-# What is installed is proved. scripts/static_library.sh builds it, and proves what is not proved yet: a quarter of an hour the first time.
+# What is installed is proved. scripts/static_library.sh builds it, and proves what is not proved yet, which takes more than
+# an hour of processor time the first time.
 # Both libraries show the calls of include/pendratsoa.h and nothing else, and need the C library alone.
 set -eu
 

@@ -79,7 +79,7 @@ if [ "$are_of_ci" = yes ]; then
     --logic-built "$kit/logic_built" --jobs 2 --links journal_ffi= --crate-type staticlib --toolchain "$kit/toolchain" --backend llvm \
     -o out/libjournal_ffi.a > "$log" 2>&1
 else
-  echo 'static_library.sh: proving what is not proved yet, which takes a quarter of an hour from nothing' >&2
+  echo 'static_library.sh: proving what is not proved yet, which from nothing takes more than an hour of processor time' >&2
   rt lib > "$log" 2>&1
 fi
 status=$?
