@@ -250,24 +250,21 @@ for python in python3 /usr/bin/python3; do
   fi
 done
 if [ -n "$judge" ] && command -v protoc > /dev/null; then
-  for words in --check "--random 1 300 $program"; do
-    # the words are split
-    PYTHONDONTWRITEBYTECODE=1 $judge scripts/dump_lines.py $words > "$work/log" 2>&1
-    counts=$(tail -n 1 "$work/log")
-    case $counts in
-      [0-9]*' passed, '[0-9]*' failed')
-        passed=$((passed + ${counts%% *}))
-        more=${counts##*, }
-        failed=$((failed + ${more%% *}))
-        [ "${more%% *}" -eq 0 ] || cat "$work/log"
-        ;;
-      *)
-        failed=$((failed + 1))
-        echo "failed: dump_lines.py $words"
-        cat "$work/log"
-        ;;
-    esac
-  done
+  PYTHONDONTWRITEBYTECODE=1 $judge tools/generators/protobuf_dumps.py --random 1 300 "$program" > "$work/log" 2>&1
+  counts=$(tail -n 1 "$work/log")
+  case $counts in
+    [0-9]*' passed, '[0-9]*' failed')
+      passed=$((passed + ${counts%% *}))
+      more=${counts##*, }
+      failed=$((failed + ${more%% *}))
+      [ "${more%% *}" -eq 0 ] || cat "$work/log"
+      ;;
+    *)
+      failed=$((failed + 1))
+      echo 'failed: protobuf_dumps.py --random'
+      cat "$work/log"
+      ;;
+  esac
 else
   echo "dump: protobuf's own printer: not run, since there is no protoc or no protobuf for python3"
 fi
