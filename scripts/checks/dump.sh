@@ -220,6 +220,21 @@ cd "$top" || exit 1
 status=$?
 [ "$status" -eq 0 ] && cmp -s "$run/stdout" "$work/out" && [ ! -s "$work/err" ]
 outcome 'the stored run' $?
+# a payload of 17 MiB, which comes in many chunks
+content=17825792
+{
+  printf '\004\000\000\000\001\020\000\012\162\205\200\300\010\012\200\200\300\010'
+  head -c "$content" /dev/zero
+} > "$work/large"
+{
+  printf '{"offset":0,"type":"InputCommand","code":1024,"length":17825802,"message":{"value":{"content":"'
+  head -c "$content" /dev/zero | base64 -w 0
+  printf '"}}}\n{"offset":17825810,"rest":0}\n'
+} > "$work/large.lines"
+"$program" < "$work/large" > "$work/out" 2> "$work/err"
+status=$?
+[ "$status" -eq 0 ] && cmp -s "$work/large.lines" "$work/out" && [ ! -s "$work/err" ]
+outcome 'a payload of 17 MiB' $?
 for kind in random mixed skipped; do
   LC_ALL=C awk -v kind=$kind -v size=200000 -v seed=7 -f scripts/checks/write_stream.awk proto/types.txt > "$work/$kind"
   version=8
