@@ -1,10 +1,11 @@
 //! The names of commands.
 
-ghost use Rattle.std.specs.Prelude.{◌≡◌, IfOk, string_bytes};
+ghost use Rattle.std.specs.Prelude.{◌≡◌, [], IfOk, IsOk, string_bytes};
 ghost use Rattle.shared_core_wire.specs.Value.{Bytes as Content};
 ghost use Rattle.shared_core_compare.specs.Commands.{name_part};
 
 use shared_core_base::error::OutOfMemory;
+use shared_core_base::text::copy_text;
 use shared_core_record::record::WireRecord;
 use std::alloc::Global;
 
@@ -14,10 +15,11 @@ pub trait NamedCommandMessage: WireRecord {
     fn command_name(&self) -> &str
         ensures { Content result.now ≡ name_part Self.schema (Self.parts self.now) };
 
-    /// The name of the command. It fails where a request for memory was refused.
+    /// The name of the command. It fails where a request for memory was refused, and never where the name is empty.
     final fn name(&self, alloc: Global) -> Result<String, OutOfMemory>
-        ensures { IfOk result (λ name. Content (string_bytes name) ≡ name_part Self.schema (Self.parts self.now)) }
+        ensures name { IfOk result (λ name. Content (string_bytes name) ≡ name_part Self.schema (Self.parts self.now)) }
+        ensures empty { name_part Self.schema (Self.parts self.now) ≡ Content [] → IsOk result }
     {
-        Ok(String::from_str(alloc, self.command_name())?)
+        copy_text(alloc, self.command_name())
     }
 }

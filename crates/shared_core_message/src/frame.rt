@@ -14,7 +14,8 @@ use crate::restate_message::RestateMessage;
 use shared_core_base::header::MessageHeader;
 use shared_core_record::error::EncodingError;
 
-/// Appends the frame of a record as it stands, with a flag in its header or none. After an error the buffer holds what it held.
+/// Appends the frame of a record as it stands, with a flag in its header or none. After an error the buffer holds what it
+/// held. Its capacity never shrinks.
 pub fn encode_frame_into<M: RestateMessage>(
     message: &M,
     requested_ack: Option<bool>,
@@ -24,6 +25,7 @@ pub fn encode_frame_into<M: RestateMessage>(
     ensures short { OnOk result (size table M.schema (M.parts message.now) < 2 ^ 32) }
     ensures fits { OnOk result (Fits table (M.parts message.now) (table M.schema)) }
     ensures unchanged { OnErr result (out.new.items ≡ out.old.items) }
+    ensures capacity { vec_capacity out.old ≤ vec_capacity out.new }
     ensures full { IsErrOf result OutOfMemory → vec_capacity out.old < vec_len out.old + (8 + size table M.schema (M.parts message.now)) }
     ensures too_long { IsErrOf result PayloadTooLong → 2 ^ 32 ≤ size table M.schema (M.parts message.now) }
     ensures refused { 2 ^ 32 ≤ size table M.schema (M.parts message.now) → result ≡ Err PayloadTooLong }

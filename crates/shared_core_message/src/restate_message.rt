@@ -43,13 +43,14 @@ pub trait RestateEncodableMessage: RestateMessage {
     /// Appends the frame: the header's eight bytes and the canonical payload of what it is written as.
     ///
     /// The errors are those of `encode`; `OutOfMemory` comes only where the buffer has too little room, or where the message is rewritten
-    /// first. After either the buffer holds what it held, and the message stands.
+    /// first. After either the buffer holds what it held, and the message stands. Its capacity never shrinks.
     fn encode_into(&self, version: Version, out: &mut Vec<u8>) -> Result<(), EncodingError>
         ensures ok { OnOk result (out.new.items ≡ out.old.items ++ wire_frame Self.message_type (wire_form self.now version)) }
         ensures short { OnOk result (wire_size (wire_form self.now version) < 2 ^ 32) }
         // what is written is a value of its schema
         ensures fits { OnOk result (WireFits (wire_form self.now version)) }
         ensures unchanged { OnErr result (out.new.items ≡ out.old.items) }
+        ensures capacity { vec_capacity out.old ≤ vec_capacity out.new }
         ensures full { is_rewritten version ≡ false → IsErrOf result OutOfMemory → vec_capacity out.old < vec_len out.old + (8 + wire_size (wire_form self.now version)) }
         ensures too_long { IsErrOf result PayloadTooLong → 2 ^ 32 ≤ wire_size (wire_form self.now version) }
         ensures refused { 2 ^ 32 ≤ wire_size (wire_form self.now version)

@@ -112,12 +112,13 @@ pub trait WireRecord: Sized + Drop + PartialEq {
 
     /// Appends the canonical payload. `PayloadTooLong` exactly where it has more than 4,294,967,295 bytes, which is known before memory is
     /// asked for; `OutOfMemory` where a request for memory was refused, which is made only where the buffer has too little room. After either
-    /// the buffer holds what it held.
+    /// the buffer holds what it held. Its capacity never shrinks.
     final fn encode_payload_into(&self, out: &mut Vec<u8>) -> Result<(), EncodingError>
         ensures ok { OnOk result (out.new.items ≡ out.old.items ++ canonical_payload table schema (parts self.now)) }
         ensures short { OnOk result (size table schema (parts self.now) < 2 ^ 32) }
         ensures reads_back { OnOk result (IsReadBack schema (parts self.now) (canonical_payload table schema (parts self.now))) }
         ensures unchanged { OnErr result (out.new.items ≡ out.old.items) }
+        ensures capacity { vec_capacity out.old ≤ vec_capacity out.new }
         ensures full { IsErrOf result OutOfMemory → vec_capacity out.old < vec_len out.old + size table schema (parts self.now) }
         ensures too_long { IsErrOf result PayloadTooLong → 2 ^ 32 ≤ size table schema (parts self.now) }
         ensures refused { 2 ^ 32 ≤ size table schema (parts self.now) → result ≡ Err PayloadTooLong }

@@ -65,7 +65,7 @@ impl Encoder {
 
     /// Appends the frame of a message to a buffer: what `encode` answers, behind what the buffer holds.
     ///
-    /// The errors are those of `encode`, and after one the buffer holds what it held. Memory is asked for only where the buffer has too
+    /// The errors are those of `encode`, and after one the buffer holds what it held. Its capacity never shrinks. Memory is asked for only where the buffer has too
     /// little room, or where the message is rewritten first, as a suspension is before V7; so a buffer that is cleared and used again
     /// needs no more, once it has had room for the longest frame.
     #[tactic(auto, using(crate::proofs::DecodedFrames::appended_is_item, crate::proofs::DecodedFrames::frame_is_read_back, crate::proofs::DecodedFrames::appended_comes_out))]
@@ -83,6 +83,7 @@ impl Encoder {
             → (rest new : List ℕ) (answer : Result (Option RawMessage) DecodingError) → AnswersNext self.now.version (wire_frame M.message_type (M.wire_form message.now self.now.version) ++ rest) answer new
             → AnswersWritten M.message_type (M.wire_form message.now self.now.version) (wire_frame M.message_type (M.wire_form message.now self.now.version) ++ rest) answer rest new) }
         ensures unchanged { OnErr result (out.new.items ≡ out.old.items) }
+        ensures capacity { vec_capacity out.old ≤ vec_capacity out.new }
         ensures full { M.is_rewritten self.now.version ≡ false → IsErrOf result OutOfMemory → vec_capacity out.old < vec_len out.old + (8 + wire_size (M.wire_form message.now self.now.version)) }
         ensures too_long { IsErrOf result PayloadTooLong → 2 ^ 32 ≤ wire_size (M.wire_form message.now self.now.version) }
         ensures refused { 2 ^ 32 ≤ wire_size (M.wire_form message.now self.now.version)
