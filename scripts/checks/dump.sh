@@ -117,7 +117,11 @@ dump 0 '{"offset":30,"type":"End","code":3,"length":1}
 dump 2 '' "$usage" --protocol 4 replay
 dump 2 '' "$usage" --type Nothing replay
 dump 2 '' "$usage" --type CustomEntry replay
-dump 2 '' "$usage" --type 'CustomEntry(65536)' replay
+for name in 65536 0 8 1024 064513 +64513 ''; do
+  dump 2 '' "$usage" --type "CustomEntry($name)" replay
+done
+dump 2 '' "$usage" --type 'CustomEntry(64513' replay
+dump 2 '' "$usage" --type 'CustomEntry(64513) ' replay
 dump 2 '' "$usage" --type
 dump 2 '' "$usage" replay replay
 dump 2 '' "$usage" --payload

@@ -39,19 +39,42 @@ fn version_of(word: &str) -> Option<Version>
     }
 }
 
-/// The code of the type that has this name in a dump, of all codes that there are.
+/// The code of the type that has this name in a dump: that of a named type, or of a custom entry, as `CustomEntry(64513)`.
 fn code_of(alloc: Global, name: &str) -> Result<Option<u16>, AllocError> {
-    let mut text = String::new(alloc);
-    for code in 0..=u16::MAX {
-        if let Ok(ty) = MessageType::try_from(code) {
-            text.clear();
-            write!(text, "{}", ty.debug_name())?;
-            if text.as_str() == name {
-                return Ok(Some(code));
-            }
+    match type_named(name) {
+        Some(ty) => Ok(Some(u16::from(ty))),
+        None => custom_code(alloc, name),
+    }
+}
+
+/// The named type that has this name.
+fn type_named(name: &str) -> Option<MessageType> {
+    for ty in MessageType::named() {
+        if ty.variant_name() == name {
+            return Some(*ty);
         }
     }
-    Ok(None)
+    None
+}
+
+/// The code of the custom entry that has this name.
+fn custom_code(alloc: Global, name: &str) -> Result<Option<u16>, AllocError> {
+    let Some(code) = code_within(name) else {
+        return Ok(None);
+    };
+    let Ok(ty) = MessageType::try_from(code) else {
+        return Ok(None);
+    };
+    // a number is written in several ways, of which a name has one
+    let printed = ty.debug_name().to_string(alloc)?;
+    let is_name = printed.as_str() == name;
+    Ok(is_name.then_some(code))
+}
+
+/// The number that stands in the name of a custom entry.
+fn code_within(name: &str) -> Option<u16> {
+    let digits = name.strip_prefix("CustomEntry(")?.strip_suffix(')')?;
+    digits.parse().ok()
 }
 
 /// The program as its words see it.
