@@ -2,20 +2,14 @@
 use Rattle.std.specs.Prelude.{◌≡◌, ℕ, Bool, true, false, List, [], ◌++◌, codes, decimal, nat_eq, if◌then◌else◌, Option, Result, Ok, Err}
 use Rattle.std.specs.String.{string_bytes}
 use Rattle.shared_core_base.specs.declared.version.Version.{Version}
-use Rattle.replay_bench.specs.declared.verdicts.Side.{Side}
-use Rattle.replay_bench.specs.declared.verdicts.Side.TheVariants.{Recorded, Replayed}
 use Rattle.replay_bench.specs.declared.verdicts.Verdict.{Verdict}
 use Rattle.replay_bench.specs.declared.verdicts.Verdict.TheVariants.{Same, RecordedEnded, ReplayedEnded, TypeMismatch, HeaderMismatch}
-use Rattle.replay_bench.specs.declared.verdicts.BenchError.TheVariants.{Malformed, TooLong, OutOfMemory}
-use Rattle.replay_bench.specs.declared.verdicts.ReaderError.TheVariants.{Read, Bench}
+use Rattle.replay_bench.specs.declared.verdicts.BenchError.TheVariants.{OutOfMemory}
+use Rattle.replay_bench.specs.declared.verdicts.ReaderError.TheVariants.{Bench}
+use Rattle.replay_bench.specs.Texts.{reader_error_text}
 use Rattle.replay_bench.specs.Verdicts.{ComparesKnown}
 use Rattle.journal_diff.specs.declared.diff.DiffError.{DiffError}
 use Rattle.journal_diff.specs.declared.diff.DiffError.TheVariants.{Unanswered, Output}
-
--- What a side is called.
-abbrev pub side_text : Side → List ℕ
-side_text Recorded = codes "recorded"
-side_text Replayed = codes "replayed"
 
 -- The word for so many commands.
 abbrev pub commands_word : ℕ → List ℕ
@@ -34,12 +28,9 @@ abbrev pub is_same : Verdict → Bool
 is_same (Same count) = true
 is_same verdict = false
 
--- The text of what came between.
+-- The text of an error: that of why there is no verdict, or that the output failed.
 abbrev pub error_text : DiffError → List ℕ
-error_text (Unanswered (Read side)) = codes "reading the " ++ (side_text side ++ codes " journal failed")
-error_text (Unanswered (Bench (Malformed side index))) = codes "the " ++ (side_text side ++ (codes " command " ++ (decimal index ++ codes " is malformed")))
-error_text (Unanswered (Bench TooLong)) = codes "a journal has more than 2^64 - 1 bytes"
-error_text (Unanswered (Bench OutOfMemory)) = codes "out of memory"
+error_text (Unanswered why) = reader_error_text why
 error_text Output = codes "output failed"
 
 -- All of a text is written, or a beginning of it where the output failed.

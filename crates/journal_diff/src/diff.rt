@@ -4,11 +4,12 @@ ghost use Rattle.std.specs.Prelude.{◌≡◌, ◌≤◌, ◌++◌, ℕ, List, I
 ghost use Rattle.std.specs.Io.KnownBytes.{Appends};
 ghost use Rattle.std.specs.String.{string_bytes};
 ghost use Rattle.shared_core_base.specs.Version.{version_number};
-ghost use Rattle.journal_diff.specs.Verdicts.{Reports, ReportsVerdict, IsWritten, commands_word, is_same, side_text, verdict_line};
+ghost use Rattle.journal_diff.specs.Verdicts.{Reports, ReportsVerdict, IsWritten, commands_word, is_same, verdict_line};
 
-use replay_bench::{BenchError, ReaderError, Side, Verdict, compare_readers};
+use replay_bench::{BenchError, ReaderError, Verdict, compare_readers};
 use shared_core::version::Version;
 use std::alloc::{AllocError, Global};
+use std::error::Error;
 use std::fmt;
 use std::io::{Read, Write};
 use text_output::{OutputFailed, write_whole};
@@ -58,35 +59,13 @@ impl fmt::Display for DiffError {
 
     fn fmt<W: fmt::Write>(&self, f: &mut fmt::Formatter<W>) -> fmt::Result {
         match self {
-            DiffError::Unanswered(ReaderError::Read(side)) => {
-                let side = side_name(*side);
-                write!(f, "reading the {side} journal failed")
-            }
-            DiffError::Unanswered(ReaderError::Bench(BenchError::Malformed { side, index })) => {
-                let side = side_name(*side);
-                let index = *index;
-                write!(f, "the {side} command {index} is malformed")
-            }
-            DiffError::Unanswered(ReaderError::Bench(BenchError::TooLong)) => {
-                f.write_str("a journal has more than 2^64 - 1 bytes")
-            }
-            DiffError::Unanswered(ReaderError::Bench(BenchError::OutOfMemory)) => {
-                f.write_str("out of memory")
-            }
+            DiffError::Unanswered(error) => write!(f, "{error}"),
             DiffError::Output => f.write_str("output failed"),
         }
     }
 }
 
-/// What a side is called.
-fn side_name(side: Side) -> &'static str
-    ensures { result.now ≡ side_text side }
-{
-    match side {
-        Side::Recorded => "recorded",
-        Side::Replayed => "replayed",
-    }
-}
+impl Error for DiffError {}
 
 /// Compares two journals of a version, at least V5, that readers give, writes the verdict in a line, or in the lines of its text, and answers
 /// whether the journals are the same. The line is written only once the verdict is known and its whole text is made.
