@@ -1,4 +1,5 @@
-//! Under the feature `library`, links the library and the toolchain's C part, and into the measuring program a counter of requests for memory.
+//! Under the feature `library`, links the library for C, that of the measuring calls and the toolchain's C part, and
+//! into the measuring program a counter of allocations.
 
 use std::env;
 use std::error::Error;
@@ -11,6 +12,7 @@ fn main() -> Result<(), Box<dyn Error>> {
         return Ok(());
     }
     link("JOURNAL_FFI", "journal_ffi")?;
+    link("BENCH_FFI", "bench_ffi")?;
     link("RATTLE_C", "libc_c")?;
     link_counter()
 }

@@ -1,8 +1,9 @@
 #!/bin/sh
-# Builds the library as a static library for C, and then the programs of this folder with it: build.sh [--no-install]
+# Builds the library for C and that of the measuring calls, and then the programs of this folder with them:
+# build.sh [--no-install]
 #
-# Where the tools are not to be had it says 'not run: ..' with status 77; a build that fails has status 1. With --no-install it installs no
-# package.
+# Where the tools are missing it says 'not run: ..' with status 77; a build that fails has status 1. With --no-install
+# it installs no package.
 set -u
 cd "$(dirname "$0")" || exit 1
 
@@ -27,8 +28,10 @@ quietly() {
 if command -v python3 > /dev/null; then
   quietly python3 ../tools/generate.py --check peer || exit 1
 fi
-quietly sh ../scripts/static_library.sh || exit 1
+quietly sh ../scripts/static_library.sh journal_ffi || exit 1
+quietly sh ../scripts/static_library.sh bench_ffi || exit 1
 JOURNAL_FFI=$(folder ../crates/journal_ffi/out/libjournal_ffi.a) || exit 1
+BENCH_FFI=$(folder ../crates/bench_ffi/out/libbench_ffi.a) || exit 1
 RATTLE_C=$(folder "$(dirname "$(rt doc)")/c/liblibc_c.a") || exit 1
-export JOURNAL_FFI RATTLE_C
+export JOURNAL_FFI BENCH_FFI RATTLE_C
 quietly cargo build --release --features library

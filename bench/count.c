@@ -1,5 +1,5 @@
 /*
- * Counts requests for memory. The linker's --wrap leads each call of malloc, calloc and realloc of the program here, from Rust's allocator
+ * Counts allocations. The linker's --wrap leads each call of malloc, calloc and realloc of the program here, from Rust's allocator
  * as from the library. The program has one thread.
  */
 #include <stddef.h>

@@ -1,6 +1,6 @@
 /*
- * The measuring calls of the static library journal_ffi: the work of the library several times over. They are for the comparison and the measurement
- * of this folder, and no part of the library that is installed.
+ * The calls of the static library bench_ffi: the work of the library several times over. They are for the comparison
+ * and the measurement of this folder, and no part of the library that is installed.
  *
  * Slices and refusals are those of include/pendratsoa.h.
  */
@@ -10,7 +10,7 @@
 #include "../include/pendratsoa.h"
 
 /*
- * Reads a stream of a version from 5 to 9, which comes in pieces of so many bytes (0: in one piece), and writes a word for each item: the
+ * Reads a stream of a version from 5 to 9, which comes in chunks of so many bytes (0: in one chunk), and writes a word for each item: the
  * word of the message's header, or the unknown code in bits 48 to 63. At version 9 a message of an unknown type is skipped with its payload,
  * and its word has the payload's length in bits 0 to 31. Answers the number of items; JOURNAL_NO_ROOM where there is room for fewer words. The
  * stream is copied once, and then read `rounds` times over by a new decoder each (0 counts as 1); the words are those of the last.
@@ -36,7 +36,7 @@ int64_t measure_frame(uint32_t version, uint16_t code, const uint8_t *payload, s
 
 /*
  * As measure_frame, but all rounds append the frame to one buffer, which is cleared before each: only the first, and a suspension before
- * version 7, asks for memory.
+ * version 7, allocates.
  */
 int64_t measure_frame_into(uint32_t version, uint16_t code, const uint8_t *payload, size_t payload_length, size_t rounds,
                            uint8_t *out, size_t room);

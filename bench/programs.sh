@@ -14,7 +14,7 @@ for name in journal_dump journal_list; do
     echo "not run: there is no crates/$name/out/$name, and no rt"
     exit 0
   fi
-  (cd "../crates/$name" && rt run) < ../examples/replay > /dev/null || exit 1
+  (cd "../crates/$name" && rt run) < ../examples/streams/replay > /dev/null || exit 1
 done
 work=$(mktemp -d) || exit 1
 trap 'rm -rf "$work"' EXIT

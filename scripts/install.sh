@@ -4,8 +4,8 @@
 #   scripts/install.sh PREFIX              the header, the static and the shared library, and a file for pkg-config
 #   scripts/install.sh --uninstall PREFIX  takes exactly these files away
 #
-# What is installed is proved. scripts/static_library.sh builds it, and proves what is not proved yet, which takes more than
-# an hour of processor time the first time.
+# What is installed is proved. scripts/static_library.sh builds it, and proves what is not proved yet, which takes more
+# than an hour of processor time the first time.
 # Both libraries show the calls of include/pendratsoa.h and nothing else, and need the C library alone.
 set -eu
 
@@ -58,7 +58,7 @@ for tool in "$compiler" ld objcopy ar; do
 done
 command -v rt > /dev/null || not_installed 'there is no rt, the command of the Rattle toolchain'
 
-sh "$top/scripts/static_library.sh"
+sh "$top/scripts/static_library.sh" journal_ffi
 archive=$top/crates/journal_ffi/out/libjournal_ffi.a
 heap=$(dirname "$(rt doc)")/c/liblibc_c.a
 work=$(mktemp -d)
@@ -68,7 +68,8 @@ trap 'rm -rf "$work"' EXIT
 awk '/^int64_t journal_/ { sub(/^int64_t /, ""); sub(/\(.*/, ""); print }' "$header" > "$work/calls"
 # shellcheck disable=SC2046 # the names are words
 ld -r --gc-sections $(sed 's/^/--require-defined=/' "$work/calls") -o "$work/all.o" "$archive" "$heap"
-objcopy --keep-global-symbols="$work/calls" --strip-unneeded --remove-section=.llvm_addrsig "$work/all.o" "$work/pendratsoa.o"
+objcopy --keep-global-symbols="$work/calls" --strip-unneeded --remove-section=.llvm_addrsig \
+  "$work/all.o" "$work/pendratsoa.o"
 ar rcsD "$work/libpendratsoa.a" "$work/pendratsoa.o"
 {
   echo '{ global:'

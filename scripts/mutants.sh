@@ -1,26 +1,29 @@
 #!/bin/sh
 # scripts/mutants.sh [--jobs N] [--above] [CRATE | CRATE/NAME ..]
 #
-# Tries mutants: edits of crates/CRATE/mutants/ and crates/CRATE/must-fail/ that plant a bug, each of which the prover has to refuse. Of the crates
-# that are named, with --above also of all crates that use them, or of these mutants alone; with no name, of all crates. The gate tries must-fail/
-# alone, since a mutant takes seconds to a minute.
+# Tries mutants: edits of crates/CRATE/mutants/ and crates/CRATE/must-fail/ that plant a bug, each of which the prover
+# has to refuse. Of the crates that are named, with --above also of all crates that use them, or of these mutants alone;
+# with no name, of all crates. The gate tries must-fail/ alone, since a mutant takes seconds to a minute.
 #
-# It works on a copy of crates/ in a temporary folder (below TMPDIR, or /tmp), with what earlier checks kept in out/, so nothing here changes and other
-# checks can run beside it. What is not yet proved of a crate and of those below it is proved first: minutes on a fresh clone. N crates are tried at
-# once, 2 if not said, each in up to 3 GB of memory. A line for each mutant, once its crate is through:
+# It works on a copy of crates/ in a temporary folder (below TMPDIR, or /tmp), with what earlier checks kept in out/, so
+# nothing here changes and other checks can run beside it. What is not yet proved of a crate and of those below it is
+# proved first: minutes on a fresh clone. N crates are tried at once, 2 if not said, each in up to 3 GB of memory. A
+# line for each mutant, once its crate is through:
 #
 #   refused CRATE/NAME: the first error that the prover gave, which should name the function that the mutant changes
 #   let through CRATE/NAME: the crate is still proved, so a contract promises too little
-#   cannot be applied CRATE/NAME: why; an old text is not in its file exactly once, or the edited text does not compile, so no contract was tried
+#   cannot be applied CRATE/NAME: why; an old text is not in its file exactly once, or the edited text does not compile,
+#                                 so no contract was tried
 #   says little CRATE/NAME: refused only since a proof file names what the edit took away
 #   not tried CRATE/NAME: the prover ended before it
 #
-# The last line is 'N passed, M failed', where only the refused ones have passed. The status is 0 where none failed, 2 for a wrong argument, else 1.
+# The last line is 'N passed, M failed', where only the refused ones have passed. The status is 0 where none failed, 2
+# for a wrong argument, else 1.
 set -u
 cd "$(dirname "$0")/.." || exit 1
 
 usage() {
-  sed -n '2,19s/^# \{0,1\}//p' scripts/mutants.sh
+  sed -n '2,22s/^# \{0,1\}//p' scripts/mutants.sh
 }
 
 # stop STATUS WHY
@@ -128,7 +131,8 @@ needed() {
     }' crates.txt
 }
 
-# copy_kept CRATE: what earlier checks kept. Where another rt works in the crate, its library alone, if that stayed the same while it was copied.
+# copy_kept CRATE: what earlier checks kept. Where another rt works in the crate, its library alone, if that stayed the
+# same while it was copied.
 copy_kept() {
   [ -d "crates/$1/out" ] || return 0
   to=$tree/crates/$1/out
@@ -250,7 +254,11 @@ for crate in $(needed $crates); do
 done
 
 # those with the most mutants first
-crates=$(for crate in $crates; do echo "$(ls "$tree/crates/$crate/must-fail" | wc -l) $crate"; done | sort -rn | uniq | cut -d' ' -f2)
+crates=$(
+  for crate in $crates; do
+    echo "$(ls "$tree/crates/$crate/must-fail" | wc -l) $crate"
+  done | sort -rn | uniq | cut -d' ' -f2
+)
 for number in $(seq "$jobs"); do
   work "$number" $crates &
   workers="$workers $!"

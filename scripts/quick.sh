@@ -1,15 +1,21 @@
 #!/bin/sh
 # What can be known within two minutes, without a proof: the tables, the pages and the generated files, the test vectors that are not random, and
-# the tests of the crates that are named, else of shared_core_tests; by programs that are built unproved. sh scripts/test.sh --quick [CRATE..]
-# calls it. What a test says that it did not run is shown and does not count as passed. The last line is 'N passed, M failed'.
+# the tests of the folders of tests/ and of the crates that are named, else all of tests/; by programs that are built unproved.
+# sh scripts/test.sh --quick [FOLDER|CRATE..] calls it. What a test says that it did not run is shown and does not count as passed. The last line is 'N passed, M failed'.
 set -u
 cd "$(dirname "$0")/.." || exit 1
 
 echo 'quick.sh: built without the proofs; sh scripts/test.sh proves all of it, runs every test and every test vector'
-[ $# -gt 0 ] || set -- shared_core_tests
-for crate in "$@"; do
-  if [ ! -d "crates/$crate/src" ]; then
-    echo "quick.sh: there is no crate $crate" >&2
+[ $# -gt 0 ] || set -- $(ls tests/*/mod.rt.in | cut -d/ -f2)
+folders=''
+crates=''
+for name in "$@"; do
+  if [ -e "tests/$name/mod.rt.in" ]; then
+    folders="$folders $name"
+  elif [ -d "crates/$name/src" ]; then
+    crates="$crates $name"
+  else
+    echo "quick.sh: there is no crate $name, and there are no tests tests/$name" >&2
     exit 2
   fi
 done
@@ -49,18 +55,20 @@ test_crate() {
 
 # two at a time
 {
-  for crate in "$@"; do
+  [ -z "$folders" ] || sh scripts/checks/tests.sh $folders > "$work/tests" 2>&1
+  for crate in $crates; do
     test_crate "$crate" > "$work/$crate" 2>&1
   done
 } &
-for check in table pages generated; do
+for check in table calls pages words generated; do
   sh "scripts/checks/$check.sh" > "$work/$check" 2>&1
   counted "$check"
 done
 ls conformance/*.txt | grep -v /random_ | xargs cat | sh scripts/checks/conformance.sh - > "$work/conformance" 2> /dev/null
 counted conformance
 wait
-for crate in "$@"; do
+[ -z "$folders" ] || counted tests
+for crate in $crates; do
   counted "$crate"
 done
 

@@ -1,19 +1,22 @@
 #!/bin/sh
 # Builds a program of this repository and runs it.
 #
-#   scripts/run.sh [--proved] list [STREAM [PIECE] [v9]]     the listing of a stream, examples/replay if none is given
-#   scripts/run.sh [--proved] diff [WORD..] RECORDED REPLAYED   where two journals differ; WORD: --ignore-payloads, --protocol 5..9
-#   scripts/run.sh [--proved] dump [WORD..] [STREAM]         a stream as JSON, the standard input if none is given; WORD: --protocol 5..9, --type NAME, --no-payload
+#   scripts/run.sh [--proved] list [STREAM [PIECE] [v9]]
+#       the listing of a stream, of examples/streams/replay if none is given
+#   scripts/run.sh [--proved] diff [--ignore-payloads] [--protocol 5..9] RECORDED REPLAYED
+#       where two journals differ
+#   scripts/run.sh [--proved] dump [--protocol 5..9] [--type NAME].. [--no-payload] [STREAM]
+#       a stream as JSON, the standard input if none is given
 #
-# Without --proved nothing is proved, which takes less than a minute; with it every crate below the program is proved first.
-# The status is the program's.
+# Without --proved nothing is proved, which takes less than a minute; with it every crate below the program is proved
+# first. The status is the program's.
 set -eu
 
 usage() {
-  sed -n '2,9s/^# \{0,1\}//p' "$0"
+  sed -n '2,12s/^# \{0,1\}//p' "$0"
 }
 
-# run PROGRAM WORD..: builds the program and runs it with these words
+# run PROGRAM ARGUMENT..: builds the program and runs it with these arguments
 run() {
   program=$1
   shift
@@ -22,7 +25,7 @@ run() {
     rt run -- "$@"
   else
     echo 'run.sh: built without the proofs; --proved builds the proved program' >&2
-    # What the tool says of the run comes behind the program's own lines.
+    # What the tool says of the run comes after the program's own lines.
     rt try -- "$@"
   fi
 }
@@ -44,7 +47,7 @@ command=${1---help}
 [ $# -eq 0 ] || shift
 case $command in
   list)
-    stream=$(dirname "$0")/../examples/replay
+    stream=$(dirname "$0")/../examples/streams/replay
     if [ $# -gt 0 ]; then
       stream=$1
       shift
@@ -53,11 +56,11 @@ case $command in
     run journal_list "$@" < "$stream"
     ;;
   diff | dump)
-    # each word that names a file stands for it from wherever the program runs
-    for word in "$@"; do
+    # each argument that names a file stands for it from wherever the program runs
+    for argument in "$@"; do
       shift
-      [ ! -e "$word" ] || word=$(place "$word")
-      set -- "$@" "$word"
+      [ ! -e "$argument" ] || argument=$(place "$argument")
+      set -- "$@" "$argument"
     done
     run "journal_$command" "$@"
     ;;

@@ -1,13 +1,19 @@
 #!/bin/sh
-# Builds the static library crates/journal_ffi/out/libjournal_ffi.a, with its proofs, where it is not there or older than a source.
+# Builds a static library, crates/CRATE/out/libCRATE.a, with its proofs, where it is not there or older than a source:
+# scripts/static_library.sh CRATE, which is journal_ffi or bench_ffi.
 #
-# The toolchain builds no library that it has not proved. Over what rt ci has proved it takes half a minute, over what rt check keeps some
-# ten seconds, and from nothing every crate below is proved first. It prints the line of the verdict. Where there is no rt it has status 2.
+# The toolchain builds no library that it has not proved. Over what rt ci has proved it takes half a minute, over what
+# rt check keeps some ten seconds, and from nothing every crate below is proved first. It prints the line of the
+# verdict. Where there is no rt it has status 2.
 set -u
 cd "$(dirname "$0")/.." || exit 1
 
+case $#:${1-} in
+  1:journal_ffi | 1:bench_ffi) crate=$1 ;;
+  *) echo 'usage: static_library.sh journal_ffi|bench_ffi' >&2; exit 1 ;;
+esac
 top=$PWD
-library=crates/journal_ffi/out/libjournal_ffi.a
+library=crates/$crate/out/lib$crate.a
 
 # below CRATE: the crates of this repository on which a crate stands
 below() {
@@ -42,9 +48,9 @@ is_newer() {
   [ -e "$file" ] && [ -z "$(find $(sources "$@") -newer "$file" -print | sed 1q)" ]
 }
 
-libraries=$(below journal_ffi)
-# shellcheck disable=SC2086 # the names are words
-if is_newer "$library" journal_ffi $libraries; then
+libraries=$(below "$crate")
+# shellcheck disable=SC2086 # the names are split
+if is_newer "$library" "$crate" $libraries; then
   exit 0
 fi
 if ! command -v rt > /dev/null; then
@@ -52,34 +58,35 @@ if ! command -v rt > /dev/null; then
   exit 2
 fi
 
-# The libraries that rt ci leaves have no stamp, and rt lib would prove them again; rattle itself takes them as they are.
+# The libraries that rt ci leaves have no stamp, and rt lib would prove them again; rattle itself takes them as they
+# are.
 are_of_ci=yes
-for crate in $libraries; do
-  kept=crates/$crate/out/rlib
-  if [ -e "$kept/stamp" ] || ! is_newer "$kept/$crate.rlib" "$crate"; then
+for name in $libraries; do
+  kept=crates/$name/out/rlib
+  if [ -e "$kept/stamp" ] || ! is_newer "$kept/$name.rlib" "$name"; then
     are_of_ci=no
   fi
 done
 
 log=$(mktemp) || exit 1
 trap 'rm -f "$log"' EXIT
-cd crates/journal_ffi || exit 1
+cd "crates/$crate" || exit 1
 if [ "$are_of_ci" = yes ]; then
   kit=$(dirname "$(rt doc)")
   set -- --extern "std=$kit/rlibs/std.rlib" -L "dependency=$kit/rlibs"
-  used=$(sed -n 's/^journal_ffi [^:]*://p' "$top/crates.txt")
-  for crate in $used; do
-    set -- "$@" --extern "$crate=$top/crates/$crate/out/rlib/$crate.rlib"
+  used=$(sed -n "s/^$crate [^:]*://p" "$top/crates.txt")
+  for name in $used; do
+    set -- "$@" --extern "$name=$top/crates/$name/out/rlib/$name.rlib"
   done
-  for crate in $libraries; do
-    set -- "$@" -L "dependency=$top/crates/$crate/out/rlib"
+  for name in $libraries; do
+    set -- "$@" -L "dependency=$top/crates/$name/out/rlib"
   done
   mkdir -p out
-  "$kit/bin/rattle" build --crate-name journal_ffi src/lib.rt "$@" --antt-project "$kit/rattle/logic/antt-project.json" \
-    --logic-built "$kit/logic_built" --jobs 2 --links journal_ffi= --crate-type staticlib --toolchain "$kit/toolchain" --backend llvm \
-    -o out/libjournal_ffi.a > "$log" 2>&1
+  "$kit/bin/rattle" build --crate-name "$crate" src/lib.rt "$@" --antt-project "$kit/rattle/logic/antt-project.json" \
+    --logic-built "$kit/logic_built" --jobs 2 --links "$crate=" --crate-type staticlib --toolchain "$kit/toolchain" \
+    --backend llvm -o "out/lib$crate.a" > "$log" 2>&1
 else
-  echo 'static_library.sh: proving what is not proved yet, which from nothing takes more than an hour of processor time' >&2
+  echo 'static_library.sh: proving what is not proved yet, from nothing more than an hour of processor time' >&2
   rt lib > "$log" 2>&1
 fi
 status=$?

@@ -50,7 +50,7 @@ fn damaged(random: &mut Random, make: impl Fn(&mut Random) -> Vec<u8>) -> Vec<u8
     payload
 }
 
-/// A length of pieces: 0 for one piece, mostly short ones.
+/// A length of chunks: 0 for one chunk, mostly short ones.
 pub fn any_piece(random: &mut Random, length: usize) -> usize {
     match random.below(4) {
         0 => random.below(2),
@@ -161,7 +161,7 @@ fn a_frame(random: &mut Random, message_type: &'static MessageType, version: u32
     }
 }
 
-/// A stream in pieces of all lengths, or of one.
+/// A stream in chunks of all lengths, or of one.
 fn a_stream(random: &mut Random) -> Case {
     let damaged = random.one_in(2);
     let stream = streams::any(random, damaged);
@@ -212,7 +212,7 @@ impl File {
         self.text += &format!("\n# {what}\n");
     }
 
-    /// Adds a case, and answers whether the file did not have it already.
+    /// Adds a case, and returns whether the file did not have it already.
     fn add(&mut self, case: &Case) -> Result<bool, Failed> {
         let text = case.to_string();
         if self.seen.contains(&text) {

@@ -23,7 +23,7 @@ pub enum Case {
         version: u32,
         payload: Vec<u8>,
     },
-    /// The listing of a stream that comes in pieces.
+    /// The listing of a stream that comes in chunks.
     Stream { version: u32, pieces: Vec<Vec<u8>> },
     /// The record that a canonical payload means, as Rust prints it.
     Record { schema: usize, payload: Vec<u8> },

@@ -3,7 +3,7 @@
 use crate::streams::Frame;
 use crate::wire::{key, put_varint, GROUP, GROUP_END, LENGTH, VARINT};
 
-/// How deep futures and groups stand in one another: the futures below the one that is awaited, the groups down to the last level but one.
+/// How deep futures and groups are nested in one another: the futures below the one that is awaited, the groups down to the last level but one.
 const FUTURES_DEEP: usize = 90;
 const GROUPS_DEEP: usize = 98;
 
@@ -86,7 +86,7 @@ impl Hostile {
         }
     }
 
-    /// The message with so many elements. Of those that stand in one another there are as many as make up whole nests, so up to 97 less.
+    /// The message with so many elements. Of those that are nested in one another there are as many as make up whole nests, so up to 97 less.
     pub fn frame(&self, count: usize) -> Frame {
         Frame {
             code: self.code,

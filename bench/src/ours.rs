@@ -298,7 +298,7 @@ pub fn merge(schema: usize, first: &[u8], second: &[u8]) -> Result<Vec<u8>, Refu
     })
 }
 
-/// A call that answers a frame's length, and writes it where there is room for it.
+/// A call that returns a frame's length, and writes it where there is room for it.
 pub type FrameCall = fn(u32, u16, &[u8], usize, &mut [u8]) -> Result<usize, Refusal>;
 
 /// The frame of the message that a payload holds, of the last of the rounds, by one of the three calls below.

@@ -112,7 +112,7 @@ impl Item {
     }
 }
 
-/// Reads a stream that comes in pieces.
+/// Reads a stream that comes in chunks.
 #[derive(Debug)]
 pub struct Decoder {
     /// What came and was not taken; none of the pieces is empty.
@@ -219,7 +219,7 @@ impl Decoder {
     }
 }
 
-/// The items of a stream that comes in pieces of a length (0: in one), each read before the next piece comes.
+/// The items of a stream that comes in chunks of a length (0: in one), each read before the next piece comes.
 pub struct Items {
     decoder: Decoder,
     rest: Bytes,

@@ -1,4 +1,4 @@
-//! Random payloads: well-formed ones in free spellings, deep ones around the last level, and damaged ones.
+//! Random payloads: well-formed ones in free encodings, deep ones around the last level, and damaged ones.
 
 use crate::schema::{Field, Kind, Label};
 use crate::table::SCHEMAS;
@@ -397,7 +397,7 @@ impl<'a> Payloads<'a> {
         out.extend_from_slice(bytes);
     }
 
-    /// A number, at times in a longer spelling than it needs.
+    /// A number, at times in a longer encoding than it needs.
     fn varint(&mut self, number: u64, out: &mut Vec<u8>) {
         let start = out.len();
         put_varint(number, out);

@@ -33,7 +33,7 @@ impl<R: Read> Reading<R> {
         }
     }
 
-    /// Reads a piece, and answers whether there was one: there is none at the end.
+    /// Reads a chunk, and returns whether there was one: there is none at the end.
     pub fn read_piece(&mut self) -> io::Result<bool> {
         let count = self.reader.read(&mut self.buffer)?;
         self.total += count as u64;

@@ -276,7 +276,7 @@ impl Reader {
         self.merge(message.inner(schema, field), inner, level, content)
     }
 
-    /// Takes what stands behind the key of a record that no schema knows.
+    /// Takes what is after the key of a record that no schema knows.
     fn skip(&mut self, number: u32, wire_type: u8, level: u32, rest: &mut &[u8]) -> Option<()> {
         if wire_type == GROUP {
             return self.group(number, level + 1, rest);
@@ -370,7 +370,7 @@ pub fn items(version: u32, stream: &[u8]) -> (Vec<Item>, usize) {
     (items, rest.len())
 }
 
-/// The item at the front of a stream, and what stands behind it.
+/// The item at the front of a stream, and what is after it.
 fn next_item(version: u32, stream: &[u8]) -> Option<(Item, &[u8])> {
     let header = stream.get(..HEADER)?;
     let word = u64::from_be_bytes(header.try_into().ok()?);

@@ -21,7 +21,7 @@ impl Frame {
     }
 }
 
-/// Frames one behind the other.
+/// Frames one after the other.
 pub fn stream(frames: &[Frame]) -> Vec<u8> {
     let mut out = Vec::new();
     for frame in frames {

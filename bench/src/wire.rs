@@ -8,7 +8,7 @@ pub const GROUP: u8 = 3;
 pub const GROUP_END: u8 = 4;
 pub const FOUR_BYTES: u8 = 5;
 
-/// Writes a number in its shortest spelling.
+/// Writes a number in its shortest encoding.
 pub fn put_varint(number: u64, out: &mut Vec<u8>) {
     let mut rest = number;
     while rest >= 0x80 {

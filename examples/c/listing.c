@@ -1,9 +1,9 @@
 /*
- * Lists the stream that comes on the standard input, in pieces of 4 KiB: listing [VERSION]
+ * Lists the stream that comes on the standard input, in chunks of 4 KiB: listing [VERSION]
  *
  * A line is an item: the name of its type and the length of its payload, and " ack" where its header asks for an acknowledgement. A call
- * has the names of its service and its handler besides. The last line counts the bytes that are in no item. VERSION is from 5 to 9, and 8 if it
- * is not said. The status is 0 after a whole listing, 1 where the input, the output or memory fails, and 2 where the words are wrong.
+ * has the names of its service and its handler besides. The last line counts the bytes that are in no item. VERSION is from 5 to 9; the default
+ * is 8. The status is 0 after a whole listing, 1 if the input, the output or an allocation fails, and 2 if the arguments are wrong.
  *
  *   cc -std=c99 listing.c $(pkg-config --cflags --libs pendratsoa) -o listing
  */
@@ -66,8 +66,8 @@ static int64_t canonical(uint32_t schema, const uint8_t *payload, size_t length,
 }
 
 /*
- * Prints the text field of this number where it is the next of a canonical payload, and else no text. Answers the place behind it. The one
- * spelling of a payload has the fields in order, and the length of a text in the fewest groups of seven bits.
+ * Prints the text field of this number where it is the next of a canonical payload, otherwise no text. Returns the position after it. The
+ * canonical encoding of a payload has the fields in order, and the length of a text in the fewest groups of seven bits.
  */
 static const uint8_t *print_text(const uint8_t *at, const uint8_t *end, int number) {
     size_t length = 0;

@@ -39,7 +39,7 @@ class InputFailed(Exception):
 
 
 def pieces() -> Iterator[bytes]:
-    """The standard input, piece by piece."""
+    """The standard input, chunk by chunk."""
     try:
         with open(0, "rb", closefd=False) as stdin:
             yield from iter(lambda: stdin.read(PIECE), b"")
@@ -48,7 +48,7 @@ def pieces() -> Iterator[bytes]:
 
 
 def main(words: List[str]) -> Optional[str]:
-    """Lists the stream, and answers what fails, if anything does."""
+    """Lists the stream, and returns what fails, if anything does."""
     if words not in ([], *([str(version)] for version in range(5, 10))):
         print("usage: listing.py [5..9]", file=sys.stderr)
         sys.exit(2)

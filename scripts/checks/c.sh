@@ -1,9 +1,9 @@
 #!/bin/sh
-# The library for C: installed, its examples, the test vectors and a million hostile calls through its calls.
+# The library for C: installed, its examples and the module for Python, test vectors, a million adversarial calls.
 #
 # scripts/install.sh puts it into a folder and takes it away again, and both libraries show the calls of
 # include/pendratsoa.h alone. The examples in C and Python list streams alike, and as list_stream.awk does; the
-# conformance lines are answered by the calls; and tests/c/hostile_calls.c makes a million calls that nobody means well
+# test vectors are answered by the calls; and tests/c/hostile_calls.c makes a million calls from an adversary
 # with. It takes the proved static library, which scripts/static_library.sh builds over what rt ci has proved.
 set -u
 cd "$(dirname "$0")/../.." || exit 1
@@ -12,7 +12,7 @@ cd "$(dirname "$0")/../.." || exit 1
 for tool in cc ld objcopy ar nm; do
   command -v $tool > /dev/null || not_run "there is no $tool"
 done
-sh scripts/static_library.sh
+sh scripts/static_library.sh journal_ffi
 case $? in
   0) ;;
   2) not_run 'there is no static library' ;;
@@ -52,8 +52,9 @@ for words in '' '--install' "$prefix other"; do
   [ $? -eq 2 ] && grep -q '^usage: install.sh' "$work/err"
   outcome "install.sh $words" $?
 done
+without_compiler='there is no no-compiler, and it needs a C compiler and binutils'
 CC=no-compiler sh scripts/install.sh "$prefix" > "$work/out" 2> "$work/err"
-[ $? -eq 2 ] && [ "$(cat "$work/err")" = 'install.sh: nothing is installed, since there is no no-compiler, and it needs a C compiler and binutils' ]
+[ $? -eq 2 ] && [ "$(cat "$work/err")" = "install.sh: nothing is installed, since $without_compiler" ]
 outcome 'install.sh without a compiler' $?
 case_of 'install.sh' sh scripts/install.sh "$prefix"
 case_of 'install.sh again' sh scripts/install.sh "$prefix"
@@ -89,7 +90,7 @@ if command -v pkg-config > /dev/null; then
 else
   without 'the program of docs/C.md' pkg-config
 fi
-grep -o '^#define JOURNAL_[A-Z_]* (-[0-9])' include/pendratsoa.h | sed 's/#define \(.*\) (\(.*\))/\2 \1/' > "$work/wanted"
+sed -n 's/^#define \(JOURNAL_[A-Z_]*\) (\(-[0-9]\)).*/\2 \1/p' include/pendratsoa.h > "$work/wanted"
 sed -n 's/^| \(-[0-9]\) | `\(JOURNAL_[A-Z_]*\)` .*/\1 \2/p' docs/C.md > "$work/out"
 same 'the refusals of docs/C.md' "$work/wanted" "$work/out"
 
@@ -105,22 +106,26 @@ sed -n 's/^#define \(JOURNAL_[A-Z_]*\) .*/\1/p' include/pendratsoa.h | sort > "$
 same 'the constants that tests/c/constants.c reads' "$work/wanted" "$work/names"
 
 # The example in C, without a warning of any compiler that is there, and with each library.
+example=examples/c/listing.c
 strict='-Wall -Wextra -Wpedantic -Wconversion -Werror -O2'
 for compiler in 'cc -std=c99' 'cc -std=c17' 'c++ -x c++ -std=c++11' 'clang -std=c99' 'clang++ -x c++ -std=c++17'; do
   if ! command -v "${compiler%% *}" > /dev/null; then
-    without "$compiler examples/c/listing.c" "${compiler%% *}"
+    without "$compiler $example" "${compiler%% *}"
     continue
   fi
   # shellcheck disable=SC2086 # the flags are split
-  case_of "$compiler examples/c/listing.c" $compiler $strict -I "$prefix/include" -c examples/c/listing.c -o "$work/listing.o"
+  case_of "$compiler $example" $compiler $strict -I "$prefix/include" -c $example -o "$work/listing.o"
 done
 # shellcheck disable=SC2086 # the flags are split
-case_of 'the listing with the static library' cc -std=c99 $strict -I "$prefix/include" examples/c/listing.c "$prefix/lib/libpendratsoa.a" -o "$work/static"
+case_of 'the listing with the static library' cc -std=c99 $strict -I "$prefix/include" $example \
+  "$prefix/lib/libpendratsoa.a" -o "$work/static"
 # shellcheck disable=SC2086 # the flags are split
-case_of 'the listing with the shared library' cc -std=c99 $strict -I "$prefix/include" examples/c/listing.c "$library" -o "$work/shared"
+case_of 'the listing with the shared library' cc -std=c99 $strict -I "$prefix/include" $example "$library" \
+  -o "$work/shared"
 PENDRATSOA_LIBRARY=$library
+PYTHONPATH=python
 PYTHONDONTWRITEBYTECODE=1
-export PENDRATSOA_LIBRARY PYTHONDONTWRITEBYTECODE
+export PENDRATSOA_LIBRARY PYTHONPATH PYTHONDONTWRITEBYTECODE
 python=
 ! command -v python3 > /dev/null || python=python3
 [ -n "$python" ] || without 'the example in Python' python3
@@ -140,11 +145,11 @@ listed() {
   fi
 }
 
-listed 'a replay' examples/replay 8
-listed 'a recorded journal' examples/recorded 8
+listed 'a replay' examples/streams/replay 8
+listed 'a recorded journal' examples/streams/recorded 8
 grep -qx 'CallCommand 27 "Greeter" "greet"' "$work/out"
 outcome 'the names of a call' $?
-listed 'an unknown type' examples/unknown_type 9
+listed 'an unknown type' examples/streams/unknown_type 9
 # names whose lengths take two and three bytes as varints
 {
   printf '\004\015\000\000\000\000\116\357\012\310\001'
@@ -180,7 +185,7 @@ for listing in listing listing.py; do
   esac
   for words in 10 4 '8 8' x; do
     # shellcheck disable=SC2086 # the words are split
-    "$@" $words < examples/replay > "$work/out" 2> "$work/err"
+    "$@" $words < examples/streams/replay > "$work/out" 2> "$work/err"
     status=$?
     [ ! -s "$work/out" ] || status=0
     fails "the words '$words'" 2 usage "$listing [5..9]"
@@ -189,7 +194,7 @@ for listing in listing listing.py; do
   status=$?
   fails 'an input that is closed' 1 "$listing" 'input failed'
   if [ -c /dev/full ]; then
-    "$@" < examples/replay > /dev/full 2> "$work/err"
+    "$@" < examples/streams/replay > /dev/full 2> "$work/err"
     status=$?
     fails 'a full output' 1 "$listing" 'output failed'
   fi
@@ -201,17 +206,18 @@ status=$?
 fails 'an input that is a folder' 1 listing 'input failed'
 status=
 
-# The module, and the conformance lines by it.
+# The module, and the test vectors by it.
 if [ -n "$python" ]; then
-  case_of 'the tests of the module' "$python" -m unittest discover -s examples/python
+  case_of 'the tests of the module' "$python" -m unittest discover -s python
+  case_of 'the tests of the example' "$python" -m unittest discover -s examples/python
   cat conformance/*.txt conformance/json/*.txt > "$work/lines"
   counted 'the conformance lines' "$python" scripts/checks/conformance_calls.py < "$work/lines"
 fi
 
-# Calls that nobody means well with.
+# Calls from an adversary.
 # shellcheck disable=SC2086 # the flags are split
-case_of 'hostile_calls.c' cc -std=gnu99 -O2 -Wall -Wextra -Werror -I "$prefix/include" tests/c/hostile_calls.c "$prefix/lib/libpendratsoa.a" \
-  -Wl,--wrap=malloc,--wrap=realloc,--wrap=free -pthread -o "$work/hostile"
+case_of 'hostile_calls.c' cc -std=gnu99 -O2 -Wall -Wextra -Werror -I "$prefix/include" tests/c/hostile_calls.c \
+  "$prefix/lib/libpendratsoa.a" $wrapped,--wrap=free -pthread -o "$work/hostile"
 case_of 'a million hostile calls' "$work/hostile" 1 1000000
 cat "$work/log"
 case_of 'hostile calls in four threads' "$work/hostile" 2 100000 4

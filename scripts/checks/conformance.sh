@@ -2,8 +2,8 @@
 # The library gives the answers of all of conformance/*.txt; with the word '-' those on standard input.
 #
 # It runs the proved program of crates/conformance where `rt ci` or `rt run` has built it, else it builds one without
-# the proofs, which is slow: it needs a minute for some ten thousand lines. Each line that fails is shown with what is
-# answered instead.
+# the proofs, which is slow: it needs a minute for some ten thousand lines. Each line that fails is shown with the
+# result of the library instead.
 set -u
 cd "$(dirname "$0")/../.." || exit 1
 . scripts/checks/lib.sh

@@ -1,8 +1,8 @@
 """Checks the conformance lines on standard input by the calls for C: conformance_calls.py < LINES
 
-It takes examples/python/pendratsoa.py, and the numbers of the schemas from docs/C.md. Lines of the kind `record` have no call. Besides, a
-stream is the same byte by byte, a canonical payload is its own answer and has the same JSON, a frame is a header and the canonical payload,
-and a command is the same as itself. The last line is 'N passed, M failed'.
+It takes python/pendratsoa.py, and the numbers of the schemas from docs/C.md. Lines of the kind `record` have no call.
+Besides, a stream is the same byte by byte, a canonical payload is its own answer and has the same JSON, a frame is a
+header and the canonical payload, and a command is the same as itself. The last line is 'N passed, M failed'.
 """
 
 import pathlib
@@ -10,7 +10,7 @@ import re
 import sys
 
 TOP = pathlib.Path(__file__).resolve().parents[2]
-sys.path.insert(0, str(TOP / "examples/python"))
+sys.path.insert(0, str(TOP / "python"))
 
 import pendratsoa  # noqa: E402
 from pendratsoa import Malformed, Message, Stream, UnknownCode  # noqa: E402

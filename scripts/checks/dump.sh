@@ -1,8 +1,8 @@
 #!/bin/sh
 # journal_dump on examples, refused words and what fails; its lines beside protobuf, jq and Python.
 #
-# It runs the proved program, also with each request for memory refused in turn, and compares standard output, the
-# whole of standard error and the status. jq and Python's json read each line of the dumps of hostile streams, and
+# It runs the proved program, also with each allocation failing in turn, and compares standard output, the
+# whole of standard error and the status. jq and Python's json read each line of the dumps of adversarial streams, and
 # protobuf prints the same JSON for random payloads of each message type. It needs jq, a C compiler, protoc and
 # Python's protobuf, for parts of it.
 set -u
@@ -22,7 +22,7 @@ top=$PWD
 run=$PWD/crates/journal_dump
 work=$(mktemp -d) || exit 1
 trap 'rm -rf "$work"' EXIT
-cd examples || exit 1
+cd examples/streams || exit 1
 passed=0
 failed=0
 
@@ -193,7 +193,7 @@ else
   echo 'dump: no memory: not run, since memory cannot be bounded here'
 fi
 
-# Each request for memory refused in turn, in a stream that needs some: whole lines stand, and one line says why, or all stands.
+# Each allocation fails in turn, in a stream that needs some: whole lines are written and one line says why, or all.
 if command -v cc > /dev/null && cc -O2 -shared -fPIC -o "$work/refuse.so" "$top/tests/c/refuse.c" -ldl; then
   request=0
   requests=0
@@ -218,7 +218,7 @@ else
   echo 'dump: refused requests for memory: not run, since there is no cc'
 fi
 
-# The stored run, and hostile streams, of which others read each line.
+# The stored run, and adversarial streams, of which others read each line.
 cd "$top" || exit 1
 "$program" < "$run/stdin" > "$work/out" 2> "$work/err"
 status=$?

@@ -60,6 +60,147 @@ same() {
   fi
 }
 
+# program_of CRATE: $program is the proved program of a crate, which rt ci or scripts/run.sh --proved leaves in out/;
+# where there is none, or a source is newer, $program is empty and $why says so
+program_of() {
+  program=$PWD/crates/$1/out/$1
+  why=
+  if [ ! -x "$program" ]; then
+    why="there is no crates/$1/out/$1"
+  elif [ -n "$(find crates/*/src -name '*.rt' -newer "$program")" ]; then
+    why="crates/$1/out/$1 is older than a source"
+  fi
+  if [ -n "$why" ]; then
+    program=
+    why="$why; sh scripts/run.sh --proved ${1#journal_} builds it"
+  fi
+}
+
+# said STATUS [LINE]: the run ended with this status, and printed this line, or nothing, on the standard error
+said() {
+  : > "$work/line"
+  [ $# -eq 1 ] || printf '%s\n' "$2" > "$work/line"
+  [ "$status" -eq "$1" ] && cmp -s "$err" "$work/line"
+}
+
+# ended NAME STATUS FILE [LINE]: counts a run, which passed where it ended so, and printed what the file holds
+ended() {
+  name=$1
+  listing=$3
+  said "$2" ${4:+"$4"} && cmp -s "$out" "$listing"
+  outcome "$name" $?
+}
+
+# printed FILE: how much of it the run printed: nothing, all, or a beginning, of whole lines or not; or other bytes
+printed() {
+  size=$(($(wc -c < "$out")))
+  head -c "$size" "$1" > "$work/beginning"
+  if ! cmp -s "$out" "$work/beginning"; then
+    echo other
+  elif [ "$size" -eq 0 ]; then
+    echo nothing
+  elif [ "$size" -eq "$(wc -c < "$1")" ]; then
+    echo all
+  elif [ "$(tail -c 1 "$out" | wc -l)" -eq 1 ]; then
+    echo lines
+  else
+    echo part
+  fi
+}
+
+# What the programs have in common where something fails: $program prints one line on the standard error, and ends with
+# the status $failure.
+
+# failing_input LINE ARGUMENT..: a standard input that is a folder; the line says so, and nothing is written
+failing_input() {
+  line=$1
+  shift
+  "$program" "$@" < . > "$out" 2> "$err"
+  status=$?
+  ended "a folder as input: $*" "$failure" /dev/null "$line"
+  # where the standard error fails as well, the status stays
+  : > "$err"
+  "$program" "$@" < . > "$out" 2>&-
+  status=$?
+  ended "a folder as input, and a closed standard error: $*" "$failure" /dev/null
+}
+
+# closed_input LINE ARGUMENT..: the same of a standard input that is closed, for a program that opens no file, since a
+# file takes the descriptor that is free
+closed_input() {
+  line=$1
+  shift
+  "$program" "$@" > "$out" 2> "$err" <&-
+  status=$?
+  ended "a closed input: $*" "$failure" /dev/null "$line"
+}
+
+# failing_outputs INPUT ARGUMENT..: a standard output that is closed, or full from its first byte on
+failing_outputs() {
+  input=$1
+  shift
+  : > "$out"
+  "$program" "$@" < "$input" 2> "$err" >&-
+  status=$?
+  ended "a closed output: $* < ${input##*/}" "$failure" /dev/null "${program##*/}: output failed"
+  if [ -c /dev/full ]; then
+    "$program" "$@" < "$input" > /dev/full 2> "$err"
+    status=$?
+    ended "a full output: $* < ${input##*/}" "$failure" /dev/null "${program##*/}: output failed"
+  else
+    left_out 'a full output' 'there is no /dev/full'
+  fi
+}
+
+# shortened_outputs INPUT LINES: an output that fails before all of these lines, which are more than 100 KiB, are
+# written: a file that may not grow past 200 blocks, and a pipe whose reader ends after three lines (the program has the
+# signal SIGPIPE ignored)
+shortened_outputs() {
+  if (trap '' XFSZ && ulimit -f 200) 2> "$work/shell"; then
+    (
+      trap '' XFSZ
+      ulimit -f 200
+      "$program" < "$1" > "$out" 2> "$err"
+    )
+    status=$?
+    said "$failure" "${program##*/}: output failed" && [ "$(printed "$2")" = part ]
+    outcome 'an output that is full in the middle' $?
+  else
+    left_out 'an output that is full in the middle' 'files cannot be bounded here'
+  fi
+  {
+    "$program" < "$1" 2> "$err"
+    echo $? > "$work/status"
+  } | head -n 3 > "$out"
+  status=$(cat "$work/status")
+  head -n 3 "$2" > "$work/first"
+  ended 'a reader that ends' "$failure" "$work/first" "${program##*/}: output failed"
+}
+
+# little_memory INPUT LINES ARGUMENT..: after this input begins a message of 4 GiB, and 128 MiB of address space do not
+# hold the 192 MiB of it that come; the lines of what comes before it are written
+little_memory() {
+  input=$1
+  lines=$2
+  shift 2
+  if (ulimit -v 131072) 2> "$work/shell"; then
+    status=$(
+      {
+        cat "$input"
+        printf '\004\000\000\000\377\377\377\377'
+        dd if=/dev/zero bs=65536 count=3072 2> "$work/dd"
+      } | (
+        ulimit -v 131072
+        "$program" "$@" > "$out" 2> "$err"
+        echo $?
+      )
+    )
+    ended 'little memory' "$failure" "$lines" "${program##*/}: out of memory"
+  else
+    left_out 'little memory' 'memory cannot be bounded here'
+  fi
+}
+
 # add COUNTS: adds 'N passed, M failed' to the tally; the status is 1 where that is not what it is
 add() {
   case $1 in
@@ -69,6 +210,31 @@ add() {
   passed=$((passed + ${1%% *}))
   set -- "${1#*, }"
   failed=$((failed + ${1%% *}))
+}
+
+# unproved_crate NAME LIBRARY..: makes a copy of the crates' sources with one more crate, which uses these libraries; $crate
+# is its folder, whose src/ is empty
+unproved_crate() {
+  for crate in crates/*; do
+    for part in src specs proofs; do
+      [ ! -d "$crate/$part" ] || { mkdir -p "$work/tree/$crate" && cp -R "$crate/$part" "$work/tree/$crate/"; }
+    done
+  done
+  cp crates.txt "$work/tree/"
+  crate=$work/tree/crates/$1
+  mkdir -p "$crate/src"
+  name=$1
+  shift
+  echo "$name: $*" >> "$work/tree/crates.txt"
+}
+
+# sources FOLDER TARGET: copies the sources of a folder of tests/ under the names that the compiler takes
+sources() {
+  mkdir -p "$2"
+  for file in "$1"/*.rt.in; do
+    name=${file##*/}
+    cp "$file" "$2/${name%.in}"
+  done
 }
 
 # stage COMMAND..: runs a command, shows what it prints and adds its last 'N passed, M failed'

@@ -2,8 +2,8 @@
 # Links, paths, worked lines and the names behind promises in pages lead somewhere; the README shows what runs.
 #
 # Each link, each path of this repository in `code`, each worked line of conformance, the test vectors of each rule,
-# the README's page of code and the dump that it shows, and, in a table of promises, each name behind a
-# promise in the crates that it is about. What is missing is shown above the last line.
+# the README's page of code and the dump that it shows, in a table of promises, each name behind a
+# promise in the crates that it is about, and the version of the library. What is missing is shown above the last line.
 set -u
 cd "$(dirname "$0")/../.." || exit 1
 . scripts/checks/lib.sh
@@ -107,17 +107,21 @@ find crates -name '*.rt' -not -path '*/out/*' -exec cat {} + | sed 's/^ *//' > "
 for page in crates/*/README.md; do
   awk '/^```rust$/ { inside = 1; next } /^```$/ { inside = 0 } inside' "$page" | sed 's/^ *//' > "$work/quoted"
   while IFS= read -r line; do
-    if grep -qxF -- "$line" "$work/code"; then passed=$((passed + 1)); else missing "$page" "no such line of code: $line"; fi
+    if grep -qxF -- "$line" "$work/code"; then
+      passed=$((passed + 1))
+    else
+      missing "$page" "no such line of code: $line"
+    fi
   done < "$work/quoted"
 done
 
 # the dump of README.md is that which the program is checked against
 sed -n 's/^    \({"offset":.*\)$/\1/p' README.md > "$work/shown"
 while IFS= read -r line; do
-  if grep -qF -- "='$line'" scripts/checks/dump.sh; then
+  if grep -qxF -- "$line" examples/streams/replay.dump; then
     passed=$((passed + 1))
   else
-    missing README.md "scripts/checks/dump.sh does not want: $line"
+    missing README.md "no line of examples/streams/replay.dump: $line"
   fi
 done < "$work/shown"
 
@@ -167,5 +171,30 @@ for page in README.md docs/PROOFS.md; do
     missing "$page" "$line"
   done < "$work/wrong"
 done
+
+# the version of the library: on the first line of a file that has these words, the number behind them
+version=$(sed -n 's/^pub const LIBRARY_VERSION: &str = "\(.*\)";$/\1/p' crates/journal_calls/src/names.rt)
+while IFS='|' read -r place words; do
+  stated=$(grep -m 1 -oE "$words[0-9]+(\.[0-9]+)+" "$place" | grep -oE '[0-9]+(\.[0-9]+)+$')
+  if [ -n "$version" ] && [ "$stated" = "$version" ]; then
+    passed=$((passed + 1))
+  else
+    missing "$place" "the version of the library is '$version', and behind '$words' stands '$stated'"
+  fi
+done << 'EOF'
+CHANGELOG.md|^## 
+README.md|^Status: 
+crates/journal_diff/src/options.rt|\.version\("
+crates/journal_dump/src/command_line.rt|\.version\("
+crates/journal_ffi/src/names.rt|the version of the library, as "
+docs/C.md|libpendratsoa\.so\.
+docs/C.md|The version\*\*, 
+include/pendratsoa.h|JOURNAL_LIBRARY_VERSION "
+include/pendratsoa.h|the version of the library, as "
+python/pendratsoa.py|The version of the library, as "
+python/pyproject.toml|^version = "
+scripts/checks/diff.sh|'journal_diff 
+scripts/checks/dump.sh|'journal_dump 
+EOF
 
 finish

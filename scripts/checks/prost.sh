@@ -1,5 +1,5 @@
 #!/bin/sh
-# prost answers the test vectors alike, and the library 50,000 random cases that prost has answered.
+# prost gives the results of the test vectors, and the library those of prost for 50,000 random cases.
 #
 # It needs cargo and packages, and installs none. The last line is 'N passed, M failed'; it is '0 passed, 0 failed'
 # where something is absent.

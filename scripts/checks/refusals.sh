@@ -1,11 +1,10 @@
 #!/bin/sh
-# Each request for memory of tests and of programs is refused in turn.
+# Each allocation of tests and of programs fails in turn.
 #
 # Each test of crates/shared_core_refusal_tests and of crates/replay_bench_tests, and the programs journal_list and
-# journal_diff, run once for each request for memory that they make, with that one refused, and at last with none
-# refused. A test has to pass. journal_list has to write its listing, or whole lines at the beginning of it and that
-# memory was refused, and journal_diff its verdict, or nothing and that memory was refused, for which there is no
-# excuse where none is.
+# journal_diff, run once for each allocation that they make, with that one failing, and at last with none.
+# A test has to pass. journal_list has to write its listing, or whole lines at the beginning of it and that memory is
+# short, and journal_diff its verdict, or nothing and that memory is short; both succeed if no allocation fails.
 #
 # It takes the tests and the programs that rt ci has proved and built, and tests/c/refuse.c, which counts their
 # requests and refuses one. Two runs go at a time. Each refused request counts as one.
@@ -127,7 +126,7 @@ if [ -x "$journal_list" ]; then
     refuse_each "journal_list $* < $stream" is_right_listing "$stream" "$journal_list" "$@"
   }
 
-  for stream in examples/replay examples/unknown_type examples/cut_short; do
+  for stream in examples/streams/replay examples/streams/unknown_type examples/streams/cut_short; do
     for size in 3 4096; do
       refuse_listing "$stream" "$stream.stdout" "$size"
     done
@@ -135,7 +134,7 @@ if [ -x "$journal_list" ]; then
   # at v9 an unknown message is skipped with its payload
   printf 'skipped 0x8 8\nrest 0\n' > "$work/skipped"
   for size in 3 4096; do
-    refuse_listing examples/unknown_type "$work/skipped" "$size" v9
+    refuse_listing examples/streams/unknown_type "$work/skipped" "$size" v9
   done
 else
   without journal_list "$journal_list"
@@ -146,13 +145,13 @@ refuse_verdict() {
   verdict_status=$1
   printf '%s\n' "$2" > "$work/verdict"
   shift 2
-  refuse_each "journal_diff $*" is_right_verdict examples/recorded "$journal_diff" "$@"
+  refuse_each "journal_diff $*" is_right_verdict examples/streams/recorded "$journal_diff" "$@"
 }
 
 if [ -x "$journal_diff" ]; then
   verdict=$(cat crates/journal_diff/stdout)
   refuse_verdict 1 "$verdict" crates/journal_diff/data/recorded crates/journal_diff/data/replayed
-  refuse_verdict 0 'same, 4 commands' --ignore-payloads --protocol 9 - examples/replayed_other_payload
+  refuse_verdict 0 'same, 4 commands' --ignore-payloads --protocol 9 - examples/streams/replayed_other_payload
 else
   without journal_diff "$journal_diff"
 fi

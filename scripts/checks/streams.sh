@@ -1,8 +1,8 @@
 #!/bin/sh
-# journal_list on hostile streams, beside an independent lister and under bounds of memory.
+# journal_list on adversarial streams, beside an independent lister and under bounds of memory.
 #
 # The streams are some MiB of any bytes, unknown headers alone, a header that promises 4 GiB, and frames of all types
-# with any payload, at v9 unknown ones too. The proved program reads each in pieces of several sizes, under a bound of
+# with any payload, at v9 unknown ones too. The proved program reads each in chunks of several sizes, under a bound of
 # address space. The listing has to be that of list_stream.awk, which knows the rule of items and nothing of the
 # library. The streams are the same in each run.
 set -u
@@ -12,15 +12,14 @@ cd "$(dirname "$0")/../.." || exit 1
 LC_ALL=C
 export LC_ALL
 
-program=crates/journal_list/out/journal_list
-[ -x "$program" ] || not_run "there is no $program; sh scripts/run.sh --proved list builds it"
-[ -z "$(find crates/*/src -name '*.rt' -newer "$program")" ] || not_run "$program is older than a source; sh scripts/run.sh --proved list builds it"
+program_of journal_list
+[ -n "$program" ] || not_run "$why"
 # 2147466840 is what the generator's greatest number is followed by
-fit='\000\310\n2147466840'
-[ "$(awk 'BEGIN { printf "%c%c%c%.0f", 0, 200, 10, 2147483646 * 16807 % 2147483647 }' | od -An -v -t u1)" = "$(printf "$fit" | od -An -v -t u1)" ] ||
+awk 'BEGIN { printf "%c%c%c%.0f", 0, 200, 10, 2147483646 * 16807 % 2147483647 }' > "$work/counted"
+printf '\000\310\n2147466840' | cmp -s - "$work/counted" ||
   not_run 'awk here does not write bytes, or does not count exactly'
 
-# the program's last word: none, or v9
+# the program's last argument: none, or v9
 version=
 
 # list: the listing of standard input
@@ -40,15 +39,15 @@ agreed() {
   fi
 }
 
-# The lister itself, on the streams of examples/
-for listing in examples/*.stdout; do
+# The lister itself, on the streams of examples/streams/
+for listing in examples/streams/*.stdout; do
   stream=${listing%.stdout}
   cp "$listing" "$work/listing"
   list < "$stream" > "$out" 2> "$err"
   agreed "the lister on $stream" $?
 done
 
-# listed WORD BOUND: lists the stream of the work folder in pieces of this size, with so many KiB of address space
+# listed SIZE BOUND: lists the stream of the work folder in chunks of this size, in so many KiB of address space
 if (ulimit -v 131072) 2> "$err"; then
   listed() {
     (ulimit -v "$2" && "$program" "$1" $version) < "$work/stream" > "$out" 2> "$err"
@@ -67,17 +66,18 @@ until listed 65536 "$need" 2> "$work/shell" || [ "$need" -ge 65536 ]; do
   need=$((need + 64))
 done
 
-# in_pieces NAME HELD TIMES WORD..: the stream, in pieces of these sizes. Beyond what the program needs for nothing it has a mebibyte, 160 bytes for
-# each piece of the most bytes that it has to hold, and so many times these bytes: twice where they are joined.
+# in_pieces NAME HELD TIMES SIZE..: the stream, in chunks of these sizes. Beyond what the program needs for nothing it
+# has a mebibyte, 160 bytes for each chunk of the most bytes that it has to hold, and so many times these bytes: twice
+# where they are joined.
 in_pieces() {
   name=$1
   held=$2
   times=$3
   shift 3
-  for word in "$@"; do
-    bound=$((need + 1024 + (held * times + (held / word + 1) * 160) / 1024))
-    listed "$word" "$bound"
-    agreed "$name in pieces of $word, with $bound KiB" $?
+  for size in "$@"; do
+    bound=$((need + 1024 + (held * times + (held / size + 1) * 160) / 1024))
+    listed "$size" "$bound"
+    agreed "$name in chunks of $size, with $bound KiB" $?
   done
 }
 
@@ -91,15 +91,15 @@ stream() {
 stream unknown 2097152 1
 in_pieces 'unknown headers' 8 1 1 7 4096 65536
 
-# These two come to a header that promises more than there is, and no message of them is ever joined. The seed of the first is one with two
-# unknown headers in front.
-for size in 131072 2097152; do
+# These two come to a header that promises more than there is, and no message of them is ever joined. The seed of the
+# first is one with two unknown headers in front.
+for length in 131072 2097152; do
   sizes='7 4096 65536'
-  [ "$size" -gt 131072 ] || sizes="1 $sizes"
-  stream random "$size" 17552
-  in_pieces "$size random bytes" "$size" 1 $sizes
-  stream promise "$size" 1
-  in_pieces "$size bytes behind a promise of 4 GiB" "$size" 1 $sizes
+  [ "$length" -gt 131072 ] || sizes="1 $sizes"
+  stream random "$length" 17552
+  in_pieces "$length random bytes" "$length" 1 $sizes
+  stream promise "$length" 1
+  in_pieces "$length bytes after a promise of 4 GiB" "$length" 1 $sizes
 done
 
 # The longest message is joined. Each type has to stand in the listing, and each kind of line.
@@ -117,7 +117,10 @@ agreed 'the types in mixed frames' 0
 # At v9 unknown messages are skipped with their payloads, and a promise of an unknown one is waited for.
 version=v9
 stream skipped 2097152 2
-longest=$(awk '{ size = $1 == "skipped" ? $3 : $2 } size > longest { longest = size } END { print longest }' "$work/listing")
+longest=$(awk '
+  { size = $1 == "skipped" ? $3 : $2 }
+  size > longest { longest = size }
+  END { print longest }' "$work/listing")
 in_pieces 'frames and unknown messages' "$longest" 2 1 7 4096 65536
 grep -q '^skipped' "$out" && ! grep -q '^unknown' "$out"
 agreed 'skipped messages among them' $?

@@ -1,10 +1,10 @@
-# Writes a stream that nobody means well with, the same for the same kind, size and seed:
+# Writes an adversarial stream, the same for the same kind, size and seed:
 #   LC_ALL=C awk -v kind=KIND -v size=BYTES -v seed=SEED -f write_stream.awk proto/types.txt
 #
-# random: any bytes. unknown: headers alone whose codes stand for no type. promise: a header that promises 4,294,967,295 bytes, and
-# any bytes behind it. mixed: frames of all types and of custom ones with any payload, unknown headers between them, and at the end a
-# frame of which the last byte is missing. skipped: the same with unknown headers that have the payload that they say. Bits of headers that
-# say nothing are any.
+# random: any bytes. unknown: headers alone whose codes stand for no type. promise: a header that promises 4,294,967,295
+# bytes, and any bytes after it. mixed: frames of all types and of custom ones with any payload, unknown headers between
+# them, and at the end a frame of which the last byte is missing. skipped: the same with unknown headers that have the
+# payload that they say. Bits of headers that say nothing are any.
 function number(text,  i, value) {
   value = 0
   for (i = 1; i <= length(text); i++) value = value * 16 + index("0123456789abcdef", substr(text, i, 1)) - 1
@@ -24,7 +24,8 @@ function header(code, length_of) {
   printf "%c%c", int(code / 256), code % 256
   written += 2
   bytes(2)
-  printf "%c%c%c%c", int(length_of / 16777216), int(length_of / 65536) % 256, int(length_of / 256) % 256, length_of % 256
+  printf "%c%c", int(length_of / 16777216), int(length_of / 65536) % 256
+  printf "%c%c", int(length_of / 256) % 256, length_of % 256
   written += 4
 }
 function unnamed_code(  code) {

@@ -1,10 +1,10 @@
 /*
  * Reads each constant of pendratsoa.h by its name, beside literal answers of the library: constants
  *
- * It prints the name of each constant that says what the library answers, and a line that begins with 'wrong: ' for each
- * other; then its status is 1. scripts/checks/c.sh looks that no constant of the header is missing.
+ * It prints the name of each constant that says what the library answers, and a line that begins with 'wrong: ' for
+ * each other; then its status is 1. scripts/checks/c.sh looks that no constant of the header is missing.
  *
- * It is linked with the static library and --wrap of malloc and realloc, so that a request for memory can be refused.
+ * It is linked with the static library and --wrap of malloc and realloc, so that an allocation can be refused.
  */
 #include <pendratsoa.h>
 
@@ -50,7 +50,8 @@ static void is(const char *name, long long found, long long expected) {
 }
 
 static void refusals(void) {
-    const uint8_t cut[] = {0x12}, headers[] = {0x22, 6, 0x0A, 1, 'k', 0x12, 1, 'v'}, input[] = {0x04, 0, 0, 0, 0, 0, 0, 0};
+    const uint8_t cut[] = {0x12}, headers[] = {0x22, 6, 0x0A, 1, 'k', 0x12, 1, 'v'};
+    const uint8_t input[] = {0x04, 0, 0, 0, 0, 0, 0, 0};
     const uint8_t no_id[] = {0x22, 0}, no_result[] = {0x08, 1};
     uint64_t numbers[6];
 
@@ -148,7 +149,8 @@ static void notifications(void) {
 }
 
 static void verdicts(void) {
-    const uint8_t nine[] = {NINE}, set_a[] = {NINE, SET_A}, set_b[] = {NINE, SET_B}, call[] = {NINE, CALL}, bad[] = {NINE, BAD};
+    const uint8_t nine[] = {NINE}, set_a[] = {NINE, SET_A}, set_b[] = {NINE, SET_B}, call[] = {NINE, CALL};
+    const uint8_t bad[] = {NINE, BAD};
     const struct { const char *name; const uint8_t *recorded, *replayed; size_t lengths[2]; uint64_t kind; } rows[] = {
         {"JOURNAL_SAME", nine, nine, {sizeof nine, sizeof nine}, JOURNAL_SAME},
         {"JOURNAL_RECORDED_ENDED", nine, set_a, {sizeof nine, sizeof set_a}, JOURNAL_RECORDED_ENDED},
@@ -166,7 +168,8 @@ static void verdicts(void) {
     }
     IS(JOURNAL_VERDICT_NUMBERS, room);
     for (size_t i = 0; i < COUNT(rows); i++) {
-        journal_verdict(8, rows[i].recorded, rows[i].lengths[0], rows[i].replayed, rows[i].lengths[1], 0, numbers, 3, NULL, 0);
+        journal_verdict(8, rows[i].recorded, rows[i].lengths[0], rows[i].replayed, rows[i].lengths[1], 0, numbers, 3,
+                        NULL, 0);
         is(rows[i].name, (long long)rows[i].kind, (long long)numbers[0]);
         IS_AT(numbers, JOURNAL_VERDICT_KIND, i);
         IS_AT(numbers, JOURNAL_VERDICT_INDEX, 9);

@@ -1,21 +1,23 @@
 /*
  * Calls the library for C as nobody does who means well: hostile_calls [--heap] SEED COUNT [THREADS]
  *
- * Each call is handed random slices and numbers, among them slices of no length that are null. A slice ends at a page that nothing may
- * touch, or begins behind one, and has guard bytes at its other side. A call is made again with room of every size from none to what is
- * needed, with too few numbers and with too many, and with each of its requests for memory refused in turn. After each call
+ * Each call is handed random slices and numbers, among them slices of no length that are null. A slice ends at a page
+ * that nothing may touch, or begins after one, and has guard bytes at its other side. A call is made again with room of
+ * every size from none to what is needed, with too few numbers and with too many, and with each of its allocations
+ * failing in turn. After each call
  *
- * - what is read stands as it stood, and so do the guards and what is to be written, but for the bytes of the answer where there is room;
+ * - what is read is unchanged, and so are the guards and what is to be written, but for the bytes of the answer
+ *   where there is room;
  * - the answer is one that the header lists, and the same whatever the room;
- * - a refused request for memory is JOURNAL_OUT_OF_MEMORY, and a call without that refusal asks for none;
+ * - a failed allocation is JOURNAL_OUT_OF_MEMORY, and a call without a failed one never returns that;
  * - no memory is held.
  *
- * Every fourth case is made on purpose, by turns, for a kind of answer of a call: each refusal that it lists but JOURNAL_TOO_LONG, each
- * kind of item, id with result and verdict, and the rest of what it answers. Of 10,000 calls and more, whatever the seed, each kind has to
- * have been answered; one that was not is named.
+ * Every fourth case is made on purpose, by turns, for a kind of answer of a call: each refusal that it lists but
+ * JOURNAL_TOO_LONG, each kind of item, id with result and verdict, and the rest of what it answers. Of 10,000 calls and
+ * more, whatever the seed, each kind has to have been answered; one that was not is named.
  *
- * Each thread makes the same calls, COUNT at least, and has to have the same answers. With --heap the slices are blocks of malloc of
- * exactly their length, for valgrind to watch.
+ * Each thread makes the same calls, COUNT at least, and has to have the same answers. With --heap the slices are blocks
+ * of malloc of exactly their length, for valgrind to watch.
  *
  * It is linked with the static library and --wrap of malloc, realloc and free; scripts/checks/c.sh does so.
  */
@@ -42,7 +44,8 @@ void *__real_malloc(size_t size);
 void *__real_realloc(void *block, size_t size);
 void __real_free(void *block);
 
-/* The requests of the call that a thread makes, the one of them to be refused (0: none), whether it was, and the blocks that are held. */
+/* The requests of the call that a thread makes, the one of them to be refused (0: none), whether it was, and the blocks
+   that are held. */
 static __thread struct { long requests, refuse, held; int is_refused; } heap;
 
 static int is_refused(void) {
@@ -74,8 +77,8 @@ void __wrap_free(void *block) {
 /* The calls, and what the header says of each. */
 
 enum call {
-    LIBRARY_VERSION, SCHEMA, TYPE_NAME, TYPE_CODE, NEXT, HEADER, FRAME, IS_WELL_FORMED, CANONICAL, MERGE, JSON, NOTIFICATION, HEADER_EQ,
-    DIFFERENCE, VERDICT, CALLS
+    LIBRARY_VERSION, SCHEMA, TYPE_NAME, TYPE_CODE, NEXT, HEADER, FRAME, IS_WELL_FORMED, CANONICAL, MERGE, JSON,
+    NOTIFICATION, HEADER_EQ, DIFFERENCE, VERDICT, CALLS
 };
 
 #define REFUSALS 8
@@ -109,7 +112,8 @@ static const struct {
     [MERGE] = {"journal_merge", 2, 0, 1, UNKNOWN | MALFORMED | MEMORY | TOO_LONG, 1},
     [JSON] = {"journal_json", 1, 0, 1, UNKNOWN | MALFORMED | MEMORY | TOO_LONG, 1},
     [NOTIFICATION] = {"journal_notification", 1, JOURNAL_NOTIFICATION_NUMBERS, 1,
-                      UNKNOWN | MALFORMED | MEMORY | TOO_LONG | NO_ROOM | BIT(JOURNAL_NO_ID) | BIT(JOURNAL_NO_RESULT), KINDS},
+                      UNKNOWN | MALFORMED | MEMORY | TOO_LONG | NO_ROOM | BIT(JOURNAL_NO_ID) | BIT(JOURNAL_NO_RESULT),
+                      KINDS},
     [HEADER_EQ] = {"journal_header_eq", 2, 0, 0, UNKNOWN | MALFORMED | MEMORY, 2},
     [DIFFERENCE] = {"journal_difference", 2, 0, 1, UNKNOWN | MALFORMED | MEMORY, 1},
     [VERDICT] = {"journal_verdict", 2, JOURNAL_VERDICT_NUMBERS, 1, UNKNOWN | MEMORY | NO_ROOM, 7},
@@ -121,7 +125,8 @@ struct source {
     size_t length;
 };
 
-/* A slice that is handed over: its first byte, or null, and its guards. Byte i of these, and of what is to be written, is salt + 31 i. */
+/* A slice that is handed over: its first byte, or null, and its guards. Byte i of these, and of what is to be written,
+   is salt + 31 i. */
 struct slice {
     uint8_t *at;
     size_t length;
@@ -171,10 +176,11 @@ static void fail(const char *why) {
 
 static void wrong(const struct work *work, const struct request *request, const char *what, int64_t answer) {
     flockfile(stdout);
-    printf("wrong: %s: %s: answer %" PRId64 ", room %zu, numbers %zu, version %" PRIu32 ", code 0x%04x, schema %" PRIu32 ", flag %" PRIu32
-           ", request %ld refused; seed %" PRIu64 ", case %ld\n",
-           listed[request->call].name, what, answer, work->slices[OUT].length, work->slices[NUMBERS].length / 8, request->version,
-           request->code, request->schema, request->ignore_payloads, heap.refuse, work->seed, work->cases);
+    printf("wrong: %s: %s: answer %" PRId64 ", room %zu, numbers %zu, version %" PRIu32 ", code 0x%04x, ",
+           listed[request->call].name, what, answer, work->slices[OUT].length, work->slices[NUMBERS].length / 8,
+           request->version, request->code);
+    printf("schema %" PRIu32 ", flag %" PRIu32 ", request %ld refused; seed %" PRIu64 ", case %ld\n", request->schema,
+           request->ignore_payloads, heap.refuse, work->seed, work->cases);
     for (int i = 0; i < listed[request->call].inputs; i++) {
         printf("  input %d:", i);
         for (size_t k = 0; k < request->source[i].length; k++) {
@@ -435,16 +441,18 @@ static int64_t make(const struct request *r, const struct slice *slices) {
     case FRAME: return journal_frame(r->version, r->code, first->at, first->length, out->at, out->length);
     case IS_WELL_FORMED: return journal_is_well_formed(r->schema, first->at, first->length);
     case CANONICAL: return journal_canonical(r->schema, first->at, first->length, out->at, out->length);
-    case MERGE: return journal_merge(r->schema, first->at, first->length, second->at, second->length, out->at, out->length);
+    case MERGE:
+        return journal_merge(r->schema, first->at, first->length, second->at, second->length, out->at, out->length);
     case JSON: return journal_json(r->schema, first->at, first->length, out->at, out->length);
-    case NOTIFICATION: return journal_notification(r->code, first->at, first->length, numbers, count, out->at, out->length);
+    case NOTIFICATION:
+        return journal_notification(r->code, first->at, first->length, numbers, count, out->at, out->length);
     case HEADER_EQ:
         return journal_header_eq(r->code, first->at, first->length, second->at, second->length, r->ignore_payloads);
     case DIFFERENCE:
         return journal_difference(r->code, first->at, first->length, second->at, second->length, out->at, out->length);
     case VERDICT:
-        return journal_verdict(r->version, first->at, first->length, second->at, second->length, r->ignore_payloads, numbers, count,
-                               out->at, out->length);
+        return journal_verdict(r->version, first->at, first->length, second->at, second->length, r->ignore_payloads,
+                               numbers, count, out->at, out->length);
     default: abort();
     }
 }
@@ -538,7 +546,8 @@ static int64_t called(struct work *work, const struct request *request, size_t r
     return answer;
 }
 
-/* Makes a call as `called` does, which has to answer as before, with the same numbers, and the same bytes where there is room for them. */
+/* Makes a call as `called` does, which has to answer as before, with the same numbers, and the same bytes where there
+   is room for them. */
 static void again(struct work *work, const struct request *request, int64_t answer, size_t room, size_t numbers_room) {
     static __thread uint8_t bytes[REGION];
     uint64_t numbers[JOURNAL_ITEM_NUMBERS];
@@ -657,7 +666,8 @@ static void put_journals(struct work *work, struct source *sources, int kind) {
 
 /* A notification with an id and a result of these kinds, or without where there is no such kind. */
 static void put_notification(struct source *source, int id, int result) {
-    static const struct { const char *bytes; size_t length; } ids[] = {{"\x08\x01", 2}, {"\x10\x11", 2}, {"\x1A\x04stop", 6}},
+    static const struct { const char *bytes; size_t length; }
+        ids[] = {{"\x08\x01", 2}, {"\x10\x11", 2}, {"\x1A\x04stop", 6}},
         results[] = {{"\x22\x00", 2}, {"\x2A\x03\x0A\x01x", 5}, {"\x32\x02\x08\x05", 4}, {"\x82\x01\x03inv", 6},
                      {"\x8A\x01\x03\x0A\x01k", 6}};
     source->length = 0;
@@ -714,7 +724,8 @@ static void make_wanted(struct work *work, struct request *request, int kind, in
         PUT(first, "\x0A\x01s");
     }
     if (refusal == JOURNAL_UNKNOWN) {
-        request->version = one_of(work, 2) ? below(work, JOURNAL_FIRST_VERSION) : JOURNAL_LAST_VERSION + 1 + below(work, 300);
+        request->version = one_of(work, 2) ? below(work, JOURNAL_FIRST_VERSION)
+                                           : JOURNAL_LAST_VERSION + 1 + below(work, 300);
         request->schema = JOURNAL_SCHEMAS + below(work, 300);
         request->code = call == NOTIFICATION ? CALL_COMMAND : call == TYPE_NAME ? 0x0004 : 0x8002;
         if (call == TYPE_CODE) {
@@ -879,8 +890,8 @@ int main(int argc, char **argv) {
             }
         }
     }
-    printf("%ld calls of %d in %ld threads, %ld with a request for memory refused, answers %016" PRIx64 "\n", works[0].calls, CALLS,
-           threads, memory, works[0].digest);
+    printf("%ld calls of %d in %ld threads, %ld with a request for memory refused, answers %016" PRIx64 "\n",
+           works[0].calls, CALLS, threads, memory, works[0].digest);
     free(works);
     free(started);
     return failed > 0;

@@ -1,5 +1,5 @@
-/* Loaded into a program by LD_PRELOAD, refuses one of its requests for memory: the one whose number, from 1, is in REFUSE (0: none). When the
-   program ends, the number of requests that it made goes to file descriptor 3. */
+/* Loaded into a program by LD_PRELOAD, makes one of its allocations fail: the one whose number, from 1, is in
+   REFUSE (0: none). When the program ends, the number of requests that it made goes to file descriptor 3. */
 #define _GNU_SOURCE
 #include <dlfcn.h>
 #include <errno.h>
@@ -24,7 +24,7 @@ static int is_refused(void)
     return 1;
 }
 
-/* The function of this name that stands behind ours. */
+/* The function of this name that is after ours. */
 static void *behind(const char *name)
 {
     void *function = dlsym(RTLD_NEXT, name);

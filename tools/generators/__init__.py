@@ -1,8 +1,9 @@
 """What the generators share.
 
-A generator is a module of this package with a line on what it makes (ABOUT), where that comes from (SOURCE), and two functions:
-missing(), which says what has to be there and is not, or None, and files(), the text or the bytes of each file by its path from the
-root, without the first line that says who made it. What cannot be known of the paths without the tools is said by paths().
+A generator is a module of this package with a line on what it makes (ABOUT), where that comes from (SOURCE), and two
+functions: missing(), which says what has to be there and is not, or None, and files(), the text or the bytes of each
+file by its path from the root, without the first line that says who made it. What cannot be known of the paths without
+the tools is said by paths().
 """
 import pathlib
 import subprocess
@@ -23,11 +24,11 @@ def rattle():
 
 
 def laid_out(texts):
-    """Files in the layout of `rt fmt`, by their paths."""
+    """Files in the layout of `rt fmt`, by their paths. It takes files whose names end with `.rt` alone."""
     with tempfile.TemporaryDirectory() as work:
-        for path, text in texts.items():
-            place = pathlib.Path(work) / path
+        places = {path: pathlib.Path(work) / path.removesuffix(".in") for path in texts}
+        for path, place in places.items():
             place.parent.mkdir(parents=True, exist_ok=True)
-            place.write_text(text)
-        subprocess.run([rattle(), "fmt", "--write", *(pathlib.Path(work) / path for path in texts)], check=True)
-        return {path: (pathlib.Path(work) / path).read_text() for path in texts}
+            place.write_text(texts[path])
+        subprocess.run([rattle(), "fmt", "--write", *places.values()], check=True)
+        return {path: place.read_text() for path, place in places.items()}

@@ -7,10 +7,14 @@ ABOUT = "What git knows of files."
 SOURCE = "the lists of generated files"
 
 # Streams are bytes, and their listings stand beside them.
-AS_THEY_ARE = ("examples/*", "crates/*/stdin")
+AS_THEY_ARE = ("examples/streams/*", "crates/*/stdin")
 
 GENERATORS = (
+    "message_types",
+    "tables",
+    "lists",
     "records",
+    "dispatch",
     "commands",
     "json_names",
     "comparisons",

@@ -3,19 +3,14 @@
 One file a command, one for each oneof that several commands share, the root file of the crate, and for a command with two or more printed
 lines the proof that they follow each other.
 """
-import re
-import sys
-
-from . import ROOT, laid_out
-from .proto import OneOf, camel, messages, snake
-from .records import COMMAND_CRATES, CRATES, missing, schema_name, shared_oneofs  # noqa: F401
+from . import laid_out
+from .proto import OneOf, camel, messages, numbers, refuse, snake
+from .records import COMMAND_CRATES, CRATES, missing, shared_oneofs  # noqa: F401
 
 CRATE = "shared_core_compare"
-FOLDER = ROOT / "crates" / CRATE
-ENTRIES = FOLDER / "specs" / "Commands.antt"
 
 ABOUT = "How commands are compared and printed, in Rattle."
-SOURCE = "crates/shared_core_compare/specs/Commands.antt"
+SOURCE = "proto/journal.proto"
 
 HEADING = "Commands compared: their names, whether two are the same but for what replay may change, and how they differ."
 
@@ -39,50 +34,17 @@ COMPARED = {(presence, kind) for presence in ("plain", "optional") for kind in (
 
 
 class Entry:
-    """What Commands.antt says of a command: the fields that are never compared, its payloads, and the numbers and names of the printed
-    fields, in order."""
+    """What the description says of a command: the numbers of the fields that are never compared, those of its payloads, and the numbers and
+    names of the printed fields, in order."""
 
-    def __init__(self, not_compared, payloads, printed):
-        self.not_compared = not_compared
-        self.payloads = payloads
-        self.printed = printed
-
-
-def refuse(text):
-    sys.exit(f"generate.py: {SOURCE}: {text}")
-
-
-def entries():
-    """The entries, by the names of their schemas."""
-    match = re.search(r"^commands =\s(.*?)\n\n", ENTRIES.read_text(), re.M | re.S)
-    if not match:
-        refuse("there is no list `commands`")
-    rest = " ".join(match[1].split())
-    numbers = r"((?:\d+ ∷ )*)\[\];"
-    entry = re.compile(
-        rf"\( schema\.(\w+), record \{{ not_compared = {numbers} payloads = {numbers}"
-        r' printed = ((?:\(\d+, codes "\w+"\) ∷ )*)\[\]; \}, \) ∷ '
-    )
-    found = {}
-    while rest != "[]":
-        match = entry.match(rest)
-        if not match:
-            refuse(f"an entry has another layout than those before it: {rest[:80]}")
-        schema, not_compared, payloads, printed = match.groups()
-        if schema in found:
-            refuse(f"{schema} has two entries")
-        found[schema] = Entry(
-            [int(number) for number in re.findall(r"\d+", not_compared)],
-            [int(number) for number in re.findall(r"\d+", payloads)],
-            [(int(number), name) for number, name in re.findall(r'(\d+), codes "(\w+)"', printed)],
-        )
-        rest = rest[match.end() :]
-    return found
-
-
-def numbers(row):
-    """The numbers of a field, or of a oneof's members."""
-    return [member.number for member in row.members] if isinstance(row, OneOf) else [row.number]
+    def __init__(self, message):
+        fields = [field for row in message.rows for field in (row.members if isinstance(row, OneOf) else [row])]
+        self.not_compared = sorted(field.number for field in fields if field.not_compared)
+        self.payloads = sorted(field.number for field in fields if field.payload)
+        lines = sorted((row.printed, min(numbers(row)), row.name) for row in message.rows if row.printed is not None)
+        if [place for place, _, _ in lines] != list(range(1, len(lines) + 1)):
+            refuse(f"the lines of {message.name} are not numbered from 1 on")
+        self.printed = [(number, name) for _, number, name in lines]
 
 
 class Command:
@@ -96,20 +58,13 @@ class Command:
         self.check_entry()
 
     def check_entry(self):
-        """Refuses an entry that is not about this message's fields."""
-        fields = {number for row in self.message.rows for number in numbers(row)}
-        for number in self.entry.not_compared + self.entry.payloads:
-            if number not in fields:
-                refuse(f"{self.message.name} has no field {number}")
-        for number, name in self.entry.printed:
-            row = self.row(number)
-            if row is None:
-                refuse(f"{self.message.name} has no field {number}, and no oneof whose least number it is")
-            if row.name != name:
-                refuse(f"field {number} of {self.message.name} is called {row.name} and printed as {name}")
+        """Refuses a command without a name, and a field that is compared and neither printed nor the name."""
         name = self.row(NAME_NUMBER)
         if name is None or isinstance(name, OneOf) or (name.presence, name.kind) != ("plain", "text"):
             refuse(f"{self.message.name} has no text {NAME_NUMBER}, its name")
+        for row in self.compared():
+            if row is not name and row not in self.printed():
+                refuse(f"{row.name} of {self.message.name} is compared, and so has to be printed")
 
     def row(self, number):
         """The field of this number, or the oneof whose least number it is."""
@@ -130,19 +85,12 @@ class Command:
 
 def commands(crates, table):
     """The commands of some crates, each with its entry."""
-    found = entries()
-    in_order = []
-    for crate, names in crates.items():
-        for name in names:
-            if not name.endswith("CommandMessage"):
-                continue
-            entry = found.pop(schema_name(name), None)
-            if entry is None:
-                refuse(f"{name} has no entry")
-            in_order.append(Command(table[name], crate, entry))
-    if found:
-        refuse(f"there is no such command: {' '.join(found)}")
-    return in_order
+    return [
+        Command(table[name], crate, Entry(table[name]))
+        for crate, names in crates.items()
+        for name in names
+        if table[name].is_command()
+    ]
 
 
 class Source:

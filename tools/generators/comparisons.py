@@ -1,9 +1,9 @@
 """Commands compared, conformance/comparisons.txt.
 
-Each line compares two commands, the one that was recorded and the one that the code makes now. Which fields count, which are printed and
-how is said here once more, from the protocol's description alone: neither the library nor the tables that its contracts cite take part. The
-payloads are put together from the fields of proto/journal.proto. Where a text stands beside a case, it was written by hand, and has to be
-the one that comes of the tables.
+Each line compares two commands, the one that was recorded and the one that the code makes now. Which fields count,
+which are printed and how is said here once more, from the protocol's description alone: neither the library nor the
+tables that its contracts cite take part. The payloads are put together from the fields of proto/journal.proto. Where a
+text stands beside a case, it was written by hand, and has to be the one that comes of the tables.
 """
 import re
 import sys
@@ -17,8 +17,9 @@ SOURCE = "tools/generators/comparisons.py"
 PAGE = ROOT / "conformance" / "README.md"
 
 HEAD = """\
-# Commands compared: the one that was recorded with the one that the code makes now. Above each line stands what it is, and the text of the
-# difference, where there is one; characters that do not print are escaped there, and spaces at the end left out.
+# Commands compared: the one that was recorded with the one that the code makes now. Above each line stands what it is,
+# and the text of the difference, where there is one; characters that do not print are escaped there, and spaces at the
+# end left out.
 """
 
 INDENTATION = "   "
@@ -38,9 +39,10 @@ PRINTED = {
     "PeekPromise": "key result_completion_id",
     "CompletePromise": "key result_completion_id completion",
     "Sleep": "name result_completion_id",
-    "Call": "service_name handler_name parameter key headers name idempotency_key scope limit_key invocation_id_notification_idx "
-    "result_completion_id",
-    "OneWayCall": "service_name handler_name parameter key headers name idempotency_key scope limit_key invocation_id_notification_idx",
+    "Call": "service_name handler_name parameter key headers name idempotency_key scope limit_key "
+    "invocation_id_notification_idx result_completion_id",
+    "OneWayCall": "service_name handler_name parameter key headers name idempotency_key scope limit_key "
+    "invocation_id_notification_idx",
     "SendSignal": "target_invocation_id signal_id result",
     "Run": "name result_completion_id",
     "AttachInvocation": "result_completion_id target",
@@ -55,7 +57,8 @@ NEVER_COMPARED = {
     "OneWayCall": "invoke_time",
 }
 
-# What holds a payload: bytes, a value that may be absent, or the member of a oneof. That it is there is compared in any case.
+# What holds a payload: bytes, a value that may be absent, or the member of a oneof. That it is there is compared in any
+# case.
 PAYLOADS = {
     "Output": ("result", "value"),
     "GetEagerState": ("result", "value"),
@@ -266,7 +269,8 @@ def difference(command, actual, expected):
 def shown(text):
     """A line of a difference in a remark."""
     escapes = {"\n": "\\n", "\r": "\\r", "\t": "\\t", "\0": "\\0"}
-    return "".join(escapes.get(char) or (char if char.isprintable() else f"\\u{{{ord(char):x}}}") for char in text).rstrip()
+    plain = (escapes.get(char) or (char if char.isprintable() else f"\\u{{{ord(char):x}}}") for char in text)
+    return "".join(plain).rstrip()
 
 
 def hexadecimal(content):
@@ -278,8 +282,8 @@ def question(command, actual, expected):
 
 
 def case(about, command, actual, expected, answers=None, text=None, spelled=(None, None)):
-    """The line of two commands, and above it what it is. Answers and text that are given were written by hand. A payload that is spelled
-    otherwise than the canonical one is given too."""
+    """The line of two commands, and above it what it is. Answers and text that are given were written by hand. A
+    payload that is spelled otherwise than the canonical one is given too."""
     found = [sameness(command, actual, expected, ignore_payloads) for ignore_payloads in (False, True)]
     lines = difference(command, actual, expected)
     if answers is not None and found != answers.split():
@@ -287,7 +291,8 @@ def case(about, command, actual, expected, answers=None, text=None, spelled=(Non
     if text is not None and lines != text:
         sys.exit(f"generate.py: comparisons: {about}: {lines!r}, and not {text!r}")
     payloads = [
-        given if given is not None else payload(rows_of(command), message) for message, given in zip((actual, expected), spelled)
+        given if given is not None else payload(rows_of(command), message)
+        for message, given in zip((actual, expected), spelled)
     ]
     remarks = [f"# {command}: {about}"]
     for name in PRINTED[command].split():
@@ -417,7 +422,8 @@ PAIRS = {
             "result_completion_id": 12,
             "name": "N",
         },
-        "\n   service_name: s != S\n   handler_name: h != H\n   parameter: 'x' != 'X'\n   key: o != O\n   headers: k: v != K: V"
+        "\n   service_name: s != S\n   handler_name: h != H\n   parameter: 'x' != 'X'\n   key: o != O\n   headers: k: "
+        "v != K: V"
         "\n   name: n != N\n   idempotency_key: i != I\n   scope: c != C\n   limit_key: l != L"
         "\n   invocation_id_notification_idx: 1 != 11\n   result_completion_id: 2 != 12",
     ),
@@ -449,12 +455,16 @@ PAIRS = {
             "name": "N",
         },
         "\n   service_name: s != S\n   handler_name: h != H\n   parameter: 'x' != [255]\n   key: o != O"
-        "\n   headers: k: v, l: w != K: V, L: W\n   name: n != N\n   idempotency_key: i != I\n   scope: c != C\n   limit_key: l != L"
+        "\n   headers: k: v, l: w != K: V, L: W\n   name: n != N\n   idempotency_key: i != I\n   scope: c != C\n   "
+        "limit_key: l != L"
         "\n   invocation_id_notification_idx: 1 != 11",
     ),
     "SendSignal": (
         {"target_invocation_id": "inv", "signal_id": ("idx", 17), "result": ("void", {}), "entry_name": "a"},
-        {"target_invocation_id": "other", "signal_id": ("name", "s"), "result": ("failure", failure(2, "m")), "entry_name": "b"},
+        {
+            "target_invocation_id": "other", "signal_id": ("name", "s"), "result": ("failure", failure(2, "m")),
+            "entry_name": "b",
+        },
         "\n   target_invocation_id: inv != other\n   signal_id: 17 != s\n   result: void != error [2] 'm'",
     ),
     "Run": (
@@ -464,7 +474,10 @@ PAIRS = {
     ),
     "AttachInvocation": (
         {"target": ("invocation_id", "inv"), "result_completion_id": 1, "name": "a"},
-        {"target": ("workflow_target", {"workflow_name": "w", "workflow_key": "k"}), "result_completion_id": 2, "name": "b"},
+        {
+            "target": ("workflow_target", {"workflow_name": "w", "workflow_key": "k"}), "result_completion_id": 2,
+            "name": "b",
+        },
         "\n   result_completion_id: 1 != 2\n   target: inv != WorkflowTarget",
     ),
     "GetInvocationOutput": (
@@ -519,11 +532,13 @@ CONTENTS = {
 def worked_cases():
     yield "The examples of the protocol's description: what is the same, with payloads and without."
     yield case(
-        "a value, and another value", "Output", {"result": ("value", value(b"x"))}, {"result": ("value", value(b"y"))}, "other same",
+        "a value, and another value", "Output", {"result": ("value", value(b"x"))}, {"result": ("value", value(b"y"))},
+        "other same",
         "\n   result: 'x' != 'y'",
     )
     yield case(
-        "a value, and a failure", "Output", {"result": ("value", value(b"x"))}, {"result": ("failure", failure(500, "boom"))},
+        "a value, and a failure", "Output", {"result": ("value", value(b"x"))},
+        {"result": ("failure", failure(500, "boom"))},
         "other other", "\n   result: 'x' != error [500] 'boom'",
     )
     yield case(
@@ -531,17 +546,23 @@ def worked_cases():
         {"result": ("failure", failure(2, "m"))}, "other other", "\n   result: error [1] 'm' != error [2] 'm'",
     )
     yield case(
-        "no value, and an empty one", "SetState", {"key": b"a"}, {"key": b"a", "value": {}}, "other other", "\n   value: <empty> != ''",
+        "no value, and an empty one", "SetState", {"key": b"a"}, {"key": b"a", "value": {}}, "other other",
+        "\n   value: <empty> != ''",
     )
-    yield case("another parameter", "Call", {"parameter": b"x"}, {"parameter": b"y"}, "other same", "\n   parameter: 'x' != 'y'")
+    yield case(
+        "another parameter", "Call", {"parameter": b"x"}, {"parameter": b"y"}, "other same",
+        "\n   parameter: 'x' != 'y'"
+    )
     yield case("another time", "OneWayCall", {"invoke_time": 1}, {"invoke_time": 2}, "same same", "")
     yield case("another time", "Sleep", {"wake_up_time": 1}, {"wake_up_time": 2}, "same same", "")
     yield case(
-        "another value, which is no payload here", "SendSignal", {"result": ("value", value(b"x"))}, {"result": ("value", value(b"y"))},
+        "another value, which is no payload here", "SendSignal", {"result": ("value", value(b"x"))},
+        {"result": ("value", value(b"y"))},
         "other other", "\n   result: 'x' != 'y'",
     )
     yield case(
-        "anything, and anything", "Input", {"headers": headers(("k", "v")), "name": "a", "value": value(b"x")}, {"name": "b"},
+        "anything, and anything", "Input", {"headers": headers(("k", "v")), "name": "a", "value": value(b"x")},
+        {"name": "b"},
         "same same", "",
     )
 
@@ -551,7 +572,8 @@ def worked_cases():
         {"key": b"a", "value": value(b"x")}, "other other", "\n   key: [255] != 'a'\n   value: b\"\\xff\" != 'x'",
     )
     yield case(
-        "the same key, and another value", "SetState", {"key": b"a", "value": value(b"\xff")}, {"key": b"a", "value": value(b"x")},
+        "the same key, and another value", "SetState", {"key": b"a", "value": value(b"\xff")},
+        {"key": b"a", "value": value(b"x")},
         "other same", "\n   value: b\"\\xff\" != 'x'",
     )
     yield case(
@@ -560,7 +582,8 @@ def worked_cases():
         "\n   result_completion_id: 1 != 2",
     )
     yield case(
-        "another name, which is compared though it is not printed", "GetLazyState", {"key": b"a", "result_completion_id": 1, "name": "a"},
+        "another name, which is compared though it is not printed", "GetLazyState",
+        {"key": b"a", "result_completion_id": 1, "name": "a"},
         {"key": b"a", "result_completion_id": 1, "name": "b"}, "other other", "",
     )
     yield case(
@@ -569,16 +592,19 @@ def worked_cases():
         "\n   result: b\"\\n\\\"\\\\\\0\\x80A\" != 'x'",
     )
     yield case(
-        "a key that is not UTF-8", "GetEagerStateKeys", {"value": {"keys": [b"\xff"]}}, {"value": {"keys": [b"a"]}}, "other other",
+        "a key that is not UTF-8", "GetEagerStateKeys", {"value": {"keys": [b"\xff"]}}, {"value": {"keys": [b"a"]}},
+        "other other",
         "\n   value: ['\ufffd'] != ['a']",
     )
     yield case(
-        "a signal by its number, and one by its name", "SendSignal", {"signal_id": ("idx", 1)}, {"signal_id": ("name", "a")}, "other other",
+        "a signal by its number, and one by its name", "SendSignal", {"signal_id": ("idx", 1)},
+        {"signal_id": ("name", "a")}, "other other",
         "\n   signal_id: 1 != a",
     )
     yield case("no scope, and one", "Call", {}, {"scope": "s"}, "other other", "\n   scope: <empty> != s")
     yield case(
-        "two headers, and none; the text ends with a space", "Call", {"headers": headers(("k", "v"), ("l", "w"))}, {}, "other other",
+        "two headers, and none; the text ends with a space", "Call", {"headers": headers(("k", "v"), ("l", "w"))}, {},
+        "other other",
         "\n   headers: k: v, l: w != ",
     )
     yield case(
@@ -606,7 +632,10 @@ def oneof_cases(command, base, row, brief):
         message = with_row(base, row.name, (name, content))
         for other, (other_content, _) in contents.items():
             if other != name:
-                yield case(f"{row.name} is {name}, and {other}", command, message, with_row(base, row.name, (other, other_content)))
+                yield case(
+                    f"{row.name} is {name}, and {other}", command, message,
+                    with_row(base, row.name, (other, other_content))
+                )
         for about, other_content in others[:1] if brief else others:
             yield case(f"{name} with {about}", command, message, with_row(base, row.name, (name, other_content)))
         without = with_row(base, row.name, None)
@@ -646,7 +675,9 @@ def presence_cases():
     yield case("a time, and none", "OneWayCall", {"invoke_time": 18446744073709551615}, {})
     yield case("no value, and one", "SetState", {"key": b"a"}, {"key": b"a", "value": value(b"x")})
     yield case("a value, and none", "SetState", {"key": b"a", "value": value(b"x")}, {"key": b"a"})
-    yield case("an empty value, and a value", "SetState", {"key": b"a", "value": {}}, {"key": b"a", "value": value(b"x")})
+    yield case(
+        "an empty value, and a value", "SetState", {"key": b"a", "value": {}}, {"key": b"a", "value": value(b"x")}
+    )
     yield case("an empty value, and none", "SetState", {"key": b"a", "value": {}}, {"key": b"a"})
     yield case("an empty value, and a value", "Output", {"result": ("value", {})}, {"result": ("value", value(b"x"))})
     yield case("an empty value, and none", "Output", {"result": ("value", {})}, {})
@@ -659,7 +690,9 @@ def presence_cases():
     yield case("void twice", "SendSignal", {"result": ("void", {})}, {"result": ("void", {})})
     yield case("signal 0, and none", "SendSignal", {"signal_id": ("idx", 0)}, {})
     yield case("none, and the signal whose name is empty", "SendSignal", {}, {"signal_id": ("name", "")})
-    yield case("signal 1, and the signal of that name", "SendSignal", {"signal_id": ("idx", 1)}, {"signal_id": ("name", "1")})
+    yield case(
+        "signal 1, and the signal of that name", "SendSignal", {"signal_id": ("idx", 1)}, {"signal_id": ("name", "1")}
+    )
     yield case("an empty invocation id, and none", "AttachInvocation", {"target": ("invocation_id", "")}, {})
     yield case("an empty workflow, and none", "AttachInvocation", {"target": ("workflow_target", {})}, {})
     yield case(
@@ -671,7 +704,10 @@ def presence_cases():
     yield case("a key, and no keys at all", "GetEagerStateKeys", {"value": {"keys": [b"a"]}}, {})
     yield case("an empty list, and an empty key", "GetEagerStateKeys", {"value": {}}, {"value": {"keys": [b""]}})
     yield case("a value, and none", "Input", {"value": value(b"x")}, {})
-    yield case("no result, and a value; and another name", "Output", {"name": "a"}, {"name": "b", "result": ("value", value(b"x"))})
+    yield case(
+        "no result, and a value; and another name", "Output", {"name": "a"},
+        {"name": "b", "result": ("value", value(b"x"))}
+    )
 
 
 def several_cases():
@@ -698,7 +734,8 @@ def several_cases():
         {"parameter": b"y", "headers": headers(("k", "w"))}, "other other",
     )
     yield case(
-        "another parameter and another time", "OneWayCall", {"parameter": b"x", "invoke_time": 1}, {"parameter": b"y", "invoke_time": 2},
+        "another parameter and another time", "OneWayCall", {"parameter": b"x", "invoke_time": 1},
+        {"parameter": b"y", "invoke_time": 2},
         "other same",
     )
     yield case(
@@ -714,10 +751,15 @@ def header_cases():
     yield case("another key of the second", "Call", {"headers": two}, {"headers": headers(("k", "v"), ("L", "w"))})
     yield case("another order", "Call", {"headers": two}, {"headers": headers(("l", "w"), ("k", "v"))})
     yield case("one more", "OneWayCall", {"headers": headers(("k", "v"))}, {"headers": two})
-    yield case("the same twice, and once", "OneWayCall", {"headers": headers(("k", "v"), ("k", "v"))}, {"headers": headers(("k", "v"))})
+    yield case(
+        "the same twice, and once", "OneWayCall", {"headers": headers(("k", "v"), ("k", "v"))},
+        {"headers": headers(("k", "v"))}
+    )
     yield case("none, and an empty one", "OneWayCall", {}, {"headers": headers(("", ""))})
     yield case("two, and one that prints as they do", "Call", {"headers": two}, {"headers": headers(("k", "v, l: w"))})
-    yield case("another place of the colon", "Call", {"headers": headers(("k", "v: w"))}, {"headers": headers(("k: v", "w"))})
+    yield case(
+        "another place of the colon", "Call", {"headers": headers(("k", "v: w"))}, {"headers": headers(("k: v", "w"))}
+    )
 
 
 def value_cases():
@@ -743,7 +785,10 @@ def value_cases():
     for about, content in contents:
         yield case(about, "Output", {"result": ("value", value(content))}, {"result": ("value", value(b"x"))})
     yield case("bytes on the other side", "SetState", {"value": value(b"x")}, {"value": value(b"\xfe\"'")})
-    yield case("bytes on both sides", "CompleteAwakeable", {"result": ("value", value(b"\xff"))}, {"result": ("value", value(b"\xfe"))})
+    yield case(
+        "bytes on both sides", "CompleteAwakeable", {"result": ("value", value(b"\xff"))},
+        {"result": ("value", value(b"\xfe"))}
+    )
     yield case(
         "a text that looks like bytes, and the bytes", "SendSignal", {"result": ("value", value(b'b"\\xff"'))},
         {"result": ("value", value(b"\xff"))},
@@ -794,9 +839,15 @@ def text_cases():
 
 
 def state_key_cases():
-    yield "State keys: what is no letter prints as U+FFFD, once for the longest beginning of a letter, else for each byte."
+    yield (
+        "State keys: what is no letter prints as U+FFFD, once for the longest beginning of a letter, else for each "
+        "byte."
+    )
     keys = [
-        ("beginnings of letters, and bytes alone", bytes.fromhex("61f18080e180c262806380bf64"), "a\ufffd\ufffd\ufffdb\ufffdc\ufffd\ufffdd"),
+        (
+            "beginnings of letters, and bytes alone", bytes.fromhex("61f18080e180c262806380bf64"),
+            "a\ufffd\ufffd\ufffdb\ufffdc\ufffd\ufffdd",
+        ),
         ("letters in longer spellings", bytes.fromhex("c0afe080bff0818241"), "\ufffd" * 8 + "A"),
         ("halves of pairs", bytes.fromhex("eda080edbfbfedaf41"), "\ufffd" * 8 + "A"),
         ("beyond the greatest letter", bytes.fromhex("f4919293ff4180bf42"), "\ufffd" * 5 + "A" + "\ufffd" * 2 + "B"),
@@ -825,12 +876,17 @@ def spelling_cases():
     yield "Payloads that are spelled otherwise: what they mean is compared."
     sleep = {"wake_up_time": 300, "result_completion_id": 1, "name": "a"}
     yield case(
-        "the fields in another order, and longer numbers", "Sleep", sleep, sleep, spelled=(None, bytes.fromhex("62016158810008ac8200")),
+        "the fields in another order, and longer numbers", "Sleep", sleep, sleep,
+        spelled=(None, bytes.fromhex("62016158810008ac8200")),
     )
     run = {"result_completion_id": 2, "name": "a"}
     canonical = payload(rows_of("Run"), run)
-    yield case("a field twice, of which the last counts", "Run", run, run, spelled=(bytes.fromhex("5801") + canonical, None))
-    yield case("fields that no command has", "Run", run, run, spelled=(bytes.fromhex("9806079b0608019c06") + canonical, None))
+    yield case(
+        "a field twice, of which the last counts", "Run", run, run, spelled=(bytes.fromhex("5801") + canonical, None)
+    )
+    yield case(
+        "fields that no command has", "Run", run, run, spelled=(bytes.fromhex("9806079b0608019c06") + canonical, None)
+    )
     yield case("defaults that are written", "ClearState", {}, {}, spelled=(bytes.fromhex("0a006200"), None))
     failed = {"result": ("failure", failure(5, "x"))}
     yield case(
@@ -880,7 +936,8 @@ def comparisons():
 
 
 def page_table(header):
-    """The rows of the table of conformance/README.md that has this header, each a command and the words of its last column."""
+    """The rows of the table of conformance/README.md that has this header, each a command and the words of its last
+    column."""
     lines = PAGE.read_text(encoding="utf-8").splitlines()
     rows = {}
     for line in lines[lines.index(header) + 2 :]:
@@ -894,14 +951,21 @@ def page_table(header):
 
 def said_on_the_page():
     """What conformance/README.md says otherwise than the tables above."""
-    never = {command: " ".join(sorted(re.findall(r"`(\w+)`", words))) for command, words in page_table("| Command | Never compared |").items()}
+    never = {
+        command: " ".join(sorted(re.findall(r"`(\w+)`", words)))
+        for command, words in page_table("| Command | Never compared |").items()
+    }
     if never != {command: " ".join(sorted(fields.split())) for command, fields in NEVER_COMPARED.items()}:
         yield "what is never compared"
-    payloads = {command: f"`{field}`" + (", where it is a value" if member else "") for command, (field, member) in PAYLOADS.items()}
+    payloads = {
+        command: f"`{field}`" + (", where it is a value" if member else "")
+        for command, (field, member) in PAYLOADS.items()
+    }
     if page_table("| Command | Payload |") != payloads:
         yield "what is a payload"
     printed = page_table("| Commands | Fields |")
-    printed["OneWayCall"] = printed["Call"].rsplit(",", 1)[0] if printed.get("OneWayCall") == "the same but the last" else ""
+    is_short = printed.get("OneWayCall") == "the same but the last"
+    printed["OneWayCall"] = printed["Call"].rsplit(",", 1)[0] if is_short else ""
     if {command: " ".join(re.findall(r"`(\w+)`", words)) for command, words in printed.items()} != PRINTED:
         yield "what is printed"
 

@@ -1,5 +1,5 @@
-"""The stored run of journal_dump and the JSON of each message, with protobuf's own printer as the judge: protobuf_dumps.py makes them, in a
-Python that has protobuf."""
+"""The stored run of journal_dump and the JSON of each message, with protobuf's own printer as the judge:
+protobuf_dumps.py makes them, in a Python that has protobuf."""
 import pathlib
 import shutil
 import subprocess
@@ -17,7 +17,8 @@ MAKER = pathlib.Path(__file__).with_name("protobuf_dumps.py")
 def interpreter():
     """A Python that has protobuf, or None: this one, or the one of the distribution."""
     for python in (sys.executable, "/usr/bin/python3"):
-        if shutil.which(python) and subprocess.run([python, "-c", "import google.protobuf"], capture_output=True).returncode == 0:
+        imports = [python, "-c", "import google.protobuf"]
+        if shutil.which(python) and subprocess.run(imports, capture_output=True).returncode == 0:
             return python
     return None
 

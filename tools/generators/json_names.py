@@ -1,16 +1,12 @@
 """The fields of the protocol's messages as JSON names them, in the order of the schemas of shared_core_record: the table of names that the
 contracts of journal_json cite, and the table that the program goes by, which is proved to be the same.
 """
-import re
-
-from . import ROOT, laid_out
-from .proto import OneOf, messages
+from . import laid_out
+from .proto import OneOf, schemas
 from .records import missing  # noqa: F401
 
 ABOUT = "The names of fields in JSON, for contracts and for the program."
 SOURCE = "proto/journal.proto"
-
-TABLE = ROOT / "crates" / "shared_core_record" / "specs" / "Table.antt"
 
 KINDS = {"u32": "U32", "u64": "U64", "bool": "Boolean", "enum": "Enumeration", "text": "Text", "bytes": "ByteString"}
 
@@ -51,13 +47,12 @@ def kind_of(field, places):
 
 def texts():
     """Both tables, not yet laid out."""
-    order = re.findall(r"^    -- (\w+)$", TABLE.read_text(), re.M)
-    places = {name: place for place, name in enumerate(order)}
-    found = {message.name: message for message in messages()}
+    order = schemas()
+    places = {message.name: message.schema for message in order}
     names = []
-    schemas = []
-    for name in order:
-        fields = fields_of(found[name])
+    rows = []
+    for message in order:
+        name, fields = message.name, fields_of(message)
         pairs = "".join(f'({field.number}, codes "{json_name(field.name)}") ∷ ' for field in fields)
         names.append(f"    -- {name}\n    {'∷ ' if names else ''}({pairs}[])\n")
         # the numbers of a repeated uint32 stand in one record
@@ -66,10 +61,10 @@ def texts():
             f"{'true' if field.presence == 'repeated' and field.kind != 'u32' else 'false'})"
             for field in fields
         ]
-        schemas.append(f"    // {name}\n    &[{', '.join(listed)}],\n")
+        rows.append(f"    // {name}\n    &[{', '.join(listed)}],\n")
     return {
         "crates/journal_json/specs/Names.antt": NAMES + "".join(names) + "    ∷ []\n",
-        "crates/journal_json/src/schemas.rt": f"{SCHEMAS}pub static SCHEMAS: [&[Field]; {len(order)}] = [\n" + "".join(schemas) + "];\n",
+        "crates/journal_json/src/schemas.rt": f"{SCHEMAS}pub static SCHEMAS: [&[Field]; {len(order)}] = [\n" + "".join(rows) + "];\n",
     }
 
 

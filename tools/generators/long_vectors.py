@@ -29,7 +29,8 @@ def written(answer):
 
 
 def line(*words, answer):
-    return " ".join(word.hex() or "-" if isinstance(word, bytes) else word for word in words) + f" = {written(answer)}\n"
+    case = " ".join(word.hex() or "-" if isinstance(word, bytes) else word for word in words)
+    return f"{case} = {written(answer)}\n"
 
 
 def payload(schema, content, answer):
@@ -41,8 +42,8 @@ def header(code, length, flag=0):
 
 
 def chain(futures, innermost=b"", outer=lambda number: b""):
-    """A future that is the first of a chain, each nested in the one before. Each but the innermost begins with what `outer` gives for its
-    number, from 1."""
+    """A future that is the first of a chain, each nested in the one before. Each but the innermost begins with what
+    `outer` gives for its number, from 1."""
     content = innermost
     for number in range(futures - 1, 0, -1):
         content = outer(number) + lengthy(4, content)
@@ -59,7 +60,10 @@ def groups(count, content=b"", number=9):
 
 
 def chains_of_futures():
-    yield "# A suspension's future stands on level 1, so a chain of 100 futures reaches level 100, the last. One more is malformed."
+    yield (
+        "# A suspension's future stands on level 1, so a chain of 100 futures reaches level 100, the last. One "
+        "more is malformed."
+    )
     for futures in (1, 2, 99, 100):
         whole = suspension(chain(futures))
         yield payload("SuspensionMessage", whole, whole)
@@ -76,11 +80,16 @@ def chains_of_futures():
     innermost = bytes.fromhex("0a0201021201111a016128ffffffffffffffffff01")
     yield payload("SuspensionMessage", suspension(chain(100, innermost)), suspension(chain(100, innermost)))
     yield payload("SuspensionMessage", suspension(chain(100, b"\x22\x00")), MALFORMED)
-    yield payload("SuspensionMessage", suspension(chain(99, b"\x22\x00\x22\x00")), suspension(chain(99, b"\x22\x00\x22\x00")))
+    yield payload(
+        "SuspensionMessage", suspension(chain(99, b"\x22\x00\x22\x00")), suspension(chain(99, b"\x22\x00\x22\x00"))
+    )
 
 
 def groups_of_an_unknown_field():
-    yield "# Groups of a number that the schema does not have, in one another: the content of the hundredth stands on level 100."
+    yield (
+        "# Groups of a number that the schema does not have, in one another: the content of the hundredth stands "
+        "on level 100."
+    )
     for schema in ("EndMessage", "SuspensionMessage"):
         for count in (1, 99, 100):
             yield payload(schema, groups(count), b"")
@@ -106,7 +115,10 @@ def groups_below_futures():
     yield payload("SuspensionMessage", suspension(chain(50, groups(50))), suspension(chain(50)))
     yield payload("SuspensionMessage", suspension(chain(50, groups(51))), MALFORMED)
 
-    yield "# What is skipped on the last level: a number, eight bytes, four bytes and bytes hold no further level. prost refuses each of these."
+    yield (
+        "# What is skipped on the last level: a number, eight bytes, four bytes and bytes hold no further level. "
+        "prost refuses each of these."
+    )
     for record in ("1000", "110102030405060708", "1501020304", "120161"):
         skipped = bytes.fromhex(record)
         yield payload("EndMessage", groups(100, skipped), b"")
@@ -119,7 +131,10 @@ def groups_below_futures():
 
 
 def far_below_the_last_level():
-    yield "# Far below the last level: ten thousand groups that are begun, a thousand that are closed too, and a thousand futures."
+    yield (
+        "# Far below the last level: ten thousand groups that are begun, a thousand that are closed too, and a "
+        "thousand futures."
+    )
     yield payload("EndMessage", groups(10_000)[:10_000], MALFORMED)
     yield payload("EndMessage", groups(1_000), MALFORMED)
     yield payload("SuspensionMessage", suspension(chain(99, groups(1_000))), MALFORMED)
@@ -138,7 +153,10 @@ def merged_chains():
 
 
 def frames_of_chains():
-    yield "# A chain of 100 futures, each with the completion of its number: a list before version 7, and from then on a chain."
+    yield (
+        "# A chain of 100 futures, each with the completion of its number: a list before version 7, and from then "
+        "on a chain."
+    )
     whole = suspension(chain(100, b"\x0a\x01\x64", lambda number: lengthy(1, varint(number))))
     lists = lengthy(1, bytes(range(1, 101)))
     for version in (5, 6):
@@ -151,7 +169,10 @@ def frames_of_chains():
     for version in (5, 6, 7, 8):
         yield line("frame", "Suspension", str(version), whole, answer=MALFORMED)
 
-    yield "# A value of 101 futures, which no payload means, is a list before version 7: this is the payload of its frame, and the frame."
+    yield (
+        "# A value of 101 futures, which no payload means, is a list before version 7: this is the payload of its "
+        "frame, and the frame."
+    )
     lists = lengthy(1, b"\x01" * 101)
     yield payload("SuspensionMessageV6", lists, lists)
     yield line("stream", "6", header(1, len(lists)) + lists, answer="Suspension 103, rest 0")
@@ -174,7 +195,10 @@ def lengths():
         value = lengthy(1, pattern(length))
         yield payload("Value", value, value)
 
-    yield "# Texts of more than a thousand bytes, with letters of one byte and of several; one that ends in the middle of a letter."
+    yield (
+        "# Texts of more than a thousand bytes, with letters of one byte and of several; one that ends in the "
+        "middle of a letter."
+    )
     text = ("a\u00e9\u4e2d\U0001f980" * 150).encode()
     yield payload("ClearAllStateCommandMessage", lengthy(12, text), lengthy(12, text))
     yield payload("ClearAllStateCommandMessage", lengthy(12, text[:-1]), MALFORMED)
@@ -197,7 +221,9 @@ def lengths():
     key = lengthy(1, pattern(65_536))
     frame = header(0x0402, len(key)) + key
     yield line("frame", "GetLazyStateCommand", "8", key, answer=frame)
-    yield line("stream", "8", frame[:5], frame[5:20_000], frame[20_000:], answer=f"GetLazyStateCommand {len(key)}, rest 0")
+    yield line(
+        "stream", "8", frame[:5], frame[5:20_000], frame[20_000:], answer=f"GetLazyStateCommand {len(key)}, rest 0"
+    )
 
 
 def text(title, *makers):
@@ -211,7 +237,8 @@ def text(title, *makers):
 def files():
     return {
         "conformance/levels.txt": text(
-            "Levels: a payload's records stand on level 0, those of a message or a group one level deeper, and level 100 is the last.",
+            "Levels: a payload's records stand on level 0, those of a message or a group one level deeper, and level "
+            "100 is the last.",
             chains_of_futures,
             groups_of_an_unknown_field,
             groups_below_futures,

@@ -2,20 +2,16 @@
 
 bench/src/records.rs has the records of proto/journal.proto as prost-build would write them, with shared buffers for `bytes`. table.rs has
 what tells them apart by number: the fields of each schema, the code of each message type, and macros that lead from a number to the record.
-json.rs has how serde writes the records, in proto3's JSON form. Schemas are numbered as in the list `schemas` of
-crates/shared_core_record/specs/Table.antt, and codes are those of crates/shared_core_base/specs/MessageType.antt.
+json.rs has how serde writes the records, in proto3's JSON form.
 """
 import re
 
-from . import ROOT, missing  # noqa: F401
+from . import missing  # noqa: F401
 from .json_names import json_name
-from .proto import PROTO, OneOf, camel, messages, snake
+from .proto import PROTO, OneOf, camel, messages, schemas, snake, typed
 
 ABOUT = "The records and the tables of the peer, in Rust."
 SOURCE = "proto/journal.proto"
-
-SCHEMAS = ROOT / "crates" / "shared_core_record" / "specs" / "Table.antt"
-TYPES = ROOT / "crates" / "shared_core_base" / "specs" / "MessageType.antt"
 
 # For each kind: prost's word for it, and the type of a value.
 SCALARS = {
@@ -41,7 +37,7 @@ def enums(text):
 def enum_names(text):
     """The type of each field that is an enum, by the field's name."""
     names = "|".join(name for name, _ in enums(text))
-    return {field: name for name, field in re.findall(rf"^ +({names}) (\w+) = \d+;", text, re.M)}
+    return {field: name for name, field in re.findall(rf"^ +({names}) (\w+) = \d+(?: \[.*\])?;", text, re.M)}
 
 
 def enumeration(name, constants):
@@ -179,17 +175,6 @@ def json(text):
     return "\n".join(parts)
 
 
-def schema_names():
-    """The names of the schemas, each at the place of its number."""
-    rows = SCHEMAS.read_text().split("\nschemas =\n")[1].split("\n\n")[0]
-    return re.findall(r"^ +-- (\w+)$", rows, re.M)
-
-
-def message_types():
-    """The named message types, each with its code."""
-    return [(name, int(code, 16)) for name, code in re.findall(r"^code_of (\w+) = (0x[0-9A-F]+)$", TYPES.read_text(), re.M)]
-
-
 def rows(message):
     """The fields of a message, in the order in which a canonical payload has them, each with its label."""
     fields = []
@@ -234,14 +219,12 @@ def names_of(types):
     )
 
 
-def table(text):
+def table():
     """The source of src/table.rs."""
-    by_name = {message.name: message for message in messages(text)}
-    names = schema_names()
-    numbers = {name: number for number, name in enumerate(names)}
-    assert set(names) == set(by_name), "the schemas are not the messages of proto/journal.proto"
-    types = message_types()
-    schemas = "".join(schema(by_name[name], numbers) for name in names)
+    order = schemas()
+    numbers = {message.name: message.schema for message in order}
+    types = [(message.type_name(), message.code) for message in typed()]
+    listed = "".join(schema(message, numbers) for message in order)
     codes = "".join(
         f'    MessageType {{\n        name: "{name}",\n        code: 0x{code:04X},\n        schema: {numbers[name + "Message"]},\n    }},\n'
         for name, code in types
@@ -249,14 +232,14 @@ def table(text):
     parts = [
         "//! The schemas and the message types by their numbers.\n",
         "use crate::schema::{Field, Kind::*, Label::*, MessageType, Schema};\n",
-        f"/// The schemas, each at its number.\npub static SCHEMAS: [Schema; {len(names)}] = [\n{schemas}];\n",
+        f"/// The schemas, each at its number.\npub static SCHEMAS: [Schema; {len(order)}] = [\n{listed}];\n",
         f"/// The message types that have a name.\npub static TYPES: [MessageType; {len(types)}] = [\n{codes}];\n",
         names_of(types),
         choice(
             "with_schema",
             "Does the body with a name for the record of a schema, or the other where no schema has the number.",
             "schema",
-            enumerate(names),
+            [(message.schema, message.name) for message in order],
         ),
         choice(
             "with_message",
@@ -270,4 +253,4 @@ def table(text):
 
 def files():
     text = PROTO.read_text()
-    return {"bench/src/records.rs": records(text), "bench/src/json.rs": json(text), "bench/src/table.rs": table(text)}
+    return {"bench/src/records.rs": records(text), "bench/src/json.rs": json(text), "bench/src/table.rs": table()}

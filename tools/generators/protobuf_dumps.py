@@ -30,7 +30,7 @@ HEAD = """# The JSON of each message: with every field present, with each member
 def load():
     """The messages of proto/journal.proto by their names."""
     with tempfile.TemporaryDirectory() as work:
-        subprocess.run(["protoc", f"--python_out={work}", f"-I{ROOT / 'proto'}", "journal.proto"], check=True)
+        subprocess.run(["protoc", f"--python_out={work}", f"-I{ROOT / 'proto'}", "options.proto", "journal.proto"], check=True)
         sys.path.insert(0, work)
         import journal_pb2
 

@@ -1,4 +1,5 @@
-"""Random cases with the answers of prost and of the rules, conformance/random_*.txt, which a program of bench/ writes."""
+"""Random cases with the answers of prost and of the rules, conformance/random_*.txt, which a program of bench/
+writes."""
 import pathlib
 import subprocess
 import tempfile
@@ -21,7 +22,8 @@ def is_built():
 def missing(is_named):
     """It takes a minute to build the program, so it has to be named, or built already."""
     if not is_named and not is_built():
-        return f"{PROGRAM.relative_to(ROOT)} is not built, or older than a source; 'generate.py random_vectors' builds it"
+        program = PROGRAM.relative_to(ROOT)
+        return f"{program} is not built, or older than a source; 'generate.py random_vectors' builds it"
     ready = subprocess.run(["sh", "install.sh", "--no-install"], cwd=BENCH, capture_output=True, text=True)
     if ready.returncode != 0:
         return ready.stdout.strip().removeprefix("not run: ")

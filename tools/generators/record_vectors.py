@@ -1,10 +1,11 @@
 """The names of fields as test vectors, conformance/records.txt, with protoc as the encoder.
 
-For each message there is a value with every row present and each field a value of its own; of a oneof it has one member, and there is a
-value for each. Then comes the value of which nothing is present. A line names a message, the bytes that protoc (Debian's protobuf-compiler)
-makes out of proto/journal.proto and a text that names the fields, and the value as Rust's derived Debug prints it, made of the same names and
-values. Behind these lines stand the frames of the same values, where the message is that of a type: at version 8, and where an earlier
-version writes it otherwise at each; a type's code is read from conformance/frames.txt. Nothing of this project's own code takes part.
+For each message there is a value with every row present and each field a value of its own; of a oneof it has one
+member, and there is a value for each. Then comes the value of which nothing is present. A line names a message, the
+bytes that protoc (Debian's protobuf-compiler) makes out of proto/journal.proto and a text that names the fields, and
+the value as Rust's derived Debug prints it, made of the same names and values. Behind these lines stand the frames of
+the same values, where the message is that of a type: at version 8, and where an earlier version writes it otherwise at
+each; a type's code is read from conformance/frames.txt. Nothing of this project's own code takes part.
 """
 import re
 import shutil
@@ -21,9 +22,9 @@ FOLDER = ROOT / "conformance"
 FILE = "conformance/records.txt"
 
 HEAD = """\
-# The names of fields: for each message a value with every field present and each another, with each member of its oneofs in turn, and the
-# value of which nothing is present; and the frames of the first, where the message is that of a type. The payloads are
-# those of protoc.
+# The names of fields: for each message a value with every field present and each another, with each member of its
+# oneofs in turn, and the value of which nothing is present; and the frames of the first, where the message is that of a
+# type. The payloads are those of protoc.
 """
 
 # The versions at which the frames of a message stand: the last, and all where an earlier one writes it otherwise.
@@ -115,7 +116,8 @@ def encoded(name, text):
 
 
 def values(message, table):
-    """The values of a message in which every row is present, each as the text that protoc reads and as it is printed."""
+    """The values of a message in which every row is present, each as the text that protoc reads and as it is
+    printed."""
     members = max([len(row.members) for row in message.rows if isinstance(row, OneOf)], default=1)
     return [Values(table).message(message, member, 1) for member in range(members)]
 
@@ -134,7 +136,8 @@ def frame(name, code, version, text):
     if name == "ProposeRunCompletionMessage" and version >= 7:
         flag = 0x80
     if name == "SuspensionMessage" and version < 7:
-        # what is awaited stands in the text in the order of the three lists: that of a future before that of the futures in it
+        # what is awaited stands in the text in the order of the three lists: that of a future before that of the
+        # futures in it
         payload = encoded("SuspensionMessageV6", " ".join(re.findall(r"\bwaiting_\w+: \S+", text)))
     return bytes.fromhex(code) + bytes([flag, 0]) + len(payload).to_bytes(4, "big") + payload
 

@@ -7,93 +7,51 @@ import shutil
 import textwrap
 
 from . import laid_out
-from .proto import OneOf, camel, messages, snake
+from .proto import OneOf, camel, earlier, messages, schema_name, snake
 
 ABOUT = "The records of the messages in Rattle."
 SOURCE = "proto/journal.proto"
 
-# The crate of the messages that stand in others, which are no messages of a type. Its lib.rt is written by hand.
+# The crates of the records, each with a line on what it holds.
 PARTS_CRATE = "shared_core_parts"
+ABOUT_CRATES = {
+    PARTS_CRATE: "The nested messages, and the template of notifications.",
+    "shared_core_runtime": "The records of the protocol's core: how an invocation starts, suspends, fails and ends.",
+    "shared_core_state_commands": "The records of the commands on input, output and state.",
+    "shared_core_call_commands": "The records of the commands on promises, time, calls, signals and invocations.",
+    "shared_core_notifications": "The records of the notifications.",
+}
 
-# The crates, each with a line on what it holds and its messages.
+# The commands on input, output and state; a command that is not listed is in the other crate of commands.
+STATE_COMMANDS = {
+    "InputCommandMessage",
+    "OutputCommandMessage",
+    "GetLazyStateCommandMessage",
+    "SetStateCommandMessage",
+    "ClearStateCommandMessage",
+    "ClearAllStateCommandMessage",
+    "GetLazyStateKeysCommandMessage",
+    "GetEagerStateCommandMessage",
+    "GetEagerStateKeysCommandMessage",
+}
+
+# The message whose record is written by hand, since it leads back to itself.
+HAND_WRITTEN = "Future"
+
+
+def crate_of(message):
+    """The crate of a message's record."""
+    if message.code is None:
+        return PARTS_CRATE
+    if message.is_command():
+        return "shared_core_state_commands" if message.name in STATE_COMMANDS else "shared_core_call_commands"
+    return "shared_core_notifications" if message.is_notification() else "shared_core_runtime"
+
+
+# The crates, each with that line and its messages.
 CRATES = {
-    PARTS_CRATE: (
-        "The messages that stand in other messages, and the template of notifications.",
-        [
-            "Void",
-            "Value",
-            "Failure",
-            "FailureMetadata",
-            "Header",
-            "StateKeys",
-            "StateEntry",
-            "WorkflowTarget",
-            "IdempotentRequestTarget",
-            "NotificationTemplate",
-        ],
-    ),
-    "shared_core_runtime": (
-        "The records of the protocol's core: how an invocation starts, suspends, fails and ends.",
-        [
-            "StartMessage",
-            "SuspensionMessage",
-            "SuspensionMessageV6",
-            "ErrorMessage",
-            "EndMessage",
-            "ProposeRunCompletionMessage",
-            "AwaitingOnMessage",
-            "ProposeRunCompletionAckMessage",
-            "GetStateEphemeralCommandMessage",
-            "GetStateEphemeralNotificationMessage",
-        ],
-    ),
-    "shared_core_state_commands": (
-        "The records of the commands on input, output and state, codes 0x0400 to 0x0408.",
-        [
-            "InputCommandMessage",
-            "OutputCommandMessage",
-            "GetLazyStateCommandMessage",
-            "SetStateCommandMessage",
-            "ClearStateCommandMessage",
-            "ClearAllStateCommandMessage",
-            "GetLazyStateKeysCommandMessage",
-            "GetEagerStateCommandMessage",
-            "GetEagerStateKeysCommandMessage",
-        ],
-    ),
-    "shared_core_call_commands": (
-        "The records of the commands on promises, time, calls, signals and invocations, codes 0x0409 to 0x0414.",
-        [
-            "GetPromiseCommandMessage",
-            "PeekPromiseCommandMessage",
-            "CompletePromiseCommandMessage",
-            "SleepCommandMessage",
-            "CallCommandMessage",
-            "OneWayCallCommandMessage",
-            "SendSignalCommandMessage",
-            "RunCommandMessage",
-            "AttachInvocationCommandMessage",
-            "GetInvocationOutputCommandMessage",
-            "CompleteAwakeableCommandMessage",
-        ],
-    ),
-    "shared_core_notifications": (
-        "The records of the notifications.",
-        [
-            "GetLazyStateCompletionNotificationMessage",
-            "GetLazyStateKeysCompletionNotificationMessage",
-            "GetPromiseCompletionNotificationMessage",
-            "PeekPromiseCompletionNotificationMessage",
-            "CompletePromiseCompletionNotificationMessage",
-            "SleepCompletionNotificationMessage",
-            "CallCompletionNotificationMessage",
-            "CallInvocationIdCompletionNotificationMessage",
-            "RunCompletionNotificationMessage",
-            "AttachInvocationCompletionNotificationMessage",
-            "GetInvocationOutputCompletionNotificationMessage",
-            "SignalNotificationMessage",
-        ],
-    ),
+    crate: (about, [message.name for message in messages() if crate_of(message) == crate and message.name != HAND_WRITTEN])
+    for crate, about in ABOUT_CRATES.items()
 }
 
 # The crates whose commands are compared.
@@ -134,15 +92,19 @@ SHARED = {
     ],
 }
 
-# Messages whose type is not their own name, and messages that are written otherwise at some versions, which stand in versions.rt.
-TYPE_OF = {"SuspensionMessageV6": "Suspension"}
-NOT_WRITTEN_AS_THEY_STAND = {"SuspensionMessageV6", "SuspensionMessage", "ProposeRunCompletionMessage"}
+# Messages whose type is not their own name.
+TYPE_OF = {message.name: last.type_name() for message, last in earlier()}
 
 # What the enums of oneofs derive beside Debug, PartialEq and Drop, by message and oneof.
 DERIVED = {("NotificationTemplate", "id"): ["Eq", "Hash"]}
 
-# Modules that are written by hand.
-BY_HAND = {"shared_core_runtime": ["versions"]}
+# Modules that are written by hand, those that other crates see and those that they do not, and what is shown of them beside records.
+BY_HAND = {
+    PARTS_CRATE: ["conversions", "future", "laws", "notification", "texts"],
+    "shared_core_runtime": ["versions"],
+}
+INNER = {PARTS_CRATE: ["escape"]}
+SHOWN = {PARTS_CRATE: ["texts::{HeadersText, StateKeysText}"]}
 
 TYPES = {"u32": "u32", "u64": "u64", "bool": "bool", "enum": "i32", "text": "String", "bytes": "Bytes"}
 
@@ -159,12 +121,6 @@ KINDS = {"u32": "U32", "u64": "U64", "bool": "Boolean", "enum": "Enumeration", "
 
 # What a field of a kind is where it is absent.
 EMPTY = {"u32": "0", "u64": "0", "bool": "false", "enum": "0", "text": "String::new(alloc)", "bytes": "Bytes::new()"}
-
-
-def schema_name(message):
-    """The name of a message's place in the table of schemas."""
-    name = snake(message).removesuffix("_message")
-    return {"suspension_message_v6": "suspension_v6"}.get(name, name.replace("_completion_notification", "_completion"))
 
 
 def comment(text, indent=""):
@@ -447,8 +403,9 @@ def write_record(source, crate, message, shared):
     )
 
 
-def write_message(source, name):
-    """The impls that say a record's type and what it is written as."""
+def write_message(source, message):
+    """The impls that say a record's type and what it is written as. What is written otherwise at some versions stands in versions.rt."""
+    name = message.name
     ty = TYPE_OF.get(name, name.removesuffix("Message"))
     result = source.result()
     source.ghosts.add("Rattle.shared_core_base.specs.declared.header.MessageType.TheVariants as types")
@@ -464,7 +421,7 @@ def write_message(source, name):
         "    ghost named = { tt };\n\n"
         f"    ghost own_schema = {{ {own_schema} }};\n}}\n"
     )
-    if name in NOT_WRITTEN_AS_THEY_STAND:
+    if message.differs_by_version:
         return
     source.prelude.add("false")
     source.ghosts.add("Rattle.shared_core_message.specs.Frames.{plain_form}")
@@ -531,18 +488,18 @@ def crate_files(crate):
                 write_oneof(source, module, camel(row.name), row, row.comment, DERIVED.get((name, row.name), ()))
         write_record(source, crate, message, shared)
         if crate != PARTS_CRATE:
-            write_message(source, name)
+            write_message(source, message)
         text = source.text()
         if shows:
             head, rest = text.split("\n\nuse ", 1)
             text = f"{head}\n\n{shows}\nuse {rest}"
         files[f"{folder}/{module}.rt"] = text
         modules.append(module)
-    if crate == PARTS_CRATE:
-        return files
-    modules += BY_HAND.get(crate, [])
-    lib = f"//! {about}\n#![tactic(auto)]\n\n" + "".join(f"pub mod {module};\n" for module in sorted(modules))
-    lib += "\n" + "".join(f"pub use crate::{snake(name)}::{name};\n" for name in sorted(names, key=snake))
+    modules = [(module, "pub ") for module in modules + BY_HAND.get(crate, [])] + [(module, "") for module in INNER.get(crate, [])]
+    lib = f"//! {about}\n#![tactic(auto)]\n\n" + "".join(f"{seen}mod {module};\n" for module, seen in sorted(modules))
+    names = names + ([HAND_WRITTEN] if crate == PARTS_CRATE else [])
+    shown = [f"{snake(name)}::{name}" for name in names] + SHOWN.get(crate, [])
+    lib += "\n" + "".join(f"pub use crate::{path};\n" for path in sorted(shown))
     files[f"{folder}/lib.rt"] = lib
     return files
 

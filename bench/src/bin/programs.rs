@@ -44,7 +44,7 @@ const COMPARED: u64 = 4;
 struct Pair {
     name: &'static str,
     ours: PathBuf,
-    /// The words with which ours reads a version, in pieces of 65,536 bytes.
+    /// The words with which ours reads a version, in chunks of 65,536 bytes.
     words: fn(u32) -> Option<Vec<String>>,
     peer: PathBuf,
 }

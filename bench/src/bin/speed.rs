@@ -3,7 +3,7 @@
 //! [--rounds N] [--protocol 5..9]
 //!
 //! With --side nothing is compared or printed: that side alone goes over the workload so many times, for a profiler. Before a table is printed,
-//! and by `speed --check` alone, the requests for memory show that the rounds are made and the pieces used that are asked for. The workload `calls`
+//! and by `speed --check` alone, the allocations show that the rounds are made and the pieces used that are asked for. The workload `calls`
 //! has no peer: it is what a call from C costs over the same work inside the library.
 
 use std::env;
@@ -31,15 +31,15 @@ const MEASUREMENTS: usize = 15;
 /// How long a measurement takes at least.
 const LENGTH: Duration = Duration::from_millis(40);
 
-/// Of a hostile message there are more and shorter measurements, so that some are undisturbed also where the machine does other work.
+/// Of an adversarial message there are more and shorter measurements, so that some are undisturbed also where the machine does other work.
 const HOSTILE_MEASUREMENTS: usize = 150;
 const HOSTILE_LENGTH: Duration = Duration::from_millis(1);
 
-/// The elements of a hostile message, at first, and how many times as many it has then.
+/// The elements of an adversarial message, at first, and how many times as many it has then.
 const SIZE: usize = 1000;
 const TIMES: [usize; 3] = [1, 4, 16];
 
-/// The name of the workload of hostile messages.
+/// The name of the workload of adversarial messages.
 const HOSTILE: &str = "hostile";
 
 /// The name of the workload of calls from C.
@@ -90,7 +90,7 @@ impl What {
     /// What is done to commands.
     const COMMANDS: [What; 2] = [What::Payloads, What::Headers];
 
-    /// Whether it takes the stream in pieces.
+    /// Whether it takes the stream in chunks.
     fn takes_pieces(self) -> bool {
         matches!(self, What::Items | What::Messages)
     }
@@ -326,12 +326,12 @@ impl<'a> Bench<'a> {
         Ok((ours / rounds as u32, peer / rounds as u32))
     }
 
-    /// Requests for memory for a frame.
+    /// Allocations for a frame.
     fn requests(&mut self, side: Side) -> Result<f64, Failed> {
         Ok(self.of_a_round(side)? as f64 / self.workload.frames.len() as f64)
     }
 
-    /// Requests for memory of a round: what a further one asks for. What is done once only counts for none.
+    /// Allocations of a round: what a further one asks for. What is done once only counts for none.
     fn of_a_round(&mut self, side: Side) -> Result<u64, Failed> {
         let once = self.counted(side, 1)?;
         Ok(self.counted(side, 2)?.saturating_sub(once))
@@ -364,7 +364,7 @@ impl<'a> Bench<'a> {
     }
 }
 
-/// A hostile message at each of its sizes.
+/// An adversarial message at each of its sizes.
 struct Growing {
     hostile: &'static Hostile,
     size: usize,
@@ -601,7 +601,7 @@ fn items_by_next(workload: &Workload) -> Result<usize, Failed> {
     Ok(count)
 }
 
-/// Numbers with so many places, one behind the other.
+/// Numbers with so many places, one after the other.
 fn joined(numbers: &[f64], places: usize) -> String {
     let words = numbers.iter().map(|number| format!("{number:.places$}"));
     words.collect::<Vec<_>>().join(", ")
@@ -616,7 +616,7 @@ fn check(workload: &Workload, what: What, side: Side) -> Result<(), Failed> {
     }
 }
 
-/// That comparisons ask for no memory. That they are made is seen by how many hold.
+/// That comparisons do not allocate. That they are made is seen by how many hold.
 fn check_comparisons(workload: &Workload, what: What, side: Side) -> Result<(), Failed> {
     match Bench::new(workload, what, 0).of_a_round(side)? {
         0 => Ok(()),
@@ -628,7 +628,7 @@ fn check_comparisons(workload: &Workload, what: What, side: Side) -> Result<(), 
     }
 }
 
-/// That a side makes the rounds that it is asked for, each with the same requests for memory, which are none where a buffer is used again; and that
+/// That a side makes the rounds that it is asked for, each with the same allocations, which are none where a buffer is used again; and that
 /// it takes the stream in the pieces that it is asked for: each payload that lies across pieces has to be joined.
 fn check_rounds(workload: &Workload, what: What, side: Side) -> Result<(), Failed> {
     let failed = |why| {
@@ -758,7 +758,7 @@ impl Options {
             .collect()
     }
 
-    /// The hostile messages that are asked for.
+    /// The adversarial messages that are asked for.
     fn hostile(&self) -> Vec<Growing> {
         let is_measured = self.what.map_or(true, |what| what == What::Messages);
         if !is_measured || !self.takes(HOSTILE) {
@@ -805,7 +805,7 @@ fn measure(options: &Options) -> Result<(), Failed> {
     }
     if let Some(side) = options.side {
         let rounds = options.rounds.unwrap_or(1);
-        // of a hostile message the first size alone
+        // of an adversarial message the first size alone
         let first = hostile.iter().flat_map(|growing| growing.benches().take(1));
         return workloads
             .iter()

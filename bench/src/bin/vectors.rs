@@ -1,10 +1,10 @@
-//! Writes conformance lines: random cases with the answers of the peer and of the rules.
+//! Writes test vectors: random cases with the answers of the peer and of the rules.
 //!
 //! - vectors [SEED [COUNT]]: to standard output, so many;
 //! - vectors --write FOLDER: the files of random cases that conformance/ has, for tools/generate.py.
 //!
-//! Where the two readers differ, and not as is known, the case is shown on standard error and the status is 1. How often they differed as is
-//! known is told there too.
+//! Where the two readers differ, and not as is known, the case is printed on standard error and the status is 1. The number of known
+//! differences is printed there too.
 
 use std::env;
 use std::fmt;

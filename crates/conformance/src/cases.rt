@@ -1,4 +1,4 @@
-//! Cases as lines: words with one space between them, ` = `, and the answer.
+//! Test vectors as lines: parts with one space between them, ` = `, and the expected result.
 
 ghost use Rattle.std.specs.Prelude.{◌≤◌};
 ghost use Rattle.shared_core_base.specs.Version.{version_number};
@@ -7,7 +7,7 @@ use bytes::Bytes;
 use shared_core::version::Version;
 use std::alloc::{AllocError, Global};
 
-/// A version that is spoken.
+/// A supported version.
 #[derive(Clone, Copy)]
 pub enum SpokenVersion {
     V5,
@@ -32,14 +32,14 @@ impl SpokenVersion {
     }
 }
 
-/// What a case asks of its bytes. A schema or a type is named by its word.
+/// What a test vector checks. A schema or a type is given by its name.
 #[derive(Clone, Copy)]
 pub enum Question<'a> {
     /// The canonical payload of what a payload means.
     Payload(&'a str),
-    /// The canonical payload of what several mean, each merged into those before it.
+    /// The canonical payload of several payloads, each merged into those before it.
     Merge(&'a str),
-    /// How the record that a canonical payload means is printed for debugging.
+    /// The `Debug` text of the record that a canonical payload means.
     Record(&'a str),
     /// The frame, at a version, of the message that a payload means.
     Frame(&'a str, SpokenVersion),
@@ -57,7 +57,7 @@ pub struct Case<'a> {
     pub answer: &'a str,
 }
 
-/// The case of a line, or None where it is none.
+/// The test vector of a line, or None if it is none.
 pub fn read_case<'a>(alloc: Global, line: &'a str) -> Result<Option<Case<'a>>, AllocError> {
     let Some((asked, answer)) = line.split_once(" = ") else {
         return Ok(None);
@@ -75,7 +75,7 @@ pub fn read_case<'a>(alloc: Global, line: &'a str) -> Result<Option<Case<'a>>, A
     }))
 }
 
-/// The question of a case, and the words of its bytes.
+/// The kind of a test vector, and its bytes as text.
 fn read_question(asked: &str) -> Option<(Question<'_>, &str)> {
     let (kind, words) = asked.split_once(' ')?;
     let (subject, words) = words.split_once(' ')?;
@@ -93,7 +93,7 @@ fn read_question(asked: &str) -> Option<(Question<'_>, &str)> {
     }
 }
 
-/// The version that a word names.
+/// The version that a text names.
 fn read_version(word: &str) -> Option<SpokenVersion> {
     match word {
         "5" => Some(SpokenVersion::V5),
@@ -105,7 +105,7 @@ fn read_version(word: &str) -> Option<SpokenVersion> {
     }
 }
 
-/// The bytes that each of some words spells.
+/// The bytes that each of some texts encodes.
 fn read_all_bytes(alloc: Global, words: &str) -> Result<Option<Vec<Bytes>>, AllocError> {
     let mut all = Vec::new(alloc);
     for word in words.split(' ') {
@@ -117,7 +117,7 @@ fn read_all_bytes(alloc: Global, words: &str) -> Result<Option<Vec<Bytes>>, Allo
     Ok(Some(all))
 }
 
-/// The bytes that a word spells: hex digits in lower case, two a byte, or `-` for no bytes.
+/// The bytes that a text encodes: hex digits in lower case, two a byte, or `-` for no bytes.
 fn read_bytes(alloc: Global, word: &str) -> Result<Option<Bytes>, AllocError> {
     if word == "-" {
         return Ok(Some(Bytes::new()));

@@ -1,4 +1,4 @@
-//! A line checked.
+//! Checking one line.
 
 use crate::cases::{Case, Question, read_case};
 use crate::comparisons::check_comparison;
@@ -9,7 +9,8 @@ use crate::verdict::{Failed, Verdict};
 use std::alloc::Global;
 use std::borrow::CowStr;
 
-/// What the library returns in place of a line's answer, or what is wrong with the line; `None` where the library returns that answer.
+/// What the library returns in place of a line's result, or what is wrong with the line; `None` where the library
+/// returns that result.
 pub fn refutation(alloc: Global, line: &str) -> Option<CowStr<'static>> {
     let Ok(case) = read_case(alloc, line) else {
         return Some(CowStr::Borrowed("out of memory"));
@@ -27,7 +28,7 @@ pub fn refutation(alloc: Global, line: &str) -> Option<CowStr<'static>> {
     }
 }
 
-/// Checks a case.
+/// Checks a test vector.
 fn check(case: &Case<'_>, verdict: &mut Verdict<'_>) -> Result<(), Failed> {
     let bytes = case.bytes.as_slice();
     match case.question {

@@ -1,16 +1,13 @@
-//! Commands compared, by the names of their types.
+//! Checking how commands compare, by the names of their types.
 
 use crate::message_types::type_of_name;
 use crate::payloads::decoded;
 use crate::verdict::{Failed, Verdict, spelled};
 use bytes::Bytes;
-use shared_core::fmt::DiffFormatter;
-use shared_core::messages::{
-    CommandMessage, CommandMessageHeaderDiff, CommandVisitor, visit_command,
-};
-use std::fmt;
+use shared_core::fmt::Difference;
+use shared_core::messages::{CommandMessage, CommandVisitor, visit_command};
 
-/// Checks how two commands of the type of a name compare: the recorded one, and the one that the code makes now.
+/// Checks how two commands of the type with this name compare: the recorded one, and the one that the code makes now.
 pub fn check_comparison(
     name: &str,
     actual: &Bytes,
@@ -25,7 +22,7 @@ pub fn check_comparison(
     visit_command(type_of_name(name)?, check).unwrap_or(Err(Failed::Unreadable))
 }
 
-/// What is asked of two commands of a type.
+/// The comparison of two commands of a type.
 #[derive(Drop)]
 struct Comparison<'a, 'b> {
     actual: &'a Bytes,
@@ -41,21 +38,8 @@ impl<'a, 'b> CommandVisitor for Comparison<'a, 'b> {
     }
 }
 
-/// The difference of two commands, with an indentation of three spaces.
-#[derive(Clone, Copy)]
-struct Difference<'a, M> {
-    actual: &'a M,
-    expected: &'a M,
-}
-
-impl<'a, M: CommandMessageHeaderDiff> fmt::Display for Difference<'a, M> {
-    fn fmt<W: fmt::Write>(&self, f: &mut fmt::Formatter<W>) -> fmt::Result {
-        self.actual
-            .write_diff(self.expected, DiffFormatter::new(f, "   "))
-    }
-}
-
-/// Checks whether two commands are the same, first with their payloads and then where payloads are ignored, and the text of their difference.
+/// Checks whether two commands are the same, first with their payloads and then with payloads ignored, and the text of
+/// their difference.
 fn check_as<M: CommandMessage>(
     actual: &Bytes,
     expected: &Bytes,

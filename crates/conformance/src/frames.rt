@@ -1,4 +1,4 @@
-//! The frames of a message, and what comes out of them.
+//! Checking the frames of a message, and that they decode again.
 
 use crate::cases::SpokenVersion;
 use crate::payloads::decoded;
@@ -8,7 +8,7 @@ use shared_core::encoding::{Decoder, DecodingError, Encoder, RawMessage};
 use shared_core::messages::{RestateEncodableMessage, RestateMessage};
 use std::alloc::Global;
 
-/// Checks the frame, at a version, of the message that a payload means, and that it comes out again as a message that is decoded to `D`.
+/// Checks the frame, at a version, of the message that a payload means, and that it decodes to `D` again.
 pub fn check_frame_of<M: RestateEncodableMessage, D: RestateMessage>(
     version: SpokenVersion,
     payload: &Bytes,
@@ -48,7 +48,7 @@ fn check_decoded<D: RestateMessage>(
     )
 }
 
-/// The message of a frame that is pushed one byte at a time, where it is the one answer and comes with the last byte.
+/// The message of a frame that is pushed one byte at a time, if it is the only one and comes with the last byte.
 fn only_message(
     alloc: Global,
     version: SpokenVersion,
@@ -70,7 +70,7 @@ fn only_message(
     Ok(message)
 }
 
-/// Pushes a byte, and answers the next message. What is of no type is none.
+/// Pushes a byte, and returns the next message. Items that are no message are skipped.
 fn push_byte(decoder: &mut Decoder, alloc: Global, byte: u8) -> Result<Option<RawMessage>, Failed> {
     if decoder.push(copied(alloc, &[byte])?).is_err() {
         return Err(Failed::OutOfMemory);

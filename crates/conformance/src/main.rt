@@ -1,5 +1,5 @@
-//! Reads cases on the standard input, a line each, checks them against the library's public calls, and prints those that fail, each with
-//! what the library answers instead.
+//! Reads test vectors on the standard input, a line each, checks them against the library's public calls, and prints
+//! those that fail, each with what the library returns instead.
 #![tactic(auto)]
 
 mod cases;
@@ -9,6 +9,7 @@ mod frames;
 mod message_types;
 mod payloads;
 mod record_ends;
+mod schema_names;
 mod schemas;
 mod streams;
 mod verdict;
@@ -17,8 +18,8 @@ use crate::checks::refutation;
 use std::io::{self, BufRead, BufReader, ErrorKind};
 use std::process::ExitCode;
 
-/// Checks every line, and returns whether none failed. An empty line, and one that begins with `#`, is no case. `number` counts the lines
-/// that were read.
+/// Checks every line, and returns whether none failed. Empty lines, and those that begin with `#`, are skipped.
+/// `number` counts the lines that were read.
 fn run(rt: &HostRuntime, number: &mut u64) -> io::Result<bool> {
     let alloc = rt.alloc();
     let mut passed = 0u64;
@@ -50,7 +51,7 @@ fn main(rt: HostRuntime) -> ExitCode {
         Err(error) if error.kind() == ErrorKind::OutOfMemory => "out of memory",
         Err(_) => "input or output failed",
     };
-    // Nothing is left to do where that fails too.
+    // There is nothing to do if that fails too.
     let _ = eprintln!(rt; "conformance: {why}, after line {number}");
     ExitCode::FAILURE
 }

@@ -10,115 +10,13 @@ use shared_core::messages::{
 };
 use std::fmt::Debug;
 
-/// The types that have a record, by their names.
-const TYPES: [(&str, MessageType); 41] = [
-    ("Start", MessageType::Start),
-    ("Suspension", MessageType::Suspension),
-    ("Error", MessageType::Error),
-    ("End", MessageType::End),
-    ("ProposeRunCompletion", MessageType::ProposeRunCompletion),
-    ("AwaitingOn", MessageType::AwaitingOn),
-    (
-        "ProposeRunCompletionAck",
-        MessageType::ProposeRunCompletionAck,
-    ),
-    (
-        "GetStateEphemeralCommand",
-        MessageType::GetStateEphemeralCommand,
-    ),
-    (
-        "GetStateEphemeralNotification",
-        MessageType::GetStateEphemeralNotification,
-    ),
-    ("InputCommand", MessageType::InputCommand),
-    ("OutputCommand", MessageType::OutputCommand),
-    ("GetLazyStateCommand", MessageType::GetLazyStateCommand),
-    ("SetStateCommand", MessageType::SetStateCommand),
-    ("ClearStateCommand", MessageType::ClearStateCommand),
-    ("ClearAllStateCommand", MessageType::ClearAllStateCommand),
-    (
-        "GetLazyStateKeysCommand",
-        MessageType::GetLazyStateKeysCommand,
-    ),
-    ("GetEagerStateCommand", MessageType::GetEagerStateCommand),
-    (
-        "GetEagerStateKeysCommand",
-        MessageType::GetEagerStateKeysCommand,
-    ),
-    ("GetPromiseCommand", MessageType::GetPromiseCommand),
-    ("PeekPromiseCommand", MessageType::PeekPromiseCommand),
-    (
-        "CompletePromiseCommand",
-        MessageType::CompletePromiseCommand,
-    ),
-    ("SleepCommand", MessageType::SleepCommand),
-    ("CallCommand", MessageType::CallCommand),
-    ("OneWayCallCommand", MessageType::OneWayCallCommand),
-    ("SendSignalCommand", MessageType::SendSignalCommand),
-    ("RunCommand", MessageType::RunCommand),
-    (
-        "AttachInvocationCommand",
-        MessageType::AttachInvocationCommand,
-    ),
-    (
-        "GetInvocationOutputCommand",
-        MessageType::GetInvocationOutputCommand,
-    ),
-    (
-        "CompleteAwakeableCommand",
-        MessageType::CompleteAwakeableCommand,
-    ),
-    (
-        "GetLazyStateCompletionNotification",
-        MessageType::GetLazyStateCompletionNotification,
-    ),
-    (
-        "GetLazyStateKeysCompletionNotification",
-        MessageType::GetLazyStateKeysCompletionNotification,
-    ),
-    (
-        "GetPromiseCompletionNotification",
-        MessageType::GetPromiseCompletionNotification,
-    ),
-    (
-        "PeekPromiseCompletionNotification",
-        MessageType::PeekPromiseCompletionNotification,
-    ),
-    (
-        "CompletePromiseCompletionNotification",
-        MessageType::CompletePromiseCompletionNotification,
-    ),
-    (
-        "SleepCompletionNotification",
-        MessageType::SleepCompletionNotification,
-    ),
-    (
-        "CallCompletionNotification",
-        MessageType::CallCompletionNotification,
-    ),
-    (
-        "CallInvocationIdCompletionNotification",
-        MessageType::CallInvocationIdCompletionNotification,
-    ),
-    (
-        "RunCompletionNotification",
-        MessageType::RunCompletionNotification,
-    ),
-    (
-        "AttachInvocationCompletionNotification",
-        MessageType::AttachInvocationCompletionNotification,
-    ),
-    (
-        "GetInvocationOutputCompletionNotification",
-        MessageType::GetInvocationOutputCompletionNotification,
-    ),
-    ("SignalNotification", MessageType::SignalNotification),
-];
-
 /// The type of a name.
 pub fn type_of_name(name: &str) -> Result<MessageType, Failed> {
-    match TYPES.iter().find(|named| named.0 == name) {
-        Some((_, ty)) => Ok(*ty),
+    match MessageType::named()
+        .iter()
+        .find(|ty| ty.variant_name() == name)
+    {
+        Some(ty) => Ok(*ty),
         None => Err(Failed::Unreadable),
     }
 }
@@ -146,7 +44,7 @@ pub fn check_frame(
     }
 }
 
-/// What is asked of the frame of a message.
+/// The check of the frame of a message.
 #[derive(Drop)]
 struct FrameCheck<'a, 'b> {
     version: SpokenVersion,

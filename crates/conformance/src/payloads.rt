@@ -1,4 +1,4 @@
-//! The payloads of a record: read, merged, printed and written again.
+//! Checking the payloads of a record: decoded, merged, printed and encoded again.
 
 use crate::record_ends::ends_of_records;
 use crate::verdict::{Failed, Verdict, copied};
@@ -7,10 +7,10 @@ use shared_core::wire::{WireError, WireRecord, decode_parts};
 use std::alloc::{AllocError, Global};
 use std::fmt::Debug;
 
-/// Up to how many bytes every canonical payload is cut at each byte.
+/// The greatest length of a canonical payload that is cut off at every byte.
 const SHORT: usize = 1024;
 
-/// What a reading call answers, where None stands for `Malformed`.
+/// The result of a decoding call, with None for `Malformed`.
 fn unless_malformed<M: WireRecord>(read: Result<M, WireError>) -> Result<Option<M>, AllocError> {
     match read {
         Ok(record) => Ok(Some(record)),
@@ -19,12 +19,12 @@ fn unless_malformed<M: WireRecord>(read: Result<M, WireError>) -> Result<Option<
     }
 }
 
-/// The record that a payload means, or None where it is malformed.
+/// The record that a payload means, or None if it is malformed.
 pub fn decoded<M: WireRecord>(alloc: Global, payload: &Bytes) -> Result<Option<M>, AllocError> {
     unless_malformed(M::decode(alloc, payload.clone()?))
 }
 
-/// Whether a payload that comes in these parts means this record; without one, whether it is malformed.
+/// Whether a payload that comes in these chunks means this record; without one, whether it is malformed.
 fn means_in_parts<M: WireRecord>(
     alloc: Global,
     first: &Bytes,
@@ -66,7 +66,7 @@ pub fn check_merge<M: WireRecord>(
     verdict.require(same, "in parts it is another record")
 }
 
-/// What a payload means with others merged into it, or None where one is malformed.
+/// What a payload means with others merged into it, or None if one is malformed.
 fn merged<M: WireRecord>(
     alloc: Global,
     first: &Bytes,
@@ -84,7 +84,7 @@ fn merged<M: WireRecord>(
     Ok(Some(record))
 }
 
-/// Answers the canonical payload of a record, which must be its own, or that there is none.
+/// Returns the canonical payload of a record, which must be its own, or an error if there is none.
 fn check_meaning<M: WireRecord>(
     record: Option<&M>,
     verdict: &mut Verdict<'_>,
@@ -101,7 +101,7 @@ fn check_meaning<M: WireRecord>(
     check_cuts(record, canonical.as_slice(), verdict)
 }
 
-/// Checks that a record's canonical payload has the length that is measured, means the record and is written again.
+/// Checks that a record's canonical payload has the measured length, means the record and is written again.
 fn check_canonical<M: WireRecord>(
     record: &M,
     canonical: &Bytes,
@@ -121,7 +121,7 @@ fn check_canonical<M: WireRecord>(
     )
 }
 
-/// Checks how the record is printed that a canonical payload means.
+/// Checks the `Debug` text of the record that a canonical payload means.
 pub fn check_printed<M: WireRecord + Debug>(
     payload: &Bytes,
     verdict: &mut Verdict<'_>,
@@ -138,8 +138,8 @@ pub fn check_printed<M: WireRecord + Debug>(
     check_cuts(&record, payload.as_slice(), verdict)
 }
 
-/// Checks that the front of a canonical payload is well-formed exactly where it is cut between top records, and that in two parts it is then
-/// the same record.
+/// Checks that a prefix of a canonical payload is well-formed if and only if it ends between top-level records, and
+/// that the payload then means the same record in two chunks.
 fn check_cuts<M: WireRecord>(
     record: &M,
     payload: &[u8],

@@ -1,9 +1,9 @@
-//! Where the records of a canonical payload end, read from its bytes alone, so that the library's own reader is not its own judge.
+//! Where the records of a canonical payload end, found without the library's own reader, which is under test.
 
 use std::alloc::{AllocError, Global};
 
-/// Where the top-level records of a canonical payload end, in bytes from its beginning. `None` where the bytes are no records of the two wire
-/// types that canonical payloads have, a varint (0) and a length with so many bytes (2).
+/// Where the top-level records of a canonical payload end, in bytes from its beginning. `None` if the bytes are no
+/// records of the two wire types that canonical payloads have, a varint (0) and length-delimited bytes (2).
 pub fn ends_of_records(alloc: Global, payload: &[u8]) -> Result<Option<Vec<usize>>, AllocError> {
     let mut ends = Vec::new(alloc);
     let mut rest = payload;

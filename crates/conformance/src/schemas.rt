@@ -1,81 +1,25 @@
 //! The schemas of the protocol by their names.
 
 use crate::payloads::{check_merge, check_payload, check_printed};
+use crate::schema_names::SCHEMAS;
 use crate::verdict::{Failed, Verdict};
 use bytes::Bytes;
 use shared_core::messages::{RecordVisitor, visit_record};
 use shared_core::wire::WireRecord;
 use std::fmt::Debug;
 
-/// What is asked of payloads of a schema.
+/// What is checked for payloads of a schema.
 #[derive(Clone, Copy)]
 pub enum RecordQuestion {
     /// The canonical payload of what one means.
     Payload,
-    /// The canonical payload of what several mean, each merged into those before it.
+    /// The canonical payload of several payloads, each merged into those before it.
     Merge,
-    /// How the record of a canonical one is printed.
+    /// The `Debug` text of the record of a canonical payload.
     Record,
 }
 
-/// The names of the schemas.
-const SCHEMAS: [&str; 53] = [
-    "Void",
-    "Value",
-    "Failure",
-    "FailureMetadata",
-    "Header",
-    "StateKeys",
-    "StateEntry",
-    "Future",
-    "WorkflowTarget",
-    "IdempotentRequestTarget",
-    "StartMessage",
-    "SuspensionMessage",
-    "SuspensionMessageV6",
-    "ErrorMessage",
-    "EndMessage",
-    "ProposeRunCompletionMessage",
-    "AwaitingOnMessage",
-    "ProposeRunCompletionAckMessage",
-    "GetStateEphemeralCommandMessage",
-    "GetStateEphemeralNotificationMessage",
-    "InputCommandMessage",
-    "OutputCommandMessage",
-    "GetLazyStateCommandMessage",
-    "SetStateCommandMessage",
-    "ClearStateCommandMessage",
-    "ClearAllStateCommandMessage",
-    "GetLazyStateKeysCommandMessage",
-    "GetEagerStateCommandMessage",
-    "GetEagerStateKeysCommandMessage",
-    "GetPromiseCommandMessage",
-    "PeekPromiseCommandMessage",
-    "CompletePromiseCommandMessage",
-    "SleepCommandMessage",
-    "CallCommandMessage",
-    "OneWayCallCommandMessage",
-    "SendSignalCommandMessage",
-    "RunCommandMessage",
-    "AttachInvocationCommandMessage",
-    "GetInvocationOutputCommandMessage",
-    "CompleteAwakeableCommandMessage",
-    "GetLazyStateCompletionNotificationMessage",
-    "GetPromiseCompletionNotificationMessage",
-    "PeekPromiseCompletionNotificationMessage",
-    "GetInvocationOutputCompletionNotificationMessage",
-    "CompletePromiseCompletionNotificationMessage",
-    "CallCompletionNotificationMessage",
-    "RunCompletionNotificationMessage",
-    "AttachInvocationCompletionNotificationMessage",
-    "SleepCompletionNotificationMessage",
-    "GetLazyStateKeysCompletionNotificationMessage",
-    "CallInvocationIdCompletionNotificationMessage",
-    "SignalNotificationMessage",
-    "NotificationTemplate",
-];
-
-/// Checks payloads of the schema of a name.
+/// Checks payloads of the schema with this name.
 pub fn check_record(
     schema: &str,
     question: RecordQuestion,
@@ -93,7 +37,7 @@ pub fn check_record(
     visit_record(place as u32, check).unwrap_or(Err(Failed::Unreadable))
 }
 
-/// What is asked of payloads of a record.
+/// The check of payloads of a record.
 #[derive(Drop)]
 struct RecordCheck<'a, 'b> {
     question: RecordQuestion,

@@ -1,4 +1,4 @@
-//! Listings of streams, however they are cut.
+//! Checking the listings of streams, however they are split.
 
 ghost use Rattle.std.specs.Prelude.{◌≤◌};
 
@@ -8,13 +8,13 @@ use bytes::Bytes;
 use shared_core::encoding::{Item, RawMessage, decode_pieces};
 use std::alloc::{AllocError, Global};
 
-/// Up to how many bytes a stream is cut in every way that is tried.
+/// The greatest length of a stream that is split in every way.
 const SHORT: usize = 64;
 
-/// The sizes of the pieces into which a longer stream is cut.
+/// The sizes of the chunks into which a longer stream is split.
 const SIZES: [usize; 8] = [1, 2, 3, 7, 8, 9, 64, usize::MAX];
 
-/// Checks the listing of a stream that comes in pieces, and that it is the same in other pieces.
+/// Checks the listing of a stream that comes in chunks, and that it is the same in other chunks.
 pub fn check_stream(
     version: SpokenVersion,
     pieces: &[Bytes],
@@ -39,7 +39,7 @@ pub fn check_stream(
     check_cuts(version, stream, verdict)
 }
 
-/// Checks that the listing is the same in pieces of a size.
+/// Checks that the listing is the same in chunks of a size.
 fn check_pieces(
     version: SpokenVersion,
     stream: &[u8],
@@ -57,7 +57,7 @@ fn check_pieces(
     verdict.require_at(same, "it is listed otherwise in pieces of", size)
 }
 
-/// Checks that the listing is the same in any two pieces.
+/// Checks that the listing is the same in any two chunks.
 fn check_cuts(
     version: SpokenVersion,
     stream: &[u8],
@@ -73,7 +73,7 @@ fn check_cuts(
     Ok(())
 }
 
-/// The items of a stream that comes in pieces, each with a comma behind it, and the count of the bytes that are in none.
+/// The items of a stream that comes in chunks, each with a comma after it, and the number of bytes that are in none.
 fn listing(alloc: Global, version: SpokenVersion, pieces: &[Bytes]) -> Result<String, Failed> {
     let (items, decoder) = decode_pieces(alloc, version.version(), pieces)?;
     let mut text = String::new(alloc);
@@ -98,7 +98,8 @@ fn append_item(text: &mut String, item: &Item) -> Result<(), AllocError> {
     }
 }
 
-/// Appends a message: the name of its type, the length of its payload, and whether its header asks for an acknowledgement.
+/// Appends a message: the name of its type, the length of its payload, and whether its header requests an
+/// acknowledgement.
 fn append_message(text: &mut String, message: &RawMessage) -> Result<(), AllocError> {
     let name = message.ty().debug_name();
     let length = message.payload().len();

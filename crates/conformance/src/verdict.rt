@@ -1,20 +1,20 @@
-//! What a case wants, and what the library answers.
+//! The result of a test vector: what it expects, and what the library returns.
 
 use bytes::Bytes;
 use shared_core::encoding::PiecesError;
 use shared_core::messages::EncodingError;
 use std::alloc::{AllocError, AllocFailed, Global};
 
-/// Why a case does not pass.
+/// Why a test vector fails.
 #[derive(Clone, Copy)]
 pub enum Failed {
-    /// The line is no case.
+    /// The line is no test vector.
     Unreadable,
-    /// The library answers otherwise, as the verdict says.
+    /// The library returns something else, which is this.
     Otherwise,
-    /// The library answers that something is too long.
+    /// The library returns that something is too long.
     TooLong,
-    /// A request for memory was refused.
+    /// An allocation failed.
     OutOfMemory,
 }
 
@@ -48,7 +48,7 @@ impl From<PiecesError> for Failed {
     }
 }
 
-/// The answer that a case wants, and the last one that the library gave.
+/// The expected result, and the last one of the library.
 #[derive(Drop)]
 pub struct Verdict<'a> {
     pub alloc: Global,
@@ -57,7 +57,7 @@ pub struct Verdict<'a> {
 }
 
 impl<'a> Verdict<'a> {
-    /// That nothing has been answered yet.
+    /// Nothing has been returned yet.
     pub fn new(alloc: Global, wanted: &'a str) -> Verdict<'a> {
         Verdict {
             alloc,
@@ -66,7 +66,7 @@ impl<'a> Verdict<'a> {
         }
     }
 
-    /// The library's answer, which must be the wanted one.
+    /// Checks that the library's result is the expected one.
     pub fn answer(&mut self, given: &str) -> Result<(), Failed> {
         if given == self.wanted {
             return Ok(());
@@ -74,13 +74,13 @@ impl<'a> Verdict<'a> {
         self.refuse(given)
     }
 
-    /// The library's answer where it is bytes.
+    /// Checks the library's result, which is bytes.
     pub fn answer_bytes(&mut self, given: &[u8]) -> Result<(), Failed> {
         let given = spelled(self.alloc, given)?;
         self.answer(given.as_str())
     }
 
-    /// Something that must be so wherever the answer is the wanted one; else `otherwise` says what is.
+    /// Checks a condition that must hold whenever the result is the expected one; `otherwise` is the result to report.
     pub fn require(&mut self, holds: bool, otherwise: &str) -> Result<(), Failed> {
         if holds {
             return Ok(());
@@ -88,7 +88,8 @@ impl<'a> Verdict<'a> {
         self.refuse(otherwise)
     }
 
-    /// Something that must be so of each cut; else `otherwise` and its place or size say what is.
+    /// Checks a condition that must hold for each way to split; `otherwise`, with its index or size, is the result to
+    /// report.
     pub fn require_at(&mut self, holds: bool, otherwise: &str, at: usize) -> Result<(), Failed> {
         if holds {
             return Ok(());
@@ -98,7 +99,7 @@ impl<'a> Verdict<'a> {
         Err(Failed::Otherwise)
     }
 
-    /// That the case fails, for what is answered instead.
+    /// Fails the test vector, with this result instead.
     pub fn refuse(&mut self, instead: &str) -> Result<(), Failed> {
         self.given.clear();
         self.given.push_str(instead)?;
@@ -106,12 +107,12 @@ impl<'a> Verdict<'a> {
     }
 }
 
-/// A copy of some bytes as a piece or a payload.
+/// A copy of some bytes as a chunk or a payload.
 pub fn copied(alloc: Global, bytes: &[u8]) -> Result<Bytes, Failed> {
     Ok(Bytes::copy_from_slice(alloc, bytes)?)
 }
 
-/// Bytes as a line spells them: hex digits in lower case, two a byte, or `-` for no bytes.
+/// Bytes in the form of a line: hex digits in lower case, two a byte, or `-` for no bytes.
 pub fn spelled(alloc: Global, bytes: &[u8]) -> Result<String, AllocError> {
     if bytes.is_empty() {
         return String::from_str(alloc, "-");

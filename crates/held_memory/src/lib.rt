@@ -1,19 +1,19 @@
-//! What tests ask while all memory that the process can have is held, so that a request for more is refused.
+//! Test support: exhausts the process's memory, then runs a closure in which every allocation fails.
 #![tactic(auto)]
 
 use std::alloc::{AllocError, Global};
 
-/// The most blocks that are held.
+/// The greatest number of blocks that are held.
 const BLOCKS: usize = 1 << 17;
 
-/// Blocks that hold all memory there is. Nothing is written to them.
+/// Blocks that hold all available memory. Nothing is written to them.
 #[derive(Drop)]
 struct HeldMemory {
     blocks: Vec<Vec<u8>>,
 }
 
 impl HeldMemory {
-    /// Takes all memory that is left.
+    /// Allocates all memory that is left.
     fn take(alloc: Global) -> Result<HeldMemory, AllocError> {
         let mut held = HeldMemory {
             blocks: Vec::with_capacity(alloc, BLOCKS)?,
@@ -21,16 +21,16 @@ impl HeldMemory {
         for shift in (11..47u32).rev() {
             held.take_blocks(alloc, 1 << shift);
         }
-        // what the allocator keeps for small blocks, by their sizes
+        // the allocator keeps small blocks by their sizes
         for step in (1..128usize).rev() {
             held.take_blocks(alloc, step * 16 - 8);
         }
         Ok(held)
     }
 
-    /// Takes blocks of so many bytes until one is refused.
+    /// Allocates blocks of a size until one fails.
     fn take_blocks(&mut self, alloc: Global, size: usize) {
-        // the list has its room, and takes no more memory
+        // the list has room for it, and does not allocate
         for _ in self.blocks.len()..BLOCKS {
             let Ok(block) = Vec::with_capacity(alloc, size) else {
                 return;
@@ -42,8 +42,9 @@ impl HeldMemory {
     }
 }
 
-/// What is answered while all memory is held, or `None` where one more request for memory is granted nevertheless: a build that checks each
-/// access (`rt try`) has an allocator with memory of its own. `AllocError` where there is no memory to list what is held.
+/// Returns the closure's result while all memory is held, or `None` if one more allocation succeeds nevertheless: a
+/// build that checks each access (`rt try`) has an allocator with memory of its own. `AllocError` if the list of held
+/// blocks cannot be allocated.
 pub fn without_memory<T: Drop, F: FnOnce() -> T>(
     alloc: Global,
     ask: F,

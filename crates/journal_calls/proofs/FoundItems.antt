@@ -2,7 +2,7 @@
 use Rattle.std.proofs.Common.{◌≡◌, ℕ, ◌+◌, ◌-◌, ◌<◌, ◌≤◌, Bool, true, false, List, [], ◌∷◌, ◌++◌, length, take, drop, Option, Some, None, refl, sym, ap, ◌∙◌, arith, append_assoc, length-append, length-drop, unwrap_or}
 use Rattle.std.specs.Int.{w64, from_be_bytes, from_bool}
 use Rattle.std.proofs.lemmas.List.{take-append-drop, length-take-le}
-use Rattle.shared_core_base.specs.declared.header.MessageHeader.{MessageHeader}
+use Rattle.shared_core_base.specs.declared.message_header.MessageHeader.{MessageHeader}
 use Rattle.shared_core_base.specs.declared.version.Version.{Version}
 use Rattle.shared_core_base.specs.MessageHeader.{ack_bit, header_of}
 use Rattle.shared_core.specs.declared.encoding.item.Item.{Item}
@@ -18,7 +18,7 @@ ack_bit_is None = refl
 ack_bit_is (Some true) = refl
 ack_bit_is (Some false) = refl
 
--- the first eight bytes are those in front of the others
+-- the first eight bytes are those before the others
 front_word_is : (bytes head body : List ℕ) → head ≡ take 8 bytes → from_be_bytes w64 head ≡ front_word bytes
 unfolding front_word
 front_word_is bytes head body front = ap (from_be_bytes w64) front

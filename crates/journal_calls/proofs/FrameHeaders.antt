@@ -1,4 +1,4 @@
--- The header of a payload in front of its frame.
+-- The header of a payload before its frame.
 use Rattle.std.proofs.Common.{◌≡◌, ℕ, ◌+◌, ◌-◌, List, Option, Some, None, Bool, true, false, cond, Ok, length, take, refl, ap, ◌∙◌, arith, length-append}
 use Rattle.std.specs.Int.{w64, to_be_bytes}
 use Rattle.shared_core_base.specs.declared.version.Version.{Version}

@@ -1,10 +1,10 @@
--- What the call on headers answers.
+-- The result of the call on headers.
 use Rattle.std.specs.Prelude.{◌≡◌, ℕ, Bool, true, List, Option, Some, None, Result, Ok, Err, if◌then◌else◌}
 use Rattle.std.specs.Int.{w64, to_be_bytes}
 use Rattle.shared_core_base.specs.declared.version.Version.{Version}
 use Rattle.shared_core_base.specs.declared.header.MessageType.{MessageType}
 use Rattle.shared_core_base.specs.declared.header.MessageType.TheVariants.{ProposeRunCompletion}
-use Rattle.shared_core_base.specs.declared.header.MessageHeader.{MessageHeader}
+use Rattle.shared_core_base.specs.declared.message_header.MessageHeader.{MessageHeader}
 use Rattle.shared_core_base.specs.MessageHeader.{word_of}
 use Rattle.shared_core_base.specs.MessageType.{type_of}
 use Rattle.shared_core_runtime.specs.Versions.{is_before_v7}
@@ -26,6 +26,6 @@ abbrev pub header_answer : Option Version → Option MessageType → ℕ → Res
 header_answer (Some version) (Some ty) payload_length = Ok (to_be_bytes w64 (word_of (header_at version ty payload_length)))
 header_answer version ty payload_length = Err Unknown
 
--- What journal_header answers.
+-- The result of journal_header.
 abbrev pub AnswersHeader : ℕ → ℕ → ℕ → Result (List ℕ) Refusal → Type 0
 AnswersHeader number code payload_length answer = answer ≡ header_answer (spoken_version number) (type_of code) payload_length

@@ -1,4 +1,4 @@
--- What the call on journals answers.
+-- The result of the call on journals.
 use Rattle.std.specs.Prelude.{◌≡◌, ℕ, Bool, nat_lt, List, [], ◌∷◌, length, Result, Ok, Err, MatchBool}
 use Rattle.std.specs.String.{string_bytes}
 use Rattle.shared_core_base.specs.declared.version.Version.{Version}
@@ -10,7 +10,7 @@ use Rattle.journal_calls.specs.declared.answer.Refusal.TheVariants.{OutOfMemory,
 use Rattle.journal_calls.specs.declared.journals.Report.{Report}
 use Rattle.journal_calls.specs.Answers.{AtVersion, spoken_version, written_over}
 
--- The numbers of an answer: its kind, and its index or how many commands both journals have.
+-- The numbers of a result: its kind, and its index or how many commands both journals have.
 abbrev pub verdict_numbers : Answer → List ℕ
 verdict_numbers (SameCommands count) = 0 ∷ count ∷ []
 verdict_numbers (RecordedEnds index) = 1 ∷ index ∷ []
@@ -20,36 +20,36 @@ verdict_numbers (OtherCommand index text) = 4 ∷ index ∷ []
 verdict_numbers (NotWellFormed Recorded index) = 5 ∷ index ∷ []
 verdict_numbers (NotWellFormed Replayed index) = 6 ∷ index ∷ []
 
--- The text of an answer: that of a mismatch.
+-- The text of a result: that of a mismatch.
 abbrev pub verdict_text : Answer → List ℕ
 verdict_text (OtherType index text) = text
 verdict_text (OtherCommand index text) = text
 verdict_text answer = []
 
--- A report says the numbers and the text of an answer.
+-- A report says the numbers and the text of a result.
 abbrev pub ReportsAnswer : Answer → Report → Type 0
 ReportsAnswer answer report =
     ((report.kind ∷ report.index ∷ []) ≡ verdict_numbers answer) × (string_bytes report.text ≡ verdict_text answer)
 
--- A report says the answer of two journals. Memory may be wanting.
+-- A report says the result of two journals. An allocation may fail.
 abbrev pub ReportsJournals : Version → Bool → List ℕ → List ℕ → Result Report Refusal → Type 0
 ReportsJournals version ignore recorded replayed (Ok report) =
     (answer : Answer) × HasAnswer version ignore recorded replayed answer × ReportsAnswer answer report
 ReportsJournals version ignore recorded replayed (Err refusal) = refusal ≡ OutOfMemory
 
--- The answer is that of two journals. Memory may be wanting.
+-- The result is that of two journals. An allocation may fail.
 abbrev pub AnswersJournals : Version → Bool → List ℕ → List ℕ → Result Answer Refusal → Type 0
 AnswersJournals version ignore recorded replayed (Ok answer) = HasAnswer version ignore recorded replayed answer
 AnswersJournals version ignore recorded replayed (Err refusal) = refusal ≡ OutOfMemory
 
--- What journal_verdict answers: NoRoom where there is room for fewer than two numbers.
+-- The result of journal_verdict: NoRoom where there is room for fewer than two numbers.
 abbrev pub AnswersVerdict : ℕ → ℕ → Bool → List ℕ → List ℕ → Result Answer Refusal → Type 0
 AnswersVerdict number room ignore recorded replayed answer =
     AtVersion (spoken_version number) answer
     (λ version. MatchBool (nat_lt room 2) (answer ≡ Err NoRoom) (AnswersJournals version ignore recorded replayed answer))
 
--- The numbers and the text of an answer of which this holds are written over two slices, and the count is that of the text's bytes; a
--- refusal leaves both slices as they were.
+-- The numbers and the text of a result of which this holds are written over two slices, and the count is that of the
+-- text's bytes; an error leaves both slices as they were.
 abbrev pub WritesVerdict : (Result Answer Refusal → Type 0) → List ℕ → List ℕ → List ℕ → List ℕ → Result ℕ Refusal → Type 0
 WritesVerdict holds old_numbers new_numbers old new (Ok count) =
     (answer : Answer) × holds (Ok answer)

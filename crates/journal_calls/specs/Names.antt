@@ -1,4 +1,4 @@
--- What the calls on names and numbers answer.
+-- The result of the calls on names and numbers.
 use Rattle.std.specs.Prelude.{◌≡◌, ◌≢◌, ℕ, List, [], ◌∷◌, option_map, Option, Some, None, Result, Ok, Err, if◌then◌else◌}
 use Rattle.std.specs.Option.{ok_or}
 use Rattle.std.specs.Str.{bytes_eq}
@@ -15,15 +15,16 @@ abbrev pub schema_of : Option Version → Option MessageType → Option ℕ
 schema_of (Some version) (Some ty) = schema_at version ty
 schema_of version ty = None
 
--- What journal_schema answers.
+-- The result of journal_schema.
 abbrev pub AnswersSchema : ℕ → ℕ → Result ℕ Refusal → Type 0
 AnswersSchema number code answer = answer ≡ ok_or (schema_of (spoken_version number) (type_of code)) Unknown
 
--- What journal_type_name answers: the debug name of the type that the code stands for.
+-- The result of journal_type_name: the debug name of the type that the code denotes.
 abbrev pub AnswersTypeName : ℕ → Result (List ℕ) Refusal → Type 0
 AnswersTypeName code answer = answer ≡ ok_or (option_map debug_name_of (type_of code)) Unknown
 
--- What journal_type_code answers: the code of a named type whose name this is, and Unknown where it is the name of none.
+-- The result of journal_type_code: the code of a named type whose name this is, and Unknown where it is the name of
+-- none.
 abbrev pub AnswersTypeCode : List ℕ → Result ℕ Refusal → Type 0
 AnswersTypeCode name (Ok code) = (ty : MessageType) × IsNamed ty × (variant_name_of ty ≡ name) × (code ≡ code_of ty)
 AnswersTypeCode name (Err Unknown) = (ty : MessageType) → IsNamed ty → variant_name_of ty ≢ name

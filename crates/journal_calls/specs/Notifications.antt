@@ -1,4 +1,4 @@
--- What the call on notifications answers.
+-- The result of the call on notifications.
 use Rattle.std.specs.Prelude.{◌≡◌, ℕ, ◌^◌, ◌<◌, ◌≤◌, List, [], ◌∷◌, ◌++◌, length, codes, string_bytes, Some, Result, Ok, Err}
 use Rattle.shared_core_base.specs.declared.header.MessageType.{MessageType}
 use Rattle.shared_core_base.specs.MessageType.{code_of, type_of}
@@ -69,7 +69,7 @@ IsTooLong other = ⊥
 abbrev pub notification_numbers : Notification → List ℕ
 notification_numbers found = id_kind found.id ∷ id_number found.id ∷ length (id_name found.id) ∷ result_kind found.result ∷ []
 
--- The bytes of a notification: its signal's name, and its result behind it.
+-- The bytes of a notification: its signal's name, and its result after it.
 abbrev pub notification_bytes : Notification → List ℕ
 notification_bytes found = id_name found.id ++ result_bytes found.result
 
@@ -81,7 +81,8 @@ MeansNotification payload found = MeansParts schema.notification_template payloa
 abbrev pub MeansLacking : List ℕ → List ℕ → Type 0
 MeansLacking field payload = (parts : Parts) × MeansParts schema.notification_template payload parts × LacksField field parts
 
--- The answer is the notification that a payload means, or what it lacks; Malformed where it is not well-formed. Memory may be wanting.
+-- The result is the notification that a payload means, or what it lacks; Malformed where it is not well-formed. An
+-- allocation may fail.
 abbrev pub ReadsNotification : List ℕ → Result Notification Refusal → Type 0
 ReadsNotification payload (Ok found) = MeansNotification payload found
 ReadsNotification payload (Err Malformed) = ¬ (IsAccepted schema.notification_template payload)
@@ -90,26 +91,26 @@ ReadsNotification payload (Err NoResult) = MeansLacking (codes "result") payload
 ReadsNotification payload (Err OutOfMemory) = Unit {0}
 ReadsNotification payload (Err refusal) = ⊥
 
--- Why a result is not written: it is too long, or memory is wanting.
+-- Why a result is not written: it is too long, or an allocation fails.
 abbrev pub RefusesResult : Outcome → Refusal → Type 0
 RefusesResult outcome TooLong = IsTooLong outcome
 RefusesResult outcome OutOfMemory = Unit {0}
 RefusesResult outcome refusal = ⊥
 
--- Why a payload has no answer: it cannot be read as a notification, or its result is too long.
+-- Why a payload has no result: it cannot be read as a notification, or its result is too long.
 abbrev pub RefusesPayload : List ℕ → Refusal → Type 0
 RefusesPayload payload TooLong = (found : Notification) × MeansNotification payload found × IsTooLong found.result
 RefusesPayload payload refusal = ReadsNotification payload (Err refusal)
 
--- Why the call is refused: Unknown where the code is that of no notification, else NoRoom where there is room for fewer than four numbers,
--- else as the payload is.
+-- Why the call is rejected: Unknown where the code is that of no notification, else NoRoom where there is room for
+-- fewer than four numbers, otherwise as the payload is.
 abbrev pub RefusesCall : ℕ → ℕ → List ℕ → Refusal → Type 0
 RefusesCall code room payload Unknown = ¬ (IsNotificationCode code)
 RefusesCall code room payload NoRoom = IsNotificationCode code × (room < 4)
 RefusesCall code room payload refusal = IsNotificationCode code × (4 ≤ room) × RefusesPayload payload refusal
 
--- What journal_notification answers and writes: the numbers and the bytes of the notification that the payload means. A refusal leaves both
--- slices as they were.
+-- The result of journal_notification, and what it writes: the numbers and the bytes of the notification that the
+-- payload means. An error leaves both slices as they were.
 abbrev pub WritesNotification : ℕ → List ℕ → List ℕ → List ℕ → List ℕ → List ℕ → Result ℕ Refusal → Type 0
 WritesNotification code payload numbers_old numbers_new old new (Ok count) =
     IsNotificationCode code × (4 ≤ length numbers_old) × (found : Notification) × MeansNotification payload found

@@ -1,9 +1,8 @@
-//! What the calls answer.
+//! The results of the calls.
 
 ghost use Rattle.std.specs.Prelude.{◌≡◌, MatchOption};
-ghost use Rattle.journal_calls.specs.Answers.{answer_number, spoken_version, written_over, IsSpoken, Writes};
+ghost use Rattle.journal_calls.specs.Answers.{answer_number, bytes_of, spoken_version, written_over, IsSpoken, Writes};
 
-use bytes::Bytes;
 use journal_json::JsonError;
 use shared_core::header::UnknownMessageType;
 use shared_core::messages::EncodingError;
@@ -11,18 +10,18 @@ use shared_core::version::Version;
 use shared_core::wire::WireError;
 use std::alloc::AllocError;
 
-/// Why a call is refused.
+/// The errors of the calls.
 #[derive(Clone, Copy, Debug, PartialEq, Eq)]
 pub enum Refusal {
     /// A payload is not well-formed for its schema.
     Malformed,
-    /// A request for memory was refused.
+    /// An allocation failed.
     OutOfMemory,
     /// The slice for numbers is too short.
     NoRoom,
     /// A payload would have more than 4,294,967,295 bytes.
     TooLong,
-    /// The number stands for no version that is spoken, for no schema, or for no named type.
+    /// The number denotes no supported version, no schema or no named type.
     Unknown,
     /// A notification has no id.
     NoId,
@@ -95,7 +94,7 @@ impl From<JsonError> for Refusal {
     }
 }
 
-/// A count as it is, and a refusal as its number. A count of 2^63 or more, which no slice holds, is `TooLong`.
+/// Returns a count unchanged, and an error as its number. A count of 2^63 or more, which no slice holds, is `TooLong`.
 pub fn answer_of(answer: Result<usize, Refusal>) -> i64
     ensures { result ≡ answer_number answer }
 {
@@ -117,7 +116,7 @@ pub fn answer_of(answer: Result<usize, Refusal>) -> i64
     }
 }
 
-/// The version that a number stands for, where it is one that is spoken.
+/// The version that a number denotes, if it is supported.
 pub fn version_of(number: u32) -> Result<Version, Refusal>
     ensures { IsSpoken number result }
 {
@@ -131,7 +130,7 @@ pub fn version_of(number: u32) -> Result<Version, Refusal>
     }
 }
 
-/// Writes elements at the front of a slice that has room for all of them, and else nothing.
+/// Writes elements at the front of a slice that has room for all of them, and otherwise nothing.
 pub fn write_over<T: Copy>(elements: &[T], out: &mut [T])
     ensures { out.new ≡ written_over elements.now out.old }
 {
@@ -140,11 +139,12 @@ pub fn write_over<T: Copy>(elements: &[T], out: &mut [T])
     }
 }
 
-/// Writes the bytes of an answer at the front of a slice that has room for all of them, and answers how many they are, also where it has not.
-pub fn write_answer(answer: Result<Bytes, Refusal>, out: &mut [u8]) -> Result<usize, Refusal>
-    ensures { Writes (λ written. written ≡ answer) out.old out.new result }
+/// Writes the bytes of a result at the front of a slice that has room for all of them, and returns how many they are,
+/// also where it has not.
+pub fn write_answer(answer: Result<Vec<u8>, Refusal>, out: &mut [u8]) -> Result<usize, Refusal>
+    ensures { Writes (λ written. written ≡ bytes_of answer) out.old out.new result }
 {
     let bytes = answer?;
-    write_over(&bytes, out);
+    write_over(bytes.as_slice(), out);
     Ok(bytes.len())
 }

@@ -1,23 +1,17 @@
 //! Commands compared, by their payloads.
 
-ghost use Rattle.std.specs.Prelude.{Some, codes};
-ghost use Rattle.shared_core_compare.specs.Differences.{difference};
-ghost use Rattle.journal_calls.specs.Answers.{Writes};
+ghost use Rattle.journal_calls.specs.Answers.{Writes, bytes_of};
 ghost use Rattle.journal_calls.specs.Commands.{AnswersDifference, AnswersSameness, ComparesPayloads, IsDifference, IsOneWhereSame};
 
 use crate::answer::{Refusal, write_answer};
 use crate::payloads::decoded;
-use bytes::Bytes;
-use shared_core::fmt::DiffFormatter;
+use shared_core::fmt::Difference;
 use shared_core::header::MessageType;
-use shared_core::messages::{
-    CommandMessage, CommandMessageHeaderDiff, CommandVisitor, visit_command,
-};
+use shared_core::messages::{CommandMessage, CommandVisitor, visit_command};
 use std::alloc::Global;
-use std::fmt;
 
-/// 1 where the commands that two payloads of a code mean are the same for a replay, and else 0; where payloads are ignored, the content of
-/// user data is not compared.
+/// 1 where the commands that two payloads of a code mean are the same for a replay, and otherwise 0; where payloads are
+/// ignored, the content of user data is not compared.
 ///
 /// `Malformed` where one of the two is not well-formed for the type, `Unknown` where the code is that of no command.
 pub fn header_eq(
@@ -57,8 +51,8 @@ pub fn write_difference(
 }
 
 /// The lines of the printed fields in which the commands that two payloads of a code mean differ.
-fn difference(alloc: Global, code: u16, first: &[u8], second: &[u8]) -> Result<Bytes, Refusal>
-    ensures { AnswersDifference code first.now second.now result }
+fn difference(alloc: Global, code: u16, first: &[u8], second: &[u8]) -> Result<Vec<u8>, Refusal>
+    ensures { AnswersDifference code first.now second.now (bytes_of result) }
 {
     let ty = MessageType::try_from(code)?;
     let printing = Printing {
@@ -69,7 +63,7 @@ fn difference(alloc: Global, code: u16, first: &[u8], second: &[u8]) -> Result<B
     visit_command(ty, printing).ok_or(Refusal::Unknown)?
 }
 
-/// Decodes two payloads, and answers 1 where the commands are the same, and else 0.
+/// Decodes two payloads, and returns 1 where the commands are the same, and otherwise 0.
 #[derive(Drop)]
 struct Comparing<'a> {
     alloc: Global,
@@ -90,7 +84,7 @@ impl<'a> CommandVisitor for Comparing<'a> {
     }
 }
 
-/// Decodes two payloads, and answers the lines of the printed fields in which the commands differ.
+/// Decodes two payloads, and returns the lines of the printed fields in which the commands differ.
 #[derive(Drop)]
 struct Printing<'a> {
     alloc: Global,
@@ -99,34 +93,17 @@ struct Printing<'a> {
 }
 
 impl<'a> CommandVisitor for Printing<'a> {
-    type Output = Result<Bytes, Refusal>;
+    type Output = Result<Vec<u8>, Refusal>;
 
-    ghost answers = { λ self ty schema answer. ComparesPayloads (IsDifference schema) schema self.first.now self.second.now answer };
+    ghost answers = { λ self ty schema answer. ComparesPayloads (IsDifference schema) schema self.first.now self.second.now (bytes_of answer) };
 
-    fn visit<M: CommandMessage>(self) -> Result<Bytes, Refusal> {
+    fn visit<M: CommandMessage>(self) -> Result<Vec<u8>, Refusal> {
         let actual = decoded::<M>(self.alloc, self.first)?;
         let expected = decoded::<M>(self.alloc, self.second)?;
-        let lines = Lines {
+        let difference = Difference {
             actual: &actual,
             expected: &expected,
         };
-        let text = lines.to_string(self.alloc)?;
-        Ok(Bytes::from_string(text)?)
-    }
-}
-
-/// The difference of two commands as an error prints it: each line behind a line feed and three spaces.
-#[derive(Clone, Copy)]
-struct Lines<'a, M> {
-    actual: &'a M,
-    expected: &'a M,
-}
-
-impl<'a, M: CommandMessageHeaderDiff> fmt::Display for Lines<'a, M> {
-    ghost output = { λ commands. Some (difference M.schema (codes "   ") (M.parts commands.actual.now) (M.parts commands.expected.now)) };
-
-    fn fmt<W: fmt::Write>(&self, f: &mut fmt::Formatter<W>) -> fmt::Result {
-        self.actual
-            .write_diff(self.expected, DiffFormatter::new(f, "   "))
+        Ok(difference.to_string(self.alloc)?.into_bytes())
     }
 }

@@ -1,19 +1,18 @@
 //! Frames of messages.
 
 ghost use Rattle.shared_core_message.specs.Messages.{message_schema};
-ghost use Rattle.journal_calls.specs.Answers.{Writes};
+ghost use Rattle.journal_calls.specs.Answers.{Writes, bytes_of};
 ghost use Rattle.journal_calls.specs.Payloads.{AnswersFrame, AnswersFrameOf, SpellsFrame};
 
 use crate::answer::{Refusal, version_of, write_answer};
 use crate::payloads::decoded;
-use bytes::Bytes;
 use shared_core::encoding::Encoder;
 use shared_core::header::MessageType;
 use shared_core::messages::{MessageVisitor, RestateEncodableMessage, visit_message};
 use std::alloc::Global;
 use std::fmt::Debug;
 
-/// Writes the frame, at a version, of the message of a named type that a payload spells.
+/// Writes the frame, at a version, of the message of a named type that a payload encodes.
 #[tactic(auto, using(crate::proofs::Writing::writes_answer))]
 pub fn write_frame(
     alloc: Global,
@@ -27,23 +26,23 @@ pub fn write_frame(
     write_answer(frame(alloc, version, code, payload), out)
 }
 
-/// The frame, at a version, of the message of a named type that a payload spells.
-fn frame(alloc: Global, version: u32, code: u16, payload: &[u8]) -> Result<Bytes, Refusal>
-    ensures { AnswersFrame version code payload.now result }
+/// The frame, at a version, of the message of a named type that a payload encodes.
+fn frame(alloc: Global, version: u32, code: u16, payload: &[u8]) -> Result<Vec<u8>, Refusal>
+    ensures { AnswersFrame version code payload.now (bytes_of result) }
 {
     let encoder = Encoder::new(version_of(version)?);
     let ty = MessageType::try_from(code)?;
     frame_of(alloc, encoder, ty, payload)
 }
 
-/// The frame of the message of a type that a payload spells.
+/// The frame of the message of a type that a payload encodes.
 fn frame_of(
     alloc: Global,
     encoder: Encoder,
     ty: MessageType,
     payload: &[u8],
-) -> Result<Bytes, Refusal>
-    ensures { AnswersFrameOf ty (message_schema ty) encoder.version payload.now result }
+) -> Result<Vec<u8>, Refusal>
+    ensures { AnswersFrameOf ty (message_schema ty) encoder.version payload.now (bytes_of result) }
 {
     let framing = Framing {
         alloc,
@@ -53,7 +52,7 @@ fn frame_of(
     visit_message(ty, framing).ok_or(Refusal::Unknown)?
 }
 
-/// Decodes a payload to a record, and answers its frame.
+/// Decodes a payload to a record, and returns its frame.
 #[derive(Drop)]
 struct Framing<'a> {
     alloc: Global,
@@ -62,12 +61,14 @@ struct Framing<'a> {
 }
 
 impl<'a> MessageVisitor for Framing<'a> {
-    type Output = Result<Bytes, Refusal>;
+    type Output = Result<Vec<u8>, Refusal>;
 
-    ghost answers = { λ self ty schema answer. SpellsFrame ty schema self.encoder.version self.payload.now answer };
+    ghost answers = { λ self ty schema answer. SpellsFrame ty schema self.encoder.version self.payload.now (bytes_of answer) };
 
-    fn visit<M: RestateEncodableMessage + Debug>(self) -> Result<Bytes, Refusal> {
+    fn visit<M: RestateEncodableMessage + Debug>(self) -> Result<Vec<u8>, Refusal> {
         let message = decoded::<M>(self.alloc, self.payload)?;
-        Ok(self.encoder.encode(self.alloc, &message)?)
+        let mut frame = Vec::new(self.alloc);
+        self.encoder.encode_into(&message, &mut frame)?;
+        Ok(frame)
     }
 }

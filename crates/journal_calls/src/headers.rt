@@ -9,7 +9,8 @@ use crate::answer::{Refusal, version_of, write_over};
 use shared_core::header::{MessageHeader, MessageType};
 use shared_core::version::Version;
 
-/// Writes the eight bytes of the header that a message of a type has at a version, by the length of its payload in bytes, and answers 8.
+/// Writes the eight bytes of the header that a message of a type has at a version, by the length of its payload in
+/// bytes, and returns 8.
 pub fn write_header(
     version: u32,
     code: u16,

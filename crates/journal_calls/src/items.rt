@@ -7,16 +7,16 @@ use crate::answer::{Refusal, version_of, write_over};
 use shared_core::header::MessageHeader;
 use shared_core::version::Version;
 
-/// How many numbers an item has.
+/// The number of numbers of an item.
 const ITEM_NUMBERS: usize = 6;
 
-/// How many bytes stand in front of a payload.
+/// The number of bytes before a payload.
 const HEADER_SIZE: usize = 8;
 
 /// The kind of a message.
 const MESSAGE: u64 = 0;
 
-/// The kind of a code that stands for no type, and is skipped alone.
+/// The kind of a code that is no type's, and is skipped alone.
 const UNKNOWN_CODE: u64 = 1;
 
 /// The kind of a message of an unknown type, which is skipped with its payload.
@@ -27,20 +27,21 @@ const SKIPPED: u64 = 2;
 struct Announced {
     /// Which of the three kinds it is.
     kind: u64,
-    /// The code of its type, or the one that stands for none.
+    /// The code of its type, or the one that denotes none.
     code: u16,
     /// Whether it asks for an acknowledgement.
     asks_ack: bool,
-    /// How many bytes its payload has.
+    /// The length of its payload.
     length: u32,
 }
 
-/// Finds the item that the bytes begin with, and writes its six numbers: what it is, its first eight bytes as a number, its code, its flag,
-/// its size in bytes, and where its payload begins. Answers 0, or how many more bytes there are to be at least; then nothing is written. It
-/// copies nothing and asks for no memory.
+/// Finds the item that the bytes begin with, and writes its six numbers: what it is, its first eight bytes as a number,
+/// its code, its flag, its size in bytes, and where its payload begins. Returns 0, or how many more bytes there are to
+/// be at least; then nothing is written. It copies nothing and does not allocate.
 ///
-/// `Unknown` where the number stands for no version, and else `NoRoom` where the slice has fewer than six numbers. A reader that goes on by
-/// the size of each item meets the items that the stream splits into, and stops at the rest that no item begins.
+/// `Unknown` where the number denotes no version, and otherwise `NoRoom` where the slice has fewer than six numbers. A
+/// reader that goes on by the size of each item meets the items that the stream splits into, and stops at the rest that
+/// no item begins.
 pub fn write_next(version: u32, bytes: &[u8], item: &mut [u64]) -> Result<usize, Refusal>
     ensures { WritesNext version bytes.now item.old item.new result }
 {
@@ -51,7 +52,7 @@ pub fn write_next(version: u32, bytes: &[u8], item: &mut [u64]) -> Result<usize,
     Ok(write_item(version, bytes, item))
 }
 
-/// Writes the numbers of the item that the bytes begin with, or answers how many bytes are missing.
+/// Writes the numbers of the item that the bytes begin with, or returns how many bytes are missing.
 fn write_item(version: Version, bytes: &[u8], item: &mut [u64]) -> usize
     ensures { FindsItem version bytes.now item.old item.new result }
 {

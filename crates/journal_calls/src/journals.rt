@@ -11,14 +11,15 @@ use replay_bench::{BenchError, Side, Verdict, compare_journals};
 use shared_core::version::Version;
 use std::alloc::Global;
 
-/// How many numbers a verdict has.
+/// The number of numbers of a verdict.
 const VERDICT_NUMBERS: usize = 2;
 
-/// Compares two journals of a version, command by command, and writes the kind and the index of their verdict, and the text of a mismatch.
-/// Answers how many bytes the text has, 0 where there is none; where there is no room for it, the numbers are written nevertheless.
+/// Compares two journals of a version, command by command, and writes the kind and the index of their verdict, and the
+/// text of a mismatch. Returns how many bytes the text has, 0 where there is none; where there is no room for it, the
+/// numbers are written nevertheless.
 ///
-/// `Unknown` where the number stands for no version, and else `NoRoom` where the slice has fewer than two numbers, before anything is
-/// compared.
+/// `Unknown` where the number denotes no version, and otherwise `NoRoom` where the slice has fewer than two numbers,
+/// before anything is compared.
 pub fn write_verdict(
     alloc: Global,
     version: u32,
@@ -69,7 +70,7 @@ fn compare(
         Ok(verdict) => Ok(report_of(alloc, verdict)),
         Err(BenchError::Malformed { side, index }) => Ok(malformed(alloc, side, index)),
         Err(BenchError::OutOfMemory) => Err(Refusal::OutOfMemory),
-        // no slice has so many bytes
+        // no slice has this many bytes
         Err(BenchError::TooLong) => unreachable!(),
     }
 }

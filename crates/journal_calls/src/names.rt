@@ -15,7 +15,7 @@ use shared_core::messages::schema_at;
 /// The version of the library.
 pub const LIBRARY_VERSION: &str = "0.1.0";
 
-/// Writes the version of the library, and answers its length in bytes.
+/// Writes the version of the library, and returns its length in bytes.
 pub fn write_library_version(out: &mut [u8]) -> Result<usize, Refusal>
     ensures { Writes (λ written. written ≡ Ok (codes "0.1.0")) out.old out.new result }
 {
@@ -32,7 +32,7 @@ pub fn schema(version: u32, code: u16) -> Result<usize, Refusal>
     Ok(schema as usize)
 }
 
-/// Writes the name of the type that has a code, and answers its length in bytes.
+/// Writes the name of the type that has a code, and returns its length in bytes.
 pub fn write_type_name(code: u16, out: &mut [u8]) -> Result<usize, Refusal>
     ensures { Writes (AnswersTypeName code) out.old out.new result }
 {
@@ -77,7 +77,7 @@ fn custom_entry_name(code: u16) -> ArrayString<64>
     name
 }
 
-/// Writes a text at the front of a slice that has room for all of it, and answers how many bytes it has.
+/// Writes a text at the front of a slice that has room for all of it, and returns how many bytes it has.
 fn write_text(text: &str, out: &mut [u8]) -> usize
     ensures length { result ≡ length text.now }
     ensures written { out.new ≡ written_over text.now out.old }

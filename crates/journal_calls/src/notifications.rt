@@ -15,9 +15,10 @@ use std::alloc::Global;
 /// How many numbers a notification has.
 const NOTIFICATION_NUMBERS: usize = 4;
 
-/// Reads the id and the result of a notification, of whichever type. Writes its four numbers: which of the three its id is, the number of the
-/// id, the length of a signal's name in bytes, and which of the five its result is; and as bytes the name, and behind it the result's canonical
-/// payload or text. Answers how many bytes these are; where there is no room for them, the numbers are written nevertheless.
+/// Reads the id and the result of a notification, of whichever type. Writes its four numbers: which of the three its id
+/// is, the number of the id, the length of a signal's name in bytes, and which of the five its result is; and as bytes
+/// the name, and after it the result's canonical payload or text. Returns how many bytes these are; where there is no
+/// room for them, the numbers are written nevertheless.
 ///
 /// `Unknown` where the code is that of no notification, else `NoRoom` where there is room for fewer than four numbers, else `Malformed`, then
 /// `NoId`, then `NoResult`, and last `TooLong` where the result's payload would have more than 4,294,967,295 bytes.
@@ -89,7 +90,7 @@ fn result_kind(outcome: &NotificationResult) -> u64
     }
 }
 
-/// The bytes of a notification: its signal's name, and its result behind it.
+/// The bytes of a notification: its signal's name, and its result after it.
 fn bytes_of(alloc: Global, notification: &Notification) -> Result<Vec<u8>, Refusal>
     ensures ok { IfOk result (λ bytes. bytes.items ≡ notification_bytes notification.now) }
     ensures err { IfErr result (RefusesResult notification.now.result) }
@@ -110,7 +111,7 @@ fn name_of(id: &NotificationId) -> &str
     }
 }
 
-/// Appends the bytes of a result. After a refusal the buffer may hold more than it held.
+/// Appends the bytes of a result. After an error the buffer may hold more than it held.
 fn append_result(outcome: &NotificationResult, out: &mut Vec<u8>) -> Result<(), Refusal>
     ensures ok { OnOk result (out.new.items ≡ out.old.items ++ result_bytes outcome.now) }
     ensures err { IfErr result (RefusesResult outcome.now) }

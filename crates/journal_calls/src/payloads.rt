@@ -1,7 +1,7 @@
 //! Payloads of any schema, decoded and written again.
 
 ghost use Rattle.std.specs.Prelude.{[], ◌∷◌, List};
-ghost use Rattle.journal_calls.specs.Answers.{Writes};
+ghost use Rattle.journal_calls.specs.Answers.{Writes, bytes_of};
 ghost use Rattle.journal_calls.specs.Payloads.{AnswersCanonical, AnswersJson, AnswersMeaning, AnswersWellFormed, ChecksPayload, MeansRecord, SpellsPayload};
 
 use crate::answer::{Refusal, write_answer};
@@ -53,7 +53,7 @@ pub fn write_json(
     write_answer(json(alloc, schema, payload), out)
 }
 
-/// 1 where a payload is well-formed for a schema, and else 0.
+/// 1 where a payload is well-formed for a schema, and otherwise 0.
 pub fn is_well_formed(alloc: Global, schema: u32, payload: &[u8]) -> Result<usize, Refusal>
     ensures { AnswersWellFormed schema payload.now result }
 {
@@ -61,13 +61,13 @@ pub fn is_well_formed(alloc: Global, schema: u32, payload: &[u8]) -> Result<usiz
 }
 
 /// The canonical payload of what a payload means.
-fn canonical(alloc: Global, schema: u32, payload: &[u8]) -> Result<Bytes, Refusal>
-    ensures { AnswersCanonical schema payload.now [] result }
+fn canonical(alloc: Global, schema: u32, payload: &[u8]) -> Result<Vec<u8>, Refusal>
+    ensures { AnswersCanonical schema payload.now [] (bytes_of result) }
 {
     visit_record(schema, Encoding { alloc, payload }).ok_or(Refusal::Unknown)?
 }
 
-/// Decodes a payload, and answers the canonical payload of what it means.
+/// Decodes a payload, and returns the canonical payload of what it means.
 #[derive(Drop)]
 struct Encoding<'a> {
     alloc: Global,
@@ -75,19 +75,21 @@ struct Encoding<'a> {
 }
 
 impl<'a> RecordVisitor for Encoding<'a> {
-    type Output = Result<Bytes, Refusal>;
+    type Output = Result<Vec<u8>, Refusal>;
 
-    ghost answers = { λ self schema answer. AnswersMeaning schema self.payload.now [] answer };
+    ghost answers = { λ self schema answer. AnswersMeaning schema self.payload.now [] (bytes_of answer) };
 
-    fn visit<M: WireRecord + Debug>(self) -> Result<Bytes, Refusal> {
+    fn visit<M: WireRecord + Debug>(self) -> Result<Vec<u8>, Refusal> {
         let record = decoded::<M>(self.alloc, self.payload)?;
-        Ok(record.encode_payload(self.alloc)?)
+        let mut canonical = Vec::new(self.alloc);
+        record.encode_payload_into(&mut canonical)?;
+        Ok(canonical)
     }
 }
 
 /// The canonical payload of what two payloads mean, the second merged into the first.
-fn merged(alloc: Global, schema: u32, first: &[u8], second: &[u8]) -> Result<Bytes, Refusal>
-    ensures { AnswersCanonical schema first.now (second.now ∷ []) result }
+fn merged(alloc: Global, schema: u32, first: &[u8], second: &[u8]) -> Result<Vec<u8>, Refusal>
+    ensures { AnswersCanonical schema first.now (second.now ∷ []) (bytes_of result) }
 {
     let merging = Merging {
         alloc,
@@ -97,7 +99,7 @@ fn merged(alloc: Global, schema: u32, first: &[u8], second: &[u8]) -> Result<Byt
     visit_record(schema, merging).ok_or(Refusal::Unknown)?
 }
 
-/// Decodes a payload that comes in two parts, and answers the canonical payload of what it means.
+/// Decodes a payload that comes in two parts, and returns the canonical payload of what it means.
 #[derive(Drop)]
 struct Merging<'a> {
     alloc: Global,
@@ -106,34 +108,33 @@ struct Merging<'a> {
 }
 
 impl<'a> RecordVisitor for Merging<'a> {
-    type Output = Result<Bytes, Refusal>;
+    type Output = Result<Vec<u8>, Refusal>;
 
-    ghost answers = { λ self schema answer. AnswersMeaning schema self.first.now (self.second.now ∷ []) answer };
+    ghost answers = { λ self schema answer. AnswersMeaning schema self.first.now (self.second.now ∷ []) (bytes_of answer) };
 
-    fn visit<M: WireRecord + Debug>(self) -> Result<Bytes, Refusal> {
+    fn visit<M: WireRecord + Debug>(self) -> Result<Vec<u8>, Refusal> {
         let first = Bytes::copy_from_slice(self.alloc, self.first)?;
         let second = Bytes::copy_from_slice(self.alloc, self.second)?;
         let record = decode_parts::<M>(self.alloc, first, &[second])?;
-        Ok(record.encode_payload(self.alloc)?)
+        let mut canonical = Vec::new(self.alloc);
+        record.encode_payload_into(&mut canonical)?;
+        Ok(canonical)
     }
 }
 
 /// The JSON of what a payload means.
-fn json(alloc: Global, schema: u32, payload: &[u8]) -> Result<Bytes, Refusal>
-    ensures { AnswersJson schema payload.now result }
+fn json(alloc: Global, schema: u32, payload: &[u8]) -> Result<Vec<u8>, Refusal>
+    ensures { AnswersJson schema payload.now (bytes_of result) }
 {
     let spelling = Spelling { alloc, payload };
     let canonical = visit_record(schema, spelling).ok_or(Refusal::Unknown)??;
     let mut text = Writer::new(Vec::new(alloc));
     let mut base64 = String::new(alloc);
     write_message(&mut text, &mut base64, schema, canonical.as_slice())?;
-    let Ok(text) = Bytes::from_vec(text.into_inner()) else {
-        return Err(Refusal::OutOfMemory);
-    };
-    Ok(text)
+    Ok(text.into_inner())
 }
 
-/// Decodes a payload, and answers the canonical payload of what it means, from which the JSON is made.
+/// Decodes a payload, and returns the canonical payload of what it means, from which the JSON is made.
 #[derive(Drop)]
 struct Spelling<'a> {
     alloc: Global,
@@ -153,7 +154,7 @@ impl<'a> RecordVisitor for Spelling<'a> {
     }
 }
 
-/// Decodes a payload, and answers whether it could: 1 or 0.
+/// Decodes a payload, and returns whether it could: 1 or 0.
 #[derive(Drop)]
 struct Checking<'a> {
     alloc: Global,

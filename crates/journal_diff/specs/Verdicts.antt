@@ -1,4 +1,4 @@
--- What is printed of two journals that are compared.
+-- What is printed for two compared journals.
 use Rattle.std.specs.Prelude.{◌≡◌, ℕ, Bool, true, false, List, [], ◌++◌, codes, decimal, nat_eq, if◌then◌else◌, Option, Result, Ok, Err}
 use Rattle.std.specs.String.{string_bytes}
 use Rattle.shared_core_base.specs.declared.version.Version.{Version}
@@ -11,7 +11,7 @@ use Rattle.replay_bench.specs.Verdicts.{ComparesKnown}
 use Rattle.journal_diff.specs.declared.diff.DiffError.{DiffError}
 use Rattle.journal_diff.specs.declared.diff.DiffError.TheVariants.{Unanswered, Output}
 
--- The word for so many commands.
+-- `command` or `commands`, by their number.
 abbrev pub commands_word : ℕ → List ℕ
 commands_word count = if nat_eq count 1 then codes "command" else codes "commands"
 
@@ -28,24 +28,25 @@ abbrev pub is_same : Verdict → Bool
 is_same (Same count) = true
 is_same verdict = false
 
--- The text of an error: that of why there is no verdict, or that the output failed.
+-- The text of an error: why there is no verdict, or that the output failed.
 abbrev pub error_text : DiffError → List ℕ
 error_text (Unanswered why) = reader_error_text why
 error_text Output = codes "output failed"
 
--- All of a text is written, or a beginning of it where the output failed.
+-- All of a text is written, or a prefix of it if the output failed.
 abbrev pub IsWritten : {T : Type 0} → Result T DiffError → List ℕ → List ℕ → Type 0
 IsWritten (Ok done) written text = written ≡ text
 IsWritten (Err error) written text = (error ≡ Output) × (rest : List ℕ) × (text ≡ written ++ rest)
 
--- What is written and answered of a verdict: its line and whether it is that the journals are the same; nothing, where memory is refused; or a
--- beginning of the line, where the output failed.
+-- What is written and returned for a verdict: its line and whether it is that the journals are the same; nothing, if an
+-- allocation fails; or a prefix of the line, if the output failed.
 abbrev pub ReportsVerdict : Verdict → Result Bool DiffError → List ℕ → Type 0
 ReportsVerdict verdict (Ok same) written = (same ≡ is_same verdict) × (written ≡ verdict_line verdict)
 ReportsVerdict verdict (Err (Unanswered why)) written = (why ≡ Bench OutOfMemory) × (written ≡ [])
 ReportsVerdict verdict (Err Output) written = (rest : List ℕ) × (verdict_line verdict ≡ written ++ rest)
 
--- What a comparison of two readers' journals writes and answers: their verdict is reported; or they have none, nothing is written, and this is why.
+-- What a comparison of two readers' journals writes and returns: their verdict is reported; or they have none, nothing
+-- is written, and this is the error.
 abbrev pub Reports : Version → Bool → Option (List ℕ) → Option (List ℕ) → Result Bool DiffError → List ℕ → Type 0
 Reports version ignore recorded replayed (Err (Unanswered why)) written =
     ComparesKnown version ignore recorded replayed (Err why) × (written ≡ [])

@@ -1,4 +1,4 @@
-//! Two journals compared, from any readers to any writer.
+//! The program's engine: compares two journals from any readers, and writes the verdict to any writer.
 
 ghost use Rattle.std.specs.Prelude.{◌≡◌, ◌≤◌, ◌++◌, ℕ, List, IfOk};
 ghost use Rattle.std.specs.Io.KnownBytes.{Appends};
@@ -14,15 +14,15 @@ use std::fmt;
 use std::io::{Read, Write};
 use text_output::{OutputFailed, write_whole};
 
-/// How many bytes are read at a time.
+/// The number of bytes that are read at a time.
 const PIECE: usize = 65536;
 
-/// Why two journals have no verdict that is printed whole.
+/// Why the verdict on two journals was not printed, or not whole.
 #[derive(Debug, Clone, Copy, PartialEq, Eq, Drop)]
 pub enum DiffError {
     /// The comparison has no verdict. Nothing is written.
     Unanswered(ReaderError),
-    /// A write failed, or took no byte. A beginning of the verdict's line may stand.
+    /// A write failed, or wrote no byte. A prefix of the verdict's line may be written.
     Output,
 }
 
@@ -50,7 +50,7 @@ impl From<AllocError> for DiffError {
     }
 }
 
-/// Says in a line what came between, without a line feed.
+/// Prints the reason in one line, without a line feed.
 impl fmt::Display for DiffError {
     ghost use Rattle.std.specs.Prelude.{Some};
     ghost use Rattle.journal_diff.specs.Verdicts.{error_text};
@@ -67,8 +67,9 @@ impl fmt::Display for DiffError {
 
 impl Error for DiffError {}
 
-/// Compares two journals of a version, at least V5, that readers give, writes the verdict in a line, or in the lines of its text, and answers
-/// whether the journals are the same. The line is written only once the verdict is known and its whole text is made.
+/// Compares two journals of a version, at least V5, from two readers, writes the verdict in a line, or in the lines of
+/// its text, and returns whether the journals are the same. The line is written only once the verdict is known and its
+/// whole text is made.
 #[tactic(auto, using(crate::proofs::Reporting::reported))]
 pub fn diff<A: Read + Drop, B: Read + Drop, W: Write>(
     alloc: Global,
@@ -87,7 +88,7 @@ pub fn diff<A: Read + Drop, B: Read + Drop, W: Write>(
     report(alloc, &verdict, output)
 }
 
-/// Writes the line of a verdict, and answers whether it is that the journals are the same.
+/// Writes the line of a verdict, and returns whether it is that the journals are the same.
 fn report<W: Write>(alloc: Global, verdict: &Verdict, output: &mut W) -> Result<bool, DiffError>
     ensures { (written : List ℕ)
         × Appends (W.contents output.old) (W.contents output.new) written
@@ -105,7 +106,7 @@ fn is_same(verdict: &Verdict) -> bool
     matches!(verdict, Verdict::Same(_))
 }
 
-/// The word for so many commands.
+/// `command` or `commands`, by their number.
 fn commands_word(count: u64) -> &'static str
     ensures { result.now ≡ commands_word count }
 {

@@ -1,4 +1,4 @@
-//! Where the journals are read.
+//! Opening the two inputs.
 
 use crate::options::Options;
 use either::Either;
@@ -9,7 +9,7 @@ use std::io::Stdin;
 /// A file, or the standard input.
 pub type Input = Either<File, Stdin>;
 
-/// What both journals are read from.
+/// The inputs of both journals.
 #[derive(Drop)]
 pub struct Inputs {
     pub recorded: Input,

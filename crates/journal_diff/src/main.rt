@@ -19,19 +19,20 @@ use std::fmt::Display;
 use std::process::ExitCode;
 use std::{env, io};
 
-/// The program's words, its own name first.
+/// The program's arguments, its own name first.
 fn words(rt: &HostRuntime) -> io::Result<Vec<String>> {
     Ok(env::args(rt)?.collect(rt.alloc())?)
 }
 
-/// Says in one line why there is no verdict, and answers the status for that.
+/// Prints in one line why there is no verdict, and returns the status for that.
 fn trouble<T: Display + Drop>(rt: &HostRuntime, why: T) -> ExitCode {
-    // nothing is left to do where the standard error fails too
+    // there is nothing to do if the standard error fails too
     let _ = eprintln!(rt; "journal_diff: {why}");
     ExitCode::from(2)
 }
 
-/// What words that are not taken are answered with: the help or the version that they ask for, or the usage.
+/// Reports a command-line error: prints the help or the version if requested, otherwise the usage. Returns the exit
+/// status.
 fn answer_words(rt: &HostRuntime, error: &Error) -> ExitCode {
     match error.kind() {
         ErrorKind::OutOfMemory => trouble(rt, "out of memory"),
@@ -50,7 +51,7 @@ fn answer_words(rt: &HostRuntime, error: &Error) -> ExitCode {
     }
 }
 
-/// Compares the two inputs, prints the verdict and answers its status.
+/// Compares the two inputs, prints the verdict and returns its status.
 fn compare(rt: &HostRuntime, options: &Options<'_>, inputs: Inputs) -> ExitCode
     requires { 5 ≤ version_number options.now.version }
 {

@@ -1,4 +1,4 @@
-//! The program's words.
+//! Parsing the command line.
 
 ghost use Rattle.std.specs.Prelude.{◌≤◌, IfOk, IfSome};
 ghost use Rattle.shared_core_base.specs.Version.{version_number};
@@ -8,7 +8,7 @@ use clap::{Arg, ArgAction, Command, Error};
 use shared_core::version::Version;
 use std::alloc::{AllocError, Global};
 
-/// What the words ask for.
+/// The parsed command line.
 #[derive(Debug, Clone, Copy, Drop)]
 pub struct Options<'a> {
     /// The path of the recorded journal, or `-` for the standard input.
@@ -21,10 +21,10 @@ pub struct Options<'a> {
     pub ignore_payloads: bool,
 }
 
-/// The versions that can be asked for, by their words.
+/// The supported versions, as arguments.
 const VERSIONS: [&str; 5] = ["5", "6", "7", "8", "9"];
 
-/// The version of a word, of those that can be asked for.
+/// The version of an argument, if it is a supported one.
 fn version_of(word: &str) -> Option<Version>
     ensures { IfSome result (λ version. 5 ≤ version_number version) }
 {
@@ -38,7 +38,7 @@ fn version_of(word: &str) -> Option<Version>
     }
 }
 
-/// The program as its words see it.
+/// The clap definition of the command line.
 fn command<'a>(alloc: Global) -> Result<Command<'a>, AllocError> {
     let recorded = Arg::new(alloc, "recorded")
         .value_name("RECORDED")
@@ -69,7 +69,8 @@ fn command<'a>(alloc: Global) -> Result<Command<'a>, AllocError> {
         .arg(replayed)
 }
 
-/// What the words behind the program's name ask for. An error is one of these words, or asks for the help or the version.
+/// Parses the arguments after the program's name. The error is an invalid argument, or a request for the help or the
+/// version.
 pub fn read_options<'a>(alloc: Global, words: &'a [String]) -> Result<Options<'a>, Error>
     ensures { IfOk result (λ options. 5 ≤ version_number options.version) }
 {

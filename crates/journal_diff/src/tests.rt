@@ -1,4 +1,4 @@
-//! The program's words.
+//! Tests of the command line.
 
 use crate::options::read_options;
 use clap::error::ErrorKind;
@@ -6,7 +6,7 @@ use shared_core::version::Version;
 use std::alloc::Global;
 use std::test::Fail;
 
-/// What words ask for: the journals, the version and whether payloads are ignored, or the kind of their refusal.
+/// The result of parsing: the journals, the version and whether payloads are ignored, or the kind of the error.
 fn asked(alloc: Global, texts: &[&str]) -> Result<String, Fail> {
     let mut words = vec![in alloc; String::from_str(alloc, "journal_diff")?]?;
     for text in texts {

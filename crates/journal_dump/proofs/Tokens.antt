@@ -27,7 +27,7 @@ not_accepted false h = refl
 pub shown_malformed : (schema : Option ℕ) (s : ℕ) (payload : List ℕ) → schema ≡ Some s → ¬ (IsAccepted s payload) → payload_members schema payload ≡ member (codes "malformed") (boolean true) (member (codes "bytes") (bytes_json payload) no_members)
 shown_malformed schema s payload e a = rw (e, not_accepted (accepts_payload table 100 s payload) a) refl
 
--- the head of a message, and what stands behind it
+-- the head of a message, and what is after it
 pub head_then : (old a b c d x y z : List Token) (flag : Option Bool) (others : Members) → a ≡ old ++ x → b ≡ a ++ y → c ≡ b ++ z → d ≡ c ++ ack_tokens flag
     → d ++ members_tokens others ≡ old ++ (x ++ (y ++ (z ++ members_tokens (ack_members flag others))))
 head_then old a b c d x y z flag others e f g h =

@@ -1,4 +1,4 @@
--- What is answered of a payload that is to be shown.
+-- The result for a payload that is to be printed.
 use Rattle.std.specs.Prelude.{◌≡◌, ℕ, List, Option, Some, None, Result, Ok, Err}
 use Rattle.shared_core_record.specs.Payloads.{IsAccepted, payload_meaning}
 use Rattle.journal_json.specs.declared.error.JsonError.{JsonError}
@@ -9,8 +9,9 @@ use Rattle.journal_json.specs.Payloads.{IsSpelling, IsTooLong}
 abbrev pub IsLongFor : Option ℕ → List ℕ → Type 0
 IsLongFor schema payload = (s : ℕ) × (schema ≡ Some s) × IsTooLong s payload
 
--- Where there is a schema, its number, and the canonical payload of what the payload means stands there; Malformed only where the payload is not
--- well-formed for the schema; TooLong only where that canonical payload is too long; None only where there is no schema.
+-- If there is a schema, its number is returned, and the canonical payload of what the payload means is written;
+-- Malformed only if the payload is not well-formed for the schema; TooLong only if that canonical payload is too long;
+-- None only if there is no schema.
 abbrev pub AnswersSpelling : Option ℕ → List ℕ → List ℕ → Result (Option ℕ) JsonError → Type 0
 AnswersSpelling schema payload canonical (Ok None) = schema ≡ None
 AnswersSpelling schema payload canonical (Ok (Some s)) = (schema ≡ Some s) × IsAccepted s payload × IsSpelling s (payload_meaning s payload) canonical

@@ -1,4 +1,4 @@
--- What stands written when a dump ends.
+-- What is written when a dump ends.
 use Rattle.std.specs.Prelude.{◌≡◌, ℕ, true, List, Result, Option}
 use Rattle.shared_core.specs.declared.encoding.item.Item.{Item}
 use Rattle.shared_core.specs.declared.encoding.item.Item.TheVariants.{Message}
@@ -9,15 +9,16 @@ use Rattle.journal_dump.specs.declared.options.Options.{Options}
 use Rattle.journal_dump.specs.Canonical.{IsLongFor}
 use Rattle.journal_dump.specs.Lines.{is_asked_for, item_code, line_of, rest_line}
 
--- Payloads are shown, the item is a message, and the canonical payload of what its payload means is too long to be written.
+-- Payloads are printed, the item is a message, and the canonical payload of what its payload means is too long to be
+-- written.
 abbrev pub HasLongPayload : Options → Item → Type 0
 HasLongPayload options (Message message) = (options.payloads ≡ true) × IsLongFor (schema_at options.version message.header.ty) message.payload
 HasLongPayload options item = ⊥
 
--- The item is asked for, and has such a payload.
+-- The item is selected, and has such a payload.
 abbrev pub IsLong : Options → Item → Type 0
 IsLong options item = (is_asked_for options.codes.now (item_code item) ≡ true) × HasLongPayload options item
 
--- What was written of the bytes that were read is the lines of their items, as far as the answer says.
+-- For the bytes that were read, the lines of their items are written, as far as the result says.
 abbrev pub IsDumped : Options → Result (Unit {0}) PrintError → List ℕ → List ℕ → Option (List ℕ) → Type 0
 IsDumped options result read written left = ArePrinted (line_of options) rest_line (IsLong options) options.version result read written left

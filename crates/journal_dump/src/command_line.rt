@@ -1,4 +1,4 @@
-//! The program's words.
+//! Parsing the command line.
 
 ghost use Rattle.std.specs.Prelude.{◌≤◌, IfOk, IfSome};
 ghost use Rattle.shared_core_base.specs.Version.{version_number};
@@ -9,23 +9,23 @@ use shared_core::header::MessageType;
 use shared_core::version::Version;
 use std::alloc::{AllocError, Global};
 
-/// What the words ask for.
+/// The parsed command line.
 #[derive(Drop)]
 pub struct CommandLine<'a> {
     /// The path of the stream; none for the standard input.
     pub path: Option<&'a str>,
     /// The version of the protocol.
     pub version: Version,
-    /// The codes of the types that are asked for; none for all.
+    /// The codes of the selected types; none for all.
     pub codes: Vec<u16>,
-    /// Whether payloads are shown.
+    /// Whether payloads are printed.
     pub payloads: bool,
 }
 
-/// The versions that can be asked for, by their words.
+/// The supported versions, as arguments.
 const VERSIONS: [&str; 5] = ["5", "6", "7", "8", "9"];
 
-/// The version of a word, of those that can be asked for.
+/// The version of an argument, if it is a supported one.
 fn version_of(word: &str) -> Option<Version>
     ensures { IfSome result (λ version. 5 ≤ version_number version) }
 {
@@ -65,19 +65,19 @@ fn custom_code(alloc: Global, name: &str) -> Result<Option<u16>, AllocError> {
     let Ok(ty) = MessageType::try_from(code) else {
         return Ok(None);
     };
-    // a number is written in several ways, of which a name has one
+    // a number can be written in several ways, of which a name has one
     let printed = ty.debug_name().to_string(alloc)?;
     let is_name = printed.as_str() == name;
     Ok(is_name.then_some(code))
 }
 
-/// The number that stands in the name of a custom entry.
+/// The number in the name of a custom entry.
 fn code_within(name: &str) -> Option<u16> {
     let digits = name.strip_prefix("CustomEntry(")?.strip_suffix(')')?;
     digits.parse().ok()
 }
 
-/// The program as its words see it.
+/// The clap definition of the command line.
 fn command<'a>(alloc: Global) -> Result<Command<'a>, AllocError> {
     let protocol = Arg::new(alloc, "protocol")
         .long("protocol")
@@ -106,7 +106,8 @@ fn command<'a>(alloc: Global) -> Result<Command<'a>, AllocError> {
         .arg(path)
 }
 
-/// What the words behind the program's name ask for. An error is one of these words, or asks for the help or the version.
+/// Parses the arguments after the program's name. The error is an invalid argument, or a request for the help or the
+/// version.
 pub fn read_command_line<'a>(alloc: Global, words: &'a [String]) -> Result<CommandLine<'a>, Error>
     ensures { IfOk result (λ line. 5 ≤ version_number line.version) }
 {

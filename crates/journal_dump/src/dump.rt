@@ -1,4 +1,4 @@
-//! The dump of a stream, from any reader to any writer.
+//! The program's engine: dumps a stream from any reader to any writer.
 
 ghost use Rattle.std.specs.Prelude.{◌≤◌, ℕ, List};
 ghost use Rattle.std.specs.Io.KnownBytes.{Appends, Consumes};
@@ -10,13 +10,14 @@ use std::alloc::Global;
 use std::io::{Read, Write};
 use stream_lines::{PrintError, print_lines};
 
-/// How many bytes are read at a time.
+/// The number of bytes that are read at a time.
 const PIECE: usize = 65536;
 
-/// Writes a line for each item of a stream that is asked for, and at its end a line for the bytes that are in no item.
+/// Writes a line for each selected item of a stream, and at its end a line for the bytes that are in no item.
 ///
-/// It reads at most 65,536 bytes at a time, and ends as `print_lines` says. `TooLong` comes only where payloads are shown and one of the items after
-/// those whose lines are written is a message that is asked for, whose canonical payload has more bytes than a length of 32 bits says.
+/// It reads at most 65,536 bytes at a time, and ends as `print_lines` says. `TooLong` comes only if payloads are
+/// printed and one of the items after the written lines is a selected message whose canonical payload has more bytes
+/// than 32 bits can count.
 pub fn dump<R: Read, W: Write>(
     alloc: Global,
     options: &Options<'_>,

@@ -28,7 +28,7 @@ use std::alloc::{AllocError, Global};
 use std::mem;
 use stream_lines::{LinePrinter, PrintError};
 
-/// The lines of items as these options show them.
+/// Prints the lines of items by these options.
 impl<'a> LinePrinter for Options<'a> {
     ghost use Rattle.journal_dump.specs.Dump.{IsLong};
 
@@ -100,7 +100,7 @@ fn item_code(item: &Item) -> u16
     }
 }
 
-/// Whether items of a code are asked for.
+/// Whether items of a code are selected.
 fn is_asked_for(codes: &[u16], code: u16) -> bool
     ensures { result ≡ is_asked_for codes.now code }
 {
@@ -140,7 +140,7 @@ fn write_item(
     Ok(out.end_object()?)
 }
 
-/// Writes the members of a message behind its place.
+/// Writes the members of a message after its offset.
 fn write_message_members(
     alloc: Global,
     options: &Options<'_>,
@@ -208,7 +208,7 @@ fn write_type(out: &mut Writer, ty: MessageType, text: &mut String) -> Result<()
     }
 }
 
-/// Writes where something begins, as the member `offset`.
+/// Writes an offset, as the member `offset`.
 #[tactic(auto, using(crate::proofs::Decimals::wide_is_number))]
 fn write_offset(out: &mut Writer, offset: u128, text: &mut String) -> Result<(), AllocError>
     ensures tokens { OnOk result (out.new.tokens ≡ out.old.tokens ++ (key (codes "offset") ∷ token.number (decimal offset) ∷ [])) }
@@ -243,7 +243,7 @@ fn write_flag(out: &mut Writer, name: &str, flag: bool) -> Result<(), AllocError
     out.boolean(flag)
 }
 
-/// Writes whether an acknowledgement is asked for, of a type that has that flag.
+/// Writes whether an acknowledgement is requested, for a type that has that flag.
 fn write_ack(out: &mut Writer, flag: Option<bool>) -> Result<(), AllocError>
     ensures tokens { OnOk result (out.new.tokens ≡ out.old.tokens ++ ack_tokens flag) }
     ensures before { out.new.before ≡ out.old.before }

@@ -22,19 +22,20 @@ use std::io::Read;
 use std::process::ExitCode;
 use std::{env, fs, io};
 
-/// The program's words, its own name first.
+/// The program's arguments, its own name first.
 fn words(rt: &HostRuntime) -> io::Result<Vec<String>> {
     Ok(env::args(rt)?.collect(rt.alloc())?)
 }
 
-/// Says in one line why there is no whole dump, and answers a status for that.
+/// Prints in one line why there is no whole dump, and returns a status for that.
 fn trouble<T: Display + Drop>(rt: &HostRuntime, why: T, status: u8) -> ExitCode {
-    // nothing is left to do where the standard error fails too
+    // there is nothing to do if the standard error fails too
     let _ = eprintln!(rt; "journal_dump: {why}");
     ExitCode::from(status)
 }
 
-/// What words that are not taken are answered with: the help or the version that they ask for, or the usage.
+/// Reports a command-line error: prints the help or the version if requested, otherwise the usage. Returns the exit
+/// status.
 fn answer_words(rt: &HostRuntime, error: &Error) -> ExitCode {
     match error.kind() {
         ErrorKind::OutOfMemory => trouble(rt, "out of memory", 1),
@@ -53,7 +54,7 @@ fn answer_words(rt: &HostRuntime, error: &Error) -> ExitCode {
     }
 }
 
-/// Dumps an input, and answers the status.
+/// Dumps an input, and returns the status.
 fn dump_input<R: Read>(rt: &HostRuntime, options: &Options<'_>, input: &mut R) -> ExitCode
     requires { 5 ≤ version_number options.now.version }
 {
@@ -63,7 +64,7 @@ fn dump_input<R: Read>(rt: &HostRuntime, options: &Options<'_>, input: &mut R) -
     }
 }
 
-/// Whether what was opened is a folder, which cannot be read.
+/// Whether the opened file is a folder, which cannot be read.
 fn is_folder(file: &File) -> bool {
     file.metadata().is_ok_and(|metadata| metadata.is_dir())
 }

@@ -18,8 +18,8 @@ use std::alloc::Global;
 use std::fmt::Debug;
 use std::mem;
 
-/// Writes the canonical payload of what a message's payload means over what the buffer holds, and answers the place of its schema; `None` for a
-/// custom entry, whose payload nothing is known of.
+/// Overwrites the buffer with the canonical payload of what a message's payload means, and returns the index of its
+/// schema; `None` for a custom entry, whose payload is opaque.
 pub fn canonical_of(
     alloc: Global,
     version: Version,
@@ -42,12 +42,12 @@ pub fn canonical_of(
             *canonical = written?;
             Ok(Some(schema))
         }
-        // each place of a schema has a record
+        // each index of a schema has a record
         None => unreachable!(),
     }
 }
 
-/// Decodes a payload, and writes the canonical payload of what it means over what a buffer holds.
+/// Decodes a payload, and overwrites a buffer with the canonical payload of what it means.
 #[derive(Drop)]
 struct Writing<'a> {
     alloc: Global,

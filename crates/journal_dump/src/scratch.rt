@@ -1,11 +1,11 @@
-//! Memory that lines are made in.
+//! The buffers of a printer, which are reused for each line.
 
 use std::alloc::Global;
 
-/// Memory that lines are made in, one after the other.
+/// The buffers in which lines are made, one after the other.
 #[derive(Drop)]
 pub struct Scratch {
-    /// A line's object. It has memory of its own, since a writer fills its memory ahead.
+    /// A line's object. It has a buffer of its own, since a JSON writer writes ahead into its buffer.
     pub line: Vec<u8>,
     /// The canonical payload of a message.
     pub canonical: Vec<u8>,
@@ -14,7 +14,7 @@ pub struct Scratch {
 }
 
 impl Scratch {
-    /// No memory yet.
+    /// Empty buffers.
     pub fn new(alloc: Global) -> Scratch {
         Scratch {
             line: Vec::new(alloc),

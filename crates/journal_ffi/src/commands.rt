@@ -1,4 +1,4 @@
-//! The calls that compare two commands of a type, by their payloads.
+//! The calls that compare two commands of a type, given by their payloads.
 
 ghost use Rattle.std.specs.Prelude.{nat_lt};
 ghost use Rattle.journal_calls.specs.Answers.{Answers, Writes};
@@ -8,10 +8,10 @@ use journal_calls::answer::answer_of;
 use journal_calls::commands;
 use std::alloc::Global;
 
-/// Decodes two payloads for the command type that has the code, and answers 1 where the two commands are the same for a replay, and else 0.
-/// The content of user data is not compared where `ignore_payloads` is another number than 0.
+/// Decodes two payloads for the command type that has the code, and returns 1 if the two commands are the same for a
+/// replay, otherwise 0. The content of user data is not compared if `ignore_payloads` is not 0.
 ///
-/// `Malformed` where one of the two is not well-formed for the type, `Unknown` where the code is that of no command.
+/// `Malformed` if one of the two is not well-formed for the type, `Unknown` if the code is that of no command.
 #[unsafe(no_mangle)]
 pub extern "C" fn journal_header_eq(
     alloc: Global,
@@ -28,7 +28,7 @@ pub extern "C" fn journal_header_eq(
 /// Decodes two payloads for the command type that has the code, and writes a line for each printed field in which the two commands differ:
 /// a line feed, three spaces and `name: first != second`.
 ///
-/// `Malformed` where one of the two is not well-formed for the type, `Unknown` where the code is that of no command.
+/// `Malformed` if one of the two is not well-formed for the type, `Unknown` if the code is that of no command.
 #[unsafe(no_mangle)]
 pub extern "C" fn journal_difference(
     alloc: Global,

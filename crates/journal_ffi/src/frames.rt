@@ -8,8 +8,9 @@ use journal_calls::answer::answer_of;
 use journal_calls::{frames, headers};
 use std::alloc::Global;
 
-/// Writes the eight bytes of the header that a message of the type that has the code has at a version from 5 to 9, by the length of its
-/// payload in bytes. `Unknown` where the number stands for no version or the code for no type; a custom entry has a header.
+/// Writes the eight bytes of the header that a message of the type that has the code has at a version from 5 to 9, by
+/// the length of its payload in bytes. `Unknown` if the number is no version's or the code no type's; a custom entry
+/// has a header.
 #[unsafe(no_mangle)]
 pub extern "C" fn journal_header(
     version: u32,
@@ -24,8 +25,8 @@ pub extern "C" fn journal_header(
 
 /// Decodes a payload for the named message type that has the code, and writes the frame of that message at a version from 5 to 9.
 ///
-/// `Malformed` where it is not well-formed for the type, `TooLong` where the payload of the frame would have more than 4,294,967,295 bytes,
-/// `Unknown` where the number stands for no version or the code for no named type.
+/// `Malformed` if it is not well-formed for the type, `TooLong` if the payload of the frame would have more than
+/// 4,294,967,295 bytes, `Unknown` if the number is no version's or the code no named type's.
 #[unsafe(no_mangle)]
 pub extern "C" fn journal_frame(
     alloc: Global,

@@ -6,12 +6,12 @@ ghost use Rattle.journal_calls.specs.Items.{WritesNext};
 use journal_calls::answer::answer_of;
 use journal_calls::items;
 
-/// Finds the item that the bytes begin with, at a version from 5 to 9, and writes its six numbers: its kind (0 a message, 1 an unknown code, 2 a
-/// message that is skipped), its first eight bytes as one number, its code, its flag, its size in bytes, and where its payload begins. It copies
-/// nothing and asks for no memory.
+/// Finds the item that the bytes begin with, at a version from 5 to 9, and writes its six numbers: its kind (0 a
+/// message, 1 an unknown code, 2 a skipped message), its first eight bytes as one number, its code, its flag, its size
+/// in bytes, and where its payload begins. It copies nothing and does not allocate.
 ///
-/// The answer is 0, or how many more bytes there are to be at least; then nothing is written. `Unknown` where the number stands for no version,
-/// else `NoRoom` where the slice has fewer than six numbers.
+/// Returns 0, or the least number of missing bytes; then nothing is written. `Unknown` if the number is no version's,
+/// otherwise `NoRoom` if the slice has fewer than six numbers.
 #[unsafe(no_mangle)]
 pub extern "C" fn journal_next(version: u32, bytes: &[u8], item: &mut [u64]) -> i64
     ensures { Answers result (WritesNext version bytes.now item.old item.new) }

@@ -8,11 +8,11 @@ use journal_calls::answer::answer_of;
 use journal_calls::journals;
 use std::alloc::Global;
 
-/// Compares a journal that was recorded with one that is replayed, both streams of a version from 5 to 9, command by command, and writes
-/// two numbers, the kind of the verdict and its index, and the text of a mismatch. The content of user data is not compared where
-/// `ignore_payloads` is another number than 0. The numbers are written also where there is no room for the text.
+/// Compares a recorded journal with a replayed one, both streams of a version from 5 to 9, command by command, and
+/// writes two numbers, the kind of the verdict and its index, and the text of a mismatch. The content of user data is
+/// not compared if `ignore_payloads` is not 0. The numbers are written even if there is no room for the text.
 ///
-/// `Unknown` where the number stands for no version, and else `NoRoom` where there is room for fewer than two numbers.
+/// `Unknown` if the number is no version's, otherwise `NoRoom` if there is room for fewer than two numbers.
 #[unsafe(no_mangle)]
 pub extern "C" fn journal_verdict(
     alloc: Global,

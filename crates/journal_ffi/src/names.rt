@@ -15,8 +15,8 @@ pub extern "C" fn journal_library_version(out: &mut [u8]) -> i64
     answer_of(names::write_library_version(out))
 }
 
-/// The number of the schema that payloads of the type that has the code have at a version from 5 to 9. `Unknown` where the number stands for
-/// no version or the code for no named type.
+/// Returns the number of the schema that payloads of the type that has the code have at a version from 5 to 9.
+/// `Unknown` if the number is no version's or the code no named type's.
 #[unsafe(no_mangle)]
 pub extern "C" fn journal_schema(version: u32, code: u16) -> i64
     ensures { Answers result (AnswersSchema version code) }
@@ -24,7 +24,8 @@ pub extern "C" fn journal_schema(version: u32, code: u16) -> i64
     answer_of(names::schema(version, code))
 }
 
-/// Writes the name of the type that has the code, as "SleepCommand" or "CustomEntry(64513)". `Unknown` where no type has it.
+/// Writes the name of the type that has the code, as "SleepCommand" or "CustomEntry(64513)". `Unknown` if no type has
+/// it.
 #[unsafe(no_mangle)]
 pub extern "C" fn journal_type_name(code: u16, out: &mut [u8]) -> i64
     ensures { Answers result (Writes (AnswersTypeName code) out.old out.new) }
@@ -32,7 +33,7 @@ pub extern "C" fn journal_type_name(code: u16, out: &mut [u8]) -> i64
     answer_of(names::write_type_name(code, out))
 }
 
-/// The code of the named type that has the name, as "SleepCommand". `Unknown` where none has.
+/// Returns the code of the named type that has the name, as "SleepCommand". `Unknown` if none has.
 #[unsafe(no_mangle)]
 pub extern "C" fn journal_type_code(name: &[u8]) -> i64
     ensures { Answers result (AnswersTypeCode name.now) }

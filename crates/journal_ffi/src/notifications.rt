@@ -7,13 +7,14 @@ use journal_calls::answer::answer_of;
 use journal_calls::notifications;
 use std::alloc::Global;
 
-/// Reads the id and the result of a notification, of whichever type. Writes four numbers: which of the three its id is (0 a completion, 1 a
-/// signal, 2 a signal's name), the number of the id, the length of the name in bytes, and which of the five its result is (0 a void, 1 a value,
-/// 2 a failure, 3 the id of an invocation, 4 the keys of a state); and as bytes the name, and behind it the result's canonical payload or text.
+/// Reads the id and the result of a notification of any type. Writes four numbers: the kind of its id (0 a completion,
+/// 1 a signal, 2 a signal's name), the number of the id, the length of the name in bytes, and the kind of its result (0
+/// a void, 1 a value, 2 a failure, 3 the id of an invocation, 4 the keys of a state); and as bytes the name, and after
+/// it the result's canonical payload or text.
 ///
-/// The answer is how many bytes these are; where there is no room for them, the numbers are written nevertheless. `Unknown` where the code is
-/// that of no notification, else `NoRoom` where there is room for fewer than four numbers, else `Malformed`, then `NoId`, then `NoResult`, and
-/// last `TooLong`.
+/// Returns how many bytes these are; if there is no room for them, the numbers are written nevertheless. `Unknown` if
+/// the code is that of no notification, then `NoRoom` if there is room for fewer than four numbers, then `Malformed`,
+/// `NoId`, `NoResult`, and last `TooLong`.
 #[unsafe(no_mangle)]
 pub extern "C" fn journal_notification(
     alloc: Global,

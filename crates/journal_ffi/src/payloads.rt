@@ -1,4 +1,4 @@
-//! The calls on payloads, by their schemas.
+//! The calls on payloads, given by the numbers of their schemas.
 
 ghost use Rattle.std.specs.Prelude.{[], ◌∷◌};
 ghost use Rattle.journal_calls.specs.Answers.{Answers, Writes};
@@ -8,7 +8,8 @@ use journal_calls::answer::answer_of;
 use journal_calls::payloads;
 use std::alloc::Global;
 
-/// 1 where a payload is well-formed for a schema, by its number (its place in the table), and else 0. `Unknown` where no schema has the number.
+/// Returns 1 if a payload is well-formed for a schema, by its number (its index in the table), otherwise 0. `Unknown`
+/// if no schema has the number.
 #[unsafe(no_mangle)]
 pub extern "C" fn journal_is_well_formed(alloc: Global, schema: u32, payload: &[u8]) -> i64
     ensures { Answers result (AnswersWellFormed schema payload.now) }
@@ -18,8 +19,8 @@ pub extern "C" fn journal_is_well_formed(alloc: Global, schema: u32, payload: &[
 
 /// Decodes a payload for a schema, and writes the canonical payload of what it means.
 ///
-/// `Malformed` where it is not well-formed for the schema, `TooLong` where the canonical payload has more than 4,294,967,295 bytes, `Unknown`
-/// where no schema has the number.
+/// `Malformed` if it is not well-formed for the schema, `TooLong` if the canonical payload has more than 4,294,967,295
+/// bytes, `Unknown` if no schema has the number.
 #[unsafe(no_mangle)]
 pub extern "C" fn journal_canonical(
     alloc: Global,
@@ -32,8 +33,8 @@ pub extern "C" fn journal_canonical(
     answer_of(payloads::write_canonical(alloc, schema, payload, out))
 }
 
-/// Decodes the first payload for a schema, merges the second into it, and writes the canonical payload of the outcome. `Malformed` where one
-/// of the two is not well-formed; the other refusals are those of `journal_canonical`.
+/// Decodes the first payload for a schema, merges the second into it, and writes the canonical payload of the result.
+/// `Malformed` if one of the two is not well-formed; the other errors are those of `journal_canonical`.
 #[unsafe(no_mangle)]
 pub extern "C" fn journal_merge(
     alloc: Global,
@@ -47,8 +48,8 @@ pub extern "C" fn journal_merge(
     answer_of(payloads::write_merged(alloc, schema, first, second, out))
 }
 
-/// Decodes a payload for a schema, and writes the JSON of what it means, in protobuf's own form. The refusals are those of
-/// `journal_canonical`.
+/// Decodes a payload for a schema, and writes the JSON of what it means, in protobuf's own form. The errors are those
+/// of `journal_canonical`.
 #[unsafe(no_mangle)]
 pub extern "C" fn journal_json(alloc: Global, schema: u32, payload: &[u8], out: &mut [u8]) -> i64
     ensures { Answers result (Writes (AnswersJson schema payload.now) out.old out.new) }

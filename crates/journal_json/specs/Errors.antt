@@ -1,11 +1,11 @@
--- What the errors of reading are here, and what errors print.
+-- How decoding errors map to those of this crate, and what these print.
 use Rattle.std.specs.Prelude.{ℕ, List, codes}
 use Rattle.shared_core_wire.specs.declared.error.WireError.{WireError}
 use Rattle.shared_core_wire.specs.declared.error.WireError.TheVariants as wire
 use Rattle.journal_json.specs.declared.error.JsonError.{JsonError}
 use Rattle.journal_json.specs.declared.error.JsonError.TheVariants.{Malformed, TooLong, OutOfMemory}
 
--- An error of reading.
+-- The error for a decoding error.
 abbrev pub error_of_wire : WireError → JsonError
 error_of_wire wire.Malformed = Malformed
 error_of_wire wire.OutOfMemory = OutOfMemory

@@ -1,4 +1,4 @@
--- The fields of a schema as JSON has them.
+-- The fields of a schema, with their JSON names.
 use Rattle.std.specs.Prelude.{ℕ, zero, suc, Bool, true, false, List, [], ◌∷◌, ◌++◌, map, nat_eq, if◌then◌else◌, Option, Some, None}
 use Rattle.shared_core_wire.specs.Schema.{Row, Plain, Optional, Repeated, OneOf, Kind as AnyKind, U32, U64, Boolean, Enumeration, Text, ByteString, Message}
 use Rattle.shared_core_record.specs.Table.{table, schemas}
@@ -15,7 +15,7 @@ pub record NamedField : Type 0 where
   pub kind : AnyKind
   pub is_element : Bool
 
--- The names of a schema's fields, by its place in a list.
+-- The names of a schema's fields, by its index in a list.
 abbrev pub names_at : List (List (ℕ × List ℕ)) → ℕ → List (ℕ × List ℕ)
 names_at [] s = []
 names_at (ns ∷ nss) zero = ns
@@ -30,7 +30,7 @@ abbrev pub name_of : List (ℕ × List ℕ) → ℕ → List ℕ
 name_of [] n = []
 name_of (name ∷ names) n = if nat_eq n name.0 then name.1 else name_of names n
 
--- Whether the elements of a repeated field have records of their own: numbers stand packed in one.
+-- Whether the elements of a repeated field have records of their own: numbers are packed into one.
 abbrev pub stands_alone : AnyKind → Bool
 stands_alone U32 = false
 stands_alone k = true
@@ -66,7 +66,7 @@ abbrev pub field_numbered : List NamedField → ℕ → Option NamedField
 field_numbered [] n = None
 field_numbered (f ∷ fs) n = if nat_eq n f.number then Some f else field_numbered fs n
 
--- The kind that a kind of the program stands for.
+-- The schema kind of a kind of the program.
 abbrev pub kind_view : Kind → AnyKind
 kind_view kind.U32 = U32
 kind_view kind.U64 = U64
@@ -76,10 +76,10 @@ kind_view kind.Text = Text
 kind_view kind.ByteString = ByteString
 kind_view (kind.Message s) = Message s
 
--- The field that a field of the program stands for.
+-- The schema field of a field of the program.
 abbrev pub field_view : Field → NamedField
 field_view f = record { number = f.0; name = f.1.now; kind = kind_view f.2; is_element = f.3 }
 
--- The fields that a list of the program stands for.
+-- The schema fields of a list of the program.
 abbrev pub fields_view : Bor (List Field) → List NamedField
 fields_view fs = map field_view fs.now

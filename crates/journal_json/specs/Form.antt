@@ -1,4 +1,4 @@
--- The JSON form of a value of the protocol's messages, as proto3's JSON mapping has it.
+-- The JSON form of a value of the protocol's messages, by proto3's JSON mapping.
 use Rattle.std.specs.Prelude.{ℕ, ◌-◌, ◌^◌, Bool, true, false, not, List, [], ◌∷◌, ◌++◌, codes, decimal, nat_lt, ◌==◌, if◌then◌else◌}
 use Rattle.base64.specs.GeneralPurpose.{encode_of}
 use Rattle.base64.specs.Engines.{standard}
@@ -15,19 +15,19 @@ use Rattle.journal_json.specs.Fields.{names_of, name_of}
 abbrev pub enum_digits : ℕ → List ℕ
 enum_digits n = if nat_lt n (2 ^ 31) then decimal n else (codes "-" ++ decimal (2 ^ 32 - n))
 
--- A number: of 64 bits as a string, a bool as such, an enum by its signed number.
+-- A number: 64 bits as a string, a bool as such, an enum by its signed number.
 abbrev pub number_json : Kind → ℕ → Json
 number_json U64 n = string (decimal n)
 number_json Boolean n = boolean (not (n == 0))
 number_json Enumeration n = number (enum_digits n)
 number_json k n = number (decimal n)
 
--- Bytes: a text as it is, others in standard base64 with padding.
+-- Bytes: a text unchanged, others in standard base64 with padding.
 abbrev pub bytes_json : Kind → List ℕ → Json
 bytes_json ByteString bytes = string (encode_of standard bytes)
 bytes_json k bytes = string bytes
 
--- Whether a row has a member in the object: not where it is absent or a list without elements, and not where it is a plain default.
+-- Whether a row has a member in the object: not if it is absent, a list without elements, or a plain default.
 abbrev pub is_present : Row → Part → Bool
 is_present row Absent = false
 is_present row (Elements nil) = false
@@ -41,7 +41,7 @@ abbrev pub names_of_kind : Kind → List (ℕ × List ℕ)
 names_of_kind (Message s) = names_of s
 names_of_kind k = []
 
--- A member before others, where it is present.
+-- A member before others, if it is present.
 abbrev pub member_if : Bool → List ℕ → Json → Members → Members
 member_if present name json others = if present then member name json others else others
 
@@ -60,7 +60,8 @@ unfoldable mutual
   items_json nil k = no_items
   items_json (cons p ps) k = item (part_json p k) (items_json ps k)
 
-  -- The members of a message's object: one for each row that is present, in the order of the schema, each by the name of its field.
+  -- The members of a message's object: one for each present row, in the order of the schema, each by the name of its
+  -- field.
   pub members_json : List (ℕ × List ℕ) → Parts → List Row → Members
   members_json names nil rows = no_members
   members_json names (cons p ps) [] = no_members
@@ -71,6 +72,7 @@ unfoldable mutual
 abbrev pub value_json : ℕ → Parts → Json
 value_json s v = object (members_json (names_of s) v (table s))
 
--- Its text: without spaces, with the escapes \" \\ \b \f \n \r \t, \u00xx for the other control characters, and all else as it is.
+-- Its text: without spaces, with the escapes \" \\ \b \f \n \r \t, \u00xx for the other control characters, and all
+-- else unescaped.
 abbrev pub json_text : ℕ → Parts → List ℕ
 json_text s v = print (json_tokens (value_json s v))

@@ -9,17 +9,18 @@ use Rattle.shared_core_record.specs.Table.{table}
 use Rattle.shared_core_record.specs.Payloads.{IsAccepted, payload_meaning}
 use Rattle.journal_json.specs.Form.{value_json}
 
--- The bytes are the canonical payload of a value of the schema s, which has at most one hundred and one levels. (No payload that is accepted
--- means one of more than one hundred.)
+-- The bytes are the canonical payload of a value of the schema s, of nesting depth at most one hundred and one. (No
+-- accepted payload means a deeper one than one hundred.)
 pub record IsSpelling (s : ℕ) (v : Parts) (bytes : List ℕ) : Type 0 where
   pub fits : Fits table v (table s)
   pub low : levels v ≤ 101
   pub canonical : bytes ≡ canonical_payload table s v
 
--- Where the bytes spell a value canonically, its JSON stands behind the tokens that stood there.
+-- If the bytes encode a value canonically, its JSON is appended to the tokens.
 abbrev pub WritesJson : ℕ → List ℕ → List Token → List Token → Type 0
 WritesJson s bytes old new = (v : Parts) → IsSpelling s v bytes → new ≡ old ++ json_tokens (value_json s v)
 
--- The payload is well-formed for the schema, and the canonical payload of what it means has more bytes than a length of 32 bits says.
+-- The payload is well-formed for the schema, and the canonical payload of what it means has more bytes than 32 bits can
+-- count.
 abbrev pub IsTooLong : ℕ → List ℕ → Type 0
 IsTooLong s payload = IsAccepted s payload × (2 ^ 32 ≤ size table s (payload_meaning s payload))

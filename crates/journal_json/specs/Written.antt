@@ -20,7 +20,7 @@ low n = n % 4294967296
 abbrev pub number_token : ℕ → Token
 number_token n = number (decimal (low n))
 
--- The token of a varint; null where the kind has none.
+-- The token of a varint; null if the kind has none.
 abbrev pub varint_token : Kind → ℕ → Token
 varint_token U32 n = number_token n
 varint_token U64 n = string (decimal n)
@@ -30,7 +30,7 @@ varint_token Text n = null
 varint_token ByteString n = null
 varint_token (Message s) n = null
 
--- The numbers of a packed run, up to where no varint begins; the next past bytes are passed over first.
+-- The numbers of a packed run, up to where no varint begins; the next `past` bytes are skipped first.
 unfoldable pub numbers_past : ℕ → List ℕ → List ℕ
 numbers_past past [] = []
 numbers_past (suc past) (b ∷ bs) = numbers_past past bs
@@ -43,11 +43,11 @@ numbers_past zero (b ∷ bs) = elim (varint_at (b ∷ bs)) [
 abbrev pub run_tokens : List ℕ → List Token
 run_tokens run = begin_array ∷ (map number_token (numbers_past 0 run) ++ end_array ∷ [])
 
--- The token of a text; null where it is no UTF-8.
+-- The token of a text; null if it is not UTF-8.
 abbrev pub text_token : List ℕ → Token
 text_token bytes = if is_utf8 bytes then string bytes else null
 
--- The tokens of the bytes behind a length, where nested gives those of a message's; null where the kind has none.
+-- The tokens of length-delimited bytes, where nested gives those of a message's; null if the kind has none.
 abbrev pub length_tokens : (ℕ → List ℕ → List Token) → Kind → List ℕ → List Token
 length_tokens nested U32 bytes = run_tokens bytes
 length_tokens nested U64 bytes = null ∷ []
@@ -65,29 +65,29 @@ value_tokens nested k (Fixed64 bytes) = null ∷ []
 value_tokens nested k (Group bytes) = null ∷ []
 value_tokens nested k (Fixed32 bytes) = null ∷ []
 
--- What ends the list that is begun: that of the field of this number, or none where it is 0.
+-- The end of the open list: that of the field of this number, or none if it is 0.
 abbrev pub end_tokens : ℕ → List Token
 end_tokens begun = if begun == 0 then [] else end_array ∷ []
 
--- What stands before the value of a field: nothing where it is one more element of the begun list, else its name.
+-- What comes before the value of a field: nothing if it is one more element of the open list, otherwise its name.
 abbrev pub lead_tokens : ℕ → NamedField → List Token
 lead_tokens begun f = if nat_eq begun f.number then [] else (end_tokens begun ++ key f.name ∷ (if f.is_element then begin_array ∷ [] else []))
 
--- The list that is begun behind the value of a field.
+-- The list that is open after the value of a field.
 abbrev pub begun_behind : NamedField → ℕ
 begun_behind f = if f.is_element then f.number else 0
 
--- The tokens of a record of the field, where there is one.
+-- The tokens of a record of the field, if there is one.
 abbrev pub record_tokens : (ℕ → List ℕ → List Token) → ℕ → Option NamedField → RecordValue → List Token
 record_tokens nested begun None w = []
 record_tokens nested begun (Some f) w = lead_tokens begun f ++ value_tokens nested f.kind w
 
--- The list that is begun behind it.
+-- The list that is open after it.
 abbrev pub next_begun : ℕ → Option NamedField → ℕ
 next_begun begun None = begun
 next_begun begun (Some f) = begun_behind f
 
--- The tokens of what going over a payload gives.
+-- The tokens of the items that reading a payload gives.
 unfoldable pub items_tokens : (ℕ → List ℕ → List Token) → List NamedField → ℕ → List (Result PlacedRecord WireError) → List Token
 items_tokens nested fields begun [] = end_tokens begun
 items_tokens nested fields begun (Ok r ∷ items) =
@@ -95,7 +95,7 @@ items_tokens nested fields begun (Ok r ∷ items) =
     ++ items_tokens nested fields (next_begun begun (field_numbered fields r.field_record.number)) items
 items_tokens nested fields begun (Err e ∷ items) = items_tokens nested fields begun items
 
--- The tokens of a payload of the schema s, where so many levels are left, its own among them; null where none is.
+-- The tokens of a payload of the schema s that may be nested this deep, itself included; null if the depth is 0.
 unfoldable pub payload_tokens : ℕ → ℕ → List ℕ → List Token
 payload_tokens zero s bytes = null ∷ []
 payload_tokens (suc left) s bytes =

@@ -1,4 +1,4 @@
-//! Payloads of one message: made canonical, and written as JSON.
+//! Decoding a payload, writing it canonically, and from there as JSON.
 
 ghost use Rattle.std.specs.Prelude.{◌≡◌, ◌≤◌, ◌^◌, IfOk, OnOk};
 ghost use Rattle.std.specs.Result.{IsErrOf};
@@ -20,8 +20,9 @@ use json::Writer;
 use shared_core_record::record::{WireRecord, decode_payload};
 use std::alloc::Global;
 
-/// Writes the canonical payload of what a payload means over what the buffer holds. `Malformed` where the payload is not well-formed for the
-/// message; `TooLong` where the canonical payload has more than 4,294,967,295 bytes; `OutOfMemory` where a request for memory was refused.
+/// Overwrites the buffer with the canonical payload of what a payload means. `Malformed` if the payload is not
+/// well-formed for the message; `TooLong` if the canonical payload has more than 4,294,967,295 bytes; `OutOfMemory` if
+/// an allocation fails.
 pub fn write_canonical<M: WireRecord>(
     alloc: Global,
     payload: &Bytes,
@@ -36,7 +37,7 @@ pub fn write_canonical<M: WireRecord>(
     encode_over(&message, canonical)
 }
 
-/// Writes the canonical payload of a record over what the buffer holds. `encode_payload_into` appends it, and its contract
+/// Overwrites the buffer with the canonical payload of a record. `encode_payload_into` appends it, and its contract
 /// does not say that the value fits its schema.
 fn encode_over<M: WireRecord>(message: &M, canonical: &mut Vec<u8>) -> Result<(), JsonError>
     ensures written { OnOk result (canonical.new.items ≡ canonical_payload table M.schema (M.parts message.now)) }
@@ -53,7 +54,8 @@ fn encode_over<M: WireRecord>(message: &M, canonical: &mut Vec<u8>) -> Result<()
     Ok(())
 }
 
-/// The JSON of a payload of the message whose schema stands at this place of the table. The errors are those of `write_canonical`.
+/// Returns the JSON of a payload of the message whose schema is at this index of the table. The errors are those of
+/// `write_canonical`.
 pub fn json_of<M: WireRecord>(
     alloc: Global,
     schema: u32,
@@ -63,7 +65,7 @@ pub fn json_of<M: WireRecord>(
     ensures accepted { IfOk result (λ text. IsAccepted M.schema payload.now) }
     ensures text { IfOk result (λ text. text.items ≡ json_text M.schema (payload_meaning M.schema payload.now)) }
     ensures utf8 { IfOk result (λ text. IsUtf8 text.items) }
-    // read as JSON, it is these tokens again
+    // parsed as JSON, it is these tokens again
     ensures reads_back { IfOk result (λ text. tokens text.items ≡ json_tokens (value_json M.schema (payload_meaning M.schema payload.now))) }
     ensures malformed { IsErrOf result Malformed → ¬ (IsAccepted M.schema payload.now) }
     ensures too_long { IsErrOf result TooLong → IsTooLong M.schema payload.now }

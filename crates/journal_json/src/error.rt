@@ -1,18 +1,18 @@
-//! Why a payload has no JSON.
+//! The error of `canonical`: why a payload has no JSON.
 
 use shared_core_wire::error::WireError;
 use std::alloc::AllocError;
 use std::error::Error;
 use std::fmt;
 
-/// Why a payload has no JSON.
+/// The error of `canonical`: why a payload has no JSON.
 #[derive(Debug, Drop)]
 pub enum JsonError {
     /// It is not well-formed for its message.
     Malformed,
     /// Its canonical payload has more than 4,294,967,295 bytes.
     TooLong,
-    /// A request for memory was refused.
+    /// An allocation failed.
     OutOfMemory,
 }
 

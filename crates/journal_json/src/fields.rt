@@ -1,11 +1,11 @@
-//! The fields of a schema, with the names that JSON has for them.
+//! The types of the table of fields: their numbers, kinds and JSON names, by schema.
 
 ghost use Rattle.std.specs.Prelude.{◌≡◌, map, option_map};
 ghost use Rattle.journal_json.specs.Fields.{field_view, fields_view, all_fields, schema_fields, field_numbered};
 
 use crate::schemas::SCHEMAS;
 
-/// What a field holds.
+/// The kind of a field.
 #[derive(Clone, Copy)]
 pub enum Kind {
     U32,
@@ -14,7 +14,7 @@ pub enum Kind {
     Enumeration,
     Text,
     ByteString,
-    /// A message of the schema at this place of the table.
+    /// A message of the schema at this index of the table.
     Message(u32),
 }
 
@@ -29,7 +29,7 @@ fn schemas() -> &'static [&'static [Field]]
     &SCHEMAS
 }
 
-/// The fields of the schema at a place of the table; past its end there are none.
+/// The fields of the schema at an index of the table; past its end there are none.
 pub fn fields_of(schema: u32) -> &'static [Field]
     ensures { map field_view result.now ≡ schema_fields schema }
 {

@@ -1,4 +1,4 @@
-//! Canonical payloads written as JSON.
+//! Writing canonical payloads as JSON, in one pass and by one table of fields for all messages.
 
 ghost use Rattle.std.specs.Prelude.{◌≡◌, ◌<◌, ◌^◌, [], ◌∷◌, ◌++◌, false, nat_eq, OnOk, IfOk};
 ghost use Rattle.json.specs.Token.{number, null, end_array};
@@ -19,11 +19,11 @@ use shared_core_wire::records::{Record, Records};
 use shared_core_wire::varint::read_varint;
 use std::alloc::AllocError;
 
-/// Levels, of which a message takes one.
+/// How deep messages may be nested, the outermost included: a payload has depths 0 to 100, and the walk needs one more.
 const LEVELS: u32 = 102;
 
-/// Writes the JSON of the value of a schema of which this is the canonical payload (other payloads are written somehow). `base64` is used in
-/// between, and what it holds does not matter. Where a request for memory is refused, some tokens may be written.
+/// Writes the JSON of the value of a schema whose canonical payload this is (what it writes for another payload is
+/// unspecified). `base64` is a buffer that is overwritten. If an allocation fails, some tokens may be written.
 pub fn write_message(
     out: &mut Writer,
     base64: &mut String,
@@ -36,7 +36,7 @@ pub fn write_message(
     write_payload(out, base64, schema, canonical, LEVELS)
 }
 
-/// Writes a payload as an object, where so many levels are left, its own among them.
+/// Writes a payload as an object; it may be nested this deep, itself included.
 #[cycle(payload)]
 fn write_payload(
     out: &mut Writer,
@@ -62,8 +62,8 @@ fn write_payload(
     out.end_object()
 }
 
-/// Writes a record as a member or an element, where the list of the field `begun` is begun (0 for none), and returns the one that is begun
-/// behind it.
+/// Writes a record as a member or an element, where the list of the field `begun` is open (0 for none), and returns the
+/// list that is open after it.
 #[cycle(payload)]
 fn write_record(
     out: &mut Writer,
@@ -88,7 +88,7 @@ fn write_record(
     Ok(if field.3 { field.0 } else { 0 })
 }
 
-/// Writes a field's name, and the beginning of its list, behind the list that is begun.
+/// Writes a field's name, and the beginning of its list, after closing the open list.
 fn begin_member(out: &mut Writer, field: &Field, begun: u32) -> Result<(), AllocError>
     requires { nat_eq begun (field_view field.now).number ≡ false }
     ensures tokens { OnOk result (out.new.tokens ≡ out.old.tokens ++ lead_tokens begun (field_view field.now)) }
@@ -102,7 +102,7 @@ fn begin_member(out: &mut Writer, field: &Field, begun: u32) -> Result<(), Alloc
     Ok(())
 }
 
-/// Ends the list that is begun, if there is one.
+/// Closes the open list, if there is one.
 fn end_list(out: &mut Writer, begun: u32) -> Result<(), AllocError>
     ensures tokens { OnOk result (out.new.tokens ≡ out.old.tokens ++ end_tokens begun) }
     ensures before { out.new.before ≡ out.old.before }
@@ -113,7 +113,7 @@ fn end_list(out: &mut Writer, begun: u32) -> Result<(), AllocError>
     out.end_array()
 }
 
-/// Writes the value of a record of a field of this kind; null where the kind has none such.
+/// Writes the value of a record of a field of this kind; null if the kind has no such value.
 #[cycle(payload)]
 fn write_value(
     out: &mut Writer,
@@ -179,7 +179,7 @@ fn write_run(out: &mut Writer, run: &[u8]) -> Result<(), AllocError>
     out.end_array()
 }
 
-/// Writes a text as it is, with JSON's escapes.
+/// Writes a text, with JSON's escapes.
 fn write_text(out: &mut Writer, bytes: &[u8]) -> Result<(), AllocError>
     ensures tokens { OnOk result (out.new.tokens ≡ out.old.tokens ++ text_token bytes.now ∷ []) }
     ensures before { out.new.before ≡ out.old.before }
@@ -190,7 +190,7 @@ fn write_text(out: &mut Writer, bytes: &[u8]) -> Result<(), AllocError>
     }
 }
 
-/// Writes bytes in base64, of which `base64` holds the text in between.
+/// Writes bytes in base64, using the buffer `base64`.
 fn write_base64(out: &mut Writer, base64: &mut String, bytes: &[u8]) -> Result<(), AllocError>
     ensures tokens { OnOk result (out.new.tokens ≡ out.old.tokens ++ token.string (encode_of standard bytes.now) ∷ []) }
     ensures before { out.new.before ≡ out.old.before }

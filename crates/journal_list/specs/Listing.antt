@@ -11,13 +11,13 @@ use Rattle.stream_lines.specs.Printing.{ArePrinted}
 use Rattle.journal_list.specs.declared.error.ListError.{ListError}
 use Rattle.journal_list.specs.declared.error.ListError.TheVariants.{Input, Output, OutOfMemory}
 
--- What stands behind a message's length: a mark where its header asks for an acknowledgement.
+-- What follows a message's length: a mark if its header requests an acknowledgement.
 abbrev pub ack_text : Option Bool → List ℕ
 ack_text (Some true) = codes " ack"
 ack_text flag = []
 
--- An item's line: a message's type by its debug name, its payload's length and the mark; or an unknown code in lower hexadecimal,
--- and behind that of a skipped message its payload's length.
+-- An item's line: a message's type by its debug name, its payload's length and the mark; or an unknown code in
+-- lower-case hexadecimal, and for a skipped message its payload's length after it.
 abbrev pub line_of : Item → List ℕ
 line_of (Message message) =
     debug_name_of message.header.ty ++ (codes " " ++ (decimal (length message.payload) ++ (ack_text message.header.requested_ack ++ codes "\n")))
@@ -25,18 +25,19 @@ line_of (Unknown code) = codes "unknown 0x" ++ (digits 16 false code ++ codes "\
 line_of (Skipped code payload) =
     codes "skipped 0x" ++ (digits 16 false code ++ (codes " " ++ (decimal (length payload) ++ codes "\n")))
 
--- The last line: how many bytes are in no item.
+-- The last line: the number of bytes that are in no item.
 abbrev pub rest_line : ℕ → List ℕ
 rest_line count = codes "rest " ++ (decimal count ++ codes "\n")
 
--- How the printing of a stream ended where a listing ended so.
+-- The result of printing a stream for each result of a listing.
 abbrev pub printed_of : Result (Unit {0}) ListError → Result (Unit {0}) PrintError
 printed_of (Ok done) = Ok done
 printed_of (Err Input) = Err print_error.Input
 printed_of (Err Output) = Err print_error.Output
 printed_of (Err OutOfMemory) = Err print_error.OutOfMemory
 
--- What was written of the bytes that were read is the lines of their items, as far as the result says; no item is too long for its line.
+-- For the bytes that were read, the lines of their items are written, as far as the result says; no item is too long
+-- for its line.
 abbrev pub IsListed : Version → Result (Unit {0}) ListError → List ℕ → List ℕ → Option (List ℕ) → Type 0
 IsListed version result read written left = ArePrinted (λ at. line_of) (λ at. rest_line) (λ item. ⊥) version (printed_of result) read written left
 

@@ -1,10 +1,10 @@
--- The words behind the program's name.
+-- The arguments after the program's name.
 use Rattle.std.specs.Prelude.{◌≡◌, ◌≤◌, ◌⊎◌, ℕ, List, [], ◌∷◌, codes, length}
 use Rattle.std.specs.Str.Parse.{IsNumeral, digits_value}
 use Rattle.shared_core_base.specs.declared.version.Version.{Version}
 use Rattle.shared_core_base.specs.declared.version.Version.TheVariants.{V8, V9}
 
--- The word is one to five digits, and their value is the number, from 1 to 65,536.
+-- The argument is one to five digits, and their value is the number, from 1 to 65,536.
 pub record IsPiece (word : List ℕ) (piece : ℕ) : Type 0 where
   pub numeral : IsNumeral 10 word
   pub short : length word ≤ 5
@@ -12,8 +12,8 @@ pub record IsPiece (word : List ℕ) (piece : ℕ) : Type 0 where
   pub low : 1 ≤ piece
   pub high : piece ≤ 65536
 
--- A word stands for the piece that it says, and no word for 4,096 bytes a piece; the version is V9 where `v9` stands behind, and V8
--- where nothing does. Other words stand for nothing.
+-- An argument is the number of bytes of a chunk, without which it is 4,096; the version is V9 if `v9` comes after it,
+-- and V8 if nothing does. Other arguments are invalid.
 abbrev pub AreOptions : List (List ℕ) → Version → ℕ → Type 0
 AreOptions [] version piece = (version ≡ V8) × (piece ≡ 4096)
 AreOptions (word ∷ []) version piece =

@@ -1,16 +1,16 @@
--- How a run of the program ends, and what it says of it.
+-- How a run of the program ends, and what it prints and returns then.
 use Rattle.std.specs.Prelude.{ℕ, List, [], codes, Result, Ok, Err, ⊤}
 use Rattle.journal_list.specs.declared.error.ListError.{ListError}
 use Rattle.journal_list.specs.declared.error.ListError.TheVariants.{Input, Output, OutOfMemory}
 use Rattle.journal_list.specs.declared.run.Outcome.{Outcome}
 use Rattle.journal_list.specs.declared.run.Outcome.TheVariants.{Refused, Listed}
 
--- The words were refused.
+-- The arguments were rejected.
 abbrev pub IsRefused : Outcome → Type 0
 IsRefused Refused = ⊤
 IsRefused (Listed _) = ⊥
 
--- The fact holds of the listing's answer, where there is one.
+-- The condition holds of the listing's result, if there is one.
 abbrev pub IfListed : Outcome → (Result (Unit {0}) ListError → Type 0) → Type 0
 IfListed Refused fact = ⊤
 IfListed (Listed answer) fact = fact answer
@@ -23,7 +23,7 @@ message_of (Listed (Err Input)) = codes "journal_list: input failed\n"
 message_of (Listed (Err Output)) = codes "journal_list: output failed\n"
 message_of (Listed (Err OutOfMemory)) = codes "journal_list: out of memory\n"
 
--- The status at the end: 0 after a whole listing, 1 after a failure, 2 after words that were refused.
+-- The exit status: 0 after a whole listing, 1 after a failure, 2 for rejected arguments.
 abbrev pub status_of : Outcome → ℕ
 status_of Refused = 2
 status_of (Listed (Ok _)) = 0

@@ -1,16 +1,16 @@
-//! Why a listing ended before its last line.
+//! The error of `list_at`: why a listing ended before its last line.
 
 use std::error::Error;
 use std::fmt;
 
-/// Why a listing ended before its last line.
+/// The error of `list_at`: why a listing ended before its last line.
 #[derive(Clone, Copy, Debug, PartialEq, Eq, Drop)]
 pub enum ListError {
     /// A read failed, or 2^64 - 1 reads met no end.
     Input,
-    /// A write failed, or took no byte.
+    /// A write failed, or wrote no byte.
     Output,
-    /// There is no memory for a piece, a payload or a line.
+    /// A chunk, a payload or a line could not be allocated.
     OutOfMemory,
 }
 

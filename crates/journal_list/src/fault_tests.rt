@@ -1,4 +1,4 @@
-//! One read or one write of a listing fails.
+//! Tests of listings in which one read or one write fails.
 use crate::error::ListError;
 use crate::faults::{FaultyReader, FaultyWriter};
 use crate::list::list;

@@ -1,13 +1,13 @@
 //! A reader that fails at a given call, and a writer that fails at a given byte.
 use std::io::{self, ErrorKind, Read, Write};
 
-/// Gives its bytes, all that there is room for, and fails once its calls are used up.
+/// Gives as many of its bytes as there is room for, and fails once its calls are used up.
 #[derive(Drop)]
 pub struct FaultyReader<'a> {
     pub unread: &'a [u8],
     pub calls_left: usize,
     pub error: ErrorKind,
-    /// The most bytes that a call had room for.
+    /// The greatest room that a call had.
     pub most_room: usize,
 }
 
@@ -22,7 +22,7 @@ impl<'a> Read for FaultyReader<'a> {
     }
 }
 
-/// Takes so many bytes, at most `step` a call, and then fails or takes none.
+/// Takes this many bytes, at most `step` a call, and then fails or takes none.
 #[derive(Drop)]
 pub struct FaultyWriter {
     pub taken: Vec<u8>,

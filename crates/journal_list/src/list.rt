@@ -34,9 +34,10 @@ pub fn list<R: Read, W: Write>(
 /// Writes a line for each item of a stream of a version, of at least V5, and at its end the count of the bytes that are in
 /// no item.
 ///
-/// It reads at most `piece` bytes at a time, from 1 to 65,536, and writes the lines of the items that a piece completes before it reads the next. `Ok`
-/// comes only where the reader has no byte left, and then all is written. `Input` leaves the lines of all items of what was read; `Output` a
-/// beginning of these lines, or of all where the input had ended; `OutOfMemory` the lines of the first items.
+/// It reads at most `piece` bytes at a time, from 1 to 65,536, and writes the lines of the items that a chunk completes
+/// before it reads the next. `Ok` comes only if the reader has no byte left, and then all is written. After `Input` the
+/// lines of all items of what was read are written; after `Output` a prefix of these lines, or of all if the input had
+/// ended; after `OutOfMemory` the lines of the first items.
 pub fn list_at<R: Read, W: Write>(
     alloc: Global,
     version: Version,
@@ -62,11 +63,11 @@ pub fn list_at<R: Read, W: Write>(
     }
 }
 
-/// What makes the lines of a listing.
+/// The printer of the lines of a listing.
 struct Listing;
 
 impl LinePrinter for Listing {
-    /// A line.
+    /// The text of a line, which is reused.
     type Scratch = String;
 
     ghost item_line = { λ listing at. text.line_of };
@@ -128,7 +129,7 @@ fn write_item(text: &mut String, item: Item) -> Result<(), AllocError>
     }
 }
 
-/// What stands behind a message's length, by its header's flag.
+/// What follows a message's length, by its header's flag.
 fn ack_mark(requested_ack: Option<bool>) -> &'static str
     ensures { result.now ≡ ack_text requested_ack }
 {

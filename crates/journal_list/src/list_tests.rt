@@ -1,4 +1,4 @@
-//! Listings of known streams, read in pieces of every size.
+//! Listings of known streams, read in chunks of every size.
 ghost use Rattle.std.specs.Prelude.{◌≤◌};
 
 use crate::list::{list, list_at};
@@ -22,12 +22,12 @@ const HEADER_ALONE: [u8; 8] = [0x04, 0x00, 0x00, 0x00, 0xFF, 0xFF, 0xFF, 0xFF];
 
 const CUSTOM_ENTRY: [u8; 8] = [0xFC, 0x01, 0x00, 0x00, 0x00, 0x00, 0x00, 0x00];
 
-/// The run 1 with the value `x`, which asks for an acknowledgement.
+/// The run 1 with the value `x`, which requests an acknowledgement.
 const ASKS_FOR_ACK: [u8; 13] = [
     0x00, 0x05, 0x80, 0x00, 0x00, 0x00, 0x00, 0x05, 0x08, 0x01, 0x72, 0x01, 0x78,
 ];
 
-/// The same, which does not ask.
+/// The same, which does not request it.
 const ASKS_FOR_NONE: [u8; 13] = [
     0x00, 0x05, 0x00, 0x00, 0x00, 0x00, 0x00, 0x05, 0x08, 0x01, 0x72, 0x01, 0x78,
 ];
@@ -92,7 +92,7 @@ fn lists_every_item_however_the_stream_is_cut(rt: HostRuntime) -> Result<(), Fai
     Ok(())
 }
 
-/// Whether the listing of a stream of V9, or of V8, in pieces of this size is the wanted one.
+/// Whether the listing of a stream of V9, or of V8, in chunks of this size is the expected one.
 fn lists(alloc: Global, is_v9: bool, stream: &[u8], piece: usize, want: &str) -> bool
     requires low { 1 ≤ piece }
     requires high { piece ≤ 65536 }

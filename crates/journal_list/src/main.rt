@@ -1,4 +1,4 @@
-//! Lists the frames of a stream that comes on the standard input: of a V8 stream, or with the word `v9` of a V9 one.
+//! Lists the frames of a stream on the standard input: at V8, or with the argument `v9` at V9.
 #![tactic(auto)]
 
 mod error;
@@ -20,7 +20,7 @@ use std::io::ErrorKind;
 use std::process::ExitCode;
 use std::{env, io};
 
-/// The words behind the program's name.
+/// The arguments after the program's name.
 fn words(rt: &HostRuntime) -> io::Result<Vec<String>> {
     let mut words = Vec::new(rt.alloc());
     for word in env::args(rt)?.skip(1) {
@@ -40,10 +40,10 @@ fn main(rt: HostRuntime) -> ExitCode {
         Err(error) if error.kind() == ErrorKind::OutOfMemory => {
             Outcome::Listed(Err(ListError::OutOfMemory))
         }
-        // words that cannot be fetched are input too
+        // arguments that cannot be read are an input that fails
         Err(_) => Outcome::Listed(Err(ListError::Input)),
     };
-    // nothing is left to do where the standard error fails too
+    // there is nothing to do if the standard error fails too
     let _ = eprint!(rt; "{}", message(&outcome));
     exit_code(&outcome)
 }

@@ -10,8 +10,9 @@ const DEFAULT_PIECE: usize = 4096;
 
 const MAX_PIECE: usize = 65536;
 
-/// The version, and how many bytes are read at a time, from the words behind the program's name: a word of one to five
-/// digits from 1 to 65,536, or none for 4,096; and behind it `v9`, or nothing for V8. Other words answer `None`.
+/// Returns the version, and how many bytes are read at a time, by the arguments after the program's name: one to five
+/// digits from 1 to 65,536, or none for 4,096; and after it `v9`, or nothing for V8. Returns `None` for other
+/// arguments.
 pub fn options(args: &[String]) -> Option<(Version, usize)>
     ensures some { IfSome result (λ found. AreOptions (map string_bytes args.now) found.0 found.1) }
     ensures none { IsNone result → (version : AnyVersion) → (piece : ℕ) → AreOptions (map string_bytes args.now) version piece → ⊥ }
@@ -28,7 +29,7 @@ pub fn options(args: &[String]) -> Option<(Version, usize)>
     }
 }
 
-/// The word that asks for V9.
+/// The argument that selects V9.
 fn is_v9(word: &str) -> bool
     ensures { IsTrue result ↔ word.now ≡ codes "v9" }
 {
@@ -42,7 +43,7 @@ fn piece_of(word: &str) -> Option<usize>
     ensures low { IfSome result (λ piece. 1 ≤ piece) }
     ensures high { IfSome result (λ piece. piece ≤ 65536) }
 {
-    // `parse` takes a sign
+    // `parse` would accept a sign
     if 5 < word.len() || word.as_bytes().first() == Some(&b'+') {
         return None;
     }
@@ -62,7 +63,7 @@ mod tests {
 
     #[test]
     fn takes_a_small_number_and_v9(rt: HostRuntime) -> Result<(), Fail> {
-        // version 0 stands for words that are refused
+        // version 0 is for rejected arguments
         for (texts, version, piece) in [
             (&[][..], 8, 4096),
             (&["3"][..], 8, 3),

@@ -1,4 +1,4 @@
-//! A run of the program over any reader and writer, and what it says of how it ended.
+//! A run of the program over any reader and writer, with its message and its status.
 ghost use Rattle.std.specs.Prelude.{◌≡◌, ℕ, List, map, string_bytes};
 ghost use Rattle.std.specs.Io.KnownBytes.{Appends, Consumes};
 ghost use Rattle.std.specs.Process.{exit_status};
@@ -17,15 +17,16 @@ use std::process::ExitCode;
 /// How a run ended.
 #[derive(Drop)]
 pub enum Outcome {
-    /// The words are not the program's.
+    /// The arguments were rejected.
     Refused,
-    /// The listing's answer.
+    /// The listing's result.
     Listed(Result<(), ListError>),
 }
 
-/// Lists the input at the version, and in pieces of the size, that the words say. Words that say none leave input and output untouched.
+/// Lists the input at the version, and in chunks of the size, that the arguments give. Invalid arguments leave input
+/// and output untouched.
 ///
-/// No contract sees how much a read asks for: the tests show that it is the piece of the words.
+/// No contract sees how much a read asks for: the tests show that it is the size that the arguments give.
 pub fn run<R: Read, W: Write>(
     alloc: Global,
     words: &[String],
@@ -61,7 +62,7 @@ pub fn message(outcome: &Outcome) -> &'static str
     }
 }
 
-/// The status that the program ends with.
+/// The program's exit status.
 pub fn exit_code(outcome: &Outcome) -> ExitCode
     ensures { exit_status result ≡ status_of outcome.now }
 {

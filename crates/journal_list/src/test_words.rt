@@ -1,4 +1,4 @@
-//! The words behind the program's name, for tests.
+//! The arguments after the program's name, for tests.
 use std::alloc::{AllocError, Global};
 
 pub fn words_of(alloc: Global, texts: &[&str]) -> Result<Vec<String>, AllocError> {

@@ -2,7 +2,7 @@
 use Rattle.std.proofs.Common.{◌≡◌, ℕ, ◌+◌, ◌^◌, ◌<◌, ◌≤◌, Bool, true, false, List, [], ◌∷◌, ◌++◌, length, map, take, drop, set, Option, Some, None, Ok, Err, refl, ap, sym, ◌∙◌, arith, length-append, length-drop}
 use Rattle.std.proofs.lemmas.List.{take_more_set}
 use Rattle.shared_core_base.specs.declared.version.Version.{Version}
-use Rattle.shared_core_base.specs.declared.header.MessageHeader.{MessageHeader}
+use Rattle.shared_core_base.specs.declared.message_header.MessageHeader.{MessageHeader}
 use Rattle.shared_core_base.specs.declared.header.MessageType.{MessageType}
 use Rattle.shared_core_base.specs.MessageHeader.{header_of}
 use Rattle.shared_core.specs.declared.encoding.item.Item.{Item}

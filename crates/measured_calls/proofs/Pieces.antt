@@ -1,4 +1,4 @@
--- A stream that comes in pieces, one piece after the other.
+-- A stream that comes in chunks, one piece after the other.
 use Rattle.std.proofs.Common.{◌≡◌, ℕ, ◌+◌, ◌*◌, ◌<◌, List, [], ◌++◌, take, drop, Some, None, ◌⊎◌, ⊎_elim, ap, sym, ◌∙◌, subst, arith, eq-or-lt_of_le, append_assoc, append-nil, length}
 use Rattle.std.proofs.lemmas.List.{take-append-drop, drop-drop}
 use Rattle.std.proofs.Math.Seq.{take-add}

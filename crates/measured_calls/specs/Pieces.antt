@@ -1,34 +1,35 @@
--- A stream that comes in pieces.
+-- A stream that comes in chunks.
 use Rattle.std.specs.Prelude.{◌≡◌, ℕ, ◌*◌, ◌-◌, ◌^◌, ◌<◌, List, [], ◌++◌, take, drop, Option, Some, None, ◌==◌, if◌then◌else◌}
 use Rattle.shared_core_base.specs.declared.version.Version.{Version}
 use Rattle.shared_core.specs.declared.encoding.item.Item.{Item}
 use Rattle.shared_core.specs.Items.{NoItemBegins, TakesItem}
 
--- A stream as contracts see it: its version, the bytes that came and that no answer has taken, those that are still to come, and how many
--- of these a piece has.
+-- A stream as contracts see it: its version, its pending bytes, those that are still to come, and how many of these a
+-- chunk has.
 pub record Pieced : Type 0 where
   pub version : Version
   pub arrived : List ℕ
   pub awaited : List ℕ
   pub piece : ℕ
 
--- The bytes that no answer has taken.
+-- The bytes that no call has taken.
 abbrev pub untaken : Pieced → List ℕ
 untaken stream = stream.arrived ++ stream.awaited
 
--- How many bytes a piece has where a caller asks for so many: 0 stands for more than any stream has.
+-- The size of a chunk for a requested size, where 0 means the whole stream.
 abbrev pub piece_length : ℕ → ℕ
 piece_length piece = if piece == 0 then 2 ^ 64 - 1 else piece
 
--- The bytes that came, once so many further pieces have. The last piece of a stream may be short.
+-- The bytes that came, after this many further chunks. The last chunk of a stream may be short.
 abbrev pub arrived_after : Pieced → ℕ → List ℕ
 arrived_after stream pieces = stream.arrived ++ take (pieces * stream.piece) stream.awaited
 
--- So many further pieces are needed for an item: with fewer no item is whole.
+-- An item needs this many further chunks: with fewer no item is whole.
 abbrev pub AreNeeded : Pieced → ℕ → Type 0
 AreNeeded stream pieces = (fewer : ℕ) → fewer < pieces → NoItemBegins stream.version (arrived_after stream fewer)
 
--- The next item is taken once the pieces that it needs have come, and no piece more; or all have come, and no item is whole.
+-- The next item is taken once the chunks that it needs have come, and no further chunk; or all have come, and no item
+-- is whole.
 abbrev pub TakesInPieces : Pieced → Option Item → Pieced → Type 0
 TakesInPieces old (Some item) new =
     (pieces : ℕ) × AreNeeded old pieces × TakesItem old.version (arrived_after old pieces) item new.arrived

@@ -1,4 +1,4 @@
--- What the calls on streams answer.
+-- The results of the calls on streams.
 use Rattle.std.specs.Prelude.{◌≡◌, ℕ, ◌+◌, ◌*◌, ◌^◌, ◌<◌, List, [], ◌∷◌, ◌++◌, take, map, length, Option, Some, None, Result, Ok, Err}
 use Rattle.shared_core_base.specs.declared.version.Version.{Version}
 use Rattle.shared_core_base.specs.declared.header.MessageType.{MessageType}
@@ -12,19 +12,20 @@ use Rattle.journal_calls.specs.declared.answer.Refusal.TheVariants.{Malformed, O
 use Rattle.journal_calls.specs.Answers.{AtVersion, spoken_version}
 use Rattle.shared_core_message.specs.Messages.{message_schema}
 
--- An item's word: that of a message's header, or an unknown code in bits 48 to 63, and in bits 0 to 31 the length of the payload that is
--- skipped with it.
+-- An item's number: a message's header, or an unknown code in bits 48 to 63, and in bits 0 to 31 the length of the
+-- payload that is skipped with it.
 abbrev pub item_word : Item → ℕ
 item_word (Message message) = word_of message.header
 item_word (Unknown code) = code * 2 ^ 48
 item_word (Skipped code payload) = code * 2 ^ 48 + length payload
 
--- The length of an item's payload has its place in the item's word.
+-- The length of an item's payload is in the item's number.
 abbrev pub HasWord : Item → Type 0
 HasWord (Skipped code payload) = length payload < 2 ^ 32
 HasWord other = Unit {0}
 
--- The words of the stream's items stand at the front of the slice, or the stream begins with more items than the slice has room for.
+-- The numbers of the stream's items are at the beginning of the slice, or the stream begins with more items than the
+-- slice has room for.
 abbrev pub WritesWords : Version → List ℕ → List ℕ → Result ℕ Refusal → Type 0
 WritesWords version stream words (Ok count) =
     (items : List Item) × (rest : List ℕ) × SplitsInto version stream items rest × (count ≡ length items) × (take count words ≡ map item_word items)
@@ -33,7 +34,7 @@ WritesWords version stream words (Err NoRoom) =
     (items : List Item) × (rest : List ℕ) × IsItemsThen version stream items rest × (length words < length items)
 WritesWords version stream words (Err refusal) = ⊥
 
--- How many of some messages a message adds: one where its type has a schema.
+-- How many of some messages a message adds: one if its type has a schema.
 abbrev pub one_with : Option ℕ → ℕ
 one_with (Some schema) = 1
 one_with None = 0
@@ -49,7 +50,8 @@ abbrev pub IsAcceptedFor : Option ℕ → List ℕ → Type 0
 IsAcceptedFor (Some schema) payload = IsAccepted schema payload
 IsAcceptedFor None payload = Unit {0}
 
--- A payload is decoded to a record of its schema, which counts as one; without a schema none is made. Malformed where it is not well-formed.
+-- A payload is decoded to a record of its schema, which counts as one; without a schema none is made. Malformed if it
+-- is not well-formed.
 abbrev pub DecodesPayload : Option ℕ → List ℕ → Result ℕ Refusal → Type 0
 DecodesPayload schema payload (Ok count) = IsAcceptedFor schema payload × (count ≡ one_with schema)
 DecodesPayload schema payload (Err Malformed) = ¬ (IsAcceptedFor schema payload)
@@ -85,10 +87,10 @@ DecodesAll version stream (Err Malformed) = HasMalformed message_schema version 
 DecodesAll version stream (Err OutOfMemory) = Unit {0}
 DecodesAll version stream (Err refusal) = ⊥
 
--- What measure_items answers.
+-- The result of measure_items.
 abbrev pub AnswersItems : ℕ → List ℕ → List ℕ → Result ℕ Refusal → Type 0
 AnswersItems number stream words answer = AtVersion (spoken_version number) answer (λ version. WritesWords version stream words answer)
 
--- What measure_messages answers.
+-- The result of measure_messages.
 abbrev pub AnswersMessages : ℕ → List ℕ → Result ℕ Refusal → Type 0
 AnswersMessages number stream answer = AtVersion (spoken_version number) answer (λ version. DecodesAll version stream answer)

@@ -1,4 +1,4 @@
-//! Commands compared with their second decodings.
+//! Benchmark work: comparing commands with their second decodings.
 
 ghost use Rattle.std.specs.Prelude.{◌≡◌, ◌≤◌, Some};
 ghost use Rattle.shared_core_base.specs.Version.{version_number};
@@ -6,7 +6,6 @@ ghost use Rattle.shared_core_compare.specs.Erasure.{AreSame};
 ghost use Rattle.shared_core.specs.Visiting.{command_schema};
 ghost use Rattle.measured_calls.specs.Comparisons.{AnswersComparisons, ComparesAll, ComparesItem, ComparesPayload, HoldsInRounds};
 
-use crate::messages::decoded;
 use crate::pieced_stream::PiecedStream;
 use bytes::Bytes;
 use journal_calls::answer::{Refusal, version_of};
@@ -17,7 +16,8 @@ use shared_core::messages::{
 use shared_core::version::Version;
 use std::alloc::Global;
 
-/// How many comparisons hold where each command of a stream is decoded twice, and the two are compared so many times.
+/// Decodes each command of a stream twice, compares the two this many times, and returns the number of equal
+/// comparisons.
 pub fn compare(
     alloc: Global,
     version: u32,
@@ -91,7 +91,7 @@ fn compare_message(
     }
 }
 
-/// Decodes a command twice, and answers how many of so many comparisons of the two hold.
+/// Decodes a command twice, and returns how many of this many comparisons of the two hold.
 #[derive(Drop)]
 struct Comparing<'a> {
     alloc: Global,
@@ -108,13 +108,13 @@ impl<'a> CommandVisitor for Comparing<'a> {
     ghost answers = { λ self ty schema answer. ComparesPayload self.rounds (Some schema) self.message.now.payload answer };
 
     fn visit<M: CommandMessage>(self) -> Result<usize, Refusal> {
-        let first = decoded::<M>(self.alloc, self.message)?;
-        let second = decoded::<M>(self.alloc, self.message)?;
+        let first = self.message.decode_as::<M>(self.alloc)?;
+        let second = self.message.decode_as::<M>(self.alloc)?;
         Ok(count_same(&first, &second, self.ignore_payloads, self.rounds))
     }
 }
 
-/// How many of so many comparisons of two commands hold.
+/// How many of this many comparisons of two commands hold.
 fn count_same<M: CommandMessageHeaderEq>(
     first: &M,
     second: &M,
@@ -123,7 +123,7 @@ fn count_same<M: CommandMessageHeaderEq>(
 ) -> usize
     ensures { HoldsInRounds (AreSame M.schema ignore_payloads (M.parts first.now) (M.parts second.now)) rounds result }
 {
-    // they take turns, so that no round can be left out for being the one before it
+    // they take turns, so that no round repeats the one before it
     let (mut asked, mut other) = (first, second);
     let mut count = 0;
     for _round in 0..rounds {

@@ -1,4 +1,4 @@
-//! Frames of messages.
+//! Benchmark work: encoding messages to frames.
 
 ghost use Rattle.std.specs.Prelude.{◌≡◌, ◌≤◌};
 ghost use Rattle.shared_core_base.specs.Version.{version_number};
@@ -8,7 +8,7 @@ ghost use Rattle.journal_calls.specs.Payloads.{AnswersFrame, AnswersFrameOf, Spe
 
 use crate::rounds::repeated;
 use bytes::Bytes;
-use journal_calls::answer::{Refusal, version_of, write_answer};
+use journal_calls::answer::{Refusal, version_of, write_over};
 use journal_calls::payloads::decoded;
 use shared_core::encoding::Encoder;
 use shared_core::header::MessageType;
@@ -16,10 +16,10 @@ use shared_core::messages::{MessageVisitor, RestateEncodableMessage, visit_messa
 use std::alloc::Global;
 use std::fmt::Debug;
 
-/// How often a message is encoded, and where.
+/// The number of rounds, and the buffer.
 #[derive(Clone, Copy, Debug, PartialEq, Eq)]
 pub struct Rounds {
-    /// How many times over. 0 counts as 1.
+    /// The number of rounds. 0 counts as 1.
     pub count: usize,
     /// The buffer of a round.
     pub buffer: Buffer,
@@ -28,13 +28,13 @@ pub struct Rounds {
 /// The buffer that a round encodes a message into.
 #[derive(Clone, Copy, Debug, PartialEq, Eq)]
 pub enum Buffer {
-    /// One of its own.
+    /// A new one each.
     New,
     /// That of the round before, cleared.
     Reused,
 }
 
-/// Writes the frame, at a version, of the message of a named type that a payload spells.
+/// Writes the frame, at a version, of the message of a named type that a payload encodes.
 #[tactic(auto, using(journal_calls::proofs::Writing::writes_answer))]
 pub fn write_frame(
     alloc: Global,
@@ -46,10 +46,12 @@ pub fn write_frame(
 ) -> Result<usize, Refusal>
     ensures { Writes (AnswersFrame version code payload.now) out.old out.new result }
 {
-    write_answer(frame(alloc, version, code, payload, rounds), out)
+    let frame = frame(alloc, version, code, payload, rounds)?;
+    write_over(&frame, out);
+    Ok(frame.len())
 }
 
-/// The frame, at a version, of the message of a named type that a payload spells.
+/// The frame, at a version, of the message of a named type that a payload encodes.
 fn frame(
     alloc: Global,
     version: u32,
@@ -64,7 +66,7 @@ fn frame(
     frame_of(alloc, encoder, ty, payload, rounds)
 }
 
-/// The frame of the message of a type that a payload spells.
+/// The frame of the message of a type that a payload encodes.
 fn frame_of(
     alloc: Global,
     encoder: Encoder,
@@ -83,7 +85,7 @@ fn frame_of(
     visit_message(ty, framing).ok_or(Refusal::Unknown)?
 }
 
-/// Decodes a payload to a record, and answers its frame.
+/// Decodes a payload to a record, and returns its frame.
 #[derive(Drop)]
 struct Framing<'a> {
     alloc: Global,

@@ -1,4 +1,4 @@
-//! What the measuring calls of `journal_ffi` do: the work of the library several times over, on streams and on messages.
+//! The benchmark calls of `bench_ffi`: the library's work on streams and messages, repeated.
 #![tactic(auto)]
 
 pub mod commands;

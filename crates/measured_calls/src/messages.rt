@@ -1,19 +1,16 @@
-//! Messages decoded to their records.
+//! Benchmark work: decoding messages to their records.
 
 ghost use Rattle.std.specs.Prelude.{◌≡◌, Some};
 ghost use Rattle.shared_core_message.specs.Messages.{message_schema};
-ghost use Rattle.journal_calls.specs.Payloads.{MeansRecord};
 ghost use Rattle.measured_calls.specs.Streams.{DecodesPayload};
 
 use journal_calls::answer::Refusal;
-use shared_core::encoding::{DecodingError, RawMessage};
-use shared_core::messages::{
-    MessageVisitor, RestateEncodableMessage, RestateMessage, visit_message,
-};
+use shared_core::encoding::RawMessage;
+use shared_core::messages::{MessageVisitor, RestateEncodableMessage, visit_message};
 use std::alloc::Global;
 use std::fmt::Debug;
 
-/// Decodes a message to the record of its type, and answers how many records that are: none for a custom entry.
+/// Decodes a message to the record of its type, and returns how many records that are: none for a custom entry.
 pub fn decode(alloc: Global, message: &RawMessage) -> Result<usize, Refusal>
     ensures { DecodesPayload (message_schema message.now.header.ty) message.now.payload result }
 {
@@ -38,21 +35,7 @@ impl<'a> MessageVisitor for Decoding<'a> {
     ghost answers = { λ self ty schema answer. DecodesPayload (Some schema) self.message.now.payload answer };
 
     fn visit<M: RestateEncodableMessage + Debug>(self) -> Result<usize, Refusal> {
-        let _record = decoded::<M>(self.alloc, self.message)?;
+        let _record = self.message.decode_as::<M>(self.alloc)?;
         Ok(1)
-    }
-}
-
-/// A message as the record of its type.
-pub fn decoded<M: RestateMessage>(alloc: Global, message: &RawMessage) -> Result<M, Refusal>
-    requires { message.now.header.ty ≡ M.message_type }
-    ensures { MeansRecord M.schema M.parts message.now.payload result }
-{
-    match message.decode_to(alloc, 0) {
-        Ok(record) => Ok(record),
-        Err(DecodingError::DecodeMessage(_, _)) => Err(Refusal::Malformed),
-        Err(DecodingError::OutOfMemory) => Err(Refusal::OutOfMemory),
-        // its type is the record's, and its header is known
-        Err(_) => unreachable!(),
     }
 }

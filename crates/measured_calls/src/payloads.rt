@@ -1,4 +1,4 @@
-//! Payloads.
+//! Benchmark work: checking payloads.
 
 ghost use Rattle.journal_calls.specs.Payloads.{AnswersWellFormed};
 
@@ -7,7 +7,7 @@ use journal_calls::answer::Refusal;
 use journal_calls::payloads;
 use std::alloc::Global;
 
-/// Answers so many times over (0 counts as 1) whether a payload is well-formed for a schema: 1, and else 0.
+/// Checks this many times (0 counts as 1) whether a payload is well-formed for a schema, and returns 1, otherwise 0.
 pub fn is_well_formed(
     alloc: Global,
     schema: u32,

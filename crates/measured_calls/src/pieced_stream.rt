@@ -1,4 +1,4 @@
-//! A whole stream that is read in pieces.
+//! A stream that is pushed to a decoder in chunks of one size.
 
 ghost use Rattle.std.specs.Prelude.{◌≡◌, ◌<◌, ◌≤◌, ◌^◌, ◌++◌, OnOk, length, take, drop};
 
@@ -8,13 +8,13 @@ use shared_core::version::Version;
 use std::alloc::{AllocError, Global};
 use std::marker::Model;
 
-/// The items of a stream that a decoder is handed piece by piece. A contract sees its parts: what the decoder holds, and what it is still
-/// to be handed.
+/// The items of a stream that is pushed to a decoder chunk by chunk. A contract sees its parts: what the decoder holds,
+/// and what is still to be pushed.
 #[derive(Drop)]
 pub struct PiecedStream {
     decoder: Decoder,
     unpushed: Bytes,
-    /// How many bytes a piece has, at least one.
+    /// The size of a chunk, at least one.
     piece: usize,
 }
 
@@ -34,7 +34,7 @@ impl PiecedStream {
     ghost use Rattle.shared_core_base.specs.Version.{version_number};
     ghost use Rattle.measured_calls.specs.Pieces.{TakesInPieces, piece_length};
 
-    /// A stream of a version of at least V5, in pieces of so many bytes (0: in one piece).
+    /// A stream of a version of at least V5, in chunks of this many bytes (0: in one chunk).
     pub fn new(alloc: Global, version: Version, stream: Bytes, piece: usize) -> PiecedStream
         requires { 5 ≤ version_number version }
         ensures { result ≡ record { version = version; arrived = []; awaited = stream; piece = piece_length piece } }
@@ -47,7 +47,8 @@ impl PiecedStream {
         }
     }
 
-    /// The next item, or `None` exactly where the stream has no further one. The decoder is handed a piece only where it holds no whole item.
+    /// The next item, or `None` if and only if the stream has no further one. A chunk is pushed only when the decoder
+    /// holds no whole item.
     pub fn next_item(&mut self) -> Result<Option<Item>, AllocError>
         ensures { IfOk result (λ found. TakesInPieces self.old found self.new) }
     {
@@ -63,7 +64,7 @@ impl PiecedStream {
     }
 }
 
-/// Hands the decoder the next piece of what is not pushed yet: so many bytes, or all where fewer are left.
+/// Pushes the next chunk: this many bytes, or all if fewer are left.
 fn push_piece(decoder: &mut Decoder, unpushed: &mut Bytes, piece: usize) -> Result<(), AllocError>
     requires { length (decoder.old.bytes ++ unpushed.old) < 2 ^ 64 }
     ensures pushed { OnOk result (decoder.new ≡ record decoder.old { bytes = decoder.old.bytes ++ take piece unpushed.old }) }

@@ -1,10 +1,11 @@
-//! Work that is done several times over.
+//! Repeating work.
 
 ghost use Rattle.measured_calls.specs.Rounds.{AnswersInRounds, WorksAt};
 
 use journal_calls::answer::Refusal;
 
-/// Does the work so many times over (0 counts as 1), each time on the same words, and answers what the last answers. A refusal ends it.
+/// Does the work this many times (0 counts as 1), each time on the same numbers, and returns the last result. An error
+/// ends it.
 pub fn repeated<T: Drop, F: Fn(&mut [u64]) -> Result<T, Refusal>>(
     rounds: usize,
     words: &mut [u64],

@@ -1,4 +1,4 @@
-//! Streams of frames, read in pieces.
+//! Benchmark work: reading streams of frames in chunks.
 
 ghost use Rattle.std.specs.Prelude.{◌≡◌, ◌≤◌};
 ghost use Rattle.shared_core_base.specs.Version.{version_number};
@@ -13,7 +13,7 @@ use shared_core::encoding::Item;
 use shared_core::version::Version;
 use std::alloc::Global;
 
-/// The words of the items of a stream, which is read so many times over.
+/// The numbers of the items of a stream, which is read this many times.
 pub fn items(
     alloc: Global,
     version: u32,
@@ -31,7 +31,7 @@ pub fn items(
     })
 }
 
-/// The messages of named types of a stream, which is read so many times over, each decoded to its record.
+/// The messages of named types of a stream, which is read this many times, each decoded to its record.
 pub fn messages(
     alloc: Global,
     version: u32,
@@ -48,7 +48,7 @@ pub fn messages(
     })
 }
 
-/// Writes the word of each item, and answers how many items there are.
+/// Writes the number of each item, and returns how many items there are.
 fn write_words(
     alloc: Global,
     version: Version,
@@ -71,7 +71,7 @@ fn write_words(
     Ok(count)
 }
 
-/// The word of an item.
+/// The number of an item.
 fn word_of(item: Item) -> u64
     requires { HasWord item }
     ensures { result ≡ item_word item }
@@ -83,7 +83,7 @@ fn word_of(item: Item) -> u64
     }
 }
 
-/// Decodes each message of a named type, and answers how many there are.
+/// Decodes each message of a named type, and returns how many there are.
 fn decode_all(
     alloc: Global,
     version: Version,
@@ -101,7 +101,7 @@ fn decode_all(
     Ok(count)
 }
 
-/// Decodes an item that is a message, and answers how many records that are.
+/// Decodes an item that is a message, and returns how many records that are.
 fn decode_item(alloc: Global, item: Item) -> Result<usize, Refusal>
     ensures { DecodesItem item result }
 {

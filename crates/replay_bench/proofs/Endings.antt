@@ -135,7 +135,7 @@ module _ (version : Version) (ignore : Bool) where
       some : is_some (Some expected) ≡ false → ⊥
       some is = cc
 
-  -- ---- what is answered then
+  -- ---- what is returned then
 
   pub answers_verdict : (recorded replayed : Option (List ℕ)) (verdict : Verdict) → IsKnownAnswer recorded replayed (answer_of verdict) → ComparesKnown version ignore recorded replayed (Ok verdict)
   answers_verdict None replayed verdict has = tt

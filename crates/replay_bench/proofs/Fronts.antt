@@ -61,7 +61,7 @@ module _ (version : Version) where
   takes_held old new None first leads = tt
   takes_held old new (Some coming) first leads = λ commands is. leads.joins coming commands is
 
-  -- a piece goes from what is to come to what is held
+  -- a chunk goes from what is to come to what is held
   pub takes_piece : (held piece : List ℕ) (old new : Option (List ℕ)) → GivesPiece old (Some piece) new → TakesFirst version (prepend_known held old) None (prepend_known (held ++ piece) new)
   takes_piece held piece None new gives = tt
   takes_piece held piece (Some old) None gives = absurd gives

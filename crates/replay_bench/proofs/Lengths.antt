@@ -12,13 +12,13 @@ keeps_on (Some old) None new first next = absurd first
 keeps_on (Some old) (Some between) None first next = absurd next
 keeps_on (Some old) (Some between) (Some new) first next = next ∙ first
 
--- a piece goes from what is to come to what has come
+-- a chunk goes from what is to come to what has come
 pub piece_counts : (taken sum : ℕ) (piece : List ℕ) (old new : Option (List ℕ)) → GivesPiece old (Some piece) new → sum ≡ taken + length piece → KeepsLength (known_length taken old) (known_length sum new)
 piece_counts taken sum piece None new gives is = tt
 piece_counts taken sum piece (Some old) None gives is = absurd gives
 piece_counts taken sum piece (Some old) (Some new) gives is = omega (arith, is, ap length gives, length-append piece new)
 
--- a piece with which too much has come is one of a journal that is too long
+-- a chunk with which too much has come is one of a journal that is too long
 pub piece_too_long : (taken : ℕ) (piece : List ℕ) (old new : Option (List ℕ)) → GivesPiece old (Some piece) new → 2 ^ 64 ≤ taken + length piece → IsTooLong (known_length taken old)
 piece_too_long taken piece None new gives long = tt
 piece_too_long taken piece (Some old) None gives long = absurd gives

@@ -6,8 +6,10 @@ use Rattle.std.specs.String.{string_bytes}
 use Rattle.shared_core_base.specs.declared.header.MessageType.{MessageType}
 use Rattle.shared_core_base.specs.declared.header.MessageType.TheVariants.{Suspension}
 use Rattle.shared_core_base.specs.CommandType.{command_type_of}
+use Rattle.shared_core_wire.specs.declared.error.WireError.{WireError}
+use Rattle.shared_core_wire.specs.declared.error.WireError.TheVariants as wire
 use Rattle.shared_core_wire.specs.Value.{Parts}
-use Rattle.shared_core_record.specs.Payloads.{payload_meaning}
+use Rattle.shared_core_record.specs.Payloads.{IsAccepted, payload_meaning}
 use Rattle.shared_core_message.specs.Messages.{IsSchemaOf, message_schema}
 use Rattle.shared_core_compare.specs.Differences.{difference}
 use Rattle.shared_core_compare.specs.Erasure.{AreSame, erased}
@@ -17,30 +19,18 @@ use Rattle.shared_core.specs.Errors.{command_mismatch_text}
 use Rattle.shared_core.specs.Typed.{MeansParts}
 use Rattle.replay_bench.specs.declared.verdicts.Side.TheVariants.{Recorded, Replayed}
 use Rattle.replay_bench.specs.declared.verdicts.Verdict.TheVariants.{TypeMismatch, HeaderMismatch}
-use Rattle.replay_bench.specs.declared.verdicts.BenchError.{BenchError}
-use Rattle.replay_bench.specs.declared.verdicts.BenchError.TheVariants.{Malformed, TooLong, OutOfMemory}
-use Rattle.replay_bench.specs.Verdicts.{AnswersDecoding, AnswersPair, IsMalformedOn, MeanOthers, MeanTheSame}
-
--- a record of a command's type has the type's schema
-schema_of_command : (ty : MessageType) (s : ℕ) → IsSome (command_type_of ty) → IsSchemaOf ty s → message_schema ty ≡ Some s
-schema_of_command ty s command own =
-    ⊎_elim
-    (λ is. is)
-    (λ other. absurd (no_command (subst (λ t. IsSome (command_type_of t)) other.0 command)))
-    own
-  where
-    no_command : IsSome (command_type_of Suspension) → ⊥
-    no_command is = cc
+use Rattle.replay_bench.specs.declared.verdicts.BenchError.TheVariants.{OutOfMemory}
+use Rattle.replay_bench.specs.Verdicts.{AnswersPair, IsMalformedOn, IsPair, MeanOthers, MeanTheSame, bench_error_of}
 
 -- Two commands of the type of a record with this schema, at an index.
 pub record AreTyped (actual expected : RawMessage) (s : ℕ) : Type 0 where
   pub one_type : actual.header.ty ≡ expected.header.ty
   pub schema : message_schema actual.header.ty ≡ Some s
 
-pub are_typed : (actual expected : RawMessage) (ty : MessageType) (s : ℕ) → IsSome (command_type_of actual.header.ty) → actual.header.ty ≡ expected.header.ty → actual.header.ty ≡ ty → IsSchemaOf ty s → AreTyped actual expected s
-are_typed actual expected ty s command one is own = record {
-  one_type = one;
-  schema = schema_of_command actual.header.ty s command (subst (λ t. IsSchemaOf t s) (sym is) own);
+pub are_typed : (index : ℕ) (actual expected : RawMessage) (ty : MessageType) (s : ℕ) → IsPair index actual expected ty → message_schema ty ≡ Some s → AreTyped actual expected s
+are_typed index actual expected ty s pair own = record {
+  one_type = pair.typed;
+  schema = ap message_schema pair.is ∙ own;
 }
 
 module _ (ignore : Bool) (index : ℕ) (actual expected : RawMessage) where
@@ -58,21 +48,19 @@ module _ (ignore : Bool) (index : ℕ) (actual expected : RawMessage) where
     of_schema : (holds : ℕ → Type 0) → holds s → IsSomeAnd (message_schema actual.header.ty) holds
     of_schema holds is = subst (λ schema. IsSomeAnd schema holds) (sym typed.schema) is
 
-    -- the recorded payload is not well-formed
-    pub pair_recorded : {M : Type 0} (parts : M → Parts) (refusal : BenchError) → AnswersDecoding s parts Recorded index actual.payload (Err refusal) → AnswersPair ignore index actual expected (Err refusal)
+    -- the recorded command is not decoded
+    pub pair_recorded : (error : WireError) → (error ≡ wire.Malformed → ¬ (IsAccepted s actual.payload)) → AnswersPair ignore index actual expected (Err (bench_error_of Recorded index error))
     unfolding AnswersPair
-    pair_recorded parts OutOfMemory refused = tt
-    pair_recorded parts TooLong refused = absurd refused
-    pair_recorded parts (Malformed side at) refused =
-        (typed.one_type, refused.1, of_schema (IsMalformedOn side actual.payload expected.payload) (subst (λ on. IsMalformedOn on actual.payload expected.payload s) (sym refused.0) refused.2))
+    pair_recorded wire.OutOfMemory refused = tt
+    pair_recorded wire.Malformed refused =
+        (typed.one_type, refl, of_schema (IsMalformedOn Recorded actual.payload expected.payload) (refused refl))
 
     -- the replayed one is not
-    pub pair_replayed : {M : Type 0} (parts : M → Parts) (one : Parts) (refusal : BenchError) → MeansParts s actual.payload one → AnswersDecoding s parts Replayed index expected.payload (Err refusal) → AnswersPair ignore index actual expected (Err refusal)
+    pub pair_replayed : (one : Parts) (error : WireError) → MeansParts s actual.payload one → (error ≡ wire.Malformed → ¬ (IsAccepted s expected.payload)) → AnswersPair ignore index actual expected (Err (bench_error_of Replayed index error))
     unfolding AnswersPair
-    pair_replayed parts one OutOfMemory means refused = tt
-    pair_replayed parts one TooLong means refused = absurd refused
-    pair_replayed parts one (Malformed side at) means refused =
-        (typed.one_type, refused.1, of_schema (IsMalformedOn side actual.payload expected.payload) (subst (λ on. IsMalformedOn on actual.payload expected.payload s) (sym refused.0) (means.0, refused.2)))
+    pair_replayed one wire.OutOfMemory means refused = tt
+    pair_replayed one wire.Malformed means refused =
+        (typed.one_type, refl, of_schema (IsMalformedOn Replayed actual.payload expected.payload) (means.0, refused refl))
 
     module _ (one other : Parts) (means : MeansParts s actual.payload one) (means_other : MeansParts s expected.payload other) where
       -- both mean the same

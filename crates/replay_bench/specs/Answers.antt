@@ -1,11 +1,12 @@
--- What two journals answer.
+-- The verdicts on two journals.
 use Rattle.std.specs.Prelude.{ℕ, List}
 use Rattle.std.specs.String.{string_bytes}
 use Rattle.replay_bench.specs.declared.verdicts.Side.{Side}
 use Rattle.replay_bench.specs.declared.verdicts.Verdict.{Verdict}
 use Rattle.replay_bench.specs.declared.verdicts.Verdict.TheVariants.{Same, RecordedEnded, ReplayedEnded, TypeMismatch, HeaderMismatch}
 
--- An answer with its index, or with its count, and with a text by its bytes: a verdict, or that the command of a side is not well-formed.
+-- A result with its index, or with its count, and with a text by its bytes: a verdict, or that the command of a side is
+-- not well-formed.
 pub data Answer : Type 0 where
   SameCommands : ℕ → Answer
   RecordedEnds : ℕ → Answer
@@ -14,7 +15,7 @@ pub data Answer : Type 0 where
   OtherCommand : ℕ → List ℕ → Answer
   NotWellFormed : Side → ℕ → Answer
 
--- The answer that a verdict is.
+-- The result for a verdict.
 abbrev pub answer_of : Verdict → Answer
 answer_of (Same count) = SameCommands count
 answer_of (RecordedEnded index) = RecordedEnds index

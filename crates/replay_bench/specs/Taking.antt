@@ -1,4 +1,4 @@
--- Commands taken off the front of a journal whose bytes come in pieces.
+-- Commands taken from the beginning of a journal whose bytes come in chunks.
 use Rattle.std.specs.Prelude.{◌≡◌, ℕ, ◌+◌, ◌^◌, ◌≤◌, Bool, true, List, [], ◌++◌, length, Option, Some, None, IfSome}
 use Rattle.std.specs.Option.{option_map}
 use Rattle.std.specs.Io.KnownBytes.{Consumes, IsAtEnd}
@@ -11,7 +11,8 @@ use Rattle.replay_bench.specs.declared.verdicts.ReaderError.{ReaderError}
 use Rattle.replay_bench.specs.declared.verdicts.ReaderError.TheVariants.{Read, Bench}
 use Rattle.replay_bench.specs.Journals.{IsJournal, with_first}
 
--- What a source gives of the bytes that are still to come, where these are known: a piece off their front, or nothing where none is left.
+-- What a source gives of the bytes that are still to come, where these are known: a chunk off their front, or nothing
+-- where none is left.
 abbrev pub GivesPiece : Option (List ℕ) → Option (List ℕ) → Option (List ℕ) → Type 0
 GivesPiece old (Some piece) new = Consumes old new piece
 GivesPiece old None new = IsAtEnd old
@@ -32,7 +33,7 @@ TakesFirst version (Some old) first (Some new) =
 abbrev pub HasNoCommand : Version → Option (List ℕ) → Type 0
 HasNoCommand version known = IfSome known (λ bytes. IsJournal version bytes [])
 
--- How many bytes a journal has, where those that are still to come behind so many are known.
+-- How many bytes a journal has, where those that are still to come after so many are known.
 abbrev pub known_length : ℕ → Option (List ℕ) → Option ℕ
 known_length taken coming = option_map (λ bytes. taken + length bytes) coming
 
@@ -42,17 +43,18 @@ KeepsLength None new = Unit {0}
 KeepsLength (Some old) None = ⊥
 KeepsLength (Some old) (Some new) = new ≡ old
 
--- A journal of so many bytes, where these are known, has too many.
+-- A journal of this many bytes, where these are known, has too many.
 abbrev pub IsTooLong : Option ℕ → Type 0
 IsTooLong known = IfSome known (λ count. 2 ^ 64 ≤ count)
 
--- Why a piece is refused, with which so many bytes would have come.
+-- Why a chunk is rejected, with which this many bytes would have come.
 abbrev pub RefusesLength : ℕ → BenchError → Type 0
 RefusesLength count TooLong = 2 ^ 64 ≤ count
 RefusesLength count OutOfMemory = Unit {0}
 RefusesLength count refusal = ⊥
 
--- Why the next command of a journal is not answered: a read of this side failed, where it may; the journal is too long; or memory was refused.
+-- Why the next command of a journal is not returned: a read of this side failed, where it may; the journal is too long;
+-- or an allocation fails.
 abbrev pub MayRefuse : Side → Bool → Option ℕ → ReaderError → Type 0
 MayRefuse side may_fail known (Read failed) = (failed ≡ side) × (may_fail ≡ true)
 MayRefuse side may_fail known (Bench TooLong) = IsTooLong known

@@ -14,7 +14,7 @@ abbrev pub side_text : Side → List ℕ
 side_text Recorded = codes "recorded"
 side_text Replayed = codes "replayed"
 
--- The text of why a source gave no piece.
+-- The text of why a source gave no chunk.
 abbrev pub source_error_text : SourceError → List ℕ
 source_error_text source.Failed = codes "reading failed"
 source_error_text source.OutOfMemory = codes "out of memory"

@@ -1,9 +1,10 @@
--- What the commands of two journals answer, and their comparison.
+-- The verdict on the commands of two journals, and their comparison.
 use Rattle.std.specs.Prelude.{◌≡◌, ◌≢◌, ◌⊎◌, ℕ, ◌+◌, ◌^◌, ◌<◌, ◌≤◌, pos, Bool, true, List, [], ◌∷◌, length, codes, Option, Some, None, Result, Ok, Err}
 use Rattle.std.specs.Option.{IsSomeAnd}
 use Rattle.shared_core_base.specs.declared.header.MessageType.{MessageType}
 use Rattle.shared_core_base.specs.declared.version.Version.{Version}
-use Rattle.shared_core_wire.specs.Value.{Parts}
+use Rattle.shared_core_wire.specs.declared.error.WireError.{WireError}
+use Rattle.shared_core_wire.specs.declared.error.WireError.TheVariants as wire
 use Rattle.shared_core_record.specs.Payloads.{IsAccepted, payload_meaning}
 use Rattle.shared_core_message.specs.Messages.{message_schema}
 use Rattle.shared_core_compare.specs.Differences.{difference}
@@ -11,7 +12,6 @@ use Rattle.shared_core_compare.specs.Erasure.{AreSame}
 use Rattle.shared_core_errors.specs.Mismatch.{command_type_mismatch_text}
 use Rattle.shared_core.specs.declared.encoding.raw_message.RawMessage.{RawMessage}
 use Rattle.shared_core.specs.Errors.{command_mismatch_text}
-use Rattle.shared_core.specs.Typed.{MeansParts}
 use Rattle.replay_bench.specs.declared.verdicts.Side.{Side}
 use Rattle.replay_bench.specs.declared.verdicts.Side.TheVariants.{Recorded, Replayed}
 use Rattle.replay_bench.specs.declared.verdicts.Verdict.{Verdict}
@@ -22,7 +22,7 @@ use Rattle.replay_bench.specs.declared.verdicts.ReaderError.TheVariants.{Read, B
 use Rattle.replay_bench.specs.Answers.{Answer, SameCommands, RecordedEnds, ReplayedEnds, OtherType, OtherCommand, NotWellFormed, answer_of}
 use Rattle.replay_bench.specs.Journals.{IsCommand, IsJournal}
 
--- ---- what two commands at an index answer
+-- ---- the result for two commands at an index
 
 -- Both payloads are well-formed for the schema, and the commands that they mean are the same but for what is not compared.
 abbrev pub MeanTheSame : Bool → List ℕ → List ℕ → ℕ → Type 0
@@ -46,8 +46,9 @@ abbrev pub AreAlike : Bool → RawMessage → RawMessage → Type 0
 AreAlike ignore actual expected =
     (actual.header.ty ≡ expected.header.ty) × IsSomeAnd (message_schema actual.header.ty) (MeanTheSame ignore actual.payload expected.payload)
 
--- Two commands at an index are not alike, the recorded one as the actual and the replayed one as the expected, and this is the answer: that their
--- types differ; or they are of one type, and a payload is not well-formed, or they do not mean the same.
+-- Two commands at an index are not alike, the recorded one as the actual and the replayed one as the expected, and this
+-- is the result: that their types differ; or they are of one type, and a payload is not well-formed, or they do not
+-- mean the same.
 abbrev pub IsFound : Bool → ℕ → RawMessage → RawMessage → Answer → Type 0
 IsFound ignore index actual expected (OtherType found text) =
     (found ≡ index) × (actual.header.ty ≢ expected.header.ty)
@@ -60,7 +61,7 @@ IsFound ignore index actual expected (NotWellFormed side found) =
     × IsSomeAnd (message_schema actual.header.ty) (IsMalformedOn side actual.payload expected.payload)
 IsFound ignore index actual expected answer = ⊥
 
--- What two commands at an index answer: nothing where they are alike, else what is found; memory may be wanting.
+-- The result for two commands at an index: nothing if they are the same, otherwise what differs; or an allocation fails.
 unfoldable pub AnswersPair : Bool → ℕ → RawMessage → RawMessage → Result (Option Verdict) BenchError → Type 0
 AnswersPair ignore index actual expected (Ok None) = AreAlike ignore actual expected
 AnswersPair ignore index actual expected (Ok (Some verdict)) = IsFound ignore index actual expected (answer_of verdict)
@@ -68,23 +69,22 @@ AnswersPair ignore index actual expected (Err (Malformed side found)) = IsFound 
 AnswersPair ignore index actual expected (Err OutOfMemory) = Unit {0}
 AnswersPair ignore index actual expected (Err TooLong) = ⊥
 
--- Two commands of this type stand at an index.
+-- Two commands of this type are at an index.
 pub record IsPair (index : ℕ) (actual expected : RawMessage) (ty : MessageType) : Type 0 where
   pub below : index < 2 ^ 63
   pub command : IsCommand actual
   pub typed : actual.header.ty ≡ expected.header.ty
   pub is : actual.header.ty ≡ ty
 
--- A payload decodes to a record of the schema, or it is not well-formed, which is answered with its place; memory may be wanting.
-abbrev pub AnswersDecoding : {M : Type 0} → ℕ → (M → Parts) → Side → ℕ → List ℕ → Result M BenchError → Type 0
-AnswersDecoding s parts side index payload (Ok record_of) = MeansParts s payload (parts record_of)
-AnswersDecoding s parts side index payload (Err (Malformed on at)) = (on ≡ side) × (at ≡ index) × ¬ (IsAccepted s payload)
-AnswersDecoding s parts side index payload (Err OutOfMemory) = Unit {0}
-AnswersDecoding s parts side index payload (Err TooLong) = ⊥
+-- Why the command of a side at an index is not decoded: its payload is not well-formed, or an allocation failed.
+abbrev pub bench_error_of : Side → ℕ → WireError → BenchError
+bench_error_of side index wire.Malformed = Malformed side index
+bench_error_of side index wire.OutOfMemory = OutOfMemory
 
--- ---- what two journals answer
+-- ---- the verdict on two journals
 
--- The answer of commands from this index on: who has ended, or what is found of the first two, or, where they are alike, the answer of the others.
+-- The result of commands from this index on: who has ended, or what is found of the first two, or, where they are
+-- alike, the result of the others.
 abbrev pub IsAnswer : Bool → ℕ → List RawMessage → List RawMessage → Answer → Type 0
 IsAnswer ignore index [] [] answer = answer ≡ SameCommands index
 IsAnswer ignore index [] (expected ∷ replayed) answer = answer ≡ RecordedEnds index
@@ -93,7 +93,7 @@ IsAnswer ignore index (actual ∷ recorded) (expected ∷ replayed) answer =
     (AreAlike ignore actual expected × IsAnswer ignore (index + 1) recorded replayed answer)
     ⊎ IsFound ignore index actual expected answer
 
--- The answer of two journals is that of their commands, from index 0 on.
+-- The result of two journals is that of their commands, from index 0 on.
 pub record HasAnswer (version : Version) (ignore : Bool) (recorded replayed : List ℕ) (answer : Answer) : Type 0 where
   pub actual : List RawMessage
   pub expected : List RawMessage
@@ -101,17 +101,17 @@ pub record HasAnswer (version : Version) (ignore : Bool) (recorded replayed : Li
   pub is_replayed : IsJournal version replayed expected
   pub is_answer : IsAnswer ignore 0 actual expected answer
 
--- What a comparison of two journals answers: their verdict; whose command is not well-formed; that one of them is too long, where it is; or that
--- memory was refused.
+-- What a comparison of two journals returns: their verdict; whose command is not well-formed; that one of them is too
+-- long, where it is; or that an allocation fails.
 abbrev pub Compares : Version → Bool → List ℕ → List ℕ → Result Verdict BenchError → Type 0
 Compares version ignore recorded replayed (Ok verdict) = HasAnswer version ignore recorded replayed (answer_of verdict)
 Compares version ignore recorded replayed (Err (Malformed side index)) = HasAnswer version ignore recorded replayed (NotWellFormed side index)
 Compares version ignore recorded replayed (Err TooLong) = (2 ^ 64 ≤ length recorded) ⊎ (2 ^ 64 ≤ length replayed)
 Compares version ignore recorded replayed (Err OutOfMemory) = Unit {0}
 
--- ---- what two sources answer
+-- ---- the verdict on two sources
 
--- What a comparison of the journals of two sources answers: the same, or that one of them could not be read.
+-- What a comparison of the journals of two sources returns: the same, or that one of them could not be read.
 abbrev pub ComparesRead : Version → Bool → List ℕ → List ℕ → Result Verdict ReaderError → Type 0
 ComparesRead version ignore recorded replayed (Ok verdict) = Compares version ignore recorded replayed (Ok verdict)
 ComparesRead version ignore recorded replayed (Err (Bench refusal)) = Compares version ignore recorded replayed (Err refusal)

@@ -15,7 +15,8 @@ use shared_core::encoding::{Decoder, Item, PushError, RawMessage};
 use shared_core::version::Version;
 use std::alloc::{AllocError, Global};
 
-/// The commands of a journal that comes in pieces, one after the other. Of the journal it holds the pieces that no item has used up.
+/// The commands of a journal that comes in chunks, one after the other. Of the journal it holds the chunks that no item
+/// has used up.
 #[derive(Drop)]
 pub(crate) struct Commands<S> {
     side: Side,
@@ -39,7 +40,8 @@ impl<S: Source> Commands<S> {
         }
     }
 
-    /// The next command, or `None` where the journal has no further one. A piece is asked for only where no whole item is at hand.
+    /// The next command, or `None` where the journal has no further one. A chunk is read only if no whole item
+    /// is at hand.
     pub(crate) fn next_command(&mut self) -> Result<Option<RawMessage>, ReaderError>
         requires held { length self.old.decoder.bytes ≤ self.old.taken }
         requires fits { self.old.taken < 2 ^ 64 }
@@ -75,7 +77,7 @@ impl<S: Source> Commands<S> {
     }
 }
 
-/// Pushes a piece where so many bytes have come before, and answers how many have come with it.
+/// Pushes a chunk where this many bytes have come before, and returns how many have come with it.
 fn push(decoder: &mut Decoder, taken: u64, piece: Bytes) -> Result<u64, BenchError>
     requires { length decoder.old.bytes ≤ taken }
     ensures pushed { OnOk result (decoder.new ≡ record decoder.old { bytes = decoder.old.bytes ++ piece }) }

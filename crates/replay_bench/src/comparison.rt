@@ -15,14 +15,15 @@ use shared_core::version::Version;
 use std::alloc::Global;
 use std::io::Read;
 
-/// Compares two journals of a version, at least V5, each of which lies in pieces, cut anywhere.
+/// Compares two journals of a version, at least V5, each of which lies in chunks, split anywhere.
 ///
-/// The commands of a journal are, in order, the messages of its joined pieces whose type `CommandType::try_from` takes; all other items, and
-/// bytes behind the last whole item, are passed over. Commands at the same index are compared, first their types, then that the recorded
-/// payload is well-formed and the replayed one is, then what they hold, where `ignore_payload_equality` leaves out payloads
-/// (`CommandMessageHeaderEq`). The answer is that of the first index at which a journal ends or something is found, and nothing behind it is looked
-/// into. `TooLong` comes only where the bytes of one journal are more than 2^64 - 1, `OutOfMemory` where a request for memory was refused. Of
-/// each journal one command is held at a time.
+/// The commands of a journal are, in order, the messages of its joined chunks whose type `CommandType::try_from` takes;
+/// all other items, and bytes after the last whole item, are passed over. Commands at the same index are compared,
+/// first their types, then that the recorded payload is well-formed and the replayed one is, then what they hold, where
+/// `ignore_payload_equality` leaves out payloads (`CommandMessageHeaderEq`). The result is that of the first index at
+/// which a journal ends or something is found, and nothing after it is looked into. `TooLong` comes only where the
+/// bytes of one journal are more than 2^64 - 1, `OutOfMemory` where an allocation fails. Of each journal one command is
+/// held at a time.
 pub fn compare_journals(
     alloc: Global,
     version: Version,
@@ -45,8 +46,8 @@ pub fn compare_journals(
 
 /// Compares two journals that readers give, as `compare_journals` does, with at most `piece` bytes a read, which is 1 at least, and at most 65,536.
 ///
-/// A journal is read only as far as the answer needs. `Read` says whose read failed; what was answered before is not lost by it, since the
-/// first answer ends the comparison.
+/// A journal is read only as far as the result needs. `Read` says whose read failed; what was returned before is not
+/// lost by it, since the first result ends the comparison.
 pub fn compare_readers<A: Read + Drop, B: Read + Drop>(
     alloc: Global,
     version: Version,
@@ -65,9 +66,11 @@ pub fn compare_readers<A: Read + Drop, B: Read + Drop>(
     compare_sources(alloc, version, recorded, replayed, ignore_payload_equality)
 }
 
-/// Compares two journals of any sources, as `compare_journals` does: one may lie in pieces, and a reader give the other.
+/// Compares two journals of any sources, as `compare_journals` does: one may lie in chunks, and a reader give the
+/// other.
 ///
-/// A source is asked for pieces only as far as the answer needs. `Read` names a side only where its source may fail, which a slice does not.
+/// A source is asked for chunks only as far as the result needs. `Read` names a side only where its source may fail,
+/// which a slice does not.
 pub fn compare_sources<A: Source, B: Source>(
     alloc: Global,
     version: Version,

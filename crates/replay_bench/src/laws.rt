@@ -5,7 +5,7 @@ ghost use Rattle.shared_core_base.specs.declared.version.Version.{Version};
 ghost use Rattle.replay_bench.specs.Answers.{Answer};
 ghost use Rattle.replay_bench.specs.Verdicts.{HasAnswer};
 
-/// Two journals have one answer: there is one, and no other.
+/// Two journals have one result: there is one, and no other.
 pub fn two_journals_have_one_answer()
     ensures some { (version : Version) (ignore : Bool) (recorded replayed : List ℕ)
         → (answer : Answer) × HasAnswer version ignore recorded replayed answer }

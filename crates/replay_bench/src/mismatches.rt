@@ -2,18 +2,16 @@
 
 ghost use Rattle.std.specs.Prelude.{◌≡◌, ◌<◌, ◌^◌};
 ghost use Rattle.replay_bench.specs.Journals.{IsCommand};
-ghost use Rattle.replay_bench.specs.Verdicts.{AnswersDecoding, AnswersPair, IsPair};
+ghost use Rattle.replay_bench.specs.Verdicts.{AnswersPair, IsPair, bench_error_of};
 
 use crate::verdicts::{BenchError, Side, Verdict};
-use shared_core::encoding::{DecodingError, RawMessage};
+use shared_core::encoding::RawMessage;
 use shared_core::errors::{CommandMismatchError, CommandTypeMismatchError};
-use shared_core::messages::{
-    CommandMessage, CommandMessageHeaderDiff, CommandMessageHeaderEq, CommandVisitor,
-    RestateMessage, visit_command,
-};
+use shared_core::messages::{CommandMessage, CommandVisitor, visit_command};
+use shared_core::wire::WireError;
 use std::alloc::Global;
 
-/// What two commands at an index answer, or `None` where they are alike.
+/// The result for two commands at an index, or `None` if they are the same.
 pub(crate) fn compare_commands(
     alloc: Global,
     index: u64,
@@ -77,59 +75,36 @@ impl<'a> CommandVisitor for Pair<'a> {
 
     ghost may_visit = { λ self ty. IsPair self.index self.recorded.now self.replayed.now ty };
 
-    ghost answers = { λ self ty schema answer. AnswersPair self.ignore self.index self.recorded.now self.replayed.now answer };
+    ghost answers = { λ self ty schema answer.
+        AnswersPair self.ignore self.index self.recorded.now self.replayed.now answer };
 
     fn visit<M: CommandMessage>(self) -> Result<Option<Verdict>, BenchError> {
-        compare_as::<M>(
-            self.alloc,
-            self.index,
-            self.recorded,
-            self.replayed,
-            self.ignore,
-        )
+        let actual = match self.recorded.decode_as::<M>(self.alloc) {
+            Ok(actual) => actual,
+            Err(error) => return Err(bench_error(Side::Recorded, self.index, error)),
+        };
+        let expected = match self.replayed.decode_as::<M>(self.alloc) {
+            Ok(expected) => expected,
+            Err(error) => return Err(bench_error(Side::Replayed, self.index, error)),
+        };
+        if actual.header_eq(&expected, self.ignore) {
+            return Ok(None);
+        }
+        let mismatch = CommandMismatchError::new(self.index as i64, actual, expected);
+        let text = mismatch.to_string(self.alloc)?;
+        Ok(Some(Verdict::HeaderMismatch {
+            index: self.index,
+            text,
+        }))
     }
 }
 
-/// What two commands of the type that this record has answer.
-fn compare_as<M: RestateMessage + CommandMessageHeaderEq + CommandMessageHeaderDiff>(
-    alloc: Global,
-    index: u64,
-    recorded: &RawMessage,
-    replayed: &RawMessage,
-    ignore: bool,
-) -> Result<Option<Verdict>, BenchError>
-    requires index { index < 2 ^ 63 }
-    requires command { IsCommand recorded.now }
-    requires typed { recorded.now.header.ty ≡ replayed.now.header.ty }
-    requires is { recorded.now.header.ty ≡ M.message_type }
-    ensures { AnswersPair ignore index recorded.now replayed.now result }
+/// Why the command of a side at an index is not decoded.
+fn bench_error(side: Side, index: u64, error: WireError) -> BenchError
+    ensures { result ≡ bench_error_of side index error }
 {
-    let actual = decoded::<M>(alloc, Side::Recorded, index, recorded)?;
-    let expected = decoded::<M>(alloc, Side::Replayed, index, replayed)?;
-    if actual.header_eq(&expected, ignore) {
-        return Ok(None);
-    }
-    let mismatch = CommandMismatchError::new(index as i64, actual, expected);
-    let text = mismatch.to_string(alloc)?;
-    Ok(Some(Verdict::HeaderMismatch { index, text }))
-}
-
-/// A command of a journal, at an index, as the record of its type.
-fn decoded<M: RestateMessage>(
-    alloc: Global,
-    side: Side,
-    index: u64,
-    command: &RawMessage,
-) -> Result<M, BenchError>
-    requires index { index < 2 ^ 63 }
-    requires typed { command.now.header.ty ≡ M.message_type }
-    ensures { AnswersDecoding M.schema M.parts side index command.now.payload result }
-{
-    match command.decode_to(alloc, index as i64) {
-        Ok(record) => Ok(record),
-        Err(DecodingError::DecodeMessage(_, _)) => Err(BenchError::Malformed { side, index }),
-        Err(DecodingError::OutOfMemory) => Err(BenchError::OutOfMemory),
-        // its type is the record's, and its header is known
-        Err(_) => unreachable!(),
+    match error {
+        WireError::Malformed => BenchError::Malformed { side, index },
+        WireError::OutOfMemory => BenchError::OutOfMemory,
     }
 }

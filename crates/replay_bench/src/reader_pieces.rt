@@ -10,7 +10,7 @@ use std::io::Read;
 /// The most bytes that are read at once.
 const MAX_PIECE: usize = 65536;
 
-/// What a reader gives, each read a piece.
+/// What a reader gives, each read a chunk.
 #[derive(Drop)]
 pub struct ReaderPieces<R> {
     alloc: Global,
@@ -24,7 +24,7 @@ pub struct ReaderPieces<R> {
 impl<R: Read + Drop> ReaderPieces<R> {
     ghost use Rattle.std.specs.Prelude.{◌≡◌, ◌≤◌, min, IfOk};
 
-    /// The pieces that a reader gives, each of at most `piece` bytes, which is 1 at least, and of at most 65,536.
+    /// The chunks that a reader gives, each of at most `piece` bytes, which is 1 at least, and of at most 65,536.
     pub fn new(alloc: Global, reader: R, piece: usize) -> Result<ReaderPieces<R>, AllocError>
         requires { 1 ≤ piece }
         ensures reader { IfOk result (λ source. source.reader ≡ reader) }

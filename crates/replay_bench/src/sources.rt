@@ -1,4 +1,4 @@
-//! Where the pieces of a journal come from.
+//! Where the chunks of a journal come from.
 
 ghost use Rattle.std.specs.Prelude.{◌≡◌, ◌<◌, ℕ, Bool, List, Option, Some, false, length, true, IfOk, IfSome, IsErrOf};
 ghost use Rattle.std.specs.List.{concat};
@@ -9,12 +9,12 @@ use std::alloc::AllocError;
 use std::error::Error;
 use std::fmt;
 
-/// Why a source gave no piece. It is not asked again.
+/// Why a source gave no chunk. It is not read again.
 #[derive(Clone, Copy, Debug, PartialEq, Eq)]
 pub enum SourceError {
     /// It could not be read.
     Failed,
-    /// A request for memory was refused.
+    /// An allocation failed.
     OutOfMemory,
 }
 
@@ -44,30 +44,30 @@ impl From<AllocError> for SourceError {
     }
 }
 
-/// Gives the bytes of a journal in pieces of any length.
+/// Gives the bytes of a journal in chunks of any length.
 pub trait Source: Drop {
     // the bytes that are still to come, where these are known
     ghost coming: { Self → Option (List ℕ) };
-    // at most so many pieces are still to come
+    // at most this many chunks are still to come
     ghost pieces_left: { Self → ℕ };
-    // whether it may fail otherwise than for want of memory
+    // whether it may fail otherwise than for a failed allocation
     ghost may_fail: { Bool };
 
-    /// The next piece, or `None` where there is no further one.
+    /// The next chunk, or `None` where there is no further one.
     fn next_piece(&mut self) -> Result<Option<Bytes>, SourceError>
         ensures piece { IfOk result (λ found. GivesPiece (coming self.old) found (coming self.new)) }
         ensures fewer { IfOk result (λ found. IfSome found (λ piece. pieces_left self.new < pieces_left self.old)) }
         ensures failed { IsErrOf result SourceError.Failed → may_fail ≡ true };
 }
 
-/// The pieces of a slice, which do not fail.
+/// The chunks of a slice, which do not fail.
 #[derive(Drop)]
 pub struct SlicePieces<'a> {
     pieces: &'a [Bytes],
 }
 
 impl<'a> SlicePieces<'a> {
-    /// The journal that lies in these pieces.
+    /// The journal that lies in these chunks.
     pub fn new(pieces: &'a [Bytes]) -> SlicePieces<'a>
         ensures { result.pieces.now ≡ pieces.now }
     {

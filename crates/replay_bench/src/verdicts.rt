@@ -1,4 +1,4 @@
-//! What a comparison of two journals answers.
+//! The result of a comparison of two journals.
 
 use std::alloc::AllocError;
 use std::error::Error;
@@ -30,7 +30,7 @@ impl fmt::Display for Side {
 /// How two journals compare. An index counts the commands of a journal, from 0.
 #[derive(Debug, PartialEq, Drop)]
 pub enum Verdict {
-    /// Both have so many commands, and each is the same as the other's at its index.
+    /// Both have this many commands, and each is the same as the other's at its index.
     Same(u64),
     /// All commands of the recorded journal are the same, and the replayed one has another at this index.
     RecordedEnded(u64),
@@ -65,7 +65,7 @@ pub enum BenchError {
     },
     /// A journal has more than 2^64 - 1 bytes.
     TooLong,
-    /// A request for memory was refused.
+    /// An allocation failed.
     OutOfMemory,
 }
 
@@ -74,7 +74,7 @@ pub enum BenchError {
 pub enum ReaderError {
     /// A read of this journal failed, or 2^64 - 1 reads met no end.
     Read(Side),
-    /// What any journals may be refused for.
+    /// The errors that any journals may have.
     Bench(BenchError),
 }
 

@@ -1,4 +1,4 @@
-//! Readers that fail: the comparison stops reading once it has its answer.
+//! Tests of readers that fail: the comparison stops reading once it has its result.
 
 use crate::frames::{GET_A, HEAD, RUN_MALFORMED, SLEEP_MALFORMED, journal, reader_line};
 use replay_bench::compare_readers;
@@ -7,7 +7,7 @@ use std::alloc::{AllocError, Global};
 use std::io::{self, ErrorKind, Read};
 use std::test::Fail;
 
-/// Gives its bytes, all that there is room for, and fails once its calls are used up.
+/// Gives as many of its bytes as there is room for, and fails once its calls are used up.
 #[derive(Drop)]
 struct FaultyReader<'a> {
     unread: &'a [u8],
@@ -41,7 +41,7 @@ fn reads_stop_with_the_answer(rt: HostRuntime) -> Result<(), Fail> {
         (3, 2, false, "read Replayed", ""),
         (3, 3, false, "same 1", ""),
     ] {
-        // at most one request of a run is refused
+        // at most one allocation of a run fails
         let answered = match answers(rt.alloc(), recorded, replayed, more, answer, text) {
             Err(AllocError) => answers(rt.alloc(), recorded, replayed, more, answer, text)?,
             Ok(answered) => answered,
@@ -54,7 +54,7 @@ fn reads_stop_with_the_answer(rt: HostRuntime) -> Result<(), Fail> {
     Ok(())
 }
 
-/// Whether journals of one command, or of one more, which have so many reads until one fails, give this answer.
+/// Whether journals of one command, or of one more, of which each fails after this many reads, give this result.
 fn answers(
     alloc: Global,
     recorded: usize,

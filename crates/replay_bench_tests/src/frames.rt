@@ -1,4 +1,4 @@
-//! Journals from frames in hexadecimal, and answers as lines.
+//! Journals made from frames in hexadecimal, and results as lines of text.
 
 ghost use Rattle.std.specs.Prelude.{◌≤◌};
 
@@ -6,8 +6,8 @@ use bytes::Bytes;
 use replay_bench::{BenchError, ReaderError, Verdict};
 use std::alloc::{AllocError, Global};
 
-/// Commands: inputs of two values; reads of the state at two keys, of one under two names, one that is not well-formed and one whose state is
-/// at hand; writes of the state of two values; and two whose payloads are not well-formed.
+/// Commands: inputs of two values; reads of the state at two keys, of one under two names, one that is not well-formed
+/// and one eager read; writes of the state of two values; and two whose payloads are not well-formed.
 pub const INPUT_X: &str = "040000000000000572030a0178";
 
 pub const INPUT_Y: &str = "040000000000000572030a0179";
@@ -44,7 +44,7 @@ pub const UNKNOWN: &str = "0008000000000000";
 /// A header and all but the last byte of its payload.
 pub const CUT_SHORT: &str = "04020000000000050a016158";
 
-/// How the text of each mismatch begins.
+/// The beginning of the text of each mismatch.
 pub const HEAD: &str =
     "Found a mismatch between the code paths taken during the previous execution and the paths taken during this execution.\nThis typically happens when some parts of the code are non-deterministic.\n";
 
@@ -52,7 +52,7 @@ pub const HEAD: &str =
 pub fn journal(alloc: Global, frames: &[&str]) -> Result<Vec<u8>, AllocError> {
     let mut stream = Vec::new(alloc);
     for frame in frames {
-        // the frames are digits in pairs, so nothing but memory can be wanting
+        // the frames are digits in pairs, so only an allocation can fail
         let Ok(bytes) = hex::decode(alloc, *frame) else {
             return Err(AllocError);
         };
@@ -61,7 +61,7 @@ pub fn journal(alloc: Global, frames: &[&str]) -> Result<Vec<u8>, AllocError> {
     Ok(stream)
 }
 
-/// The bytes in pieces of this size; the last may be short.
+/// The bytes in chunks of this size; the last may be short.
 pub fn cut(alloc: Global, stream: &[u8], size: usize) -> Result<Vec<Bytes>, AllocError>
     requires { 1 ≤ size }
 {
@@ -72,7 +72,7 @@ pub fn cut(alloc: Global, stream: &[u8], size: usize) -> Result<Vec<Bytes>, Allo
     Ok(pieces)
 }
 
-/// An answer in a line: what it is, the index or the count, and a mismatch's text. Want of memory is no answer.
+/// A result as a line: its kind, the index or the count, and a mismatch's text. A failed allocation is no result.
 pub fn line(alloc: Global, answer: Result<Verdict, BenchError>) -> Result<String, AllocError> {
     match answer {
         Ok(Verdict::Same(count)) => format!(in alloc; "same {count}"),
@@ -85,7 +85,7 @@ pub fn line(alloc: Global, answer: Result<Verdict, BenchError>) -> Result<String
     }
 }
 
-/// The same of journals that come from readers.
+/// The same for journals that come from readers.
 pub fn reader_line(
     alloc: Global,
     answer: Result<Verdict, ReaderError>,

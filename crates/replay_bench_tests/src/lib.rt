@@ -1,5 +1,6 @@
-//! Tests of two journals compared: worked journals in any cut, and readers that fail. `scripts/checks/refusals.sh` runs each of them once for each request
-//! for memory that it makes, with that one refused: a comparison then wants memory, and nothing else, and is made again.
+//! Tests of the comparison of two journals: worked journals, however they are split, and readers that fail.
+//! `scripts/checks/refusals.sh` runs each of them once for each of its allocations, with that one failing: the
+//! comparison then runs out of memory, without another error, and is repeated.
 #![tactic(auto)]
 
 #[cfg(test)]

@@ -1,4 +1,4 @@
-//! Worked journals, whole and cut, compared as slices, from readers, and a slice with a reader.
+//! Tests of worked journals, whole and split, compared as slices, from readers, and a slice with a reader.
 ghost use Rattle.std.specs.Prelude.{◌≤◌};
 
 use crate::frames::{
@@ -11,7 +11,8 @@ use shared_core::Version;
 use std::alloc::{AllocError, Global};
 use std::test::Fail;
 
-/// Two journals, and what their comparison answers: how its line begins, and what stands in it behind the head of a mismatch's text.
+/// Two journals, and the result of their comparison: the beginning of its line, and what follows the head of a
+/// mismatch's text.
 #[derive(Drop)]
 struct Row<'a> {
     recorded: &'a [&'a str],
@@ -114,7 +115,7 @@ fn worked_journals_in_any_cut(rt: HostRuntime) -> Result<(), Fail> {
             answer: "header 0 ",
             text: name_differs,
         },
-        // what is no command is passed over, and has no index
+        // items that are no command are skipped, and have no index
         Row {
             recorded: &[INPUT_X, UNKNOWN, NOTIFICATION, GET_A, END, CUT_SHORT],
             replayed: &[CUSTOM_ENTRY, INPUT_X, GET_A],
@@ -132,7 +133,7 @@ fn worked_journals_in_any_cut(rt: HostRuntime) -> Result<(), Fail> {
     ];
     for (at, row) in rows.iter().enumerate() {
         for size in [1, 3, usize::MAX] {
-            // at most one request of a run is refused
+            // at most one allocation of a run fails
             let answered = match answers(rt.alloc(), row, size) {
                 Err(AllocError) => answers(rt.alloc(), row, size)?,
                 Ok(answered) => answered,
@@ -143,7 +144,7 @@ fn worked_journals_in_any_cut(rt: HostRuntime) -> Result<(), Fail> {
     Ok(())
 }
 
-/// Whether each comparison gives the answer of a row, in pieces of this size.
+/// Whether each comparison gives the result of a row, in chunks of this size.
 fn answers(alloc: Global, row: &Row<'_>, size: usize) -> Result<bool, AllocError>
     requires { 1 ≤ size }
 {
@@ -160,7 +161,7 @@ fn answers(alloc: Global, row: &Row<'_>, size: usize) -> Result<bool, AllocError
     )
 }
 
-/// What a comparison of pieces of this size answers.
+/// The result of comparing chunks of this size.
 fn of_pieces(
     alloc: Global,
     recorded: &[u8],
@@ -179,7 +180,7 @@ fn of_pieces(
     )
 }
 
-/// What a comparison of readers answers, of which each read is at most of this size.
+/// The result of comparing readers, of which each read is at most of this size.
 fn of_readers(
     alloc: Global,
     recorded: &[u8],
@@ -195,7 +196,7 @@ fn of_readers(
     )
 }
 
-/// What a comparison of pieces with a reader answers.
+/// The result of comparing chunks with a reader.
 fn of_both(
     alloc: Global,
     recorded: &[u8],

@@ -21,7 +21,7 @@ use Rattle.shared_core.specs.declared.encoding.error.DecodingError.TheVariants.{
 use Rattle.shared_core.specs.declared.encoding.item.Item.{Item}
 use Rattle.shared_core.specs.declared.encoding.item.Item.TheVariants.{Message, Unknown, Skipped}
 use Rattle.shared_core.specs.declared.encoding.raw_message.RawMessage.{RawMessage}
-use Rattle.shared_core.specs.Decoded.{AnswersWritten, DecodesTo, FrameSpells, requested_ack_of}
+use Rattle.shared_core.specs.Decoded.{AnswersWritten, DecodesTo, FrameSpells, IsFrameOf, requested_ack_of}
 use Rattle.shared_core.specs.Items.{AnswersNext, IsItem, TakesItem}
 use Rattle.shared_core.specs.Typed.{IsCanonical}
 use Rattle.shared_core.specs.Written.{item_written}
@@ -38,11 +38,11 @@ form_decodes version ty form named small fits low =
     (frame_is_item version ty form (wire_frame ty form) named small refl, (refl, written, (means.0, sym means.1)))
 
 -- what is written is accepted and means what was written
-pub frame_is_read_back : (form : WireForm) → WireFits form → wire_size form < 2 ^ 32 → IsReadBack form.schema form.parts (wire_payload form)
+frame_is_read_back : (form : WireForm) → WireFits form → wire_size form < 2 ^ 32 → IsReadBack form.schema form.parts (wire_payload form)
 frame_is_read_back form fits small low = canonical_is_read_back form.schema form.parts fits (omega (arith, small)) low
 
--- a decoder before which a frame stands answers the message that was written, whatever follows it
-pub frame_comes_out : (version : Version) (ty : MessageType) (form : WireForm) (bytes : List ℕ) → IsNamed ty → WireFits form → wire_size form < 2 ^ 32 → bytes ≡ wire_frame ty form → levels form.parts ≤ 100
+-- a decoder before which a frame stands returns the message that was written, whatever follows it
+frame_comes_out : (version : Version) (ty : MessageType) (form : WireForm) (bytes : List ℕ) → IsNamed ty → WireFits form → wire_size form < 2 ^ 32 → bytes ≡ wire_frame ty form → levels form.parts ≤ 100
     → (rest new : List ℕ) (answer : Result (Option RawMessage) DecodingError) → AnswersNext version (bytes ++ rest) answer new → AnswersWritten ty form (bytes ++ rest) answer rest new
 frame_comes_out version ty form bytes named fits small is low rest new answer = by_answer answer
   where
@@ -65,16 +65,20 @@ frame_comes_out version ty form bytes named fits small is low rest new answer = 
           | _ ↦ λ answers. absurd answers
         ]
 
--- .. and the same of a frame that a call appends where it succeeds
-pub appended_is_item : {T E : Type 0} (result : Result T E) (version : Version) (ty : MessageType) (form : WireForm) → IsNamed ty → OnOk result (wire_size form < 2 ^ 32) → OnOk result (IsItem version (wire_frame ty form) (item_written ty form))
-appended_is_item (Ok x) version ty form named small = frame_is_item version ty form (wire_frame ty form) named small refl
-appended_is_item (Err e) version ty form named small = small
+-- what is written is a frame
+pub is_frame_of : (version : Version) (ty : MessageType) (form : WireForm) (bytes : List ℕ) → IsNamed ty → WireFits form → wire_size form < 2 ^ 32 → bytes ≡ wire_frame ty form → IsFrameOf version ty form bytes
+is_frame_of version ty form bytes named fits small is = record {
+  is_frame = is;
+  is_item = frame_is_item version ty form bytes named small is;
+  reads_back = frame_is_read_back form fits small;
+  comes_out = frame_comes_out version ty form bytes named fits small is;
+}
 
-pub appended_comes_out : {T E : Type 0} (result : Result T E) (version : Version) (ty : MessageType) (form : WireForm) → IsNamed ty → OnOk result (WireFits form) → OnOk result (wire_size form < 2 ^ 32)
-    → OnOk result (levels form.parts ≤ 100 → (rest new : List ℕ) (answer : Result (Option RawMessage) DecodingError) → AnswersNext version (wire_frame ty form ++ rest) answer new
-    → AnswersWritten ty form (wire_frame ty form ++ rest) answer rest new)
-appended_comes_out (Ok x) version ty form named fits small = frame_comes_out version ty form (wire_frame ty form) named fits small refl
-appended_comes_out (Err e) version ty form named fits small = small
+-- .. and so is what a call appends where it succeeds
+pub appended_is_frame_of : {T E : Type 0} (result : Result T E) (version : Version) (ty : MessageType) (form : WireForm) → IsNamed ty → OnOk result (WireFits form) → OnOk result (wire_size form < 2 ^ 32)
+    → OnOk result (IsFrameOf version ty form (wire_frame ty form))
+appended_is_frame_of (Ok x) version ty form named fits small = is_frame_of version ty form (wire_frame ty form) named fits small refl
+appended_is_frame_of (Err e) version ty form named fits small = small
 
 -- a suspension before V7 comes out as its three lists
 pub suspension_decodes : (version : Version) (suspension : Parts) → is_before_v7 version ≡ true → Fits table suspension (table tables.suspension) → wire_size (suspension_form suspension version) < 2 ^ 32

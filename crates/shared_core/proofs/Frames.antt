@@ -1,4 +1,4 @@
--- A frame spells one item.
+-- A frame encodes one item.
 use Rattle.std.proofs.Common.{◌≡◌, ℕ, ◌+◌, ◌*◌, ◌/◌, ◌%◌, ◌^◌, ◌<◌, List, [], ◌∷◌, ◌++◌, length, Option, Some, None, Bool, true, false, cond, eqb, ltb, refl, sym, ap, ◌∙◌, arith, length-append}
 use Rattle.std.specs.Int.{w64, to_be_bytes}
 use Rattle.std.specs.Option.{option_map}
@@ -6,7 +6,7 @@ use Rattle.std.proofs.lemmas.Nat.{from_be_bytes-to_be_bytes_8}
 use Rattle.std.proofs.lemmas.Bool.{ltb-true}
 use Rattle.shared_core_base.specs.declared.header.MessageType.{MessageType}
 use Rattle.shared_core_base.specs.declared.header.MessageType.TheVariants.{CustomEntry}
-use Rattle.shared_core_base.specs.declared.header.MessageHeader.{MessageHeader}
+use Rattle.shared_core_base.specs.declared.message_header.MessageHeader.{MessageHeader}
 use Rattle.shared_core_base.specs.declared.version.Version.{Version}
 use Rattle.shared_core_base.specs.MessageType.{code_of, type_of, allows_ack, IsNamed}
 use Rattle.shared_core_base.specs.MessageHeader.{header_of, word_of, ack_bit}
@@ -55,7 +55,7 @@ read_again ty flag size named fits =
       omega (arith, small, low, fits),
     )
 
--- a frame is the spelling of one item, with its type and its payload
+-- a frame is the encoding of one item, with its type and its payload
 pub frame_is_item : (version : Version) (ty : MessageType) (form : WireForm) (bytes : List ℕ) → IsNamed ty → length (wire_payload form) < 2 ^ 32 → bytes ≡ wire_frame ty form → IsItem version bytes (item_written ty form)
 frame_is_item version ty form bytes named fits is =
     let payload = wire_payload form in
@@ -71,7 +71,7 @@ frame_is_item version ty form bytes named fits is =
       means = announced.item_is payload ∙ ap (item_of version (front_word (head ++ payload))) (sym (drop_exact 8 head payload eight));
     })
 
--- frames one behind the other are items one behind the other
+-- frames one after the other are items one after the other
 frames_are_items : (version : Version) (messages : List (MessageType × WireForm)) → AreFrames messages → AreItems version (joined_frames messages) (items_written messages)
 frames_are_items version [] are = refl
 frames_are_items version (message ∷ messages) are = (

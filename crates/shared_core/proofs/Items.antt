@@ -5,7 +5,7 @@ use Rattle.std.proofs.lemmas.Bool.{leb-true, leb-false}
 use Rattle.std.specs.Int.{w64, from_be_bytes}
 use Rattle.std.proofs.lemmas.List.{take-append-le, take-append-drop, length-take-le}
 use Rattle.std.proofs.Math.Seq.{take-append_seam, drop-append_seam}
-use Rattle.shared_core_base.specs.declared.header.MessageHeader.{MessageHeader}
+use Rattle.shared_core_base.specs.declared.message_header.MessageHeader.{MessageHeader}
 use Rattle.shared_core_base.specs.declared.version.Version.{Version}
 use Rattle.shared_core_base.specs.MessageHeader.{header_of, word_code, word_length}
 use Rattle.shared_core.specs.declared.encoding.item.Item.{Item}
@@ -22,7 +22,7 @@ pub front_word_head : (head rest : List ℕ) → length head ≡ 8 → front_wor
 unfolding front_word
 front_word_head head rest eight = ap (from_be_bytes w64) (take_exact 8 head rest eight)
 
--- the word at the front stays, whatever comes behind
+-- the word at the front stays, whatever comes after
 front_word_more : (front more : List ℕ) → 8 ≤ length front → front_word (front ++ more) ≡ front_word front
 unfolding front_word
 front_word_more front more fits = ap (from_be_bytes w64) (take-append-le 8 front more fits)
@@ -125,7 +125,7 @@ module _ (version : Version) where
   pub nothing_begins_with_none : NoItemBegins version []
   nothing_begins_with_none item others (first, is, splits) = omega (arith, is.whole, ap length splits, length-append first others)
 
-  -- ---- items one behind the other
+  -- ---- items one after the other
 
   AreItems_join : (front back : List ℕ) (items others : List Item) → AreItems version front items → AreItems version back others → AreItems version (front ++ back) (items ++ others)
   AreItems_join front back [] others spelled next = let P : List ℕ → Type 0 = λ l. AreItems version (l ++ back) others in subst P (sym spelled) next

@@ -27,9 +27,9 @@ pub rest_fits : (version : Version) (pieces : List (List ℕ)) (i : ℕ) (piece 
 rest_fits version pieces i piece rest items below is before =
     omega (arith, concat_first pieces (i + 1), ap length (concat_next pieces i piece below is), length-append (concat (take i pieces)) piece, ap length before.whole, length-append before.front rest)
 
--- ---- a piece comes behind
+-- ---- a chunk comes after
 
--- the bytes of the segments and a piece behind them
+-- the bytes of the segments and a chunk behind them
 pub joined_push : (front : List ℕ) (behind : List (List ℕ)) (piece : List ℕ) → front ++ concat (behind ++ piece ∷ []) ≡ (front ++ concat behind) ++ piece
 joined_push front behind piece = ap (λ l. front ++ l) (concat_push behind piece) ∙ sym (append_assoc front (concat behind) piece)
 

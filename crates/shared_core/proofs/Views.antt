@@ -127,7 +127,7 @@ lacks_nothing message id result found means there here =
     (subst (λ (b : Bool). AnswersLacking message (held_field b (is_present result)) (Ok found)) (sym there)
     (subst (λ (b : Bool). AnswersLacking message (held_field true b) (Ok found)) (sym here) tt))
 
--- a refused payload that is well-formed is one that memory was refused for
+-- a refused payload that is well-formed is one that an allocation fails for
 pub refused_for_memory : (message : RawMessage) (refusal : DecodingError) (lacking : Option (List ℕ)) → RefusesPayload notification_template message refusal → IsAccepted notification_template message.payload
     → AnswersLacking message lacking (Err refusal)
 refused_for_memory message refusal lacking refused accepted =

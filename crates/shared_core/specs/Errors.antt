@@ -19,7 +19,7 @@ command_mismatch_text ty index difference =
     ++ (codes "- The mismatch happened while executing '" ++ (message_type_text ty
     ++ (codes "' (index '" ++ (signed_decimal index ++ (codes "')\n- Difference:" ++ difference)))))
 
--- The text of a refusal to decode.
+-- The text of a decoding error.
 abbrev pub decoding_error_text : DecodingError → List ℕ
 decoding_error_text (DecodeMessage ty error) =
     codes "cannot decode protocol message type " ++ (debug_name_of ty ++ codes ". Reason: malformed payload")
@@ -33,7 +33,8 @@ decoding_error_text (SkippedMessage code payload) =
     ++ (digits 16 false code ++ (codes " with " ++ (decimal (length payload) ++ codes " payload bytes")))
 decoding_error_text OutOfMemory = codes "out of memory"
 
--- The code of a refusal to decode: a message of another type is a mismatch of the journal, every other refusal an internal error.
+-- The code of a decoding error: a message of another type is a mismatch of the journal, every other error an internal
+-- error.
 abbrev pub decoding_error_code : DecodingError → ℕ
 decoding_error_code (DecodeMessage ty error) = 500
 decoding_error_code (UnexpectedMessageType mismatch) = 570
@@ -42,12 +43,12 @@ decoding_error_code (UnknownMessageType unknown) = 500
 decoding_error_code (SkippedMessage code payload) = 500
 decoding_error_code OutOfMemory = 500
 
--- The text of a piece that was not taken.
+-- The text of a chunk that was not taken.
 abbrev pub push_error_text : PushError → List ℕ
 push_error_text (push.OutOfMemory back) = codes "out of memory"
 push_error_text (push.TooLong back) = codes "more than 2^64 - 1 bytes are pending"
 
--- The text of a list of pieces that was not decoded.
+-- The text of a list of chunks that was not decoded.
 abbrev pub pieces_error_text : PiecesError → List ℕ
 pieces_error_text pieces.TooLong = codes "the pieces have more than 2^64 - 1 bytes"
 pieces_error_text pieces.OutOfMemory = codes "out of memory"

@@ -1,4 +1,4 @@
--- The items of a stream: which bytes spell an item, and how a stream splits into items and a rest.
+-- The items of a stream: which bytes encode an item, and how a stream splits into items and a rest.
 --
 -- A version decides how many bytes belong to a header, so each of these relations takes it: `body_length` and `item_of` ask it whether it
 -- skips unknown messages, and nothing else does. Versions 5 to 8 read headers alike.
@@ -10,13 +10,15 @@ use Rattle.shared_core_base.specs.MessageHeader.{header_of, word_code, word_leng
 use Rattle.shared_core_base.specs.Version.{version_number}
 use Rattle.shared_core.specs.declared.encoding.item.Item.{Item}
 use Rattle.shared_core.specs.declared.encoding.item.Item.TheVariants.{Message, Unknown, Skipped}
+use Rattle.shared_core.specs.declared.encoding.item.Taken.{Taken}
+use Rattle.shared_core.specs.declared.encoding.item.Taken.TheVariants as taken
 use Rattle.shared_core.specs.declared.encoding.raw_message.RawMessage.{RawMessage}
 use Rattle.shared_core.specs.declared.encoding.error.DecodingError.{DecodingError}
 use Rattle.shared_core.specs.declared.encoding.error.DecodingError.TheVariants.{UnknownMessageType, SkippedMessage, OutOfMemory}
 use Rattle.shared_core.specs.declared.encoding.error.PushError.{PushError}
 use Rattle.shared_core.specs.declared.encoding.error.PushError.TheVariants.{OutOfMemory as NoMemory, TooLong}
 
--- The number that the first eight bytes spell, the first byte highest.
+-- The number that the first eight bytes encode, the first byte highest.
 unfoldable pub front_word : List ℕ → ℕ
 front_word bytes = from_be_bytes w64 (take 8 bytes)
 
@@ -24,39 +26,45 @@ front_word bytes = from_be_bytes w64 (take 8 bytes)
 abbrev pub skips_unknown : Version → Bool
 skips_unknown version = nat_le 9 (version_number version)
 
--- How many bytes belong to an item behind its first eight: the length that its header says; where its code stands for no type, the
--- length in its word if the version skips such a message, and else none.
+-- How many bytes belong to an item after its first eight: the length that its header says; where its code is no type's,
+-- the length in its word if the version skips such a message, and otherwise none.
 unfoldable pub body_length : Version → ℕ → ℕ
 body_length version word =
     option_map_or (λ header. header.length) (header_of word) (if skips_unknown version then word_length word else 0)
 
--- The item that a word and the bytes behind it are: a message with its payload; or a code that stands for no type, with its payload
--- if the version skips such a message, and else alone.
+-- The item that a word and the bytes after it are: a message with its payload; or a code that is no type's, with its
+-- payload if the version skips such a message, and otherwise alone.
 unfoldable pub item_of : Version → ℕ → List ℕ → Item
 item_of version word body =
     option_map_or (λ header. Message (record { header = header; payload = body })) (header_of word)
     (if skips_unknown version then Skipped (word_code word) body else Unknown (word_code word))
 
--- The bytes spell the item: eight whose word says what it is, and as many behind them as that word says.
+-- The item that a decoder has taken.
+abbrev pub item_taken : Taken → Item
+item_taken (taken.Message message) = Message message
+item_taken (taken.Unknown unknown) = Unknown unknown.0
+item_taken (taken.Skipped code payload) = Skipped code payload
+
+-- The bytes encode the item: eight whose word says what it is, and as many after them as that word says.
 pub record IsItem (version : Version) (bytes : List ℕ) (item : Item) : Type 0 where
   pub whole : length bytes ≡ 8 + body_length version (front_word bytes)
   pub means : item ≡ item_of version (front_word bytes) (drop 8 bytes)
 
--- The bytes are spellings of these items, one behind the other.
+-- The bytes are encodings of these items, one after the other.
 abbrev pub AreItems : Version → List ℕ → List Item → Type 0
 AreItems version bytes [] = bytes ≡ []
 AreItems version bytes (item ∷ items) =
     (first : List ℕ) × (others : List ℕ) × IsItem version first item × AreItems version others items × (bytes ≡ first ++ others)
 
--- An item stands at the front of the old bytes, and the new bytes are those behind it.
+-- An item is at the front of the old bytes, and the new bytes are those after it.
 abbrev pub TakesItem : Version → List ℕ → Item → List ℕ → Type 0
 TakesItem version old item new = (first : List ℕ) × IsItem version first item × (old ≡ first ++ new)
 
--- No whole item stands at the front of the bytes.
+-- No whole item is at the front of the bytes.
 abbrev pub NoItemBegins : Version → List ℕ → Type 0
 NoItemBegins version bytes = (item : Item) (rest : List ℕ) → TakesItem version bytes item rest → ⊥
 
--- The stream is spellings of these items, and behind them these bytes.
+-- The stream is encodings of these items, and after them these bytes.
 pub record IsItemsThen (version : Version) (stream : List ℕ) (items : List Item) (rest : List ℕ) : Type 0 where
   pub front : List ℕ
   pub spelled : AreItems version front items
@@ -81,9 +89,9 @@ HasPayload item = Unit {0}
 abbrev pub PayloadIsNext : Version → List ℕ → Type 0
 PayloadIsNext version bytes = (item : Item) × (rest : List ℕ) × TakesItem version bytes item rest × HasPayload item
 
--- What an answer says of the bytes before the call, and what it leaves of them: the next message, taken; no item, where none is
--- whole; an unknown code, whose eight bytes are taken; a skipped message, taken; or want of memory where a whole message or a skipped
--- one is next, and all bytes are left.
+-- What a result says of the bytes before the call, and what it leaves of them: the next message, taken; no item, where
+-- none is whole; an unknown code, whose eight bytes are taken; a skipped message, taken; or a failed allocation where a
+-- whole message or a skipped one is next, and all bytes are left.
 abbrev pub AnswersNext : Version → List ℕ → Result (Option RawMessage) DecodingError → List ℕ → Type 0
 AnswersNext version old (Ok (Some message)) new = TakesItem version old (Message message) new
 AnswersNext version old (Ok None) new = NoItemBegins version old × (new ≡ old)
@@ -92,13 +100,13 @@ AnswersNext version old (Err (SkippedMessage code payload)) new = TakesItem vers
 AnswersNext version old (Err OutOfMemory) new = (new ≡ old) × PayloadIsNext version old
 AnswersNext version old (Err other) new = ⊥
 
--- Every answer but that no item is whole and that memory is wanting leaves at least eight bytes fewer.
+-- Every result but that no item is whole and that an allocation fails leaves at least eight bytes fewer.
 abbrev pub TakesEight : List ℕ → Result (Option RawMessage) DecodingError → List ℕ → Type 0
 TakesEight old (Ok None) new = Unit {0}
 TakesEight old (Err OutOfMemory) new = Unit {0}
 TakesEight old answer new = length new + 8 ≤ length old
 
--- A refused piece comes back as it was, and is too long only where the bytes would be 2 ^ 64 or more.
+-- A rejected chunk is returned unchanged, and is too long only if the bytes would be 2 ^ 64 or more.
 abbrev pub RefusesPiece : List ℕ → List ℕ → PushError → Type 0
 RefusesPiece old piece (NoMemory back) = back ≡ piece
 RefusesPiece old piece (TooLong back) = (back ≡ piece) × (2 ^ 64 ≤ length old + length piece)

@@ -2,8 +2,8 @@
 use Rattle.std.specs.Prelude.{◌≡◌, ◌<◌, ℕ, List, [], ◌++◌, length, All}
 use Rattle.std.specs.List.{concat}
 
--- The segments have so many bytes together. Those behind the front one are not empty, and the front one only where there is
--- no other.
+-- The segments have this many bytes together. Those after the front one are not empty, and the front one only where
+-- there is no other.
 pub record AreSegments (front : List ℕ) (behind : List (List ℕ)) (len : ℕ) : Type 0 where
   pub counted : len ≡ length (front ++ concat behind)
   pub filled : All (λ segment. 0 < length segment) behind

@@ -1,4 +1,4 @@
--- What typed decoding of a message answers.
+-- The result of typed decoding of a message.
 use Rattle.std.specs.Prelude.{◌≡◌, ◌≢◌, ℕ, ℤ, List}
 use Rattle.shared_core_base.specs.declared.header.MessageType.{MessageType}
 use Rattle.shared_core_wire.specs.declared.error.WireError.TheVariants.{Malformed}
@@ -12,7 +12,7 @@ use Rattle.shared_core.specs.declared.encoding.raw_message.RawMessage.{RawMessag
 use Rattle.shared_core.specs.declared.encoding.error.DecodingError.{DecodingError}
 use Rattle.shared_core.specs.declared.encoding.error.DecodingError.TheVariants.{DecodeMessage, UnexpectedMessageType, OutOfMemory}
 
--- The mismatch that is answered where a message is not of the type that is expected.
+-- The mismatch that is returned if a message is not of the expected type.
 abbrev pub mismatch_of : MessageType → RawMessage → ℤ → CommandTypeMismatchError
 mismatch_of expected message index = record { command_index = index; actual = message.header.ty; expected = expected }
 
@@ -20,19 +20,19 @@ mismatch_of expected message index = record { command_index = index; actual = me
 abbrev pub MeansParts : ℕ → List ℕ → Parts → Type 0
 MeansParts schema payload parts = IsAccepted schema payload × (parts ≡ payload_meaning schema payload)
 
--- When a payload is refused: it is not well-formed for the schema, or memory was refused.
+-- When a payload is rejected: it is not well-formed for the schema, or an allocation fails.
 abbrev pub RefusesPayload : ℕ → RawMessage → DecodingError → Type 0
 RefusesPayload schema message (DecodeMessage found error) =
     (found ≡ message.header.ty) × (error ≡ Malformed) × ¬ (IsAccepted schema message.payload)
 RefusesPayload schema message OutOfMemory = Unit {0}
 RefusesPayload schema message refusal = ⊥
 
--- When a message is refused: the types differ; or they are the same, and its payload is refused.
+-- When a message is rejected: the types differ; or they are the same, and its payload is rejected.
 abbrev pub RefusesTyped : MessageType → ℕ → RawMessage → ℤ → DecodingError → Type 0
 RefusesTyped ty schema message index (UnexpectedMessageType mismatch) =
     (message.header.ty ≢ ty) × (mismatch ≡ mismatch_of ty message index)
 RefusesTyped ty schema message index refusal = (message.header.ty ≡ ty) × RefusesPayload schema message refusal
 
--- The payload is the canonical spelling of the value, which fits the schema and has at most one hundred levels.
+-- The payload is the canonical encoding of the value, which fits the schema and has at most one hundred levels.
 abbrev pub IsCanonical : ℕ → Parts → List ℕ → Type 0
 IsCanonical schema v payload = IsWritable table 100 schema v × (payload ≡ canonical_payload table schema v)

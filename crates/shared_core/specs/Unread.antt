@@ -2,7 +2,7 @@
 use Rattle.std.specs.Prelude.{ℕ, List, [], Option, Some, None}
 use Rattle.shared_core_base.specs.declared.version.Version.{Version}
 
--- A decoder as contracts see it: its version, and the bytes that came and that no answer has taken.
+-- A decoder as contracts see it: its version and its pending bytes, those that no call has taken.
 pub record Unread : Type 0 where
   pub version : Version
   pub bytes : List ℕ
@@ -12,7 +12,7 @@ abbrev pub held_bytes : Option (List ℕ) → List ℕ
 held_bytes None = []
 held_bytes (Some head) = head
 
--- How many bytes are held as a header: eight, or none.
+-- The number of bytes that are held as a header: eight, or none.
 abbrev pub held_length : Option (List ℕ) → ℕ
 held_length None = 0
 held_length (Some head) = 8

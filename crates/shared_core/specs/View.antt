@@ -19,7 +19,7 @@ use Rattle.shared_core.specs.Typed.{MeansParts, RefusesPayload}
 abbrev pub notification_parts : Notification → Parts
 notification_parts found = cons (ids.part-value.it found.id) (cons (results.part-value.it found.result) nil)
 
--- The refusal says that a field of the message is missing.
+-- The error says that a field of the message is missing.
 abbrev pub IsMissing : RawMessage → List ℕ → DecodingError → Type 0
 IsMissing message field (MissingField expected missing) = (expected ≡ message.header.ty) × (missing.now ≡ field)
 IsMissing message field refusal = ⊥
@@ -30,7 +30,7 @@ LacksField field parts =
     ((field ≡ codes "id") × (result : Part) × (parts ≡ cons Absent (cons result nil)))
     ⊎ ((field ≡ codes "result") × (id : Part) × (id ≢ Absent) × (parts ≡ cons id (cons Absent nil)))
 
--- When the view is refused: the payload is, or it means a template that lacks a field, the id first.
+-- When the view is rejected: the payload is, or it means a template that lacks a field, the id first.
 abbrev pub RefusesNotification : RawMessage → DecodingError → Type 0
 RefusesNotification message (MissingField expected missing) =
     (expected ≡ message.header.ty) × (parts : Parts) × MeansParts notification_template message.payload parts × LacksField missing.now parts
@@ -48,11 +48,11 @@ result_numbers = 4 ∷ 5 ∷ 6 ∷ 16 ∷ 17 ∷ []
 abbrev pub has_record : List ℕ → List ℕ → Bool
 has_record ns payload = list_any (λ r. includes ns r.number) (payload_records 100 payload)
 
--- The field that a payload lacks: the id where no record is one, else the result where no record is one.
+-- The field that a payload lacks: the id where no record is one, otherwise the result where no record is one.
 abbrev pub lacking_field : List ℕ → Option (List ℕ)
 lacking_field payload = if has_record id_numbers payload then (if has_record result_numbers payload then None else Some (codes "result")) else Some (codes "id")
 
--- What is answered where this field is lacking, or none: that it is missing, or else the view; or memory was refused.
+-- The result where this field is lacking, or none: that it is missing, or else the view; or an allocation fails.
 abbrev pub AnswersLacking : RawMessage → Option (List ℕ) → Result Notification DecodingError → Type 0
 AnswersLacking message None (Ok found) = Unit {0}
 AnswersLacking message (Some field) (Ok found) = ⊥
@@ -64,7 +64,8 @@ abbrev pub IsOfNotification : ℕ → List ℕ → Type 0
 IsOfNotification s payload =
     IsAccepted s payload × (are_apart (table notification_template) (table s) (payload_records 100 payload) ≡ true)
 
--- At each number of the template that stands in the payload, the parts of the template hold what the typed meaning holds there.
+-- At each number of the template that is in the payload, the parts of the template hold what the typed meaning holds
+-- there.
 abbrev pub AgreesWithType : ℕ → List ℕ → Parts → Type 0
 AgreesWithType s payload parts = (n : ℕ) → includes (all_numbers (table notification_template)) n ≡ true
     → list_any (λ r. nat_eq r.number n) (payload_records 100 payload) ≡ true

@@ -1,4 +1,4 @@
--- What is answered where a record is found by a type or by a schema that is known at run time.
+-- The result where a record is found by a type or by a schema that is known at run time.
 use Rattle.std.specs.Prelude.{ℕ, nat_lt, List, length, Option, Some, None, if◌then◌else◌}
 use Rattle.shared_core_base.specs.declared.command_type.CommandType.{CommandType}
 use Rattle.shared_core_base.specs.declared.header.MessageType.{MessageType}
@@ -12,7 +12,7 @@ use Rattle.shared_core_message.specs.Frames.{WireForm, plain_form}
 use Rattle.shared_core_message.specs.Messages.{message_schema}
 use Rattle.shared_core_runtime.specs.Versions.{suspension_form, proposal_form}
 
--- Where there is a schema its record is visited, and this holds of the answer; where there is none nothing is.
+-- Where there is a schema its record is visited, and this holds of the result; where there is none nothing is.
 abbrev pub IsVisited : {O : Type 0} → (ℕ → O → Type 0) → Option ℕ → Option O → Type 0
 IsVisited answers (Some schema) (Some answer) = answers schema answer
 IsVisited answers (Some schema) None = ⊥

@@ -1,4 +1,5 @@
-//! The stream of frames: a decoder that takes it in pieces, its items, the messages among them as records; and the encoder.
+//! The stream of frames: a decoder that takes it in chunks, its items, the messages among them as records; and the
+//! encoder.
 
 mod decoder;
 mod encoder;

@@ -4,8 +4,8 @@ ghost use Rattle.shared_core_base.specs.Error.{IsErrorOf};
 ghost use Rattle.shared_core_compare.specs.Differences.{difference};
 ghost use Rattle.shared_core.specs.Errors.{command_mismatch_text};
 
+use crate::fmt::Difference;
 use shared_core_base::error::{Error, InvocationErrorCode, OutOfMemory, codes, error_of};
-use shared_core_base::fmt::DiffFormatter;
 use shared_core_compare::difference::CommandMessageHeaderDiff;
 pub use shared_core_errors::closed::ClosedError;
 pub use shared_core_errors::command_type_mismatch::CommandTypeMismatchError;
@@ -67,23 +67,7 @@ impl<M: RestateMessage + CommandMessageHeaderDiff> CommandMismatchError<M> {
     }
 }
 
-/// The difference of two commands, with the indentation that an error gives it.
-#[derive(Clone, Copy)]
-struct Difference<'a, M> {
-    actual: &'a M,
-    expected: &'a M,
-}
-
-impl<'a, M: CommandMessageHeaderDiff> fmt::Display for Difference<'a, M> {
-    ghost output = { λ commands. Some (difference M.schema (codes "   ") (M.parts commands.actual.now) (M.parts commands.expected.now)) };
-
-    fn fmt<W: fmt::Write>(&self, f: &mut fmt::Formatter<W>) -> fmt::Result {
-        self.actual
-            .write_diff(self.expected, DiffFormatter::new(f, "   "))
-    }
-}
-
-/// Says at which command it is, and how the two differ: a line a field, behind three spaces.
+/// Prints the index of the command, and how the two differ: a line a field, after three spaces.
 impl<M: RestateMessage + CommandMessageHeaderDiff> fmt::Display for CommandMismatchError<M> {
     ghost output = { λ error. Some (command_mismatch_text M.message_type error.command_index
         (difference M.schema (codes "   ") (M.parts error.actual) (M.parts error.expected))) };

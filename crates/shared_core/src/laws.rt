@@ -23,7 +23,7 @@ ghost use Rattle.shared_core.specs.declared.encoding.item.Item.TheVariants.{Skip
 
 use crate::encoding::{Item, RawMessage};
 
-/// No item's bytes begin another's: where two items stand at the front of the same bytes, they are one item.
+/// The encodings of items are prefix-free: where two items are at the beginning of the same bytes, they are one item.
 pub fn no_item_begins_another()
     ensures { (version : Version) (a b x y : List ℕ) (i j : AnyItem)
         → IsItem version a i → IsItem version b j → a ++ x ≡ b ++ y → (a ≡ b) × (i ≡ j) × (x ≡ y) }
@@ -41,8 +41,8 @@ pub fn every_stream_splits()
         → (items : List AnyItem) × (rest : List ℕ) × SplitsInto version stream items rest }
 {}
 
-/// The version decides what a code that stands for no type is: an unknown header, at a version that does not skip such messages, and
-/// else a skipped message. No stream has both.
+/// The version decides what a code that is no type's is: an unknown header, at a version that does not skip such
+/// messages, and otherwise a skipped message. No stream has both.
 pub fn untyped_items_go_by_the_version()
     ensures unknown { (version : Version) (bytes : List ℕ) (code : ℕ)
         → IsItem version bytes (Unknown code) → skips_unknown version ≡ false }
@@ -50,7 +50,7 @@ pub fn untyped_items_go_by_the_version()
         → IsItem version bytes (Skipped code payload) → skips_unknown version ≡ true }
 {}
 
-/// The next item stays the next whatever comes behind it, and what it leaves is what it left with these bytes behind.
+/// The next item stays the next whatever comes after it, and what it leaves is what it left with these bytes after.
 #[tactic(auto, using(crate::proofs::Items::takes_more))]
 pub fn next_item_stays()
     ensures { (version : Version) (old new more : List ℕ) (item : AnyItem)
@@ -70,15 +70,16 @@ pub fn stream_without_items_is_rest()
     ensures { (version : Version) (stream : List ℕ) → NoItemBegins version stream → SplitsInto version stream [] stream }
 {}
 
-/// Frames written one behind the other are, whatever follows them, items in this order, each a message of its type with the
-/// payload that was written. So `decode_pieces`, whose answer begins with what was written, gives them back in any cut.
+/// Frames written one after the other are, whatever follows them, items in this order, each a message of its type with
+/// the payload that was written. So `decode_pieces`, whose result begins with what was written, gives them back however
+/// it is split.
 pub fn frames_come_out_in_order()
     ensures { (version : Version) (messages : List (AnyType × WireForm)) (rest : List ℕ) → AreFrames messages
         → IsItemsThen version (joined_frames messages ++ rest) (items_written messages) rest }
 {}
 
-/// What was written comes out again: the frame of a wire form whose value fits its schema, at most one hundred levels deep, spells an
-/// item that decodes to this value.
+/// What was written comes out again: the frame of a wire form whose value fits its schema, at most one hundred levels
+/// deep, encodes an item that decodes to this value.
 pub fn frames_decode_to_what_was_written()
     ensures { (version : Version) (ty : AnyType) (form : WireForm) → IsNamed ty → wire_size form < 2 ^ 32
         → Fits table form.parts (table form.schema) → levels form.parts ≤ 100
@@ -101,8 +102,8 @@ pub fn notifications_are_within_the_template()
         → is_within_template (table notification_template) (table s) ≡ true }
 {}
 
-/// A request for an acknowledgement comes out as it was asked: a proposal of a run's result asks from V7 on and not before, and the
-/// header of every other message has no such flag.
+/// A request for an acknowledgement is decoded as it was encoded: a proposal of a run's result makes it from V7 on and
+/// not before, and the header of every other message has no such flag.
 pub fn acknowledgements_come_out_as_asked()
     ensures proposals { (version : Version) (proposal : Parts) → wire_size (proposal_form proposal version) < 2 ^ 32
         → FrameSpells version ProposeRunCompletion (proposal_form proposal version)

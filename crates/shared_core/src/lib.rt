@@ -1,5 +1,5 @@
-//! The journal wire protocol of the Restate SDKs: the decoder of a stream that comes in pieces, headers and versions, the messages with
-//! their payloads, commands compared, and the errors and values of the layer above.
+//! The journal wire protocol of the Restate SDKs: the decoder of a stream that comes in chunks, headers and versions,
+//! the messages with their payloads, commands compared, and the errors and values of the SDK state machine.
 #![tactic(auto)]
 
 pub mod encoding;

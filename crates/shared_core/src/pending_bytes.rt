@@ -10,7 +10,7 @@ use std::marker::Model;
 
 /// Shared segments in a row, which come at the back and go at the front. A contract sees their bytes as one list.
 ///
-/// The front segment stands apart, since nearly all work is on it. It is empty only where there is no other, and no other
+/// The front segment is apart, since nearly all work is on it. It is empty only where there is no other, and no other
 /// is ever empty: a segment that is used up has gone.
 #[derive(Drop)]
 pub struct PendingBytes {
@@ -33,7 +33,7 @@ impl Model for PendingBytes {
 }
 
 impl PendingBytes {
-    /// No bytes. It takes no memory.
+    /// No bytes. Does not allocate.
     pub fn new(alloc: Global) -> PendingBytes
         ensures { result ≡ [] }
     {
@@ -52,8 +52,8 @@ impl PendingBytes {
         self.len
     }
 
-    /// Puts a piece behind the bytes, without copying any. An empty piece is not kept, and asks for no memory; nor does
-    /// a piece that comes where there are no bytes.
+    /// Puts a chunk after the bytes, without copying any. An empty chunk is not kept, and does not allocate; nor does a
+    /// chunk that comes where there are no bytes.
     pub fn push(&mut self, piece: Bytes) -> Result<(), AllocFailed<Bytes>>
         requires { length self.old + length piece < 2 ^ 64 }
         ensures ok { OnOk result (self.new ≡ self.old ++ piece) }
@@ -94,8 +94,8 @@ impl PendingBytes {
         head
     }
 
-    /// Takes the first `count` bytes: cut from the front segment where it has them all, else joined in one copy. An `Err`
-    /// takes nothing.
+    /// Takes the first `count` bytes: cut from the front segment where it has them all, otherwise joined in one copy.
+    /// An `Err` takes nothing.
     #[inline(always)]
     pub fn split_to(&mut self, count: usize) -> Result<Bytes, AllocError>
         requires { count ≤ length self.old }
@@ -149,7 +149,7 @@ impl PendingBytes {
     }
 }
 
-/// Where the front segment is used up, the next one stands in its place.
+/// Replaces a used front segment by the next one.
 fn drop_used_up(front: &mut Bytes, behind: &mut VecDeque<Bytes>)
     requires { All (λ segment. 0 < length segment) behind.old.items }
     ensures segments { AreSegments front.new behind.new.items (length (front.old ++ concat behind.old.items)) }

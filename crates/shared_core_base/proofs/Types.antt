@@ -9,12 +9,12 @@ use Rattle.std.proofs.lemmas.Option.{none-some}
 use Rattle.shared_core_base.specs.declared.header.MessageType.{MessageType}
 use Rattle.shared_core_base.specs.declared.header.MessageType.TheVariants.{CustomEntry}
 use Rattle.shared_core_base.specs.contracts.header.MessageTypePartialEq.TheImpl as types
-use Rattle.shared_core_base.specs.declared.header.MessageHeader.{MessageHeader}
-use Rattle.shared_core_base.specs.contracts.header.MessageHeaderPartialEq.TheImpl as headers
+use Rattle.shared_core_base.specs.declared.message_header.MessageHeader.{MessageHeader}
+use Rattle.shared_core_base.specs.contracts.message_header.MessageHeaderPartialEq.TheImpl as headers
 use Rattle.shared_core_base.specs.MessageType.{code_of, named_types, IsNamed, custom_entry, type_of}
 
 -- what is found passes the test, and passes any other that each element does
-found_passes : {X : Type 0} (test other : X → Bool) (xs : List X) (x : X) → list_all other xs ≡ true → find test xs ≡ Some x → (test x ≡ true) × (other x ≡ true)
+pub found_passes : {X : Type 0} (test other : X → Bool) (xs : List X) (x : X) → list_all other xs ≡ true → find test xs ≡ Some x → (test x ≡ true) × (other x ≡ true)
 found_passes test other [] x all found = cc
 found_passes test other (y ∷ ys) x all found =
     let both = and_parts (other y) (list_all other ys) all in

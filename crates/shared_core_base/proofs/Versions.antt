@@ -1,10 +1,13 @@
--- The content types of two versions differ.
-use Rattle.std.proofs.Common.{◌≡◌, ℕ, ◌++◌, codes, drop, length, ◌<◌, ◌^◌, ◌==◌, if◌then◌else◌, refl, sym, ap, ◌∙◌, arith}
+-- The content types of two versions differ, and a number stands for at most one supported version.
+use Rattle.std.proofs.Common.{◌≡◌, ℕ, ◌++◌, codes, drop, length, ◌<◌, ◌≤◌, ◌^◌, ◌==◌, if◌then◌else◌, Some, eqb, leb, refl, sym, ap, ◌∙◌, arith}
+use Rattle.std.specs.Prelude.{◌↔◌}
+use Rattle.std.proofs.lemmas.Bool.{eqb-true, leb-true}
 use Rattle.std.proofs.lemmas.Fmt.{decimal_injective}
 use Rattle.std.specs.Fmt.{decimal}
 use Rattle.shared_core_base.specs.declared.version.Version.{Version}
 use Rattle.shared_core_base.specs.declared.version.Version.TheVariants.{V1, V2, V3, V4, V5, V6, V7, V8, V9}
-use Rattle.shared_core_base.specs.Version.{version_number, restate_content_types, content_type_of}
+use Rattle.shared_core_base.specs.Version.{version_number, supported_versions, supported_version, restate_content_types, content_type_of}
+use Rattle.shared_core_base.proofs.Types.{found_passes}
 
 -- the version of a number
 version_of_number : ℕ → Version
@@ -25,3 +28,21 @@ content_types_differ a b same =
     let digits_are : decimal (version_number a) ≡ decimal (version_number b) = ap (drop (length (restate_content_types ++ codes "v"))) same in
     let number_is = decimal_injective (version_number a) (version_number b) (numbers_fit a) (numbers_fit b) digits_are in
     sym (numbers_convert_back a) ∙ ap version_of_number number_is ∙ numbers_convert_back b
+
+found_again : (version : Version) → 5 ≤ version_number version → supported_version (version_number version) ≡ Some version
+found_again version = elim version as (λ version. 5 ≤ version_number version → supported_version (version_number version) ≡ Some version) [
+  | V1 ↦ λ low. absurd (omega (arith, low))
+  | V2 ↦ λ low. absurd (omega (arith, low))
+  | V3 ↦ λ low. absurd (omega (arith, low))
+  | V4 ↦ λ low. absurd (omega (arith, low))
+  | _ ↦ λ supported. refl
+]
+
+-- a number stands for a version exactly where it is the version's, and the version is supported
+pub supported_version_is : (number : ℕ) (version : Version) → (supported_version number ≡ Some version) ↔ ((number ≡ version_number version) × (5 ≤ version_number version))
+supported_version_is number version = (
+  λ found.
+      let both = found_passes (λ v. eqb (version_number v) number) (λ v. leb 5 (version_number v)) supported_versions version refl found in
+      (sym (eqb-true _ _ both.0), leb-true _ _ both.1),
+  λ is. ap supported_version is.0 ∙ found_again version is.1,
+)

@@ -4,7 +4,7 @@ use Rattle.std.specs.Fmt.{decimal, comma_space}
 use Rattle.std.specs.List.{join_by}
 use Rattle.std.specs.Str.{is_utf8}
 
--- The text of bytes in a line: `'text'` where they are UTF-8, else the decimal list, as `[255, 1]`.
+-- The text of bytes in a line: `'text'` where they are UTF-8, otherwise the decimal list, as `[255, 1]`.
 abbrev pub bytes_text : List ℕ → List ℕ
 bytes_text bytes = if is_utf8 bytes
     then codes "'" ++ (bytes ++ codes "'")

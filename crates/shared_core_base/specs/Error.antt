@@ -13,7 +13,7 @@ use Rattle.shared_core_base.specs.declared.error.Error.{Error}
 use Rattle.shared_core_base.specs.declared.error.ErrorBehavior.{ErrorBehavior}
 use Rattle.shared_core_base.specs.declared.error.ErrorBehavior.TheVariants.{Retry, Pause}
 
--- The code that a number stands for: itself where it has 16 bits, else the code of an internal error.
+-- The code that a number denotes: itself where it has 16 bits, otherwise the code of an internal error.
 abbrev pub code_of_number : ℕ → ℕ
 code_of_number number = if nat_lt number (2 ^ 16) then number else 500
 

@@ -1,3 +1,5 @@
+pub mod TypeTable
+pub mod CommandTable
 pub mod MessageType
 pub mod CommandType
 pub mod MessageHeader

@@ -1,9 +1,9 @@
--- The eight bytes in front of a payload, as a number, the first byte highest: the type's code in bits 48 to 63, the
--- request for an acknowledgement in bit 47, the payload's length in bits 0 to 31.
+-- The eight bytes before a payload, as a number, the first byte highest: the type's code in bits 48 to 63, the request
+-- for an acknowledgement in bit 47, the payload's length in bits 0 to 31.
 use Rattle.std.specs.Prelude.{◌≡◌, ℕ, ◌+◌, ◌*◌, ◌/◌, ◌%◌, ◌^◌, Bool, true, Option, Some, None, Result, Ok, Err, ◌==◌, if◌then◌else◌}
 use Rattle.std.specs.Option.{option_map}
-use Rattle.shared_core_base.specs.declared.header.MessageHeader.{MessageHeader}
-use Rattle.shared_core_base.specs.declared.header.UnknownMessageType.{UnknownMessageType}
+use Rattle.shared_core_base.specs.declared.message_header.MessageHeader.{MessageHeader}
+use Rattle.shared_core_base.specs.declared.type_kinds.UnknownMessageType.{UnknownMessageType}
 use Rattle.shared_core_base.specs.MessageType.{code_of, type_of, allows_ack}
 
 -- The code in a header word.
@@ -14,8 +14,8 @@ word_code word = word / 2 ^ 48
 abbrev pub word_length : ℕ → ℕ
 word_length word = word % 2 ^ 32
 
--- The header that a word stands for, if its code stands for a type. Only a type that allows it has a flag; bits 32 to 46
--- say nothing, nor does bit 47 where the type has no flag.
+-- The header that a word denotes, if its code denotes a type. Only a type that allows it has a flag; bits 32 to 46 say
+-- nothing, nor does bit 47 where the type has no flag.
 unfoldable pub header_of : ℕ → Option MessageHeader
 header_of word =
     option_map
@@ -35,7 +35,7 @@ ack_bit flag = 0
 unfoldable pub word_of : MessageHeader → ℕ
 word_of header = code_of header.ty * 2 ^ 48 + ack_bit header.requested_ack * 2 ^ 47 + header.length
 
--- Reading a word answers the header that it stands for, or hands its code back where it stands for none.
+-- Reading a word returns the header that it denotes, or its code if it denotes none.
 abbrev pub ReadsHeader : ℕ → Result MessageHeader UnknownMessageType → Type 0
 ReadsHeader word (Ok header) = header_of word ≡ Some header
 ReadsHeader word (Err unknown) = (header_of word ≡ None) × (unknown.0 ≡ word_code word)

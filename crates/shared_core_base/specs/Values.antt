@@ -1,4 +1,4 @@
--- The values that the layer above takes and gives.
+-- The values that the SDK state machine takes and gives.
 use Rattle.std.specs.Prelude.{ℕ, List, Option, option_map, map, codes}
 use Rattle.std.specs.Cow.{cow_str_bytes}
 use Rattle.std.specs.String.{string_bytes}

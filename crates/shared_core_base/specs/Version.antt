@@ -1,5 +1,5 @@
 -- The versions of the protocol, and the content types that name them.
-use Rattle.std.specs.Prelude.{◌≡◌, ◌≢◌, ℕ, List, [], ◌++◌, codes, decimal, true, false, Result, Ok, Err, nat_eq}
+use Rattle.std.specs.Prelude.{◌≡◌, ◌≢◌, ◌==◌, ℕ, Bool, List, [], ◌∷◌, ◌++◌, codes, decimal, true, false, Option, Result, Ok, Err, nat_eq, nat_le, nat_lt, find}
 use Rattle.std.specs.List.{starts_with}
 use Rattle.std.specs.String.{string_bytes}
 use Rattle.shared_core_base.specs.declared.version.Version.{Version}
@@ -19,11 +19,31 @@ version_number V7 = 7
 version_number V8 = 8
 version_number V9 = 9
 
+-- The versions that are supported.
+abbrev pub supported_versions : List Version
+supported_versions = V5 ∷ V6 ∷ V7 ∷ V8 ∷ V9 ∷ []
+
+-- The supported version that has the number.
+abbrev pub supported_version : ℕ → Option Version
+supported_version number = find (λ version. version_number version == number) supported_versions
+
+-- Whether a version skips a message of an unknown type with its payload: from V9 on.
+abbrev pub skips_unknown_messages : Version → Bool
+skips_unknown_messages version = nat_le 9 (version_number version)
+
+-- Whether a suspension has the lists of all futures that are awaited, in place of their tree: before V7.
+abbrev pub has_flat_suspensions : Version → Bool
+has_flat_suspensions version = nat_lt (version_number version) 7
+
+-- Whether the proposal of a run's result requests an acknowledgement: from V7 on.
+abbrev pub requests_acknowledgement : Version → Bool
+requests_acknowledgement version = nat_le 7 (version_number version)
+
 -- What the content types of the protocol begin with.
 abbrev pub restate_content_types : List ℕ
 restate_content_types = codes "application/vnd.restate.invocation."
 
--- The content type of a version: `v` and the version's number stand at its end.
+-- The content type of a version: `v` and the version's number are at its end.
 abbrev pub content_type_of : Version → List ℕ
 content_type_of version = restate_content_types ++ (codes "v" ++ decimal (version_number version))
 
@@ -31,25 +51,25 @@ content_type_of version = restate_content_types ++ (codes "v" ++ decimal (versio
 abbrev pub NamesNoVersion : List ℕ → Type 0
 NamesNoVersion text = (version : Version) → text ≢ content_type_of version
 
--- A refused text comes back: in the error for the content types of the protocol where it begins as these do, else in the other, unless it is
--- not empty and there was no memory to keep it.
+-- A rejected text is returned: in the error for the content types of the protocol where it begins as these do,
+-- otherwise in the other, unless it is not empty and there was no memory to keep it.
 abbrev pub RefusesContentType : List ℕ → ContentTypeError → Type 0
 RefusesContentType text (RestateContentType kept) = (starts_with nat_eq text restate_content_types ≡ true) × (string_bytes kept ≡ text)
 RefusesContentType text (OtherContentType kept) = (starts_with nat_eq text restate_content_types ≡ false) × (string_bytes kept ≡ text)
 RefusesContentType text OutOfMemory = text ≢ []
 
--- Reading a text answers the version whose content type it is, and refuses the text of no version.
+-- Reading a text returns the version whose content type it is, and rejects the text of no version.
 abbrev pub ReadsVersion : List ℕ → Result Version ContentTypeError → Type 0
 ReadsVersion text (Ok version) = text ≡ content_type_of version
 ReadsVersion text (Err refusal) = NamesNoVersion text × RefusesContentType text refusal
 
--- The code of a refusal: that of a media type which is not supported, or of want of memory.
+-- The code of an error: that of a media type which is not supported, or of a failed allocation.
 abbrev pub content_type_error_code : ContentTypeError → ℕ
 content_type_error_code (RestateContentType kept) = 415
 content_type_error_code (OtherContentType kept) = 415
 content_type_error_code OutOfMemory = 500
 
--- The text of a refusal, with the text that was refused.
+-- The text of an error, with the text that was rejected.
 abbrev pub content_type_error_text : ContentTypeError → List ℕ
 content_type_error_text (RestateContentType kept) = codes "unsupported protocol version '" ++ (string_bytes kept ++ codes "'")
 content_type_error_text (OtherContentType kept) =

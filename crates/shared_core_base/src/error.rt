@@ -11,7 +11,7 @@ use std::borrow::CowStr;
 use std::time::Duration;
 use std::{error, fmt};
 
-/// A request for memory was refused.
+/// An allocation failed.
 #[derive(Clone, Copy, Debug, PartialEq, Eq)]
 pub struct OutOfMemory;
 
@@ -82,7 +82,7 @@ impl From<u16> for InvocationErrorCode {
     }
 }
 
-/// A number above 65,535 is no code, and stands for `INTERNAL`.
+/// A number above 65,535 is no code, and denotes `INTERNAL`.
 impl From<u32> for InvocationErrorCode {
     ghost from_gives = { λ number code. code ≡ record { 0 = code_of_number number } };
 
@@ -229,7 +229,7 @@ impl fmt::Display for NotificationMetadata {
     }
 }
 
-/// The error that an invocation ends with: a code and a message, and what the service is told beside them.
+/// The error that an invocation ends with: a code and a message, and what the service is given beside them.
 #[derive(Debug, Drop, PartialEq, Eq)]
 pub struct Error {
     code: u16,
@@ -259,7 +259,7 @@ impl Error {
         }
     }
 
-    /// An error of the code `INTERNAL`, else as `new` makes it.
+    /// An error of the code `INTERNAL`, otherwise as `new` makes it.
     pub fn internal(message: CowStr<'static>) -> Error
         ensures { result ≡ record {
           code = 500;
@@ -335,7 +335,7 @@ impl Error {
         self
     }
 
-    /// Whether this is the error that `suspended` answers, in each of its parts.
+    /// Whether this is the error that `suspended` returns, in each of its parts.
     pub fn is_suspended_error(&self) -> bool
         ensures { IsTrue result ↔ (error_parts self.now ≡ suspended_parts) }
     {
@@ -343,7 +343,8 @@ impl Error {
     }
 }
 
-/// Prints `(code) message`, and behind it, where the error names a command, a line feed and `Related command: ` with its metadata.
+/// Prints `(code) message`, and after it, where the error names a command, a line feed and `Related command: ` with its
+/// metadata.
 impl fmt::Display for Error {
     ghost output = { λ error. Some (error_text error) };
 

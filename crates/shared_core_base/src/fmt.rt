@@ -18,7 +18,7 @@ pub struct DiffFormatter<'a, W> {
 }
 
 impl<'a, W: Write> DiffFormatter<'a, W> {
-    /// Writes to the formatter, each line behind the indentation.
+    /// Writes to the formatter, each line after the indentation.
     pub fn new(fmt: &'a mut Formatter<W>, indentation: &'static str) -> DiffFormatter<'a, W>
         ensures same_reference { result.fmt.ghost_name ≡ fmt.entry.ghost_name }
         ensures target { result.fmt.now ≡ fmt.old }
@@ -69,7 +69,7 @@ pub fn as_utf8(bytes: &[u8]) -> Option<&str>
     }
 }
 
-/// Prints bytes as they stand in a line: `'text'` where they are UTF-8, else the decimal list, as `[255, 1]`.
+/// Prints bytes as they are in a line: `'text'` where they are UTF-8, otherwise the decimal list, as `[255, 1]`.
 #[derive(Clone, Copy)]
 pub struct BytesText<'a>(pub &'a [u8]);
 
@@ -88,7 +88,7 @@ impl<'a> Display for BytesText<'a> {
     }
 }
 
-/// What stands in a list that prints, with one text each.
+/// What is in a list that prints, with one text each.
 pub trait ListItem {
     /// The text of an item.
     ghost text: { Self → List ℕ };

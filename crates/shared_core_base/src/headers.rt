@@ -1,4 +1,4 @@
-//! Headers of a request, as the layer above hands them in.
+//! Headers of a request, as the SDK state machine passes them.
 ghost use Rattle.std.specs.Prelude.{◌≡◌, ℕ, List, Option, IfOk, IsOk};
 ghost use Rattle.std.specs.Option.{option_copied};
 ghost use Rattle.std.specs.Str.{str_eq_ignore_ascii_case};
@@ -9,7 +9,7 @@ use std::fmt;
 
 /// A collection of headers in which a value is found by its name.
 pub trait HeaderMap {
-    /// Why a value that is there cannot be answered.
+    /// Why a value that is there cannot be returned.
     type Error: fmt::Debug;
 
     /// The value of the header of a name, if there is one.

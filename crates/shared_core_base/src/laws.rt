@@ -24,8 +24,8 @@ use crate::version::{ContentTypeError, Version};
 use std::alloc::{AllocError, Global};
 use std::cmp::Ordering;
 
-/// A named type's code stands for it, and a custom entry's exactly where no named type has the code and one of its upper
-/// six bits is set. The type that a code stands for has that code.
+/// A named type's code denotes it, and a custom entry's exactly where no named type has the code and one of its upper
+/// six bits is set. The type that a code denotes has that code.
 #[tactic(auto, using(crate::proofs::Types::code_of_type, crate::proofs::Types::type_of_code, crate::proofs::Types::type_of_custom))]
 pub fn codes_convert_back()
     ensures named { (ty : AnyType) → IsNamed ty → type_of (code_of ty) ≡ Some ty }
@@ -34,8 +34,8 @@ pub fn codes_convert_back()
     ensures read { (code : ℕ) (ty : AnyType) → type_of code ≡ Some ty → code_of ty ≡ code }
 {}
 
-/// Every command type comes back from its message type, but `CancelInvocation`, which is sent as a signal and comes back
-/// as `SendSignal`.
+/// Every command type is recovered from its message type, but `CancelInvocation`, which is sent as a signal and
+/// becomes `SendSignal`.
 pub fn command_types_convert_back(command: CommandType) -> Result<CommandType, MessageType>
     ensures sent { command ≢ CommandType.CancelInvocation → result ≡ Ok command }
     ensures cancelled { command ≡ CommandType.CancelInvocation → result ≡ Ok CommandType.SendSignal }
@@ -43,7 +43,7 @@ pub fn command_types_convert_back(command: CommandType) -> Result<CommandType, M
     CommandType::try_from(MessageType::from(command))
 }
 
-/// A message type that has a command type converts to it; one that has none is refused, and comes back as it was.
+/// A message type that has a command type converts to it; one that has none is rejected, and is returned as it was.
 pub fn refused_types_come_back(ty: MessageType) -> Result<CommandType, MessageType>
     ensures { result ≡ ok_or (command_type_of ty) ty }
 {
@@ -108,7 +108,7 @@ pub fn equal_versions(a: Version, b: Version) -> bool
     a == b
 }
 
-/// A clone equals its source, and takes no memory.
+/// A clone equals its source, and does not allocate.
 pub fn clone_each(
     ty: &MessageType,
     header: &MessageHeader,
@@ -119,7 +119,7 @@ pub fn clone_each(
     Ok((ty.clone()?, header.clone()?, version.clone()?))
 }
 
-/// A clone of a command type equals its source, and takes no memory.
+/// A clone of a command type equals its source, and does not allocate.
 pub fn clone_command_type(command: &CommandType) -> Result<CommandType, AllocError>
     ensures { result ≡ Ok command.now }
 {
@@ -195,7 +195,7 @@ pub fn equal_relationships(a: &CommandRelationship, b: &CommandRelationship) -> 
     a == b
 }
 
-/// A clone of a code, a behavior or options equals its source, and takes no memory.
+/// A clone of a code, a behavior or options equals its source, and does not allocate.
 pub fn clone_small(
     code: &InvocationErrorCode,
     behavior: &ErrorBehavior,

@@ -1,4 +1,4 @@
-//! The values that the layer above takes and gives.
+//! The values that the SDK state machine takes and gives.
 ghost use Rattle.std.specs.Prelude.{◌≡◌, true, false};
 ghost use Rattle.shared_core_base.specs.Values.{variant_name_of, value_of_non_empty};
 
@@ -15,9 +15,9 @@ pub enum Value {
     Success(Bytes),
     /// The call failed for good.
     Failure(TerminalFailure),
-    /// The keys of the state, which only a read of the keys answers.
+    /// The keys of the state, the result of a read of the keys alone.
     StateKeys(Vec<String>),
-    /// The id of the invocation that a call made, which only a call answers.
+    /// The id of the invocation that a call made, the result of a call alone.
     InvocationId(String),
 }
 
@@ -36,10 +36,10 @@ impl Value {
     }
 }
 
-/// The outcome of what answers a value or fails for good.
+/// The result of an operation that has a value or fails for good.
 #[derive(Debug, Drop)]
 pub enum NonEmptyValue {
-    /// It answered these bytes.
+    /// The value, as bytes.
     Success(Bytes),
     /// It failed for good.
     Failure(TerminalFailure),
@@ -62,7 +62,7 @@ impl From<NonEmptyValue> for Value {
 pub struct TerminalFailure {
     /// The code, as of HTTP statuses.
     pub code: u16,
-    /// What went wrong, in words.
+    /// A description of what went wrong.
     pub message: String,
     /// Further pairs of a key and a value, in order.
     pub metadata: Vec<(String, String)>,
@@ -104,7 +104,7 @@ impl PayloadOptions {
     }
 }
 
-/// The command that an error is about, as the layer above names it.
+/// The command that an error is about, as the SDK state machine names it.
 #[derive(Debug, Drop, PartialEq, Eq)]
 pub enum CommandRelationship {
     /// The last command.

@@ -1,7 +1,22 @@
 //! The versions of the protocol, and the content types that name them.
-ghost use Rattle.std.specs.Prelude.{◌≡◌, IfOk, Some};
-ghost use Rattle.shared_core_base.specs.Version.{content_type_of, ReadsVersion, RefusesContentType, content_type_error_code, content_type_error_text};
+ghost use Rattle.std.specs.Prelude.{◌≡◌, ◌↔◌, ◌≤◌, IfOk, Some, decimal, map};
+ghost use Rattle.shared_core_base.specs.Version.{
+  version_number,
+  supported_version,
+  supported_versions,
+  skips_unknown_messages,
+  has_flat_suspensions,
+  requests_acknowledgement,
+};
+ghost use Rattle.shared_core_base.specs.Version.{
+  content_type_of,
+  ReadsVersion,
+  RefusesContentType,
+  content_type_error_code,
+  content_type_error_text,
+};
 ghost use Rattle.shared_core_base.specs.Error.{IsErrorOf};
+ghost use Rattle.shared_core_base.specs.declared.version.Version.{Version as AnyVersion};
 
 use crate::error::{Error, InvocationErrorCode, OutOfMemory, codes, error_of};
 use crate::text::copy_text;
@@ -9,7 +24,7 @@ use std::alloc::Global;
 use std::fmt::Display;
 use std::{error, fmt};
 
-/// A version of the protocol, ordered by its number. The first that is still spoken is V5.
+/// A version of the protocol, ordered by its number. The first that is supported is V5.
 #[derive(Clone, Copy, Debug, PartialEq, Eq, PartialOrd, Ord)]
 pub enum Version {
     V1,
@@ -44,7 +59,7 @@ impl Version {
         }
     }
 
-    /// The first version that is still spoken.
+    /// The first supported version.
     pub fn minimum_supported_version() -> Version
         ensures { result ≡ Version.V5 }
     {
@@ -58,11 +73,75 @@ impl Version {
         Version::V9
     }
 
+    /// The version's number: 5 for V5.
+    pub fn number(self) -> u32
+        ensures { result ≡ version_number self }
+    {
+        match self {
+            Version::V1 => 1,
+            Version::V2 => 2,
+            Version::V3 => 3,
+            Version::V4 => 4,
+            Version::V5 => 5,
+            Version::V6 => 6,
+            Version::V7 => 7,
+            Version::V8 => 8,
+            Version::V9 => 9,
+        }
+    }
+
+    /// The supported version that has this number.
+    #[tactic(auto, using(crate::proofs::Versions::supported_version_is))]
+    pub fn from_number(number: u32) -> Option<Version>
+        ensures supported { result ≡ supported_version number }
+        ensures exact { (version : AnyVersion) → (result ≡ Some version)
+            ↔ ((number ≡ version_number version) × (5 ≤ version_number version)) }
+    {
+        match number {
+            5 => Some(Version::V5),
+            6 => Some(Version::V6),
+            7 => Some(Version::V7),
+            8 => Some(Version::V8),
+            9 => Some(Version::V9),
+            _ => None,
+        }
+    }
+
+    /// The numbers of the supported versions in digits, for the arguments of programs.
+    #[tactic(auto, using(std::proofs::lemmas::Fmt::decimal_digit))]
+    pub fn supported_numbers() -> &'static [&'static str]
+        ensures { map (λ digits. digits.now) result.now
+            ≡ map (λ version. decimal (version_number version)) supported_versions }
+    {
+        &["5", "6", "7", "8", "9"]
+    }
+
+    /// Whether a message of an unknown type is skipped with its payload: from V9 on. Before, only its header is.
+    pub fn skips_unknown_messages(self) -> bool
+        ensures { result ≡ skips_unknown_messages self }
+    {
+        self >= Version::V9
+    }
+
+    /// Whether a suspension has three lists of all futures that are awaited, and not their tree: before V7.
+    pub fn has_flat_suspensions(self) -> bool
+        ensures { result ≡ has_flat_suspensions self }
+    {
+        self < Version::V7
+    }
+
+    /// Whether the proposal of a run's result requests an acknowledgement in its header: from V7 on.
+    pub fn requests_acknowledgement(self) -> bool
+        ensures { result ≡ requests_acknowledgement self }
+    {
+        self >= Version::V7
+    }
+
     /// Reads the content type of a version.
     ///
-    /// A text that names no version is refused, and comes back in the error: `RestateContentType` where it begins as a
-    /// content type of the protocol does, else `OtherContentType`. `OutOfMemory` comes only where such a text cannot be kept,
-    /// and never for an empty one.
+    /// A text that names no version is rejected, and is returned in the error: `RestateContentType` where it begins as
+    /// a content type of the protocol does, else `OtherContentType`. `OutOfMemory` comes only where such a text cannot
+    /// be kept, and never for an empty one.
     #[tactic(auto, using(std::proofs::lemmas::Fmt::decimal_digit))]
     pub fn from_str(alloc: Global, text: &str) -> Result<Version, ContentTypeError>
         ensures { ReadsVersion text.now result }
@@ -82,7 +161,7 @@ impl Version {
     }
 }
 
-/// Why a text that names no version is refused.
+/// Why a text that names no version is rejected.
 #[tactic(auto, using(std::proofs::lemmas::Str::Pattern::starts_text))]
 fn refusal(alloc: Global, text: &str) -> ContentTypeError
     ensures { RefusesContentType text.now result }
@@ -115,12 +194,12 @@ pub enum ContentTypeError {
     RestateContentType(String),
     /// The text is no content type of the protocol.
     OtherContentType(String),
-    /// The text names no version, and a request for memory to keep it was refused.
+    /// The text names no version, and the allocation to keep it failed.
     OutOfMemory,
 }
 
 impl ContentTypeError {
-    /// The code: `UNSUPPORTED_MEDIA_TYPE` where the text was refused, `INTERNAL` for want of memory.
+    /// The code: `UNSUPPORTED_MEDIA_TYPE` where the text was rejected, `INTERNAL` for a failed allocation.
     pub fn code(&self) -> InvocationErrorCode
         ensures { result.0 ≡ content_type_error_code self.now }
     {
@@ -140,7 +219,7 @@ impl ContentTypeError {
     }
 }
 
-/// Prints the text that was refused, and why.
+/// Prints the text that was rejected, and why.
 impl Display for ContentTypeError {
     ghost output = { λ error. Some (content_type_error_text error) };
 

@@ -1,21 +1,22 @@
--- What of a command is compared, and what is printed where two of them differ.
+-- What is compared of a command, and what is printed if two of them differ.
 use Rattle.std.specs.Prelude.{ℕ, List, [], ◌∷◌, codes, nat_eq, if◌then◌else◌}
 use Rattle.shared_core_wire.specs.Schema.{Row, numbers, includes}
 use Rattle.shared_core_wire.specs.Value.{Part, Parts, Absent, nil, cons}
 use Rattle.shared_core_record.specs.Table as schema
 use Rattle.shared_core_record.specs.Table.{table}
 
--- The fields of a command that are not compared, and those that are printed. A field is known by its number, a oneof that is printed by
--- the least number of its members.
+-- The fields of a command that are not compared, and those that are printed. A field is identified by its number, a
+-- printed oneof by the least number of its members.
 pub record CommandFields : Type 0 where
   -- never compared, since replay may change them
   pub not_compared : List ℕ
-  -- payloads, which are not compared where payloads are ignored
+  -- payloads, which are not compared if payloads are ignored
   pub payloads : List ℕ
-  -- printed in this order under these names, where they differ
+  -- printed in this order under these names, if they differ
   pub printed : List (ℕ × List ℕ)
 
--- The commands, by their schemas. The code of a command in this crate is written from its entry (tools/generate.py).
+-- The commands, by their schemas. The code of a command in this crate is generated
+-- (tools/generate.py commands), and proved against its entry.
 abbrev pub commands : List (ℕ × CommandFields)
 commands = (
   schema.input_command,
@@ -202,7 +203,7 @@ commands = (
     )
     ∷ []
 
--- The entry of a schema in such a list; one without fields where there is none.
+-- The entry of a schema in such a list, or one without fields.
 abbrev pub entry_of : List (ℕ × CommandFields) → ℕ → CommandFields
 entry_of [] s = record { not_compared = []; payloads = []; printed = [] }
 entry_of (entry ∷ entries) s = if nat_eq s entry.0 then entry.1 else entry_of entries s
@@ -213,12 +214,12 @@ command_fields s = entry_of commands s
 
 -- ---- what a command holds
 
--- The first of some parts; absent where there is none.
+-- The first of some parts, or absent.
 abbrev pub first_part : Parts → Part
 first_part nil = Absent
 first_part (cons p ps) = p
 
--- The parts behind the first.
+-- The parts after the first.
 abbrev pub rest_parts : Parts → Parts
 rest_parts nil = nil
 rest_parts (cons p ps) = ps

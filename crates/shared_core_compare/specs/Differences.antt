@@ -1,4 +1,4 @@
--- The difference of two commands, as it is printed: what values print, and the lines.
+-- The printed difference of two commands: what values print, and the lines.
 use Rattle.std.specs.Prelude.{ℕ, Bool, true, ◌&&◌, ◌||◌, not, List, [], ◌∷◌, map, flat_map, filter, nat_eq, codes, if◌then◌else◌}
 use Rattle.std.specs.Fmt.{decimal, comma_space}
 use Rattle.std.specs.List.{join_by, list_any}
@@ -61,7 +61,7 @@ abbrev pub member_text : List (ℕ × Kind) → Part → List ℕ
 member_text members (Member n p) = kind_text (member_kind members n) p
 member_text members p = []
 
--- What may be absent prints `<empty>` where it is.
+-- What an optional part prints: `<empty>` if it is absent.
 abbrev pub present_text : (Part → List ℕ) → Part → List ℕ
 present_text text p = if is_present p then text p else codes "<empty>"
 
@@ -78,7 +78,7 @@ row_text (OneOf members) = present_text (member_text members)
 
 -- ---- lines
 
--- The line of a field, at an indentation, with what prints it: none where the two are the same.
+-- The line of a field, at an indentation, with what prints it: none if the two are equal.
 unfoldable pub field_line : List ℕ → List ℕ → (Part → List ℕ) → Part → Part → List ℕ
 field_line indentation field text actual expected =
     if part_equal actual expected then [] else diff_line indentation field (text actual) (text expected)

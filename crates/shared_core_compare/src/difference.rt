@@ -1,4 +1,4 @@
-//! How two commands differ, in lines for people.
+//! Human-readable differences of two commands, and the helpers that write their lines.
 
 ghost use Rattle.std.specs.Prelude.{◌≡◌, true, IsSome, Some, [], unwrap_or, if◌then◌else◌};
 ghost use Rattle.std.specs.Fmt.{WritesOnOk};
@@ -21,10 +21,11 @@ use shared_core_record::record::WireRecord;
 use std::fmt;
 use std::fmt::{Display, Formatter};
 
-/// Commands whose difference can be printed: a line for each field that a person looks at, where the two differ. Which fields these are, in what
-/// order and under what names, is this project's own table, as the Rust has it (`commands`); it knows nothing of payloads that are ignored.
+/// Commands whose difference can be printed: a line for each printed field in which the two differ. The fields, their
+/// order and their names are this project's own table, as in the Rust crate (`commands`); it does not know about
+/// ignored payloads.
 pub trait CommandMessageHeaderDiff: WireRecord {
-    /// Writes the lines, each behind the indentation. It fails where the writer fails. (For the code of commands.)
+    /// Writes the lines, each after the indentation. Fails if the writer fails. (For the code of commands.)
     fn write_lines<W: fmt::Write>(
         &self,
         expected: &Self,
@@ -34,11 +35,12 @@ pub trait CommandMessageHeaderDiff: WireRecord {
         ensures { WritesOnOk W.write_str_gives f.old result
             (difference Self.schema indentation.now (Self.parts self.now) (Self.parts expected.now)) f.new };
 
-    /// Each field that is compared is printed, or is the name.
+    /// Each compared field is printed, or is the name.
     ghost printed_whole: { is_printed_whole Self.schema ≡ true };
 
-    /// Writes a line for each printed field in which this command, the actual one, differs from the expected one: a line feed, the formatter's
-    /// indentation and `field: actual != expected`. It fails only where the writer fails, which tests show.
+    /// Writes a line for each printed field in which this command, the actual one, differs from the expected one: a
+    /// line feed, the formatter's indentation and `field: actual != expected`. Fails only if the writer fails, which
+    /// tests show.
     final fn write_diff<W: fmt::Write>(
         &self,
         expected: &Self,
@@ -52,7 +54,7 @@ pub trait CommandMessageHeaderDiff: WireRecord {
     }
 }
 
-/// Writes the line of a field, unless the two are the same.
+/// Writes the line of a field, unless the two are equal.
 fn write_unless<W: fmt::Write, A: Display + Drop, E: Display + Drop>(
     f: &mut Formatter<W>,
     indentation: &str,
@@ -73,7 +75,7 @@ fn write_unless<W: fmt::Write, A: Display + Drop, E: Display + Drop>(
     }
 }
 
-/// Writes the line of a number, unless the two are the same.
+/// Writes the line of a number, unless the two are equal.
 #[tactic(auto, unfolding(crate::specs::Differences::field_line))]
 pub(crate) fn write_number<W: fmt::Write>(
     f: &mut Formatter<W>,
@@ -87,7 +89,7 @@ pub(crate) fn write_number<W: fmt::Write>(
     write_unless(f, indentation, actual == expected, field, actual, expected)
 }
 
-/// Writes the line of a text, unless the two are the same.
+/// Writes the line of a text, unless the two are equal.
 #[tactic(auto, unfolding(crate::specs::Differences::field_line))]
 pub(crate) fn write_text<W: fmt::Write>(
     f: &mut Formatter<W>,
@@ -101,7 +103,7 @@ pub(crate) fn write_text<W: fmt::Write>(
     write_unless(f, indentation, actual == expected, field, actual, expected)
 }
 
-/// Writes the line of bytes, unless the two are the same.
+/// Writes the line of bytes, unless the two are equal.
 #[tactic(auto, unfolding(crate::specs::Differences::field_line))]
 pub(crate) fn write_bytes<W: fmt::Write>(
     f: &mut Formatter<W>,
@@ -122,15 +124,15 @@ pub(crate) fn write_bytes<W: fmt::Write>(
     )
 }
 
-/// A text that may be absent, as it stands in a line.
+/// An optional text, as it prints in a line.
 #[derive(Clone, Copy)]
 struct OptionalText<'a>(&'a Option<String>);
 
-/// A message that may be absent, as it stands in a line.
+/// An optional message, as it prints in a line.
 #[derive(Clone, Copy)]
 struct OptionalMessage<'a, M>(&'a Option<M>);
 
-/// A oneof that may be absent, as it stands in a line.
+/// An optional oneof, as it prints in a line.
 #[derive(Clone, Copy)]
 struct OptionalOneOf<'a, T>(&'a Option<T>);
 
@@ -167,7 +169,7 @@ impl<'a, T: PrintedOneOf> Display for OptionalOneOf<'a, T> {
     }
 }
 
-/// Writes the line of an optional text, unless the two are the same.
+/// Writes the line of an optional text, unless the two are equal.
 #[tactic(auto, unfolding(crate::specs::Differences::field_line))]
 pub(crate) fn write_optional_text<W: fmt::Write>(
     f: &mut Formatter<W>,
@@ -188,7 +190,7 @@ pub(crate) fn write_optional_text<W: fmt::Write>(
     )
 }
 
-/// Writes the line of a message, unless the two are the same.
+/// Writes the line of a message, unless the two are equal.
 #[tactic(auto, unfolding(crate::specs::Differences::field_line))]
 pub(crate) fn write_message<W: fmt::Write, M: PrintedMessage>(
     f: &mut Formatter<W>,
@@ -209,7 +211,7 @@ pub(crate) fn write_message<W: fmt::Write, M: PrintedMessage>(
     )
 }
 
-/// Writes the line of a oneof, unless the two are the same.
+/// Writes the line of a oneof, unless the two are equal.
 #[tactic(auto, unfolding(crate::specs::Differences::field_line))]
 pub(crate) fn write_oneof<W: fmt::Write, T: PrintedOneOf>(
     f: &mut Formatter<W>,
@@ -230,7 +232,7 @@ pub(crate) fn write_oneof<W: fmt::Write, T: PrintedOneOf>(
     )
 }
 
-/// Writes the line of headers, unless the two are the same.
+/// Writes the line of headers, unless the two are equal.
 #[tactic(auto, unfolding(crate::specs::Differences::field_line))]
 pub(crate) fn write_headers<W: fmt::Write>(
     f: &mut Formatter<W>,

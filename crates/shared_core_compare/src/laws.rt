@@ -1,5 +1,5 @@
-//! What holds of every command, by the contracts of its calls alone. A law is the contract of a function that does nothing but compare; its
-//! other clauses tie its answers to the commands, so that no other function has them.
+//! Laws of every command, by the contracts of its calls alone. A law is the contract of a function that only compares;
+//! its other clauses tie its results to the commands, so that no other function meets them.
 
 ghost use Rattle.std.specs.Prelude.{◌≡◌, ◌↔◌, IsFalse, IsTrue, List, ℕ, [], false, true};
 ghost use Rattle.shared_core_compare.specs.Commands.{name_part};
@@ -9,7 +9,7 @@ ghost use Rattle.shared_core_compare.specs.Erasure.{AreSame};
 use crate::difference::CommandMessageHeaderDiff;
 use crate::equality::CommandMessageHeaderEq;
 
-/// A command is the same as itself.
+/// `header_eq` is reflexive.
 pub fn each_is_the_same_as_itself<M: CommandMessageHeaderEq>(
     command: &M,
     ignore_payload_equality: bool,
@@ -19,7 +19,7 @@ pub fn each_is_the_same_as_itself<M: CommandMessageHeaderEq>(
     command.header_eq(command, ignore_payload_equality)
 }
 
-/// It does not matter which of two commands is asked.
+/// `header_eq` is symmetric.
 pub fn either_is_asked<M: CommandMessageHeaderEq>(
     a: &M,
     b: &M,
@@ -34,7 +34,7 @@ pub fn either_is_asked<M: CommandMessageHeaderEq>(
     )
 }
 
-/// What is the same as one command is the same as each that this one is the same as.
+/// `header_eq` is transitive.
 pub fn sameness_goes_on<M: CommandMessageHeaderEq>(
     a: &M,
     b: &M,
@@ -53,7 +53,7 @@ pub fn sameness_goes_on<M: CommandMessageHeaderEq>(
     )
 }
 
-/// Commands that are the same with their payloads are the same where payloads are ignored.
+/// Commands that are equal with their payloads are equal without them.
 pub fn the_same_with_payloads_is_the_same_without<M: CommandMessageHeaderEq>(
     a: &M,
     b: &M,
@@ -65,7 +65,7 @@ pub fn the_same_with_payloads_is_the_same_without<M: CommandMessageHeaderEq>(
     (a.header_eq(b, false), a.header_eq(b, true))
 }
 
-/// Where commands are not the same with their payloads, their names differ or their difference has at least one line.
+/// If two commands differ with their payloads, their names differ or their difference has at least one line.
 pub fn what_differs_is_named_or_printed<M: CommandMessageHeaderEq + CommandMessageHeaderDiff>(
     a: &M,
     b: &M,

@@ -1,4 +1,4 @@
-//! The names of commands.
+//! The names of commands, lent or copied.
 
 ghost use Rattle.std.specs.Prelude.{◌≡◌, [], IfOk, IsOk, string_bytes};
 ghost use Rattle.shared_core_wire.specs.Value.{Bytes as Content};
@@ -9,13 +9,13 @@ use shared_core_base::text::copy_text;
 use shared_core_record::record::WireRecord;
 use std::alloc::Global;
 
-/// Commands that people name.
+/// Commands with a name that users give.
 pub trait NamedCommandMessage: WireRecord {
     /// The name of the command, lent.
     fn command_name(&self) -> &str
         ensures { Content result.now ≡ name_part Self.schema (Self.parts self.now) };
 
-    /// The name of the command. It fails where a request for memory was refused, and never where the name is empty.
+    /// Returns a copy of the name. Fails if the allocation fails; a copy of an empty name never fails.
     final fn name(&self, alloc: Global) -> Result<String, OutOfMemory>
         ensures name { IfOk result (λ name. Content (string_bytes name) ≡ name_part Self.schema (Self.parts self.now)) }
         ensures empty { name_part Self.schema (Self.parts self.now) ≡ Content [] → IsOk result }

@@ -1,4 +1,4 @@
-//! What stands in fields, as a difference prints it.
+//! `Display` of the contents of fields, as a difference prints them.
 
 ghost use Rattle.std.specs.Prelude.{◌≡◌};
 ghost use Rattle.std.specs.Fmt.{WritesOnOk};
@@ -16,7 +16,7 @@ use shared_core_record::record::WireRecord;
 use std::fmt;
 use std::fmt::Formatter;
 
-/// A message that stands in another, as a difference prints it.
+/// A nested message, as a difference prints it.
 pub(crate) trait PrintedMessage: WireRecord {
     /// Writes what the message prints.
     fn write_message<W: fmt::Write>(&self, f: &mut Formatter<W>) -> fmt::Result

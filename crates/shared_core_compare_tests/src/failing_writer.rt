@@ -1,4 +1,4 @@
-//! Differences to a writer that fails.
+//! Tests of differences that are written to a failing writer.
 
 use crate::room::Room;
 use crate::steps::read;
@@ -9,15 +9,15 @@ use std::fmt;
 use std::fmt::Formatter;
 use std::test::Fail;
 
-/// A call with something in each field.
+/// A call with a value in each field.
 pub const FULL_CALL: &[u8] =
     b"\x0a\x01a\x12\x01b\x1a\x01c\x22\x06\x0a\x01k\x12\x01v\x2a\x01d\x32\x01e\x3a\x01f\x42\x01g\x50\x01\x58\x02\x62\x01h";
 
-/// How it differs from one with nothing in any.
+/// Its difference from a call without values.
 pub const DIFFERENCE: &str =
     "\n   service_name: a != \n   handler_name: b != \n   parameter: 'c' != ''\n   key: d != \n   headers: k: v != \n   name: h != \n   idempotency_key: e != <empty>\n   scope: f != <empty>\n   limit_key: g != <empty>\n   invocation_id_notification_idx: 1 != 0\n   result_completion_id: 2 != 0";
 
-/// What two calls answer where their difference has so much room, and what stands there then.
+/// The results of two calls if their difference has this much room, and what is written then.
 pub fn write_to_room(
     room: Room,
     actual: &CallCommandMessage,
@@ -28,7 +28,7 @@ pub fn write_to_room(
     (result, f.into_inner())
 }
 
-/// Whether room of this size takes the beginning of the difference and fails, unless it takes all of it.
+/// Whether room of this size takes a prefix of the difference and fails, unless it takes all of it.
 fn takes_beginning(
     alloc: Global,
     size: usize,

@@ -1,5 +1,6 @@
-//! Tests of commands compared and of texts for people: worked pairs with their differences, literal texts, writers that fail and memory
-//! that is refused. Further commands and each of their fields stand as data in the folder conformance.
+//! Tests of the comparison of commands and of human-readable texts: worked pairs with their differences, literal texts,
+//! writers that fail and allocations that fail. Further commands and each of their fields are test vectors of the
+//! folder conformance.
 #![tactic(auto)]
 
 #[cfg(test)]
@@ -10,7 +11,3 @@ mod memory;
 mod room;
 #[cfg(test)]
 mod steps;
-#[cfg(test)]
-mod texts;
-#[cfg(test)]
-mod worked_pairs;

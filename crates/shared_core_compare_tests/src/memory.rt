@@ -1,4 +1,4 @@
-//! What commands answer while all memory is held.
+//! Tests of comparisons while all memory is held.
 
 use crate::failing_writer::{DIFFERENCE, FULL_CALL, write_to_room};
 use crate::room::Room;
@@ -9,7 +9,7 @@ use shared_core::messages::{CallCommandMessage, CommandMessageHeaderEq, NamedCom
 use std::alloc::{AllocError, Global};
 use std::test::Fail;
 
-/// What two calls answer.
+/// The results of two calls.
 #[derive(Drop)]
 struct Answers {
     name: Result<String, OutOfMemory>,
@@ -18,7 +18,8 @@ struct Answers {
     difference: Room,
 }
 
-/// What the call and another one answer while all memory is held, or None where one more request for memory is granted nevertheless.
+/// The results of the call and another one while all memory is held, or None if one more allocation succeeds
+/// nevertheless.
 fn answer_without_memory(
     alloc: Global,
     call: &CallCommandMessage,

@@ -3,7 +3,7 @@
 use std::alloc::{AllocError, Global};
 use std::fmt;
 
-/// A writer with room for so many bytes. It takes what has room, and fails where something has none.
+/// A writer with room for this many bytes. It takes what fits, and fails if something does not.
 #[derive(Drop)]
 pub struct Room {
     left: usize,
@@ -11,7 +11,7 @@ pub struct Room {
 }
 
 impl Room {
-    /// Room for so many bytes, whose memory is there.
+    /// Room for this many bytes, which is allocated.
     pub fn new(alloc: Global, size: usize) -> Result<Room, AllocError> {
         Ok(Room {
             left: size,

@@ -1,11 +1,11 @@
-//! Steps that the tests share. They refuse what does not hold by an error, which costs a proof less than an assertion.
+//! Steps that the tests share. They report a failure by an error, which costs a proof less than an assertion.
 
 use bytes::Bytes;
 use shared_core::wire::WireRecord;
 use std::alloc::Global;
 use std::test::Fail;
 
-/// Refuses what does not hold.
+/// Fails if the condition does not hold.
 pub fn expect(holds: bool, what: &str) -> Result<(), Fail> {
     if holds { Ok(()) } else { Err(Fail::new(what)) }
 }

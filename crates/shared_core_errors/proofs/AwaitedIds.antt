@@ -56,7 +56,7 @@ equal_keys a b = by a b ∙ texts_ties (order_key a) (order_key b)
 id_eq_flips : (a b : Id) → id_eq a b ≡ id_eq b a
 id_eq_flips a b = equal_keys a b ∙ (eq_by_cmp_equiv nat_list_cmp_total).symm (order_key a) (order_key b) ∙ sym (equal_keys b a)
 
--- an id that does not come behind another, and differs from it, comes before it
+-- an id that does not come after another, and differs from it, comes before it
 less_from_sorted : (a b : Id) → is_lt (compare_ids b a) ≡ false → id_eq a b ≡ false → compare_ids a b ≡ Less
 less_from_sorted a b behind differ = by _ refl
   where

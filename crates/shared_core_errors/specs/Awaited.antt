@@ -7,11 +7,12 @@ use Rattle.std.specs.String.{string_bytes}
 use Rattle.shared_core_parts.specs.declared.notification_template.Id.{Id}
 use Rattle.shared_core_parts.specs.declared.notification_template.Id.TheVariants.{CompletionId, SignalId, SignalName}
 
--- Signals stand in the order of these lists: by their ids, signal 1, which cancels, behind all others.
+-- Signals are ordered by these lists: by their ids, with signal 1, which cancels, after all others.
 abbrev pub signal_key : ℕ → List ℕ
 signal_key id = if id == 1 then 3 ∷ [] else 2 ∷ id ∷ []
 
--- Ids stand in the order of these lists: completions by their ids, then named signals by the bytes of their names, then signals.
+-- Ids are ordered by these lists: completions by their ids, then named signals by the bytes of their names, then
+-- signals.
 abbrev pub order_key : Id → List ℕ
 order_key (CompletionId id) = 0 ∷ id ∷ []
 order_key (SignalName name) = 1 ∷ string_bytes name

@@ -4,7 +4,7 @@ use Rattle.std.specs.Fmt.{signed_decimal}
 use Rattle.shared_core_base.specs.declared.header.MessageType.{MessageType}
 use Rattle.shared_core_base.specs.CommandType.{message_type_text}
 
--- How each text on a mismatch of commands begins.
+-- The beginning of each text on a mismatch of commands.
 abbrev pub mismatch_head : List ℕ
 mismatch_head = codes "Found a mismatch between the code paths taken during the previous execution and the paths taken during this execution.\nThis typically happens when some parts of the code are non-deterministic.\n"
 

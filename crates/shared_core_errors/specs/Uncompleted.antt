@@ -14,7 +14,7 @@ id_text (CompletionId id) = codes "completion id " ++ decimal id
 id_text (SignalId id) = codes "signal [" ++ (decimal id ++ codes "]")
 id_text (SignalName name) = codes "Named signal: " ++ string_bytes name
 
--- The line of an awaited id: what is known of it, or else the id itself.
+-- The line of an awaited id: what is known of it, otherwise the id itself.
 abbrev pub line_text : Id → Option NotificationMetadata → List ℕ
 line_text id (Some known) = codes "\n - " ++ notification_metadata_text known
 line_text id None = codes "\n - " ++ id_text id
@@ -23,7 +23,7 @@ line_text id None = codes "\n - " ++ id_text id
 abbrev pub lines_text : (Id → Option NotificationMetadata) → List Id → List ℕ
 lines_text known = flat_map (λ id. line_text id (known id))
 
--- How the text of an await begins.
+-- The beginning of the text of an await.
 abbrev pub uncompleted_head : List ℕ
 uncompleted_head = codes "Found a mismatch between the code paths taken during the previous execution and the paths taken during this execution.\n'await' could not be replayed. This usually means the code was mutated adding an 'await' without registering a new service revision.\nNotifications awaited on this await point:"
 

@@ -1,4 +1,4 @@
-//! A call of a state machine that is closed, and how it is reported.
+//! The error of a call on a closed state machine, and the formatters that print it.
 ghost use Rattle.std.specs.Prelude.{◌≡◌, IfOk, Some};
 ghost use Rattle.std.specs.String.{string_bytes};
 ghost use Rattle.shared_core_base.specs.Error.{IsErrorOf};
@@ -9,14 +9,14 @@ use std::alloc::Global;
 use std::fmt::Formatter;
 use std::{error, fmt};
 
-/// Writes errors in a form of its own, or as they print.
+/// Writes errors in its own form, or as they print.
 pub trait ErrorFormatter: fmt::Debug {
     ghost use Rattle.std.specs.Prelude.{List, ℕ};
 
-    /// The texts of its own that it may write of an event. Where an impl names none, it writes the default text.
+    /// The texts of its own that it may write for an event. An impl that names none writes the default text.
     ghost closed_texts: { Self → List ℕ → List ℕ → Type 0 } = { λ _ _ _. ⊥ };
 
-    /// Writes that the state machine was closed when `event` was invoked. It fails where the writer fails.
+    /// Writes that the state machine was closed when `event` was invoked. Fails if the writer fails.
     fn display_closed_error<W: fmt::Write>(&self, f: &mut Formatter<W>, event: &str) -> fmt::Result
         ensures { WritesSome W.write_str_gives f.old result (IsClosedText (closed_texts self.now) event.now) f.new }
     {
@@ -37,14 +37,14 @@ pub struct ClosedError {
 }
 
 impl ClosedError {
-    /// What was invoked.
+    /// The name of the call.
     pub fn new(event: String) -> ClosedError
         ensures { result ≡ record { event = event } }
     {
         ClosedError { event }
     }
 
-    /// Writes the error in a formatter's form. It fails where the writer fails.
+    /// Writes the error in a formatter's form. Fails if the writer fails.
     pub fn print_with<F: ErrorFormatter, W: fmt::Write>(
         &self,
         formatter: &F,

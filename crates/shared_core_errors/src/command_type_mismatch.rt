@@ -1,4 +1,4 @@
-//! A command of another type than the code expects.
+//! The error of a command whose type is not the one that the code expects.
 ghost use Rattle.std.specs.Prelude.{◌≡◌, IfOk, Some};
 ghost use Rattle.shared_core_base.specs.Error.{IsErrorOf};
 ghost use Rattle.shared_core_errors.specs.Mismatch.{command_type_mismatch_text};
@@ -8,8 +8,8 @@ use shared_core_base::header::MessageType;
 use std::alloc::Global;
 use std::{error, fmt};
 
-/// A command is not of the type that the code expects at its place in the journal. A contract sees it as the record of its
-/// index and its two types.
+/// A command does not have the type that the code expects at its index in the journal. A contract sees it as the record
+/// of its index and its two types.
 #[derive(Debug, Drop)]
 pub struct CommandTypeMismatchError {
     command_index: i64,
@@ -18,7 +18,7 @@ pub struct CommandTypeMismatchError {
 }
 
 impl CommandTypeMismatchError {
-    /// The mismatch at a command index: what was recorded, and what the code attempts now.
+    /// The mismatch at a command index: the recorded type, and the one that the code attempts now.
     pub fn new(
         command_index: i64,
         actual: MessageType,
@@ -49,7 +49,7 @@ impl CommandTypeMismatchError {
     }
 }
 
-/// Says what was recorded and at which command, and what the code attempts.
+/// Prints what was recorded at which command, and what the code attempts.
 impl fmt::Display for CommandTypeMismatchError {
     ghost output = { λ error. Some (command_type_mismatch_text error.command_index error.actual error.expected) };
 

@@ -23,7 +23,7 @@ pub fn missing_content_type() -> Error
     )
 }
 
-/// A message that came is no entry of the journal.
+/// A received message is no entry of the journal.
 pub fn unexpected_input_message() -> Error
     ensures { error_parts result ≡ plain_error 571 (codes "Expected incoming message to be an entry") }
 {
@@ -33,14 +33,14 @@ pub fn unexpected_input_message() -> Error
     )
 }
 
-/// The start message knows of no entry, though the input is always one.
+/// The start message has no known entry, though the input is always one.
 pub fn known_entries_is_zero() -> Error
     ensures { error_parts result ≡ plain_error 500 (codes "Known entries is zero, expected >= 1") }
 {
     constant(codes::INTERNAL, "Known entries is zero, expected >= 1")
 }
 
-/// A message that came during the replay is no entry of the journal.
+/// A message received during the replay is no entry of the journal.
 pub fn unexpected_entry_message() -> Error
     ensures { error_parts result ≡ plain_error 571 (codes "Expected entry messages only when waiting replay entries") }
 {
@@ -50,7 +50,7 @@ pub fn unexpected_entry_message() -> Error
     )
 }
 
-/// The input ended before the journal had come whole.
+/// The input ended before the whole journal was received.
 pub fn input_closed_while_waiting_entries() -> Error
     ensures { error_parts result ≡ plain_error 571 (codes "The input was closed while still waiting to receive all journal to replay") }
 {
@@ -110,7 +110,7 @@ pub fn empty_get_eager_state_keys() -> Error
     )
 }
 
-/// The answer to a read of state that is not recorded holds neither a value nor its absence.
+/// The result of a read of state that is not recorded holds neither a value nor its absence.
 pub fn empty_get_state_ephemeral_notification() -> Error
     ensures { error_parts result ≡ plain_error 571 (codes "Unexpected empty result variant for get state ephemeral notification.") }
 {
@@ -120,7 +120,7 @@ pub fn empty_get_state_ephemeral_notification() -> Error
     )
 }
 
-/// The input ended before the answer to a read of state that is not recorded.
+/// The input ended before the result of a read of state that is not recorded.
 pub fn input_closed_while_waiting_ephemeral_notifications() -> Error
     ensures { error_parts result ≡ plain_error 500 (codes "The input stream was closed while waiting for the result of a get state not recorded in the journal. Getting state without recording it in the journal requires a bidirectional stream between Restate and the service (not available in request/response mode, e.g. AWS Lambda), unless the state value is available in the eager state sent by Restate.") }
 {
@@ -130,7 +130,7 @@ pub fn input_closed_while_waiting_ephemeral_notifications() -> Error
     )
 }
 
-/// A command that is not recorded is attempted during the replay, where its result might be another than it was.
+/// A command that is not recorded is attempted during the replay, where its result might differ.
 pub fn ephemeral_command_during_replay() -> Error
     ensures { error_parts result ≡ plain_error 570 (codes "Cannot execute ephemeral commands (e.g. get state without recording it in the journal) during replay, as their result might differ from the original execution. Ephemeral commands can be used only while processing new journal entries, e.g. within a ctx.run closure. This usually means the code uses them outside a ctx.run closure, or the code was changed.") }
 {

@@ -1,4 +1,4 @@
-//! What holds of the definitions of this crate, whatever the code does, and of the traits that its types derive.
+//! Laws of the definitions of this crate, whatever the code does, and of the traits that its types derive.
 ghost use Rattle.std.specs.Prelude.{◌≡◌, List, Ok, map};
 ghost use Rattle.std.specs.HashMap.{get};
 ghost use Rattle.std.specs.HashSet.{IsSameSet};
@@ -28,7 +28,7 @@ pub fn order_depends_on_the_set(
         ≡ uncompleted_text (get ⟦<NotificationId as PartialEq>⟧.eq metadata.now) ids_of_b }
 {}
 
-/// A clone equals its source, and takes no memory.
+/// A clone equals its source, and does not allocate.
 pub fn clone_each(
     unavailable: &UnavailableEntryError,
     bad_key: &BadEagerStateKeyError,

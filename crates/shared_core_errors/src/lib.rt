@@ -1,4 +1,5 @@
-//! The errors of the protocol beside those of decoding: constant ones, and types that say what went wrong and become the error of an invocation.
+//! The errors of the protocol besides those of decoding: constant ones, and types with fields that convert to the error
+//! of an invocation.
 #![tactic(auto)]
 
 pub mod closed;

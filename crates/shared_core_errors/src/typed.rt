@@ -1,4 +1,4 @@
-//! Errors that hold what went wrong.
+//! Errors with fields that say what went wrong.
 ghost use Rattle.std.specs.Prelude.{◌≡◌, IfOk, Some};
 ghost use Rattle.std.specs.String.{string_bytes};
 ghost use Rattle.shared_core_base.specs.Error.{IsErrorOf};
@@ -18,7 +18,7 @@ pub struct UnavailableEntryError {
 }
 
 impl UnavailableEntryError {
-    /// An entry of this type was to be read.
+    /// The error for an entry of this type.
     pub fn new(expected: MessageType) -> UnavailableEntryError
         ensures { result ≡ record { expected = expected } }
     {
@@ -40,7 +40,7 @@ impl UnavailableEntryError {
     }
 }
 
-/// Says of which type the entry is that was to be read.
+/// Prints the type of the missing entry.
 impl fmt::Display for UnavailableEntryError {
     ghost output = { λ error. Some (unavailable_entry_text error.expected) };
 
@@ -85,7 +85,7 @@ impl UnexpectedStateError {
     }
 }
 
-/// Says the state and the event, each quoted as `Debug` writes a text.
+/// Prints the state and the event, each quoted as by `Debug`.
 impl fmt::Display for UnexpectedStateError {
     ghost output = { λ error. unexpected_state_text error.state.now (string_bytes error.event) };
 
@@ -98,12 +98,12 @@ impl fmt::Display for UnexpectedStateError {
 
 impl error::Error for UnexpectedStateError {}
 
-/// A key of the eager state is no UTF-8.
+/// An eager state key is not UTF-8.
 #[derive(Debug, Clone, Drop)]
 pub struct BadEagerStateKeyError;
 
 impl BadEagerStateKeyError {
-    /// There is one such error: it does not hold the key.
+    /// The error; it does not hold the key.
     pub fn new() -> BadEagerStateKeyError
         ensures { result ≡ record {} }
     {
@@ -125,7 +125,7 @@ impl BadEagerStateKeyError {
     }
 }
 
-/// Says that a key is no UTF-8.
+/// Prints that a key is not UTF-8.
 impl fmt::Display for BadEagerStateKeyError {
     ghost output = { λ _. Some bad_state_key_text };
 
@@ -136,7 +136,7 @@ impl fmt::Display for BadEagerStateKeyError {
 
 impl error::Error for BadEagerStateKeyError {}
 
-/// A feature needs a later version of the protocol than was agreed on.
+/// A feature needs a later version of the protocol than the negotiated one.
 #[derive(Debug, Drop)]
 pub struct UnsupportedFeatureForNegotiatedVersion {
     feature: &'static str,
@@ -145,7 +145,7 @@ pub struct UnsupportedFeatureForNegotiatedVersion {
 }
 
 impl UnsupportedFeatureForNegotiatedVersion {
-    /// The feature's name, the version that was agreed on, and the first that has the feature.
+    /// The feature's name, the negotiated version, and the first one that has the feature.
     pub fn new(
         feature: &'static str,
         current_version: Version,
@@ -179,7 +179,7 @@ impl UnsupportedFeatureForNegotiatedVersion {
     }
 }
 
-/// Says the feature and both versions.
+/// Prints the feature and both versions.
 impl fmt::Display for UnsupportedFeatureForNegotiatedVersion {
     ghost output = { λ error. Some (unsupported_feature_text error.feature.now error.current_version error.minimum_required_version) };
 
@@ -196,14 +196,14 @@ impl fmt::Display for UnsupportedFeatureForNegotiatedVersion {
 
 impl error::Error for UnsupportedFeatureForNegotiatedVersion {}
 
-/// The completion of a run is acknowledged that this attempt did not propose.
+/// The completion of a run that this attempt did not propose is acknowledged.
 #[derive(Debug, Drop)]
 pub struct BadProposeRunCompletionAck {
     completion_id: CompletionId,
 }
 
 impl BadProposeRunCompletionAck {
-    /// The completion id that is acknowledged.
+    /// The acknowledged completion id.
     pub fn new(completion_id: CompletionId) -> BadProposeRunCompletionAck
         ensures { result ≡ record { completion_id = completion_id } }
     {
@@ -225,7 +225,7 @@ impl BadProposeRunCompletionAck {
     }
 }
 
-/// Says the completion id.
+/// Prints the completion id.
 impl fmt::Display for BadProposeRunCompletionAck {
     ghost output = { λ error. Some (unproposed_run_text error.completion_id) };
 
@@ -240,7 +240,7 @@ impl fmt::Display for BadProposeRunCompletionAck {
 
 impl error::Error for BadProposeRunCompletionAck {}
 
-/// A state is read without a record, and the input is closed, so no answer can come.
+/// A state is read that is not recorded, and the input is closed, so that no result can come.
 #[derive(Debug, Drop)]
 pub struct EphemeralStateGetWithClosedInput {
     key: String,
@@ -269,7 +269,7 @@ impl EphemeralStateGetWithClosedInput {
     }
 }
 
-/// Says the state's key.
+/// Prints the state's key.
 impl fmt::Display for EphemeralStateGetWithClosedInput {
     ghost output = { λ error. Some (closed_input_text (string_bytes error.key)) };
 
@@ -289,7 +289,7 @@ impl error::Error for EphemeralStateGetWithClosedInput {}
 pub struct OutOfBoundsDuration(&'static str);
 
 impl OutOfBoundsDuration {
-    /// What the duration is for.
+    /// The purpose of the duration.
     pub fn new(duration_of: &'static str) -> OutOfBoundsDuration
         ensures { result ≡ record { 0 = duration_of.entry } }
     {
@@ -311,7 +311,7 @@ impl OutOfBoundsDuration {
     }
 }
 
-/// Says what the duration is for.
+/// Prints the purpose of the duration.
 impl fmt::Display for OutOfBoundsDuration {
     ghost output = { λ error. Some (long_duration_text error.0.now) };
 

@@ -1,4 +1,4 @@
-//! An await that the journal cannot replay.
+//! The error of an await that the journal cannot replay.
 ghost use Rattle.std.specs.Prelude.{◌≡◌, [], IfOk, IsOk, Some};
 ghost use Rattle.std.specs.Cmp.Lexicographic.{slice_cmp};
 ghost use Rattle.std.specs.Fmt.{WritesOnOk};
@@ -28,8 +28,8 @@ pub struct UncompletedDoProgressDuringReplay {
 }
 
 impl UncompletedDoProgressDuringReplay {
-    /// The awaited ids, and what is known of some of them. `OutOfMemory` where there is no memory to put them in order, and never of no
-    /// ids.
+    /// The error for awaited ids, and what is known of some of them. `OutOfMemory` if the sorted list cannot be
+    /// allocated; an empty set never fails.
     pub fn new(
         alloc: Global,
         notification_ids: HashSet<NotificationId>,
@@ -62,7 +62,7 @@ impl UncompletedDoProgressDuringReplay {
     }
 }
 
-/// The ids in the order in which they print. No ids take no memory.
+/// The ids in the order in which they print. An empty set does not allocate.
 fn ids_in_order(
     alloc: Global,
     ids: HashSet<NotificationId>,
@@ -100,7 +100,7 @@ fn compare_signals(a: u32, b: u32) -> Ordering
     (a == CANCEL_SIGNAL_ID, a).cmp(&(b == CANCEL_SIGNAL_ID, b))
 }
 
-/// Writes the line of an id: what is known of it, or else the id itself. It fails where the writer fails.
+/// Writes the line of an id: what is known of it, otherwise the id itself. Fails if the writer fails.
 fn write_line<W: fmt::Write>(
     f: &mut fmt::Formatter<W>,
     id: &NotificationId,
@@ -119,7 +119,7 @@ fn write_line<W: fmt::Write>(
     }
 }
 
-/// Writes the lines of ids in turn. It fails where the writer fails.
+/// Writes the lines of ids in turn. Fails if the writer fails.
 fn write_lines<W: fmt::Write>(
     f: &mut fmt::Formatter<W>,
     ids: &[NotificationId],
@@ -134,7 +134,7 @@ fn write_lines<W: fmt::Write>(
     Ok(())
 }
 
-/// Says that the await is not recorded, and prints a line for each awaited id.
+/// Prints that the await is not recorded, and a line for each awaited id.
 impl fmt::Display for UncompletedDoProgressDuringReplay {
     ghost output = { λ error. Some (uncompleted_text (get ⟦<NotificationId as PartialEq>⟧.eq error.metadata) error.notification_ids.items) };
 

@@ -2,7 +2,7 @@
 use Rattle.std.specs.Prelude.{ℕ, ◌++◌, Bool, List, length, Option, None}
 use Rattle.std.specs.Int.{w64, to_be_bytes}
 use Rattle.shared_core_base.specs.declared.header.MessageType.{MessageType}
-use Rattle.shared_core_base.specs.declared.header.MessageHeader.{MessageHeader}
+use Rattle.shared_core_base.specs.declared.message_header.MessageHeader.{MessageHeader}
 use Rattle.shared_core_base.specs.MessageHeader.{word_of}
 use Rattle.shared_core_wire.specs.Value.{Parts}
 use Rattle.shared_core_wire.specs.Canonical.{canonical_payload, size}
@@ -13,7 +13,7 @@ use Rattle.shared_core_record.specs.Table.{table}
 abbrev pub header_of_payload : MessageType → Option Bool → List ℕ → MessageHeader
 header_of_payload ty requested_ack payload = record { ty = ty; length = length payload; requested_ack = requested_ack }
 
--- A frame: the eight bytes of the header, the first byte highest, and the payload behind them.
+-- A frame: the eight bytes of the header, in big-endian order, and the payload after them.
 abbrev pub frame : MessageType → Option Bool → List ℕ → List ℕ
 frame ty requested_ack payload = to_be_bytes w64 (word_of (header_of_payload ty requested_ack payload)) ++ payload
 
@@ -23,15 +23,15 @@ pub record WireForm : Type 0 where
   pub parts : Parts
   pub requested_ack : Option Bool
 
--- The payload of a wire form: its one canonical spelling.
+-- The payload of a wire form: its canonical encoding.
 abbrev pub wire_payload : WireForm → List ℕ
 wire_payload form = canonical_payload table form.schema form.parts
 
--- How many bytes the payload of a wire form has.
+-- The number of bytes of the payload of a wire form.
 abbrev pub wire_size : WireForm → ℕ
 wire_size form = size table form.schema form.parts
 
--- The value of a wire form is one of its schema.
+-- The value of a wire form fits its schema.
 abbrev pub WireFits : WireForm → Type 0
 WireFits form = Fits table form.parts (table form.schema)
 
@@ -39,6 +39,6 @@ WireFits form = Fits table form.parts (table form.schema)
 abbrev pub wire_frame : MessageType → WireForm → List ℕ
 wire_frame ty form = frame ty form.requested_ack (wire_payload form)
 
--- What most messages are written as at every version: the record as it stands, without a flag.
+-- What most messages are written as at every version: the record unchanged, without a flag.
 abbrev pub plain_form : ℕ → Parts → WireForm
 plain_form schema parts = record { schema = schema; parts = parts; requested_ack = None }

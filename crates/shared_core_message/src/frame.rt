@@ -1,4 +1,4 @@
-//! The frames of records: a header, and the canonical payload behind it.
+//! Writing a record's frame: a header, and the canonical payload after it.
 
 ghost use Rattle.std.specs.Prelude.{◌≡◌, ◌≤◌, ◌<◌, ◌+◌, ◌^◌, ◌++◌, OnOk, OnErr, Err, length, vec_len, vec_capacity};
 ghost use Rattle.std.specs.Int.{w64, to_be_bytes};
@@ -14,8 +14,8 @@ use crate::restate_message::RestateMessage;
 use shared_core_base::header::MessageHeader;
 use shared_core_record::error::EncodingError;
 
-/// Appends the frame of a record as it stands, with a flag in its header or none. After an error the buffer holds what it
-/// held. Its capacity never shrinks.
+/// Appends the frame of a record, with or without the flag in its header. After an error the buffer is unchanged. Its
+/// capacity never shrinks.
 pub fn encode_frame_into<M: RestateMessage>(
     message: &M,
     requested_ack: Option<bool>,
@@ -43,7 +43,7 @@ pub fn encode_frame_into<M: RestateMessage>(
     Ok(())
 }
 
-/// Writes a header and the canonical payload of a record into a slice of as many bytes.
+/// Writes a header and the canonical payload of a record into a slice of exactly their length.
 fn fill_frame<M: RestateMessage>(message: &M, header: MessageHeader, out: &mut [u8])
     requires len { length out.old ≡ 8 + size table M.schema (M.parts message.now) }
     ensures { out.new ≡ to_be_bytes w64 (word_of header) ++ canonical_payload table M.schema (M.parts message.now) }

@@ -1,4 +1,5 @@
-//! What the records that are messages have in common: their types, and the frames that they are written as.
+//! Messages: the traits of the records that have a type, the schemas of their types, and the frames that they are
+//! written as.
 #![tactic(auto)]
 
 pub mod frame;

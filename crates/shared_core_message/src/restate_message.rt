@@ -1,4 +1,4 @@
-//! Messages: records with a type, and what they are written as.
+//! The traits of messages: `RestateMessage` for the type, `RestateEncodableMessage` for encoding.
 
 ghost use Rattle.std.specs.Prelude.{◌≡◌, ◌≤◌, ◌<◌, ◌+◌, ◌^◌, ◌++◌, Bool, IfOk, OnOk, OnErr, IsErr, Err, false, MatchBool, vec_len, vec_capacity};
 ghost use Rattle.std.specs.Result.{IsErrOf};
@@ -25,29 +25,29 @@ pub trait RestateMessage: WireRecord {
     fn ty() -> MessageType
         ensures { result ≡ message_type };
 
-    /// It is a type that has a name.
+    /// The type has a name.
     ghost named: { IsNamed message_type };
 
-    /// The record's schema is one that payloads of the type have.
+    /// The record's schema is that of the payloads of the type.
     ghost own_schema: { IsSchemaOf message_type Self.schema };
 }
 
-/// A message that can be written. Its header says its type.
+/// A message that can be encoded. Its header has its type.
 pub trait RestateEncodableMessage: RestateMessage {
     /// What it is written as at a version.
     ghost wire_form: { Self → AnyVersion → WireForm };
 
-    /// Whether it is written as another record at a version, for which memory is asked first.
+    /// Whether it is written as another record at a version, which allocates first.
     ghost is_rewritten: { AnyVersion → Bool };
 
     /// Appends the frame: the header's eight bytes and the canonical payload of what it is written as.
     ///
-    /// The errors are those of `encode`; `OutOfMemory` comes only where the buffer has too little room, or where the message is rewritten
-    /// first. After either the buffer holds what it held, and the message stands. Its capacity never shrinks.
+    /// The errors are those of `encode`; `OutOfMemory` comes only if the buffer has too little room, or if the message
+    /// is rewritten first. After an error the buffer is unchanged. Its capacity never shrinks.
     fn encode_into(&self, version: Version, out: &mut Vec<u8>) -> Result<(), EncodingError>
         ensures ok { OnOk result (out.new.items ≡ out.old.items ++ wire_frame Self.message_type (wire_form self.now version)) }
         ensures short { OnOk result (wire_size (wire_form self.now version) < 2 ^ 32) }
-        // what is written is a value of its schema
+        // what is written fits its schema
         ensures fits { OnOk result (WireFits (wire_form self.now version)) }
         ensures unchanged { OnErr result (out.new.items ≡ out.old.items) }
         ensures capacity { vec_capacity out.old ≤ vec_capacity out.new }
@@ -56,14 +56,14 @@ pub trait RestateEncodableMessage: RestateMessage {
         ensures refused { 2 ^ 32 ≤ wire_size (wire_form self.now version)
             → MatchBool (is_rewritten version) (IsErr result) (result ≡ Err PayloadTooLong) };
 
-    /// The frame: the header's eight bytes and the canonical payload of what it is written as.
+    /// Returns the frame: the header's eight bytes and the canonical payload of what it is written as.
     ///
-    /// `PayloadTooLong` exactly where that payload has more than 4,294,967,295 bytes, which is known before memory is asked for, unless the
-    /// message is rewritten first. `OutOfMemory` where a request for memory was refused. The message stands after either.
+    /// `PayloadTooLong` if and only if that payload has more than 4,294,967,295 bytes, before anything is allocated,
+    /// unless the message is rewritten first. `OutOfMemory` if an allocation fails.
     final fn encode(&self, alloc: Global, version: Version) -> Result<Bytes, EncodingError>
         ensures ok { IfOk result (λ bytes. bytes ≡ wire_frame Self.message_type (wire_form self.now version)) }
         ensures short { IfOk result (λ bytes. wire_size (wire_form self.now version) < 2 ^ 32) }
-        // what is written is a value of its schema
+        // what is written fits its schema
         ensures fits { IfOk result (λ bytes. WireFits (wire_form self.now version)) }
         ensures too_long { IsErrOf result PayloadTooLong → 2 ^ 32 ≤ wire_size (wire_form self.now version) }
         ensures refused { 2 ^ 32 ≤ wire_size (wire_form self.now version)

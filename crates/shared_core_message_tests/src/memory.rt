@@ -1,4 +1,4 @@
-//! That reading asks for no memory but for what the message holds.
+//! Tests that decoding allocates only what the message holds.
 
 use bytes::Bytes;
 use held_memory::without_memory;

@@ -90,7 +90,7 @@ impl OneOf for Result {
     ] };
 }
 
-/// The value of a key that was asked for.
+/// The value of a requested key.
 #[derive(Debug, PartialEq, Drop)]
 pub struct GetLazyStateCompletionNotificationMessage {
     /// The id of the command that this answers.

@@ -23,7 +23,7 @@ use shared_core_record::{optional, plain};
 use shared_core_wire::error::WireError;
 use std::alloc::Global;
 
-/// The keys that were asked for.
+/// The requested keys.
 #[derive(Debug, PartialEq, Drop)]
 pub struct GetLazyStateKeysCompletionNotificationMessage {
     /// The id of the command that this answers.

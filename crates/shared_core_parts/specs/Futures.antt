@@ -7,7 +7,7 @@ use Rattle.shared_core_parts.specs.declared.future.Future.{Future}
 use Rattle.shared_core_parts.specs.declared.future.Future.TheOpen.{Future-F}
 use Rattle.shared_core_parts.specs.declared.future.Future.TheFolds.{fold-Future}
 
--- One future, where each nested one is its value.
+-- One future, with each nested one given by its value.
 abbrev pub future_layer : Future-F Parts → Parts
 future_layer f =
     cons (elements_part value.Number f.waiting_completions.items)

@@ -1,4 +1,4 @@
--- The texts of the messages that stand in others.
+-- The texts of the nested messages.
 use Rattle.std.specs.Prelude.{ℕ, List, [], ◌∷◌, ◌++◌, ◌/◌, ◌%◌, codes, false, nat_le, ◌==◌, ◌&&◌, if◌then◌else◌, encode_utf8_all}
 use Rattle.std.specs.Fmt.{decimal, comma_space, digit_glyph}
 use Rattle.std.specs.List.{join_by, flat_map}
@@ -7,7 +7,8 @@ use Rattle.std.specs.String.{string_bytes}
 use Rattle.bstr.specs.Utf8.{lossy_chars}
 use Rattle.shared_core_parts.specs.declared.header.Header.{Header}
 
--- A byte between the quotes of `b".."`: by its name, plain from 0x20 to 0x7E, else as `\x` and two lower hexadecimal digits.
+-- A byte between the quotes of `b".."`: an escape with a name, itself from 0x20 to 0x7E, otherwise `\x` and two
+-- lower-case hexadecimal digits.
 abbrev pub escaped_byte : ℕ → List ℕ
 escaped_byte byte = if byte == 10 then codes "\\n"
     else (if byte == 13 then codes "\\r"
@@ -18,7 +19,7 @@ escaped_byte byte = if byte == 10 then codes "\\n"
     else (if nat_le 0x20 byte && nat_le byte 0x7E then byte ∷ []
     else codes "\\x" ++ (digit_glyph false (byte / 16) ∷ digit_glyph false (byte % 16) ∷ [])))))))
 
--- The text of a value with this content: `'text'` where it is UTF-8, else `b".."` with escapes.
+-- The text of a value with this content: `'text'` if it is UTF-8, otherwise `b".."` with escapes.
 abbrev pub value_text : List ℕ → List ℕ
 value_text content = if is_utf8 content
     then codes "'" ++ (content ++ codes "'")
@@ -36,11 +37,11 @@ header_text key value = key ++ (codes ": " ++ value)
 abbrev pub headers_text : List Header → List ℕ
 headers_text headers = join_by (λ header. header_text (string_bytes header.key) (string_bytes header.value)) comma_space headers
 
--- Bytes as text, with U+FFFD for each piece that is not UTF-8.
+-- Bytes as text, with U+FFFD for each sequence that is not UTF-8.
 abbrev pub lossy_text : List ℕ → List ℕ
 lossy_text bytes = encode_utf8_all (lossy_chars bytes)
 
--- The text of a state key: `'key'`, with U+FFFD for each piece that is not UTF-8.
+-- The text of a state key: `'key'`, with U+FFFD for each sequence that is not UTF-8.
 abbrev pub state_key_text : List ℕ → List ℕ
 state_key_text key = codes "'" ++ (lossy_text key ++ codes "'")
 

@@ -1,4 +1,4 @@
-//! What messages and the values of the layer above become in each other.
+//! Conversions between messages and the values of the SDK state machine.
 
 ghost use Rattle.std.specs.Prelude.{◌≡◌, [], IfOk, IsOk, map};
 ghost use Rattle.shared_core_parts.specs.Conversions.{failure_contents, terminal_contents, terminal_contents_of, root_header_of, IsOwnedTextOf, IsHeaderOf, NeedsNoCopy, NeedsNoCopies};
@@ -16,8 +16,8 @@ use std::alloc::Global;
 use std::borrow::CowStr;
 
 impl Failure {
-    /// The failure with the code, the message and the metadata of a terminal one. Texts are moved. `OutOfMemory` where there is none for the
-    /// list of the metadata, and never where there is no metadata.
+    /// Converts a terminal failure to a failure with its code, message and metadata. The texts are moved. `OutOfMemory`
+    /// if the list of the metadata cannot be allocated; without metadata it never fails.
     pub fn from_terminal(alloc: Global, terminal: TerminalFailure) -> Result<Failure, OutOfMemory>
         ensures contents { IfOk result (λ failure. failure_contents failure ≡ terminal_contents terminal) }
         ensures succeeds { terminal.metadata.items ≡ [] → IsOk result }
@@ -30,8 +30,8 @@ impl Failure {
         })
     }
 
-    /// The terminal failure with the low 16 bits of the code, the message and the metadata. Texts are moved. `OutOfMemory` where there is none
-    /// for the list of the metadata, and never where there is no metadata.
+    /// Converts a failure to a terminal one with the low 16 bits of its code, its message and its metadata. The texts
+    /// are moved. `OutOfMemory` if the list of the metadata cannot be allocated; without metadata it never fails.
     pub fn into_terminal(self, alloc: Global) -> Result<TerminalFailure, OutOfMemory>
         ensures contents { IfOk result (λ terminal. terminal_contents terminal ≡ terminal_contents_of self) }
         ensures succeeds { self.metadata.items ≡ [] → IsOk result }
@@ -45,7 +45,7 @@ impl Failure {
     }
 }
 
-/// The entries of pairs of a key and a value, moved. A list of none takes no memory.
+/// The entries of pairs of a key and a value, moved. An empty list does not allocate.
 fn entries_of_pairs(
     alloc: Global,
     pairs: Vec<(String, String)>,
@@ -63,7 +63,7 @@ fn entries_of_pairs(
     Ok(entries)
 }
 
-/// The pairs of a key and a value of entries, moved. A list of none takes no memory.
+/// The pairs of a key and a value of entries, moved. An empty list does not allocate.
 fn pairs_of_entries(
     alloc: Global,
     entries: Vec<FailureMetadata>,
@@ -82,8 +82,8 @@ fn pairs_of_entries(
 }
 
 impl Header {
-    /// The header with the key and the value of one of the layer above. A text that is owned is moved, and one that is borrowed is copied.
-    /// `OutOfMemory` where there is none for a copy, and never for a copy of an empty text.
+    /// Converts a header of the SDK state machine. An owned text is moved, and a borrowed one is copied. `OutOfMemory`
+    /// if a copy cannot be allocated; a copy of an empty text never fails.
     pub fn from_root(alloc: Global, root: values::Header) -> Result<Header, OutOfMemory>
         ensures ok { IfOk result (IsHeaderOf root) }
         ensures succeeds { NeedsNoCopies root → IsOk result }
@@ -95,7 +95,7 @@ impl Header {
     }
 }
 
-/// The text itself where it is owned, else a copy.
+/// The text itself if it is owned, otherwise a copy.
 fn owned_text(alloc: Global, text: CowStr<'static>) -> Result<String, OutOfMemory>
     ensures ok { IfOk result (IsOwnedTextOf text.entry) }
     ensures succeeds { NeedsNoCopy text.entry → IsOk result }
@@ -106,7 +106,7 @@ fn owned_text(alloc: Global, text: CowStr<'static>) -> Result<String, OutOfMemor
     }
 }
 
-/// The same key and value, moved.
+/// Converts a header to one of the SDK state machine, with the same key and value, moved.
 impl From<Header> for values::Header {
     ghost from_gives = { λ header root. root ≡ root_header_of header };
 

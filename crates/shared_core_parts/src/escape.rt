@@ -1,4 +1,4 @@
-//! Bytes between the quotes of `b".."`.
+//! Escapes for the bytes between the quotes of `b".."`.
 ghost use Rattle.std.specs.Prelude.{◌≡◌, ◌<◌, false};
 ghost use Rattle.std.specs.Fmt.{WritesOnOk, digit_glyph};
 ghost use Rattle.std.specs.List.{flat_map};

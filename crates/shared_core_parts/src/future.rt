@@ -1,4 +1,4 @@
-//! What an invocation waits for, as a tree.
+//! The message `Future`, which is recursive and therefore hand-written.
 
 ghost use Rattle.std.specs.Prelude.{◌≡◌, ◌+◌, ◌≤◌, ◌++◌, length, drop, OnOk, false};
 ghost use Rattle.std.specs.Result.{IsErrOf};
@@ -30,11 +30,11 @@ use std::alloc::Global;
 /// What an invocation waits for, as a tree: ids and names at each future, and the futures that it combines.
 #[derive(Debug, Drop)]
 pub struct Future {
-    /// The completion ids that are waited for.
+    /// The ids of the awaited completions.
     pub waiting_completions: Vec<u32>,
-    /// The numbers of the signals that are waited for.
+    /// The numbers of the awaited signals.
     pub waiting_signals: Vec<u32>,
-    /// The names of the signals that are waited for.
+    /// The names of the awaited signals.
     pub waiting_named_signals: Vec<String>,
     /// The futures that this one combines.
     pub nested_futures: Vec<Future>,
@@ -83,8 +83,8 @@ impl PartialEq for Future {
     }
 }
 
-// The functions below lead back to each other through the futures in a future, which a trait's method at its own type cannot. They are
-// what a record without itself in it has from the trait and its field functions.
+// The functions below call each other for the futures in a future, which a generic trait method cannot do at its own
+// type. They do what other records get from the trait and its field functions.
 
 fn empty_future(alloc: Global) -> Future
     ensures { future_parts result ≡ empty_value (table tables.future) }
@@ -127,7 +127,7 @@ fn merge_future_field(future: &mut Future, field: &Occurrence<'_>) -> Result<(),
     Ok(())
 }
 
-/// Appends the future that an occurrence holds, which is read where it stands.
+/// Appends the future of an occurrence, which is read into its place in the list.
 #[cycle(merge_future)]
 fn extend_futures(futures: &mut Vec<Future>, field: &Occurrence<'_>) -> Result<(), WireError>
     ensures ok { OnOk result (FieldExtends field.now (Message tables.future) (future_elements futures.old.items) (future_elements futures.new.items)) }

@@ -1,4 +1,4 @@
-//! Notifications, whatever their type: what they are for, and what came of it.
+//! Notifications of any type, reduced to an id and a result.
 
 ghost use Rattle.std.specs.Prelude.{IfOk, IsOk, IsTrue, ◌↔◌};
 ghost use Rattle.shared_core_parts.specs.Conversions.{IsValueOf, TakesNoMemory};
@@ -19,9 +19,9 @@ pub const CANCEL_SIGNAL_ID: u32 = 1;
 /// A notification with its id and its result.
 #[derive(Debug, Drop)]
 pub struct Notification {
-    /// What it is for: a completion, or a signal by its id or its name.
+    /// Its id: that of a completion, or a signal by its number or its name.
     pub id: NotificationId,
-    /// What came of it.
+    /// Its result.
     pub result: NotificationResult,
 }
 
@@ -33,8 +33,9 @@ impl NotificationResult {
         matches!(self, Self::Failure(_))
     }
 
-    /// The value that it brings: a failure as `Failure::into_terminal` has it, the keys of a state as text, with U+FFFD for each piece that is
-    /// not UTF-8, and all else as it is. `OutOfMemory` comes of failures with metadata and of keys alone.
+    /// Converts the result to a value: a failure as `Failure::into_terminal` does, state keys to text, with U+FFFD for
+    /// each sequence that is not UTF-8, and all else unchanged. Only a failure with metadata and a list of keys can
+    /// fail with `OutOfMemory`.
     pub fn into_value(self, alloc: Global) -> Result<values::Value, OutOfMemory>
         ensures ok { IfOk result (IsValueOf self) }
         ensures succeeds { TakesNoMemory self → IsOk result }

@@ -1,4 +1,4 @@
-//! How messages print.
+//! `Display` of the nested messages.
 
 ghost use Rattle.std.specs.Prelude.{◌≡◌, [], Some, IfOk, IsOk, map};
 ghost use Rattle.std.specs.Fmt.{WritesOnOk, comma_space};
@@ -17,7 +17,7 @@ use shared_core_base::fmt::{ListItem, as_utf8, write_joined};
 use std::alloc::{AllocError, Global};
 use std::fmt;
 
-/// Prints `'text'` where the content is UTF-8, else `b".."` with escapes.
+/// Prints `'text'` if the content is UTF-8, otherwise `b".."` with escapes.
 impl fmt::Display for Value {
     ghost output = { λ value. Some (value_text value.content) };
 
@@ -55,7 +55,7 @@ impl fmt::Display for Header {
     }
 }
 
-/// In a list a header stands as it prints.
+/// In a list a header prints in the same form.
 impl ListItem for Header {
     ghost text = { λ header. header_text (string_bytes header.key) (string_bytes header.value) };
 
@@ -64,7 +64,7 @@ impl ListItem for Header {
     }
 }
 
-/// Prints headers, joined by `, `; nothing where there are none.
+/// Prints headers, joined by `, `; nothing if there are none.
 #[derive(Clone, Copy)]
 pub struct HeadersText<'a>(pub &'a [Header]);
 
@@ -76,7 +76,7 @@ impl<'a> fmt::Display for HeadersText<'a> {
     }
 }
 
-/// Prints state keys, as `['a', 'b']`, with U+FFFD for each piece of a key that is not UTF-8.
+/// Prints state keys, as `['a', 'b']`, with U+FFFD for each sequence of a key that is not UTF-8.
 #[derive(Clone, Copy)]
 pub struct StateKeysText<'a>(pub &'a StateKeys);
 
@@ -113,7 +113,8 @@ fn write_key<W: fmt::Write>(f: &mut fmt::Formatter<W>, key: &Bytes) -> fmt::Resu
     write!(f, "'{key}'")
 }
 
-/// The texts of state keys, in order, with U+FFFD for each piece of a key that is not UTF-8. A list of none takes no memory.
+/// The texts of state keys, in order, with U+FFFD for each sequence of a key that is not UTF-8. An empty list does not
+/// allocate.
 pub(crate) fn texts_of_keys(alloc: Global, keys: &[Bytes]) -> Result<Vec<String>, AllocError>
     ensures texts { IfOk result (λ texts. map string_bytes texts.items ≡ map lossy_text keys.now) }
     ensures empty { keys.now ≡ [] → IsOk result }

@@ -1,4 +1,4 @@
-//! Fields of the kind `bool`: whether the number is not 0.
+//! Fields of the kind `bool`: reading, measuring and writing one value.
 
 ghost use Rattle.std.specs.Prelude.{◌≡◌};
 ghost use Rattle.shared_core_wire.specs.Schema.{Boolean};

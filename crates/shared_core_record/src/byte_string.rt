@@ -1,4 +1,4 @@
-//! Fields of the kind `bytes`.
+//! Fields of the kind `bytes`: reading, measuring and writing one value.
 
 ghost use Rattle.std.specs.Prelude.{◌≡◌};
 ghost use Rattle.shared_core_wire.specs.Schema.{ByteString};
@@ -13,7 +13,7 @@ use shared_core_wire::error::WireError;
 use shared_core_wire::record::WireValue;
 use std::alloc::Global;
 
-/// A `bytes` is cut from the payload, which is shared and not copied.
+/// A `bytes` is sliced from the payload, which is shared and not copied.
 impl FieldKind for Bytes {
     ghost kind = { ByteString };
 
@@ -29,10 +29,7 @@ impl FieldKind for Bytes {
         let WireValue::Length(content) = field.value else {
             return Err(WireError::Malformed);
         };
-        let Ok(bytes) = field.payload.slice(field.end - content.len()..field.end) else {
-            return Err(WireError::OutOfMemory);
-        };
-        *self = bytes;
+        *self = field.payload.slice(field.end - content.len()..field.end)?;
         Ok(())
     }
 

@@ -1,4 +1,4 @@
-//! Fields of an enum's kind: its number, the low 32 bits in two's complement.
+//! Fields of an enum's kind: their numbers are the low 32 bits, in two's complement.
 
 ghost use Rattle.std.specs.Prelude.{◌≡◌};
 ghost use Rattle.shared_core_wire.specs.Schema.{Enumeration};
@@ -11,6 +11,7 @@ use crate::size::Size;
 use crate::write::write_varint_record;
 use shared_core_wire::error::WireError;
 use shared_core_wire::record::WireValue;
+use shared_core_wire::varint::low_32;
 use std::alloc::Global;
 
 impl FieldKind for i32 {
@@ -28,7 +29,7 @@ impl FieldKind for i32 {
         let WireValue::Varint(number) = field.value else {
             return Err(WireError::Malformed);
         };
-        *self = ((number % 4_294_967_296) as u32).cast_signed();
+        *self = low_32(number).cast_signed();
         Ok(())
     }
 
@@ -57,7 +58,7 @@ impl Scalar for i32 {
     }
 }
 
-/// The number by which an enum is written: a negative one is sign-extended to 64 bits.
+/// The number that is written for an enum: a negative one is sign-extended to 64 bits.
 #[inline]
 #[tactic(auto, using(crate::proofs::Measuring::sign_extended_is))]
 fn sign_extended(value: i32) -> u64

@@ -1,10 +1,11 @@
 //! The kinds of fields, each by the type of what it holds: reading, measuring and writing one value.
 //!
-//! `uint32` is u32, `uint64` u64, `bool` bool, an enum i32, `string` String, `bytes` Bytes, and a message its record. A value in an optional
-//! field, in a list or in a oneof is written whatever it is; a plain field asks first whether it holds the default (`Scalar`).
+//! `uint32` is u32, `uint64` u64, `bool` bool, an enum i32, `string` String, `bytes` Bytes, and a message its record. A
+//! value in an optional field, in a list or in a oneof is always written; a plain field first checks whether it holds
+//! the default (`Scalar`).
 //!
-//! Everywhere `Malformed` says that the occurrence is none of the field's kind: another wire type (this project's own), a text that is not
-//! UTF-8, a packed run that does not fill its length, or a message that is not well-formed.
+//! `Malformed` always means that the occurrence is none of the field's kind: another wire type (this project's own), a
+//! text that is not UTF-8, a packed run that does not fill its length, or a message that is not well-formed.
 
 ghost use Rattle.std.specs.Prelude.{◌≡◌, ◌+◌, ◌≤◌, ◌++◌, length, drop, OnOk, IfOk, true, false};
 ghost use Rattle.std.specs.Result.{IsErrOf};
@@ -30,21 +31,22 @@ pub trait FieldKind: Sized + Drop {
     /// The part of a value of this kind.
     ghost part: { Self → Part };
 
-    /// What nothing was merged into yet: 0, false, or empty. It takes no memory.
+    /// The value before any merge: 0, false or empty. Does not allocate.
     fn empty_value(alloc: Global) -> Self
         ensures { IsEmptyField kind (part result) };
 
-    /// Merges an occurrence into what is held: a message into the message, and all else takes its place. On an error it may have changed.
+    /// Merges an occurrence into the value that is held: a message into the message; any other kind is replaced. After
+    /// an error the value may have changed.
     fn merge_value(&mut self, field: &Occurrence<'_>) -> Result<(), WireError>
         ensures ok { OnOk result (FieldBecomes field.now kind (part self.old) (part self.new)) }
         ensures malformed { IsErrOf result error.Malformed → field_accepts field.now kind ≡ false };
 
-    /// Adds the size of a record of this number, also where it holds the default.
+    /// Adds the size of a record of this number, even if it holds the default.
     fn measure_value(&self, size: &mut Size, number: u32)
         ensures sum { size.new ≡ capped (size.old + length (value_bytes number kind (part self.now))) }
         ensures fit { ValueFits kind (part self.now) };
 
-    /// Writes a record of this number before `end`, also where it holds the default, and returns where it begins.
+    /// Writes a record of this number before `end`, even if it holds the default, and returns where it begins.
     fn write_value(&self, out: &mut [u8], end: usize, number: u32) -> usize
         requires within { end ≤ length out.old }
         requires room { length (value_bytes number kind (part self.now)) ≤ end }
@@ -54,7 +56,7 @@ pub trait FieldKind: Sized + Drop {
     /// A value is not absent.
     ghost present: { (value : Self) → is_present (part value) ≡ true };
 
-    /// The occurrence, merged into what is empty.
+    /// The occurrence, merged into the empty value.
     #[inline]
     final fn read_value(field: &Occurrence<'_>) -> Result<Self, WireError>
         ensures ok { IfOk result (λ value. FieldBecomes field.now kind Absent (part value)) }
@@ -66,16 +68,16 @@ pub trait FieldKind: Sized + Drop {
     }
 }
 
-/// A kind that a plain field may have, which is not written where it holds the default: each but messages.
+/// A kind that a plain field may have, which is not written if it holds the default: each but messages.
 pub trait Scalar: FieldKind {
     /// Whether the value is the default of its kind: 0, false or empty.
     fn is_default(&self) -> bool
         ensures default { result ≡ is_default_part (Self.part self.now) }
-        // a value that was looked at is one of the kind
+        // a value that was examined is one of the kind
         ensures fit { ValueFits Self.kind (Self.part self.now) };
 }
 
-/// A kind whose elements are written one by one, where the field is repeated: texts, bytes and messages. Repeated numbers are `packed`.
+/// A kind whose repeated elements are written one by one: texts, bytes and messages. Repeated numbers are `packed`.
 pub trait Element: FieldKind {
     /// It is not packed.
     ghost one_by_one: { unpacked Self.kind ≡ true };

@@ -1,8 +1,8 @@
-//! Records: messages of the protocol as structs, read from payloads and written as payloads.
+//! Records: messages of the protocol as structs, decoded from payloads and encoded as payloads.
 //!
-//! `record` and `error` are what a user of records calls. The other modules are what the code of a record stands on: `kind`, with a file for
-//! each kind of field; the fields by their presence, which are `plain`, `optional`, `repeated`, `packed` and `oneof`; and below them
-//! `message_bytes` and `occurrence`, which are read, `size`, which measures, and `write`.
+//! Users of records call `record` and `error`. The code of a record uses the other modules: `kind`, with a file for
+//! each kind of field; the fields by their presence, `plain`, `optional`, `repeated`, `packed` and `oneof`; and below
+//! them `message_bytes` and `occurrence` for reading, `size` for measuring, and `write`.
 #![tactic(auto)]
 
 pub mod boolean;

@@ -1,4 +1,4 @@
-//! Bytes of a payload that stand as a message, whose records fields take, one occurrence after the other.
+//! The bytes of one message, a whole payload or a nested one, as a sequence of occurrences for the fields to merge.
 
 ghost use Rattle.std.specs.Prelude.{◌≡◌, ◌+◌, IfSome, IfNone, false};
 ghost use Rattle.shared_core_wire.specs.Grammar.{Length};
@@ -12,24 +12,24 @@ use shared_core_wire::record::WireValue;
 use shared_core_wire::records::Record;
 use std::alloc::Global;
 
-/// Bytes that stand as a message: a whole payload, or the content of a message field in it, which is read where it lies.
+/// The bytes of a message: a whole payload, or the content of a message field in it, which is not copied.
 #[derive(Clone, Copy)]
 pub struct MessageBytes<'a> {
     /// The bytes.
     pub bytes: &'a [u8],
-    /// Where they end in the payload, in bytes.
+    /// The offset in the payload where they end.
     pub end: usize,
-    /// The whole payload, from which bytes fields are cut.
+    /// The whole payload, from which bytes fields are sliced.
     pub payload: &'a Bytes,
-    /// How many levels are left below their records.
+    /// How deep messages may still be nested in their records.
     pub left: u32,
-    /// What texts and lists are made with.
+    /// The allocator of texts and lists.
     pub alloc: Global,
     ghost lies: { EndsAt payload.now end bytes.now },
 }
 
 impl<'a> MessageBytes<'a> {
-    /// A whole payload: its records stand at level 0, and level 100 is the last.
+    /// A whole payload: its records are at nesting depth 0, and depth 100 is the greatest.
     #[inline]
     pub fn whole(alloc: Global, payload: &'a Bytes) -> MessageBytes<'a>
         ensures bytes { result.bytes.now ≡ payload.now }
@@ -44,7 +44,7 @@ impl<'a> MessageBytes<'a> {
         }
     }
 
-    /// The occurrence that one of the records is.
+    /// The occurrence that a record is.
     #[inline]
     #[tactic(auto, using(crate::proofs::Positions::lies_within))]
     pub fn occurrence(&self, found: &Record<'a>) -> Occurrence<'a>
@@ -64,8 +64,8 @@ impl<'a> MessageBytes<'a> {
 }
 
 impl<'a> Occurrence<'a> {
-    /// The content as a message, whose records stand one level deeper, or None where the occurrence holds none: it has another wire type,
-    /// or no level is left.
+    /// The content as a message, whose records are one level deeper, or None if the occurrence holds none: it has
+    /// another wire type, or no level of nesting is left.
     #[inline]
     pub fn nested(&self) -> Option<MessageBytes<'a>>
         ensures bytes { IfSome result (λ m. value_in self.now ≡ Length m.bytes.now) }
@@ -75,7 +75,7 @@ impl<'a> Occurrence<'a> {
         let WireValue::Length(content) = self.value else {
             return None;
         };
-        // the message's records would stand below the last level
+        // the message's records would exceed the nesting depth
         if self.left == 0 {
             return None;
         }

@@ -1,4 +1,4 @@
-//! Optional fields and fields of a message, which are written where they hold a value, also where it is the default.
+//! Optional fields and message fields, which are written if they are present, even with the default.
 
 ghost use Rattle.std.specs.Prelude.{◌≡◌, ◌+◌, ◌≤◌, length, drop, OnOk, false};
 ghost use Rattle.std.specs.Result.{IsErrOf};
@@ -14,7 +14,7 @@ use crate::occurrence::Occurrence;
 use crate::size::Size;
 use shared_core_wire::error::WireError;
 
-/// Merges an occurrence into the value that is held, or into the empty one. On an error the field may have changed.
+/// Merges an occurrence into the value that is held, or into the empty one. After an error the field may have changed.
 #[inline]
 pub fn merge<V: FieldKind>(field: &mut Option<V>, found: &Occurrence<'_>) -> Result<(), WireError>
     ensures ok { OnOk result (FieldBecomes found.now V.kind (option_part V.part field.old) (option_part V.part field.new)) }

@@ -1,4 +1,4 @@
-//! Fields without a label, which are not written where they hold the default: 0, false or empty.
+//! Fields without a label, which are not written if they hold the default: 0, false or empty.
 
 ghost use Rattle.std.specs.Prelude.{◌≡◌, ◌+◌, ◌≤◌, length, drop, OnOk, false};
 ghost use Rattle.std.specs.Result.{IsErrOf};
@@ -13,7 +13,7 @@ use crate::occurrence::Occurrence;
 use crate::size::Size;
 use shared_core_wire::error::WireError;
 
-/// Takes an occurrence in the place of what is held. On an error it may have changed.
+/// Replaces the value that is held by an occurrence's. After an error it may have changed.
 #[inline]
 pub fn merge<V: Scalar>(field: &mut V, found: &Occurrence<'_>) -> Result<(), WireError>
     ensures ok { OnOk result (FieldBecomes found.now V.kind (V.part field.old) (V.part field.new)) }

@@ -1,4 +1,4 @@
-//! Records: reading payloads into them, merging and writing.
+//! The trait of records, and what it provides for all of them: decoding, merging and encoding whole payloads.
 
 ghost use Rattle.std.specs.Prelude.{◌≡◌, ◌≤◌, ◌<◌, ◌^◌, ◌++◌, ◌+◌, ℕ, drop, IfOk, OnOk, OnErr, vec_len, vec_capacity, MatchOption, Err, false, length};
 ghost use Rattle.std.specs.List.{All, concat};
@@ -27,23 +27,23 @@ use shared_core_wire::error::WireError;
 use shared_core_wire::records::Records;
 use std::alloc::Global;
 
-/// A record: a message of the protocol as a struct, which payloads of its schema spell.
+/// A record: a message of the protocol as a struct, with the payloads of its schema.
 ///
-/// Whoever writes one says its schema and its parts, and writes four functions, one line a field each: `empty`, `merge_field`, `measure`
-/// and `encode_back`. Reading and writing whole payloads stand on these, and are written here once.
+/// An impl gives its schema and its parts, and four functions with one line a field: `empty`, `merge_field`, `measure`
+/// and `encode_back`. Decoding and encoding whole payloads is provided here.
 pub trait WireRecord: Sized + Drop + PartialEq {
-    /// The place of its schema in the table.
+    /// The index of its schema in the table.
     ghost schema: { ℕ };
 
-    /// The value that it is: one part for each row of its schema.
+    /// Its value: one part for each row of its schema.
     ghost parts: { Self → Parts };
 
-    /// The record in which every field is absent. It takes no memory.
+    /// Returns the record in which every field is absent. Does not allocate.
     fn empty(alloc: Global) -> Self
         ensures { parts result ≡ empty_value (table schema) };
 
-    /// Merges one occurrence into the field of its number; where the schema has no such field, nothing changes. On an error some fields may
-    /// have changed. (For the code of records.)
+    /// Merges one occurrence into the field of its number; if the schema has no such field, nothing changes. After an
+    /// error some fields may have changed. (For the code of records.)
     fn merge_field(&mut self, field: &Occurrence<'_>) -> Result<(), WireError>
         ensures ok { OnOk result (RecordMerges schema field.now (parts self.old) (parts self.new)) }
         ensures malformed { IsErrOf result error.Malformed → schema_accepts schema field.now ≡ false };
@@ -60,11 +60,11 @@ pub trait WireRecord: Sized + Drop + PartialEq {
         ensures start { result + rows_size (table schema) (parts self.now) ≡ end }
         ensures written { drop result out.new ≡ before_rows (table schema) (parts self.now) (drop end out.old) };
 
-    /// Two records are equal exactly if they are the same value.
+    /// Two records are equal if and only if their values are.
     ghost equality: { (a b : Self) → DecidesEquality (Self.eq a b) (parts a) (parts b) };
 
-    /// Reads a payload. `Malformed` where it is not well-formed for the schema, `OutOfMemory` where a request for memory was refused; where
-    /// both are so, either.
+    /// Decodes a payload. Returns `Malformed` if it is not well-formed for the schema, `OutOfMemory` if an allocation
+    /// fails; if both are the case, either.
     final fn decode(alloc: Global, payload: Bytes) -> Result<Self, WireError>
         ensures accepted { IfOk result (λ v. IsAccepted schema payload) }
         ensures meaning { IfOk result (λ v. parts v ≡ payload_meaning schema payload) }
@@ -73,7 +73,8 @@ pub trait WireRecord: Sized + Drop + PartialEq {
         decode_payload(alloc, &payload)
     }
 
-    /// The record with a payload merged into it, whatever it holds. The errors are those of `decode`, and hand no record back.
+    /// Merges a payload into the record, whatever it holds, and returns it. The errors are those of `decode`; after an
+    /// error the record is dropped.
     final fn merge(self, alloc: Global, payload: Bytes) -> Result<Self, WireError>
         ensures accepted { IfOk result (λ w. IsAccepted schema payload) }
         ensures merged { IfOk result (λ w. parts w ≡ merged_payload schema (parts self) payload) }
@@ -84,7 +85,8 @@ pub trait WireRecord: Sized + Drop + PartialEq {
         Ok(record)
     }
 
-    /// How many bytes the canonical payload has, or None where they are more than 4,294,967,295. It takes no memory.
+    /// Returns the number of bytes of the canonical payload, or None if it is more than 4,294,967,295. Does not
+    /// allocate.
     #[tactic(auto, using(crate::proofs::Measuring::size_is, crate::proofs::FittingRows::fits_rows))]
     final fn encoded_len(&self) -> Option<u32>
         ensures len { MatchOption result (2 ^ 32 ≤ size table schema (parts self.now)) (λ n. n ≡ size table schema (parts self.now)) }
@@ -100,7 +102,7 @@ pub trait WireRecord: Sized + Drop + PartialEq {
         }
     }
 
-    /// Writes the canonical payload into a slice of as many bytes. (For the code of records.)
+    /// Writes the canonical payload into a slice of exactly its length. (For the code of records.)
     #[tactic(auto, using(crate::proofs::Backwards::payload_fits, crate::proofs::Backwards::payload_whole))]
     final fn fill_payload(&self, out: &mut [u8])
         requires len { length out.old ≡ size table schema (parts self.now) }
@@ -110,9 +112,9 @@ pub trait WireRecord: Sized + Drop + PartialEq {
         self.encode_back(out, end);
     }
 
-    /// Appends the canonical payload. `PayloadTooLong` exactly where it has more than 4,294,967,295 bytes, which is known before memory is
-    /// asked for; `OutOfMemory` where a request for memory was refused, which is made only where the buffer has too little room. After either
-    /// the buffer holds what it held. Its capacity never shrinks.
+    /// Appends the canonical payload. Returns `PayloadTooLong` if and only if it has more than 4,294,967,295 bytes,
+    /// before anything is allocated; `OutOfMemory` if the allocation fails, which is made only if the buffer has too
+    /// little room. After either the buffer is unchanged. Its capacity never shrinks.
     final fn encode_payload_into(&self, out: &mut Vec<u8>) -> Result<(), EncodingError>
         ensures ok { OnOk result (out.new.items ≡ out.old.items ++ canonical_payload table schema (parts self.now)) }
         ensures short { OnOk result (size table schema (parts self.now) < 2 ^ 32) }
@@ -132,8 +134,8 @@ pub trait WireRecord: Sized + Drop + PartialEq {
         Ok(())
     }
 
-    /// The canonical payload. `PayloadTooLong` exactly where it has more than 4,294,967,295 bytes, which is known before memory is asked
-    /// for; `OutOfMemory` where a request for memory was refused.
+    /// Returns the canonical payload. `PayloadTooLong` if and only if it has more than 4,294,967,295 bytes, before
+    /// anything is allocated; `OutOfMemory` if an allocation fails.
     final fn encode_payload(&self, alloc: Global) -> Result<Bytes, EncodingError>
         ensures ok { IfOk result (λ b. b ≡ canonical_payload table schema (parts self.now)) }
         ensures short { IfOk result (λ b. length b < 2 ^ 32) }
@@ -147,7 +149,8 @@ pub trait WireRecord: Sized + Drop + PartialEq {
     }
 }
 
-/// Merges bytes that stand as a message into a record, one occurrence after the other. On an error some fields may have changed.
+/// Merges the bytes of a message into a record, one occurrence after the other. After an error some fields may have
+/// changed.
 pub(crate) fn merge_occurrences<M: WireRecord>(
     target: &mut M,
     message: &MessageBytes<'_>,
@@ -161,7 +164,7 @@ pub(crate) fn merge_occurrences<M: WireRecord>(
     Ok(())
 }
 
-/// Merges a whole payload into a record. On an error some of its fields may have changed.
+/// Merges a whole payload into a record. After an error some of its fields may have changed.
 #[tactic(auto, using(crate::proofs::MergingRecords::computed_accepted, crate::proofs::MergingRecords::computed_merged, crate::proofs::MergingRecords::computed_refused))]
 fn merge_payload<M: WireRecord>(
     target: &mut M,
@@ -175,7 +178,7 @@ fn merge_payload<M: WireRecord>(
     merge_occurrences(target, &MessageBytes::whole(alloc, payload))
 }
 
-/// Reads a payload that its owner keeps: what `decode` does, without a count of one more owner.
+/// Decodes a payload that its owner keeps, as `decode` does, without counting one more owner.
 pub fn decode_payload<M: WireRecord>(alloc: Global, payload: &Bytes) -> Result<M, WireError>
     ensures accepted { IfOk result (λ m. IsAccepted M.schema payload.now) }
     ensures meaning { IfOk result (λ m. M.parts m ≡ payload_meaning M.schema payload.now) }
@@ -186,8 +189,8 @@ pub fn decode_payload<M: WireRecord>(alloc: Global, payload: &Bytes) -> Result<M
     Ok(record)
 }
 
-/// Reads a payload that comes in parts, each of which is well-formed by itself: the meaning of the joined parts. The errors are those of
-/// `decode`, and `Malformed` says that a part is not well-formed.
+/// Decodes a payload that comes in chunks, each of which is well-formed by itself: the meaning of the joined chunks.
+/// The errors are those of `decode`; `Malformed` says that a chunk is not well-formed.
 pub fn decode_parts<M: WireRecord>(
     alloc: Global,
     first: Bytes,

@@ -14,14 +14,13 @@ use crate::occurrence::Occurrence;
 use crate::size::Size;
 use shared_core_wire::error::WireError;
 
-/// Appends an element. It is the meaning of the occurrence alone; it is read where it stands, and on an error it may stand at the end.
+/// Appends an element, the meaning of the occurrence alone. It is read into its place in the list, and after an error
+/// it may be there.
 pub fn merge<V: Element>(field: &mut Vec<V>, found: &Occurrence<'_>) -> Result<(), WireError>
     ensures ok { OnOk result (FieldExtends found.now V.kind (parts_of V.part field.old.items) (parts_of V.part field.new.items)) }
     ensures malformed { IsErrOf result error.Malformed → repeated_accepts found.now V.kind ≡ false }
 {
-    let Ok(element) = field.push_mut(V::empty_value(found.alloc)) else {
-        return Err(WireError::OutOfMemory);
-    };
+    let element = field.push_mut(V::empty_value(found.alloc))?;
     element.merge_value(found)
 }
 

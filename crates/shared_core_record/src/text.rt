@@ -1,4 +1,4 @@
-//! Fields of the kind `string`.
+//! Fields of the kind `string`: reading, measuring and writing one value.
 
 ghost use Rattle.std.specs.Prelude.{◌≡◌, IfOk, false};
 ghost use Rattle.std.specs.Result.{IsErrOf};
@@ -17,7 +17,7 @@ use shared_core_wire::record::WireValue;
 use std::alloc::Global;
 use std::string::String;
 
-/// A `string` is copied over the text that is held, whose memory is used again.
+/// A `string` is copied over the text that is held, whose memory is reused.
 impl FieldKind for String {
     ghost kind = { Text };
 
@@ -31,18 +31,13 @@ impl FieldKind for String {
     #[inline]
     fn merge_value(&mut self, field: &Occurrence<'_>) -> Result<(), WireError> {
         let text = text_of(field)?;
-        // nearly always a field is read for the first time, and then memory is asked for at once, as much as is needed
+        // nearly always a field is read for the first time; then its exact size is allocated at once
         if self.is_empty() {
-            let Ok(copy) = String::from_str(field.alloc, text) else {
-                return Err(WireError::OutOfMemory);
-            };
-            *self = copy;
+            *self = String::from_str(field.alloc, text)?;
             return Ok(());
         }
         self.clear();
-        let Ok(()) = self.push_str(text) else {
-            return Err(WireError::OutOfMemory);
-        };
+        self.push_str(text)?;
         Ok(())
     }
 
@@ -77,7 +72,7 @@ impl Element for String {
     ghost one_by_one = { refl };
 }
 
-/// The text that an occurrence holds, where it lies.
+/// The text of an occurrence, not copied.
 #[inline(always)]
 fn text_of<'a>(field: &Occurrence<'a>) -> Result<&'a str, WireError>
     ensures ok { IfOk result (λ text. FieldBecomes field.now Text Absent (Content text.now)) }

@@ -1,4 +1,4 @@
-//! Fields of the kind `uint32`, whose low 32 bits count.
+//! Fields of the kind `uint32`: reading, measuring and writing one value, which is the low 32 bits.
 
 ghost use Rattle.std.specs.Prelude.{◌≡◌};
 ghost use Rattle.shared_core_wire.specs.Schema.{U32};
@@ -10,6 +10,7 @@ use crate::size::Size;
 use crate::write::write_varint_record;
 use shared_core_wire::error::WireError;
 use shared_core_wire::record::WireValue;
+use shared_core_wire::varint::low_32;
 use std::alloc::Global;
 
 impl FieldKind for u32 {
@@ -27,7 +28,7 @@ impl FieldKind for u32 {
         let WireValue::Varint(number) = field.value else {
             return Err(WireError::Malformed);
         };
-        *self = (number % 4_294_967_296) as u32;
+        *self = low_32(number);
         Ok(())
     }
 

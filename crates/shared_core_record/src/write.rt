@@ -1,7 +1,7 @@
-//! Writing records of a canonical payload, from its end to its front.
+//! Writing records of a canonical payload, from its end to its beginning.
 //!
-//! Each function writes the bytes of a slice that stand right before `end`, and returns where they begin. The caller has seen that there is
-//! room, so nothing is tested and nothing can fail.
+//! Each function writes the bytes of a slice right before `end`, and returns where they begin. The caller has checked
+//! that there is room, so nothing is tested and nothing can fail.
 
 ghost use Rattle.std.specs.Prelude.{◌≡◌, ◌+◌, ◌*◌, ◌^◌, ◌<◌, ◌≤◌, ◌++◌, length, drop};
 ghost use Rattle.shared_core_wire.specs.Spelling.{shortest_varint, key_bytes};
@@ -73,7 +73,7 @@ pub(crate) fn write_varint_record(out: &mut [u8], end: usize, number: u32, value
     write_varint(out, start, key(number, VARINT))
 }
 
-/// Writes the key and the length of a record of so many bytes, which stand behind.
+/// Writes the key and the length of a length-delimited record whose content, of this length, comes after.
 #[inline(always)]
 #[tactic(auto, using(crate::proofs::Backwards::two_before))]
 pub fn write_length(out: &mut [u8], end: usize, number: u32, len: usize) -> usize
@@ -86,7 +86,7 @@ pub fn write_length(out: &mut [u8], end: usize, number: u32, len: usize) -> usiz
     write_varint(out, start, key(number, LENGTH))
 }
 
-/// Writes a record of bytes behind their length.
+/// Writes a length-delimited record.
 #[inline(always)]
 #[tactic(auto, using(crate::proofs::Backwards::record_before, crate::proofs::Backwards::record_size))]
 pub(crate) fn write_length_record(out: &mut [u8], end: usize, number: u32, content: &[u8]) -> usize

@@ -1,7 +1,8 @@
-//! Calls that are asked again where a request for memory was refused.
+//! Calls that are repeated if an allocation fails.
 //!
-//! At most one request of a run is refused. So a test begins anew where a step of it wants memory, and has every answer then. A call that leaves
-//! standing what it was asked of is asked again at once, of that. A call that takes no memory is asked once.
+//! At most one allocation of a run fails. So a test starts again if one of its steps runs out of memory, and then every
+//! call succeeds. If a failed call leaves its receiver unchanged, it is retried on the same receiver. A call that does
+//! not allocate is made once.
 
 use shared_core::OutOfMemory;
 use shared_core::encoding::{DecodingError, PiecesError};
@@ -11,7 +12,7 @@ use shared_core::wire::WireError;
 use std::alloc::{AllocError, AllocFailed, Global};
 use std::test::Fail;
 
-/// A call that is tested.
+/// The result of a tested call.
 #[derive(Debug, Clone, Copy, PartialEq, Eq)]
 pub enum Call {
     Push,
@@ -42,14 +43,14 @@ pub enum Call {
     Debug,
 }
 
-/// Why there is no right answer.
+/// Why a call has no right result.
 #[derive(Debug, Clone, Copy)]
 pub enum Failed {
-    /// A request for memory was refused.
+    /// An allocation failed.
     OutOfMemory,
-    /// A call was refused for another reason.
+    /// A call failed for another reason.
     Refused,
-    /// A call gave another answer.
+    /// A call returned another result.
     Otherwise(Call),
 }
 
@@ -116,7 +117,7 @@ impl From<ContentTypeError> for Failed {
     }
 }
 
-/// Refuses what does not hold of a call's answer.
+/// Fails if the condition on a call's result does not hold.
 pub fn expect(holds: bool, call: Call) -> Result<(), Failed> {
     if holds {
         Ok(())
@@ -125,7 +126,7 @@ pub fn expect(holds: bool, call: Call) -> Result<(), Failed> {
     }
 }
 
-/// What a call answers, which is asked again where it wants memory.
+/// The result of a call, which is repeated if it runs out of memory.
 pub fn again<T: Drop, F: FnMut() -> Result<T, Failed>>(mut ask: F) -> Result<T, Failed>
     requires { F.IsAlwaysCallable ask }
 {
@@ -135,7 +136,7 @@ pub fn again<T: Drop, F: FnMut() -> Result<T, Failed>>(mut ask: F) -> Result<T, 
     }
 }
 
-/// What a call answers that takes no memory.
+/// The result of a call that does not allocate.
 pub fn at_once<T: Drop, E: Drop>(answer: Result<T, E>) -> Result<T, Failed> {
     match answer {
         Ok(value) => Ok(value),
@@ -143,7 +144,7 @@ pub fn at_once<T: Drop, E: Drop>(answer: Result<T, E>) -> Result<T, Failed> {
     }
 }
 
-/// That a test passes, which begins anew where a step of it wants memory.
+/// Runs a test, which starts again if one of its steps runs out of memory.
 pub fn passes<F: FnMut(Global) -> Result<(), Failed>>(
     alloc: Global,
     mut test: F,

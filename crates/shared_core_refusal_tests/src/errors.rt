@@ -1,4 +1,4 @@
-//! Errors: their texts, what they become, and those that are made of ids.
+//! Tests of errors: their texts, their conversions, and those that are made of ids.
 
 use crate::again::{Call, Failed, again, at_once, expect, passes};
 use bytes::Bytes;
@@ -20,7 +20,7 @@ use std::collections::{HashMap, HashSet};
 use std::fmt::Display;
 use std::test::Fail;
 
-/// An error that becomes one of an invocation.
+/// An error that converts to one of an invocation.
 trait TypedError: Display + Drop {
     fn to_invocation_error(&self, alloc: Global) -> Result<Error, OutOfMemory>;
 }
@@ -102,7 +102,7 @@ fn text(alloc: Global, text: &str) -> Result<String, Failed> {
     Ok(String::from_str(alloc, text)?)
 }
 
-/// That the error prints with this at its end, and becomes an error of this code and its text.
+/// Checks that the error's text ends with this, and that it converts to an error of this code and its text.
 fn becomes<E: TypedError>(alloc: Global, error: E, code: u16, end: &str) -> Result<(), Failed> {
     let text = format!(in alloc; "{error}")?;
     expect(text.as_str().ends_with(end), Call::Display)?;
@@ -113,7 +113,7 @@ fn becomes<E: TypedError>(alloc: Global, error: E, code: u16, end: &str) -> Resu
     )
 }
 
-/// That a mismatch of two commands, of the names "a" and "b", becomes an error.
+/// Checks that a mismatch of two commands, of the names "a" and "b", converts to an error.
 fn mismatch(alloc: Global) -> Result<(), Failed> {
     let actual = SleepCommandMessage::decode(alloc, Bytes::from_static(b"\x62\x01a"))?;
     let expected = SleepCommandMessage::decode(alloc, Bytes::from_static(b"\x62\x01b"))?;
@@ -213,7 +213,7 @@ fn awaits(alloc: Global) -> Result<(), Failed> {
     )
 }
 
-/// What a refused content type is refused as. A text that is one of a version is read without memory.
+/// Checks how a content type is rejected. Reading the content type of a version does not allocate.
 fn content_types(alloc: Global) -> Result<(), Failed> {
     let v8 = at_once(Version::from_str(alloc, "application/vnd.restate.invocation.v8"))?;
     expect(v8 == Version::V8, Call::FromStr)?;
@@ -229,7 +229,7 @@ fn content_types(alloc: Global) -> Result<(), Failed> {
     Ok(())
 }
 
-/// Why the content type is refused.
+/// Why the content type is rejected.
 fn refusal(alloc: Global, content_type: &str) -> Result<ContentTypeError, Failed> {
     match Version::from_str(alloc, content_type) {
         Err(ContentTypeError::OutOfMemory) => Err(Failed::OutOfMemory),

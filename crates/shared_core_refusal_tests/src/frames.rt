@@ -1,4 +1,4 @@
-//! Frames of messages, and messages of frames.
+//! Tests of frames of messages, and messages of frames.
 ghost use Rattle.std.specs.Prelude.{◌≤◌};
 ghost use Rattle.shared_core_base.specs.Version.{version_number};
 
@@ -15,7 +15,7 @@ use shared_core::wire::WireRecord;
 use std::alloc::Global;
 use std::test::Fail;
 
-/// A suspension that awaits futures in futures, a proposal of the result of a run, and an input.
+/// A suspension that awaits nested futures, a proposal of the result of a run, and an input.
 const SUSPENSION: &[u8] =
     b"\x22\x12\x0a\x01\x01\x22\x08\x0a\x01\x02\x22\x03\x0a\x01\x01\x22\x03\x0a\x01\x03";
 
@@ -23,7 +23,7 @@ const PROPOSAL: &[u8] = b"\x08\x01\x72\x01x";
 
 const INPUT: &[u8] = b"\x0a\x06\x0a\x01k\x12\x01v\x72\x07\x0a\x05input";
 
-// Their frames. A suspension is rewritten before V7, and from then on a proposal asks for an acknowledgement.
+// Their frames. A suspension is rewritten before V7, and from V7 on a proposal requests an acknowledgement.
 
 const THREE_LISTS: &[u8] = b"\0\x01\0\0\0\0\0\x06\x0a\x04\x01\x02\x01\x03";
 
@@ -36,7 +36,7 @@ const PROPOSED_ASKING: &[u8] = b"\0\x05\x80\0\0\0\0\x05\x08\x01\x72\x01x";
 
 const INPUT_FRAME: &[u8] = b"\x04\0\0\0\0\0\0\x11\x0a\x06\x0a\x01k\x12\x01v\x72\x07\x0a\x05input";
 
-/// That the message of the payload is written as the frame.
+/// Checks that the message of the payload is written as the frame.
 fn is_written<M: RestateEncodableMessage>(
     alloc: Global,
     encoder: &Encoder,
@@ -70,7 +70,7 @@ fn messages_into_frames(rt: HostRuntime) -> Result<(), Fail> {
     passes(rt.alloc(), written_frames)
 }
 
-/// A command whose keys of the state are 4,096 times one key of a mebibyte, so that its payload is too long.
+/// A command whose state keys are 4,096 times one key of a mebibyte, so that its payload is too long.
 fn too_long(alloc: Global) -> Result<GetEagerStateKeysCommandMessage, Failed> {
     let key = Bytes::from_vec(Vec::from_elem(alloc, 0u8, 1_048_576)?)?;
     let mut keys = Vec::new(alloc);
@@ -83,7 +83,7 @@ fn too_long(alloc: Global) -> Result<GetEagerStateKeysCommandMessage, Failed> {
     })
 }
 
-/// That a payload is too long is known before memory is asked for.
+/// Checks that a payload is found to be too long before anything is allocated.
 fn long_payloads(alloc: Global) -> Result<(), Failed> {
     let command = too_long(alloc)?;
     expect(command.encoded_len().is_none(), Call::EncodedLen)?;
@@ -120,10 +120,10 @@ fn message_of(alloc: Global, frame: &[u8]) -> Result<RawMessage, Failed> {
     Ok(message)
 }
 
-/// That the frame's message is read as its type, and as no output.
+/// Checks that the frame's message decodes as its type, and not as an output.
 fn is_read<M: RestateMessage>(alloc: Global, frame: &[u8]) -> Result<(), Failed> {
     let message = message_of(alloc, frame)?;
-    // types are compared before memory is asked for
+    // types are compared before anything is allocated
     expect(
         matches!(
             message.decode_to::<OutputCommandMessage>(alloc, 3),
@@ -136,10 +136,10 @@ fn is_read<M: RestateMessage>(alloc: Global, frame: &[u8]) -> Result<(), Failed>
     expect(written == *message.payload(), Call::DecodeTo)
 }
 
-/// An input whose text is no UTF-8.
+/// An input whose text is not UTF-8.
 const MALFORMED: &[u8] = b"\x04\0\0\0\0\0\0\x0f\x0a\x08\x0a\x01k\x12\x03val\x62\x03\x6e\x6d\xff";
 
-/// That a malformed message is refused as such, or wants memory first.
+/// Checks that a malformed message is rejected as such, or runs out of memory first.
 fn is_refused(alloc: Global, message: &RawMessage) -> Result<(), Failed> {
     match message.decode_to::<InputCommandMessage>(alloc, 3) {
         Err(DecodingError::DecodeMessage(_, _)) => Ok(()),
@@ -162,7 +162,7 @@ fn frames_into_messages(rt: HostRuntime) -> Result<(), Fail> {
     passes(rt.alloc(), read_frames)
 }
 
-/// What the message answers as a notification, or what is missing there.
+/// The message's view as a notification, or what is missing there.
 fn view(alloc: Global, message: &RawMessage) -> Result<Result<Notification, &'static str>, Failed> {
     if !message.ty().is_notification() {
         return Err(Failed::Otherwise(Call::DecodeAsNotification));
@@ -174,7 +174,7 @@ fn view(alloc: Global, message: &RawMessage) -> Result<Result<Notification, &'st
     }
 }
 
-/// That the frame is viewed as a notification that prints so, or lacks that field.
+/// Checks that the frame's view as a notification prints so, or lacks that field.
 fn is_viewed(alloc: Global, frame: &[u8], shown: &str) -> Result<(), Failed> {
     let message = message_of(alloc, frame)?;
     match again(|| view(alloc, &message))? {

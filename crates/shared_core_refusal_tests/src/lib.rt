@@ -1,5 +1,5 @@
-//! Tests of what calls answer where a request for memory is refused, and that they have the right answer when they are asked again.
-//! `scripts/checks/refusals.sh` runs each of them once for each request that it makes, with that one refused.
+//! Tests of what calls return if an allocation fails, and that they have the right result when they are repeated.
+//! `scripts/checks/refusals.sh` runs each of them once for each of its allocations, with that one failing.
 #![tactic(auto)]
 
 #[cfg(test)]

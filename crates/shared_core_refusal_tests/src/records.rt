@@ -1,4 +1,4 @@
-//! Records: payloads read, merged and written again.
+//! Tests of records: payloads decoded, merged and encoded again.
 
 use crate::again::{Call, Failed, again, expect, passes};
 use bytes::Bytes;
@@ -26,16 +26,16 @@ const CALL: &[u8] =
 const FAILURE: &[u8] =
     b"\x1a\x02t1\x32\x1b\x08\xae\x02\x12\x02t3\x1a\x08\x0a\x02t4\x12\x02t5\x1a\x08\x0a\x02t6\x12\x02t7";
 
-/// A copy of a payload, cut from which a field shares it.
+/// A copy of a payload, of which a field shares a slice.
 fn copied(alloc: Global, payload: &[u8]) -> Result<Bytes, Failed> {
     Ok(Bytes::copy_from_slice(alloc, payload)?)
 }
 
-/// That the canonical payload is read and written again, and is well-formed in two parts.
+/// Checks that the canonical payload is decoded and encoded again, and is well-formed in two chunks.
 fn is_canonical<M: WireRecord>(alloc: Global, payload: &[u8]) -> Result<(), Failed> {
     let payload = copied(alloc, payload)?;
     let record = M::decode(alloc, payload.clone()?)?;
-    // measuring takes no memory
+    // measuring does not allocate
     expect(
         matches!(record.encoded_len(), Some(length) if length as usize == payload.len()),
         Call::EncodedLen,
@@ -49,7 +49,7 @@ fn is_canonical<M: WireRecord>(alloc: Global, payload: &[u8]) -> Result<(), Fail
     expect(merged == record, Call::Merge)
 }
 
-/// That what is read from these bytes is malformed, or wants memory first.
+/// Checks that what is read from these bytes is malformed, or runs out of memory first.
 fn is_malformed<M: WireRecord>(read: Result<M, WireError>) -> Result<(), Failed> {
     match read {
         Err(WireError::Malformed) => Ok(()),
@@ -58,7 +58,7 @@ fn is_malformed<M: WireRecord>(read: Result<M, WireError>) -> Result<(), Failed>
     }
 }
 
-/// That the payload is refused where it lacks its last byte, however it is read.
+/// Checks that the payload is rejected without its last byte, however it is read.
 fn is_refused<M: WireRecord>(alloc: Global, payload: &[u8]) -> Result<(), Failed> {
     let Some((_, cut)) = payload.split_last() else {
         return Ok(());
@@ -70,7 +70,7 @@ fn is_refused<M: WireRecord>(alloc: Global, payload: &[u8]) -> Result<(), Failed
     is_malformed(decode_parts::<M>(alloc, payload, &[cut]))
 }
 
-/// That the payload is read and written again, and refused where it lacks a byte.
+/// Checks that the payload is decoded and encoded again, and rejected without its last byte.
 fn holds<M: WireRecord>(alloc: Global, payload: &[u8]) -> Result<(), Failed> {
     is_canonical::<M>(alloc, payload)?;
     is_refused::<M>(alloc, payload)
@@ -108,7 +108,7 @@ fn chain(alloc: Global) -> Result<Bytes, Failed> {
 fn chains(alloc: Global) -> Result<(), Failed> {
     let payload = chain(alloc)?;
     is_canonical::<SuspensionMessage>(alloc, payload.as_slice())?;
-    // walking takes no memory
+    // walking does not allocate
     let mut top = Records::new(payload.as_slice());
     expect(
         matches!(top.next(), Some(Ok(_))) && top.next().is_none(),

@@ -1,4 +1,4 @@
-//! Streams: a refused piece is pushed again, and a refused item asked for again.
+//! Tests of streams: a rejected chunk is pushed again, and a failed call for an item is repeated.
 ghost use Rattle.std.specs.Prelude.{◌≤◌};
 ghost use Rattle.shared_core_base.specs.Version.{version_number};
 
@@ -10,12 +10,12 @@ use shared_core::header::MessageType;
 use std::alloc::Global;
 use std::test::Fail;
 
-/// A Start, a header of the unknown code 8, whose length is that of the InputCommand behind it, a GetLazyStateCompletionNotification, and three
-/// bytes more.
+/// A Start, a header of the unknown code 8, whose length is that of the InputCommand after it, a
+/// GetLazyStateCompletionNotification, and three bytes more.
 const STREAM: &[u8] =
     b"\0\0\0\0\0\0\0\x13\x0a\x03key\x12\x03key\x18\x01\x28\x01\x32\x03key\0\x08\0\0\0\0\0\x11\x04\0\0\0\0\0\0\x09\x72\x07\x0a\x05input\x80\x02\0\0\0\0\0\x04\x08\x01\x22\0\x04\0\0";
 
-/// How many bytes of it are in no item.
+/// The number of its bytes that are in no item.
 const REST: u64 = 3;
 
 /// An item of the stream.
@@ -26,7 +26,7 @@ enum Expected {
     Skipped(u16, &'static [u8]),
 }
 
-/// An item that ends so many bytes behind the beginning of the stream.
+/// An item that ends this many bytes after the beginning of the stream.
 type Ending = (usize, Expected);
 
 const START: Ending = (
@@ -45,7 +45,7 @@ const COMPLETION: Ending = (
     ),
 );
 
-/// The items of the stream before V9, which reads headers right behind the unknown one.
+/// The items of the stream before V9, where headers are read right after the unknown one.
 const ITEMS: &[Ending] = &[
     START,
     (35, Expected::Unknown(8)),
@@ -75,7 +75,8 @@ const VERSIONS: [(Version, &[Ending]); 5] = [
     (Version::V9, ITEMS_WITH_SKIPPED),
 ];
 
-/// The sizes of the pieces in which the stream comes: single bytes, cuts in headers and in payloads, and all at once.
+/// The sizes of the chunks in which the stream comes: single bytes, chunks that end in headers and in payloads, and all
+/// at once.
 const SIZES: [usize; 4] = [1, 10, 30, 67];
 
 /// Whether the item is this one.
@@ -94,7 +95,7 @@ fn is(item: &Item, expected: Expected) -> bool {
     }
 }
 
-/// Pushes a piece, once more where it comes back.
+/// Pushes a chunk, once more if it is returned.
 fn push(decoder: &mut Decoder, piece: Bytes) -> Result<(), Failed> {
     let (length, pending) = (piece.len(), decoder.pending());
     let Err(refused) = decoder.push(piece) else {
@@ -110,7 +111,7 @@ fn push(decoder: &mut Decoder, piece: Bytes) -> Result<(), Failed> {
     expect(decoder.push(piece).is_ok(), Call::Push)
 }
 
-/// What is next, by `next_item`, or else by `consume_next`.
+/// The next item, by `next_item`, or else by `consume_next`.
 fn ask(decoder: &mut Decoder, call: Call) -> Result<Option<Item>, Failed> {
     if call == Call::NextItem {
         return Ok(decoder.next_item()?);
@@ -126,7 +127,8 @@ fn ask(decoder: &mut Decoder, call: Call) -> Result<Option<Item>, Failed> {
     }
 }
 
-/// What the call answers next, once more where it wants memory: nothing is taken then. It wants none where no payload is next.
+/// The next result of the call, which is repeated if it runs out of memory: nothing is taken then. It needs no memory
+/// if no payload is next.
 fn next(decoder: &mut Decoder, call: Call, has_payload: bool) -> Result<Option<Item>, Failed> {
     let pending = decoder.pending();
     match ask(decoder, call) {
@@ -139,7 +141,8 @@ fn next(decoder: &mut Decoder, call: Call, has_payload: bool) -> Result<Option<I
     }
 }
 
-/// Takes the items of the stream that end behind the first number of bytes and not behind the second, and finds nothing more.
+/// Takes the items of the stream that end after the first number of bytes and not after the second, and finds nothing
+/// more.
 fn take_items(
     decoder: &mut Decoder,
     items: &[Ending],
@@ -159,7 +162,7 @@ fn take_items(
     expect(next(decoder, call, false)?.is_none(), call)
 }
 
-/// That the items of the stream come out, each with the piece in which it ends.
+/// Checks that the items of the stream come out, each with the chunk in which it ends.
 fn comes_out(
     alloc: Global,
     mut decoder: Decoder,
@@ -169,7 +172,7 @@ fn comes_out(
 ) -> Result<(), Failed> {
     let mut pushed = 0usize;
     for piece in STREAM.chunks(size.max(1)) {
-        // an empty piece takes no memory
+        // an empty chunk does not allocate
         expect(decoder.push(Bytes::new()).is_ok(), Call::Push)?;
         push(&mut decoder, Bytes::copy_from_slice(alloc, piece)?)?;
         let before = pushed;
@@ -179,7 +182,7 @@ fn comes_out(
     expect(decoder.pending() == REST, call)
 }
 
-/// That the items of the stream come out at once, and the rest is left.
+/// Checks that the items of the stream come out at once, and the other bytes remain.
 fn is_listed(
     alloc: Global,
     version: Version,
@@ -203,7 +206,7 @@ fn is_listed(
     Ok(())
 }
 
-/// That the stream comes out at each version, in each of the cuts.
+/// Checks that the stream comes out at each version, however it is split.
 fn streams(alloc: Global) -> Result<(), Failed> {
     for (version, items) in VERSIONS {
         for size in SIZES {

@@ -1,4 +1,4 @@
-//! Commands by their names and compared, and values as they go between messages and the layer above.
+//! Tests of commands by their names and compared, and of conversions between messages and the SDK state machine.
 
 use crate::again::{Call, Failed, again, at_once, expect, passes};
 use bytes::Bytes;
@@ -21,7 +21,7 @@ fn read<M: WireRecord>(alloc: Global, payload: &'static [u8]) -> Result<M, Faile
     Ok(M::decode(alloc, Bytes::from_static(payload))?)
 }
 
-/// That a command has the name, is the same as itself, and differs from nothing by the text.
+/// Checks that a command has the name, is the same as itself, and differs from an empty one by the text.
 fn is_command<M: NamedCommandMessage + CommandMessageHeaderEq + CommandMessageHeaderDiff>(
     alloc: Global,
     payload: &'static [u8],
@@ -40,7 +40,7 @@ fn is_command<M: NamedCommandMessage + CommandMessageHeaderEq + CommandMessageHe
     expect(lines.as_str() == difference, Call::WriteDiff)
 }
 
-/// How two commands differ. The text fails to be written where memory is refused.
+/// The difference of two commands. Writing the text fails if an allocation fails.
 fn lines<M: CommandMessageHeaderDiff>(
     alloc: Global,
     actual: &M,
@@ -74,7 +74,7 @@ fn commands_by_name_and_compared(rt: HostRuntime) -> Result<(), Fail> {
     passes(rt.alloc(), commands)
 }
 
-/// That this shows as the text.
+/// Checks that this is the `Debug` text.
 fn shows<T: Debug>(alloc: Global, shown: &T, text: &str) -> Result<(), Failed> {
     let found = format!(in alloc; "{shown:?}")?;
     expect(found.as_str() == text, Call::Debug)
@@ -98,7 +98,7 @@ fn values(alloc: Global) -> Result<(), Failed> {
         (b"\x2a\x03\x0a\x01x", "Success(b\"x\")"),
         (b"\x82\x01\x03inv", "InvocationId(\"inv\")"),
     ] {
-        // such a result is moved without memory
+        // such a result is moved without an allocation
         let value = at_once(result_of(alloc, payload)?.into_value(alloc))?;
         shows(alloc, &value, text)?;
     }
@@ -118,7 +118,7 @@ fn values(alloc: Global) -> Result<(), Failed> {
     Ok(())
 }
 
-/// A failure that went to the layer above and back, with its code's low 16 bits.
+/// A failure that was converted for the SDK state machine and back, with its code's low 16 bits.
 fn there_and_back(alloc: Global) -> Result<Failure, Failed> {
     let failure: Failure = read(
         alloc,
@@ -127,7 +127,7 @@ fn there_and_back(alloc: Global) -> Result<Failure, Failed> {
     Ok(Failure::from_terminal(alloc, failure.into_terminal(alloc)?)?)
 }
 
-/// A header of the layer above, of texts that are not owned.
+/// A header of the SDK state machine, of texts that are not owned.
 fn header(alloc: Global) -> Result<messages::Header, Failed> {
     let header = Header {
         key: CowStr::Borrowed("k"),
@@ -143,12 +143,12 @@ fn conversions(alloc: Global) -> Result<(), Failed> {
         &failure,
         "Failure { code: 4464, message: \"boom\", metadata: [FailureMetadata { key: \"k\", value: \"v\" }, FailureMetadata { key: \"\", value: \"\" }] }",
     )?;
-    // owned texts are moved without memory
+    // owned texts are moved without an allocation
     let moved = at_once(messages::Header::from_root(alloc, Header::from(header(alloc)?)))?;
     shows(alloc, &moved, "Header { key: \"k\", value: \"v\" }")
 }
 
-/// Headers by their names, types by their codes, and headers of frames by their words, none of which takes memory.
+/// Headers by their names, types by their codes, and headers of frames by their words, none of which allocates.
 fn lookups(alloc: Global) -> Result<(), Failed> {
     let mut pairs = Vec::new(alloc);
     pairs.push((

@@ -5,7 +5,7 @@ use Rattle.shared_core_record.specs.FieldParts.{parts_of, text_part}
 use Rattle.shared_core_runtime.specs.declared.suspension_message_v6.SuspensionMessageV6.{SuspensionMessageV6}
 
 unfoldable mutual
-  -- The messages in a part: one that it is with those in it, or those in its elements, in their order.
+  -- The messages in a part: its message and those nested in it, or those in its elements, in order.
   pub messages_of_part : Part → List Parts
   messages_of_part Absent = []
   messages_of_part (Number n) = []
@@ -14,7 +14,7 @@ unfoldable mutual
   messages_of_part (Elements elements) = messages_in elements
   messages_of_part (Member n p) = messages_of_part p
 
-  -- The messages in some parts, each before those in it.
+  -- The messages in some parts, each before those nested in it.
   pub messages_in : Parts → List Parts
   messages_in nil = []
   messages_in (cons p ps) = messages_of_part p ++ messages_in ps
@@ -23,7 +23,7 @@ unfoldable mutual
 abbrev pub preorder : Parts → List Parts
 preorder future = future ∷ messages_in future
 
--- The part of a value at a place of its schema, counted from 0.
+-- The part of a value at an index of its schema, counted from 0.
 abbrev pub part_at : ℕ → Parts → Part
 part_at place nil = Absent
 part_at zero (cons p ps) = p
@@ -34,7 +34,7 @@ abbrev pub elements_in : Part → Parts
 elements_in (Elements elements) = elements
 elements_in p = nil
 
--- The joined lists at a place of some futures, duplicates kept.
+-- The joined lists at an index of some futures, duplicates kept.
 unfoldable pub joined_lists : ℕ → List Parts → Parts
 joined_lists place [] = nil
 joined_lists place (future ∷ futures) = elements_in (part_at place future) +++ joined_lists place futures
@@ -43,11 +43,12 @@ joined_lists place (future ∷ futures) = elements_in (part_at place future) +++
 abbrev pub awaited_lists : List Parts → Parts
 awaited_lists futures = cons (Elements (joined_lists 0 futures)) (cons (Elements (joined_lists 1 futures)) (cons (Elements (joined_lists 2 futures)) nil))
 
--- The flattened form of a suspension's value: the three lists over the preorder of what it awaits, which are empty where it awaits nothing.
+-- The flattened form of a suspension's value: the three lists over the preorder of what it awaits, which are empty if
+-- it awaits nothing.
 abbrev pub flattened : Parts → Parts
 flattened suspension = awaited_lists (messages_in suspension)
 
--- A flattened suspension to which some futures are appended: their joined lists stand behind the lists that were there.
+-- A flattened suspension with some futures appended: their joined lists are after the lists that were there.
 pub record AppendsFutures (old new : SuspensionMessageV6) (futures : List Parts) : Type 0 where
   pub completions : parts_of Number new.waiting_completions.items ≡ parts_of Number old.waiting_completions.items +++ joined_lists 0 futures
   pub signals : parts_of Number new.waiting_signals.items ≡ parts_of Number old.waiting_signals.items +++ joined_lists 1 futures

@@ -90,7 +90,7 @@ impl OneOf for Result {
     ] };
 }
 
-/// The state that was asked for without recording it.
+/// The state that was requested without recording it.
 #[derive(Debug, PartialEq, Drop)]
 pub struct GetStateEphemeralNotificationMessage {
     /// The id of the command that this answers.

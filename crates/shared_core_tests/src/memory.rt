@@ -1,4 +1,4 @@
-//! What a decoder answers while all memory is held.
+//! Tests of a decoder while all memory is held.
 
 use crate::frames::{INPUT, INPUT_PAYLOAD};
 use crate::steps::{expect, next, push_copy};
@@ -8,7 +8,8 @@ use shared_core::Version;
 use shared_core::encoding::{Decoder, DecodingError};
 use std::test::Fail;
 
-/// Whether the decoder wants memory for its next message and keeps what was pushed, while an empty piece needs none.
+/// Whether the decoder runs out of memory for its next message and keeps what was pushed, while an empty chunk needs
+/// none.
 fn wants_memory(decoder: &mut Decoder) -> bool {
     matches!(decoder.consume_next(), Err(DecodingError::OutOfMemory))
         && decoder.push(Bytes::new()).is_ok()

@@ -1,4 +1,4 @@
-//! A message through all calls: what the contracts of encoding, pushing, consuming and decoding say together, of any message.
+//! The round trip of any message: what the contracts of encoding, pushing, consuming and decoding say together.
 ghost use Rattle.std.specs.Prelude.{◌≡◌, ◌≤◌, ◌^◌, IfOk};
 ghost use Rattle.std.specs.Result.{IsErrOf};
 ghost use Rattle.shared_core_base.specs.Version.{version_number};
@@ -15,12 +15,13 @@ use std::alloc::Global;
 pub enum RoundTripError {
     /// Its payload has more than 4,294,967,295 bytes.
     PayloadTooLong,
-    /// A request for memory was refused.
+    /// An allocation failed.
     OutOfMemory,
 }
 
-/// Encodes a message, pushes its frame to a new decoder, takes the message out and decodes it. It is written as a record of its own schema,
-/// which has at most one hundred levels; then nothing but its length or want of memory is in the way, and it comes out as it was written.
+/// Encodes a message, pushes its frame to a new decoder, takes the message out and decodes it. The message is written
+/// as a record of its own schema, of nesting depth at most one hundred; then the only errors are its length and a
+/// failed allocation, and it comes out as it was written.
 pub fn there_and_back<M: RestateEncodableMessage>(
     alloc: Global,
     version: Version,

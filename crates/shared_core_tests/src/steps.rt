@@ -1,4 +1,4 @@
-//! Steps that the tests share. They refuse what does not hold by an error, which costs a proof less than an assertion.
+//! Steps that the tests share. They report a failure by an error, which costs a proof less than an assertion.
 
 use bytes::Bytes;
 use shared_core::Version;
@@ -6,12 +6,12 @@ use shared_core::encoding::{Decoder, RawMessage};
 use std::alloc::Global;
 use std::test::Fail;
 
-/// Refuses what does not hold.
+/// Fails if the condition does not hold.
 pub fn expect(holds: bool, what: &str) -> Result<(), Fail> {
     if holds { Ok(()) } else { Err(Fail::new(what)) }
 }
 
-/// Pushes a piece.
+/// Pushes a chunk.
 pub fn push(decoder: &mut Decoder, piece: Bytes) -> Result<(), Fail> {
     match decoder.push(piece) {
         Ok(()) => Ok(()),
@@ -24,12 +24,12 @@ pub fn push_copy(alloc: Global, decoder: &mut Decoder, piece: &[u8]) -> Result<(
     push(decoder, Bytes::copy_from_slice(alloc, piece)?)
 }
 
-/// Whether no whole item is there.
+/// Whether there is no whole item.
 pub fn is_dry(decoder: &mut Decoder) -> Result<bool, Fail> {
     Ok(decoder.consume_next()?.is_none())
 }
 
-/// The next message, which is to be there.
+/// The next message, which has to be there.
 pub fn next(decoder: &mut Decoder) -> Result<RawMessage, Fail> {
     let Some(message) = decoder.consume_next()? else {
         return Err(Fail::new("no message"));
@@ -42,14 +42,14 @@ pub fn message_of(alloc: Global, frame: &[u8]) -> Result<RawMessage, Fail> {
     message_of_piece(alloc, Bytes::copy_from_slice(alloc, frame)?)
 }
 
-/// The message of a piece that is one frame, which it shares.
+/// The message of a chunk that is one frame, which it shares.
 pub fn message_of_piece(alloc: Global, piece: Bytes) -> Result<RawMessage, Fail> {
     let mut decoder = Decoder::new(alloc, Version::V8);
     push(&mut decoder, piece)?;
     next(&mut decoder)
 }
 
-/// The message of this code and payload, which has less than 256 bytes, in two pieces.
+/// The message of this code and payload, which has less than 256 bytes, in two chunks.
 pub fn message_with(alloc: Global, code: u16, payload: &[u8]) -> Result<RawMessage, Fail> {
     let [high, low] = code.to_be_bytes();
     let header = [high, low, 0, 0, 0, 0, 0, (payload.len() % 256) as u8];
@@ -59,7 +59,7 @@ pub fn message_with(alloc: Global, code: u16, payload: &[u8]) -> Result<RawMessa
     next(&mut decoder)
 }
 
-/// The message of a frame that comes in two pieces. It comes with the second, and nothing is left.
+/// The message of a frame that comes in two chunks. It comes with the second, and nothing is left.
 pub fn message_in_two(
     alloc: Global,
     mut decoder: Decoder,
@@ -77,7 +77,7 @@ pub fn message_in_two(
     Ok(message)
 }
 
-/// The pieces of a stream, each of so many bytes, the last of what is left.
+/// The chunks of a stream, each of this many bytes, the last of what is left.
 pub fn cut(alloc: Global, stream: &[u8], size: usize) -> Result<Vec<Bytes>, Fail> {
     let mut pieces = Vec::new(alloc);
     for piece in stream.chunks(size.max(1)) {

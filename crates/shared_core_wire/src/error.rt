@@ -1,5 +1,6 @@
 //! The error type of this crate.
 
+use std::alloc::{AllocError, AllocFailed};
 use thiserror::Error;
 
 /// An error of reading a payload.
@@ -11,4 +12,26 @@ pub enum WireError {
     /// An allocation failed.
     #[error("out of memory")]
     OutOfMemory,
+}
+
+impl From<AllocError> for WireError {
+    ghost use Rattle.std.specs.Prelude.{◌≡◌};
+    ghost use Rattle.shared_core_wire.specs.declared.error.WireError.TheVariants.{OutOfMemory};
+
+    ghost from_gives = { λ _ error. error ≡ OutOfMemory };
+
+    fn from(_error: AllocError) -> WireError {
+        WireError::OutOfMemory
+    }
+}
+
+impl<T: Drop> From<AllocFailed<T>> for WireError {
+    ghost use Rattle.std.specs.Prelude.{◌≡◌};
+    ghost use Rattle.shared_core_wire.specs.declared.error.WireError.TheVariants.{OutOfMemory};
+
+    ghost from_gives = { λ _ error. error ≡ OutOfMemory };
+
+    fn from(_failed: AllocFailed<T>) -> WireError {
+        WireError::OutOfMemory
+    }
 }

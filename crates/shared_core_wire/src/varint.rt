@@ -1,6 +1,6 @@
 //! Varints (proto3): a number of 64 bits in one to ten bytes of seven bits each, the least significant first.
 
-ghost use Rattle.std.specs.Prelude.{◌≡◌, ◌≤◌, ◌<◌, ◌+◌, ◌*◌, ◌^◌, length};
+ghost use Rattle.std.specs.Prelude.{◌≡◌, ◌≤◌, ◌<◌, ◌+◌, ◌*◌, ◌%◌, ◌^◌, length};
 ghost use Rattle.shared_core_wire.specs.Reader.{Gives, varint_at};
 ghost use Rattle.shared_core_wire.specs.Spelling.{shortest_varint};
 
@@ -40,6 +40,14 @@ fn read_long_varint(bytes: &[u8]) -> Option<(u64, &[u8])>
         return None;
     }
     Some((number + scale * *byte as u64, after))
+}
+
+/// Returns the low 32 bits of a number.
+#[inline(always)]
+pub fn low_32(number: u64) -> u32
+    ensures { result ≡ number % 4294967296 }
+{
+    (number % 4_294_967_296) as u32
 }
 
 /// Returns the number of bytes of the shortest varint of a number.

@@ -5,7 +5,7 @@ use Rattle.std.proofs.KnownBytes.{Appends-nil, Appends-trans, Consumes-nil, Cons
 use Rattle.shared_core_base.specs.declared.version.Version.{Version}
 use Rattle.shared_core.specs.declared.encoding.item.Item.{Item}
 use Rattle.std.specs.Option.{option_map_or}
-use Rattle.shared_core_base.specs.declared.header.MessageHeader.{MessageHeader}
+use Rattle.shared_core_base.specs.declared.message_header.MessageHeader.{MessageHeader}
 use Rattle.shared_core_base.specs.MessageHeader.{header_of, word_code, word_length}
 use Rattle.shared_core.specs.declared.encoding.item.Item.TheVariants.{Message, Unknown, Skipped}
 use Rattle.shared_core.specs.Items.{AreItems, IsItem, IsItemsThen, SplitsInto, front_word, body_length, item_of, skips_unknown}
@@ -131,7 +131,7 @@ module _ (line : ℕ → Item → List ℕ) (last : ℕ → ℕ → List ℕ) (i
       then_piece : IsItemsThen version (so_far.read ++ piece) so_far.items (pending ++ piece)
       then_piece = then_more version so_far.read pending piece so_far.items so_far.split.items_then
 
-      -- what is to be done with a piece cannot be done
+      -- what is to be done with a chunk cannot be done
       pub ended_lack : (error : PrintError) → IsLack (IsLongIn is_long version (pending ++ piece)) error → HasEnded line last is_long version first start now out (Err error)
       ended_lack error lack = (so_far.read ++ piece, lines line 0 so_far.items, with_piece, so_far.wrote, printed_lack error (so_far.read ++ piece) (pending ++ piece) so_far.items now lack then_piece)
 
@@ -150,7 +150,7 @@ module _ (line : ℕ → Item → List ℕ) (last : ℕ → ℕ → List ℕ) (i
               (Appends-trans start out grown (lines line 0 so_far.items) (lines line (0 + items_size so_far.items) more) so_far.wrote (subst (λ (n : ℕ). Appends out grown (lines line n more)) (zero_more (items_size so_far.items)) wrote));
         }
 
-        -- the lines of a piece are not written whole
+        -- the lines of a chunk are not written whole
         pub ended_output : (grown : Option (List ℕ)) (written : List ℕ) → Appends out grown written → Begins written (lines line (items_size so_far.items) more) → HasEnded line last is_long version first start now grown (Err Output)
         ended_output grown written wrote is = (
           so_far.read ++ piece,
@@ -192,7 +192,7 @@ module _ (line : ℕ → Item → List ℕ) (last : ℕ → ℕ → List ℕ) (i
     ended_read now OutOfMemory (lost, taken) = ended_lack now lost taken OutOfMemory tt
     ended_read now TooLong is = absurd is
 
--- the pending bytes begin where they began, with a piece behind them
+-- the pending bytes begin where they began, with a chunk behind them
 pub still_there : (size total : ℕ) (pending piece : List ℕ) → total ≡ size + length pending → (total + length piece) - length (pending ++ piece) ≡ size
 still_there size total pending piece e = omega (arith, length-append pending piece)
 

@@ -1,18 +1,18 @@
-//! Why printing ended before the last line.
+//! The error of `print_lines`: why printing ended before the last line.
 
 use std::alloc::AllocError;
 use std::error::Error;
 use std::fmt;
 use text_output::OutputFailed;
 
-/// Why printing ended before the last line.
+/// The error of `print_lines`: why printing ended before the last line.
 #[derive(Clone, Copy, Debug, PartialEq, Eq, Drop)]
 pub enum PrintError {
     /// A read failed, or 2^64 - 1 reads met no end.
     Input,
-    /// A write failed, or took no byte.
+    /// A write failed, or wrote no byte.
     Output,
-    /// There is no memory for a piece, an item or a line.
+    /// A chunk, an item or a line could not be allocated.
     OutOfMemory,
     /// An item is too long for a line.
     TooLong,

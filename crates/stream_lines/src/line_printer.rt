@@ -1,4 +1,4 @@
-//! What makes the lines of items.
+//! The trait of printers, which make the lines of items.
 
 ghost use Rattle.std.specs.Prelude.{◌≡◌, ◌++◌, ℕ, List, IfErr, IfOk};
 ghost use Rattle.shared_core.specs.declared.encoding.item.Item.{Item as AnyItem};
@@ -10,22 +10,23 @@ use std::alloc::{AllocError, Global};
 
 /// Makes the lines of items.
 pub trait LinePrinter {
-    /// Memory that lines are made in, one after the other. What it holds does not matter.
+    /// Buffers in which lines are made, one after the other. Their contents do not matter.
     type Scratch: Drop;
 
-    /// The line of an item that begins at a place of the stream; nothing where it is not shown.
+    /// The line of an item that begins at an offset of the stream; nothing if it is not printed.
     ghost item_line: { Self → ℕ → AnyItem → List ℕ };
 
-    /// The last line, by the place where the bytes begin that are in no item, and their count.
+    /// The last line, by the offset of the bytes that are in no item, and their number.
     ghost rest_line: { Self → ℕ → ℕ → List ℕ };
 
-    /// What is so of an item that is too long for a line.
+    /// Holds of the items for which `print_item` may return `TooLong`.
     ghost is_long: { Self → AnyItem → Type 0 };
 
-    /// Memory for lines.
+    /// Returns empty buffers.
     fn scratch(&self, alloc: Global) -> Self::Scratch;
 
-    /// Appends the line of an item that begins at a place of the stream. `TooLong` comes only where the item is too long for a line.
+    /// Appends the line of an item that begins at an offset of the stream. Returns `TooLong` only if the item is too
+    /// long for a line.
     fn print_item(
         &self,
         alloc: Global,

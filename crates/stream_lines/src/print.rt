@@ -18,10 +18,11 @@ use text_output::write_whole;
 
 /// Writes a line for each item of a stream of a version, of at least V5, and at its end a line for the bytes that are in no item.
 ///
-/// It reads at most `piece` bytes at a time, from 1 to 65,536, and writes the lines of the items that a piece completes before it reads the next. `Ok`
-/// comes only where the reader has no byte left, and then all is written. `Input` leaves the lines of all items of what was read; `Output` a
-/// beginning of these lines, or of all where the input had ended; `OutOfMemory` and `TooLong` the lines of the first items. `TooLong` comes only where
-/// one of the items behind them is too long for a line.
+/// It reads at most `piece` bytes at a time, from 1 to 65,536, and writes the lines of the items that a chunk completes
+/// before it reads the next. `Ok` comes only if the reader has no byte left, and then all is written. After `Input` the
+/// lines of all items of what was read are written; after `Output` a prefix of these lines, or of all if the input had
+/// ended; after `OutOfMemory` and `TooLong` the lines of the first items. `TooLong` comes only if one of the items
+/// after them is too long for a line.
 pub fn print_lines<P: LinePrinter, R: Read, W: Write>(
     alloc: Global,
     version: Version,
@@ -43,7 +44,7 @@ pub fn print_lines<P: LinePrinter, R: Read, W: Write>(
     let mut text = Vec::new(alloc);
     let mut buffer = Vec::from_elem(alloc, 0u8, piece)?;
     let buffer = buffer.as_mut_slice();
-    // 2^64 - 1 reads may give more bytes than 64 bits count
+    // 2^64 - 1 reads may give more bytes than 64 bits can count
     let mut total = 0u128;
     for _ in 0..u64::MAX {
         let bytes = read_piece(alloc, input, buffer)?;
@@ -63,7 +64,7 @@ pub fn print_lines<P: LinePrinter, R: Read, W: Write>(
     Err(PrintError::Input)
 }
 
-/// Reads once, at most as much as the buffer has room for. No byte is the end of the input.
+/// Reads once, at most as much as the buffer has room for. No byte means the end of the input.
 fn read_piece<R: Read>(alloc: Global, input: &mut R, buffer: &mut [u8]) -> Result<Bytes, PrintError>
     requires { 0 < length buffer.old }
     ensures taken { IsRead result (R.remaining input.old) (R.remaining input.new) }
@@ -75,7 +76,7 @@ fn read_piece<R: Read>(alloc: Global, input: &mut R, buffer: &mut [u8]) -> Resul
     Ok(Bytes::copy_from_slice(alloc, &buffer[..count])?)
 }
 
-/// Pushes a piece. A decoder that holds no whole item has room for it, so none is too long.
+/// Pushes a chunk. A decoder that holds no whole item has room for it, so none is too long.
 fn feed(decoder: &mut Decoder, piece: Bytes) -> Result<(), AllocError>
     requires short { length decoder.old.bytes ≤ most_pending }
     requires fits { length piece ≤ 65536 }
@@ -88,7 +89,7 @@ fn feed(decoder: &mut Decoder, piece: Bytes) -> Result<(), AllocError>
     }
 }
 
-/// Makes a text of the lines of the decoder's whole items, where `total` bytes of the stream have come.
+/// Makes a text of the lines of the decoder's whole items, after `total` bytes of the stream have come.
 fn print_items<P: LinePrinter>(
     alloc: Global,
     printer: &P,

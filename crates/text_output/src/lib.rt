@@ -1,4 +1,5 @@
-//! Bytes written whole, or a beginning of them.
+//! Writing all bytes, or a prefix of them if the output fails. (The contract of the standard library's `write_all` does
+//! not say what is written after an error.)
 #![tactic(auto)]
 
 ghost use Rattle.std.specs.Prelude.{ℕ, List};
@@ -9,7 +10,7 @@ use std::error::Error;
 use std::fmt;
 use std::io::Write;
 
-/// A write failed, or took no byte.
+/// A write failed, or wrote no byte.
 #[derive(Debug, Clone, Copy, Drop)]
 pub struct OutputFailed;
 
@@ -25,7 +26,8 @@ impl fmt::Display for OutputFailed {
 
 impl Error for OutputFailed {}
 
-/// Writes until all bytes are written, a write fails, or one takes nothing. A beginning of the bytes stands then.
+/// Writes until all bytes are written, a write fails, or one writes nothing. In the last two cases a prefix of the
+/// bytes is written.
 pub fn write_whole<W: Write>(output: &mut W, bytes: &[u8]) -> Result<(), OutputFailed>
     ensures { (written : List ℕ)
         × Appends (W.contents output.old) (W.contents output.new) written

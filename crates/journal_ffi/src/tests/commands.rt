@@ -6,7 +6,7 @@ use crate::commands::{journal_difference, journal_header_eq};
 #[test]
 fn each_type_is_the_same_as_itself(rt: HostRuntime) {
     for code in 0x0400..0x0416u16 {
-        // one code between the commands and those behind them stand for no type
+        // one code between the commands and those after them is no type's
         let (same, length) = match code {
             0x040F | 0x0415 => (-5, -5),
             _ => (1, 0),
@@ -26,7 +26,7 @@ fn each_type_is_the_same_as_itself(rt: HostRuntime) {
 #[test]
 fn pairs_with_payloads_and_without(rt: HostRuntime) {
     for (code, first, second, same, difference) in [
-        // a number, a text, bytes, a text that may be absent, a message, a oneof and headers
+        // a number, a text, bytes, an optional text, a message, a oneof and headers
         (
             0x0411,
             &b"\x58\x01"[..],
@@ -123,7 +123,7 @@ fn pairs_with_payloads_and_without(rt: HostRuntime) {
         (0x0402, b"\x62\x01a", b"\x62\x01b", [0, 0], Ok("")),
         (0x040C, b"\x08\x01", b"\x08\x02", [1, 1], Ok("")),
         (0x0400, b"\x72\x03\x0a\x01x", b"\x62\x01a", [1, 1], Ok("")),
-        // one meaning in two spellings
+        // one meaning in two encodings
         (0x0411, b"\x58\x01", b"\x58\x07\x58\x81\x00", [1, 1], Ok("")),
         // malformed on either side and on both
         (0x0411, b"\xff", b"", [-1, -1], Err(-1)),

@@ -16,7 +16,7 @@ const SUSPENSION: [u8; 18] = [
 fn each_named_type(rt: HostRuntime) {
     for code in CODES {
         let [high, low] = code.to_be_bytes();
-        // An acknowledgement is asked for with a proposal alone, from V7 on.
+        // Only a proposal requests an acknowledgement, from V7 on.
         let ack = if code == 0x0005 { 0x80 } else { 0 };
         for (version, flags) in [(5, 0), (8, ack), (9, ack)] {
             let mut out = [0xFF; 8];
@@ -33,8 +33,8 @@ fn each_named_type(rt: HostRuntime) {
 
 #[test]
 fn frames(rt: HostRuntime) {
-    // An acknowledgement is asked for from V7 on, and before it a suspension has one flat list of each kind. Then a payload that is no record
-    // list, custom types, an unknown code, and versions that are not spoken.
+    // An acknowledgement is requested from V7 on, and before it a suspension has one flat list of each kind. Then a
+    // payload that is no record list, custom types, an unknown code, and unsupported versions.
     let plain = [
         0x00, 0x05, 0x00, 0x00, 0x00, 0x00, 0x00, 0x05, 0x08, 0x01, 0x72, 0x01, 0x78,
     ];
@@ -76,8 +76,8 @@ fn frames(rt: HostRuntime) {
 
 #[test]
 fn headers(rt: HostRuntime) {
-    // The first byte is the highest. A custom entry has a header too, without a flag; an unknown code has none, nor has a version that is not
-    // spoken.
+    // The header is big-endian. A custom entry has a header too, without a flag; an unknown code has none, nor has an
+    // unsupported version.
     for (version, code, length, expected) in [
         (6, 0x0005, 0x0102_0304, Ok([0x00, 0x05, 0, 0, 1, 2, 3, 4])),
         (

@@ -3,8 +3,8 @@
 use super::CODES;
 use crate::items::journal_next;
 
-/// A ProposeRunCompletion that asks for an acknowledgement, an InputCommand, and an unknown code 8 whose header announces two bytes; at version
-/// 8 an End begins behind these eight bytes, and at version 9 one behind these ten.
+/// A ProposeRunCompletion that requests an acknowledgement, an InputCommand, and an unknown code 8 whose header
+/// announces two bytes; at version 8 an End begins after these eight bytes, and at version 9 one after these ten.
 const STREAM: [u8; 48] = [
     0x00, 0x05, 0x80, 0x00, 0x00, 0x00, 0x00, 0x05, 0x08, 0x01, 0x72, 0x01, 0x78, 0x04, 0x00, 0x00,
     0x00, 0x00, 0x00, 0x00, 0x09, 0x72, 0x07, 0x0A, 0x05, 0x69, 0x6E, 0x70, 0x75, 0x74, 0x00, 0x08,
@@ -27,7 +27,7 @@ const ITEMS_AT_9: [[u64; 6]; 4] = [
     [0, 0x0003_0000_0000_0000, 0x0003, 0, 8, 8],
 ];
 
-/// How many bytes are missing behind its first 0, 1, 2 and so on up to all 48, before version 9.
+/// How many bytes are missing after its first 0, 1, 2 and so on up to all 48, before version 9.
 const MISSING: [i64; 49] = [
     8, 7, 6, 5, 4, 3, 2, 1, 5, 4, 3, 2, 1, // of the first item
     8, 7, 6, 5, 4, 3, 2, 1, 9, 8, 7, 6, 5, 4, 3, 2, 1, // of the second
@@ -41,7 +41,8 @@ const MISSING_AT_9: [i64; 49] = [
     8, 7, 6, 5, 4, 3, 2, 1, 2, 1, 8, 7, 6, 5, 4, 3, 2, 1, 8,
 ];
 
-/// Whether a reader of the bytes, which goes on by the size of each item, meets the first of these items and then misses so many bytes.
+/// Whether a reader of the bytes, which continues by the size of each item, meets the first of these items and then
+/// misses this many bytes.
 fn reads(version: u32, bytes: &[u8], items: &[[u64; 6]], missing: i64) -> bool {
     let mut rest = bytes;
     for expected in items {
@@ -99,7 +100,7 @@ fn each_named_type(rt: HostRuntime) {
 
 #[test]
 fn room_and_versions(rt: HostRuntime) {
-    // The version is looked at first. What has no place in an item stands as it stood.
+    // The version is checked first. Numbers past those of an item are unchanged.
     let first = [0, 0x0005_8000_0000_0005, 0x0005, 1, 13, 8, 0xEE];
     for (version, room, answer, expected) in [
         (4, 0, -5, [0xEE; 7]),

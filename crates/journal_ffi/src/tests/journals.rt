@@ -18,11 +18,12 @@ const SET_X: &[u8] = b"\x04\x03\0\0\0\0\0\x05\x1a\x03\x0a\x01x";
 
 const SET_Y: &[u8] = b"\x04\x03\0\0\0\0\0\x05\x1a\x03\x0a\x01y";
 
-/// How the text of each mismatch begins.
+/// The beginning of the text of each mismatch.
 const HEAD: &str =
     "Found a mismatch between the code paths taken during the previous execution and the paths taken during this execution.\nThis typically happens when some parts of the code are non-deterministic.\n";
 
-/// How it ends where a sleep comes in the place of a read of the state, where that is of another key, and where another value is written.
+/// Its end if a sleep comes instead of a read of the state, if the read has another key, and if another value is
+/// written.
 const OTHER_TYPE: &str =
     " - The previous execution ran and recorded the following: 'get state' (index '1')\n - The current execution attempts to perform the following: 'sleep'";
 
@@ -32,8 +33,8 @@ const OTHER_KEY: &str =
 const OTHER_VALUE: &str =
     "- The mismatch happened while executing 'set state' (index '0')\n- Difference:\n   value: 'x' != 'y'";
 
-/// How many bytes of a slice are the text of a mismatch that ends so, and stand at its front; none where there is no end. Nothing else is
-/// to be written there.
+/// How many bytes at the beginning of a slice are the text of a mismatch with this end; none without an end. Nothing
+/// else may be written.
 fn text_length(out: &[u8], end: &str) -> Option<i64> {
     let rest = if end.is_empty() {
         out
@@ -112,7 +113,7 @@ fn any_room_for_a_text(rt: HostRuntime) {
 
 #[test]
 fn refusals(rt: HostRuntime) {
-    // a version that is not spoken, whatever the room, and too little room for numbers, whatever the journals
+    // an unsupported version, whatever the room, and too little room for numbers, whatever the journals
     for (version, recorded, room, expected) in [
         (4, GET_A, 2, -5),
         (10, GET_A, 2, -5),

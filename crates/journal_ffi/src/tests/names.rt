@@ -1,11 +1,11 @@
 //! Names and numbers.
 
-use super::{CODES, writes};
+use super::{CODES, SCHEMAS, writes};
 use crate::names::{journal_library_version, journal_schema, journal_type_code, journal_type_name};
 
 #[test]
 fn each_named_type(rt: HostRuntime) {
-    let mut schemas = [false; 53];
+    let mut schemas = [false; SCHEMAS];
     for code in CODES {
         let mut name = [0; 48];
         let length = journal_type_name(code, &mut name);
@@ -15,7 +15,7 @@ fn each_named_type(rt: HostRuntime) {
         };
         let schema = journal_schema(9, code);
         match usize::try_from(schema) {
-            Ok(place) if place < 53 && !schemas[place] => schemas[place] = true,
+            Ok(place) if place < SCHEMAS && !schemas[place] => schemas[place] = true,
             _ => assert!(rt; false, "code {code}: schema {schema}"),
         }
         assert_eq!(rt; named, Some(i64::from(code)), "code {code}: {name:?}");
@@ -55,7 +55,8 @@ fn names(rt: HostRuntime) {
 
 #[test]
 fn schemas(rt: HostRuntime) {
-    // A suspension has another schema before version 7 than later. A custom entry, an unknown code, and versions that are not spoken have none.
+    // A suspension has another schema before version 7 than later. A custom entry, an unknown code, and unsupported
+    // versions have none.
     for (version, code, expected) in [
         (6, 0x0001, 12),
         (7, 0x0001, 11),

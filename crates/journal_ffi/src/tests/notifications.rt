@@ -4,7 +4,8 @@ use crate::notifications::journal_notification;
 use std::alloc::Global;
 use std::test::Fail;
 
-/// Whether the call answers these numbers and these bytes: the numbers whatever the room, and the bytes exactly where there is room for them.
+/// Whether the call returns these numbers and these bytes: the numbers whatever the room, and the bytes if and only if
+/// there is room for them.
 fn reads(alloc: Global, code: u16, payload: &[u8], numbers: [u64; 4], bytes: &[u8]) -> bool {
     for room in 0..17usize {
         let mut found = [0xEE; 5];
@@ -40,7 +41,7 @@ fn each_id_with_each_result(rt: HostRuntime) -> Result<(), Fail> {
             0,
             &b"stop"[..],
         ),
-        // the last id stands
+        // the last id counts
         (&[0x08, 0x01, 0x1A, 0x00][..], 2, 0, &b""[..]),
     ] {
         for (outcome, outcome_kind, outcome_bytes) in [
@@ -50,7 +51,7 @@ fn each_id_with_each_result(rt: HostRuntime) -> Result<(), Fail> {
                 1,
                 &[0x0A, 0x01, 0x78][..],
             ),
-            // a number that is longer than it need be
+            // a number that is longer than necessary
             (&[0x32, 0x03, 0x08, 0x85, 0x00][..], 2, &[0x08, 0x05][..]),
             (&[0x82, 0x01, 0x03, 0x69, 0x6E, 0x76][..], 3, &b"inv"[..]),
             (
@@ -80,7 +81,7 @@ fn each_id_with_each_result(rt: HostRuntime) -> Result<(), Fail> {
 fn refusals(rt: HostRuntime) {
     let whole = [0x08, 0x01, 0x22, 0x00];
     for (code, payload, room, expected) in [
-        // commands, a code of no type, and custom types before and behind the notifications
+        // commands, a code of no type, and custom types before and after the notifications
         (0x0400, &whole[..], 5, -5),
         (0x0008, &whole[..], 5, -5),
         (0x7FFF, &whole[..], 5, -5),

@@ -1,11 +1,11 @@
 //! Payloads of each schema.
 
-use super::writes;
+use super::{SCHEMAS, writes};
 use crate::payloads::{journal_canonical, journal_is_well_formed, journal_json, journal_merge};
 
 #[test]
 fn each_schema(rt: HostRuntime) {
-    for schema in 0..53 {
+    for schema in 0..SCHEMAS as u32 {
         let length = journal_canonical(rt.alloc(), schema, &[], &mut []);
         let is_well_formed = journal_is_well_formed(rt.alloc(), schema, &[]);
         let is_written = writes(
@@ -38,7 +38,7 @@ fn canonical_payloads(rt: HostRuntime) {
             Ok(&[0x08, 0x01, 0x32, 0x05, 0x08, 0x05, 0x12, 0x01, 0x78][..]),
         ),
         (12, &[0x0A, 0x02, 0x01, 0x80][..], Err(-1)),
-        (53, &[][..], Err(-5)),
+        (SCHEMAS as u32, &[][..], Err(-5)),
     ] {
         let is_well_formed = match expected {
             Ok(_) => 1,
@@ -80,7 +80,7 @@ fn merged_payloads(rt: HostRuntime) {
         (41, &[0x32, 0x02, 0x08][..], &[0x05][..], Err(-1)),
         (41, &[0xFF][..], &[0x08, 0x01][..], Err(-1)),
         (41, &[0x08, 0x01][..], &[0xFF][..], Err(-1)),
-        (53, &[][..], &[][..], Err(-5)),
+        (SCHEMAS as u32, &[][..], &[][..], Err(-5)),
     ] {
         assert!(rt;
             writes(
@@ -112,7 +112,7 @@ fn json(rt: HostRuntime) {
             Ok("{\"value\":{\"content\":\"eA==\"}}"),
         ),
         (20, &[0xFF][..], Err(-1)),
-        (53, &[][..], Err(-5)),
+        (SCHEMAS as u32, &[][..], Err(-5)),
     ] {
         let expected = expected.map(|text| text.as_bytes());
         assert!(rt;

@@ -1,8 +1,10 @@
-//! The decoder of a stream that comes in pieces.
-ghost use Rattle.std.specs.Prelude.{◌≡◌, ◌+◌, ◌<◌, ◌≤◌, ◌++◌, length, drop, take, IfOk, IfSome, IfNone, OnErr, MatchOption, Some, None};
+//! The decoder of a stream that comes in chunks.
+ghost use Rattle.std.specs.Prelude.{◌≡◌, ◌+◌, ◌<◌, ◌≤◌, ◌++◌, length, drop, take, IfOk, IfSome, IfNone, OnErr};
+ghost use Rattle.std.specs.Prelude.{MatchOption, Some, None};
 ghost use Rattle.shared_core.specs.Items.{skips_unknown};
 ghost use Rattle.shared_core.specs.Unread.{held_bytes, held_length};
 
+use crate::encoding::item::Taken;
 use crate::encoding::{DecodingError, Item, PushError, RawMessage};
 use crate::pending_bytes::PendingBytes;
 use bytes::Bytes;
@@ -11,10 +13,10 @@ use shared_core_base::version::Version;
 use std::alloc::{AllocError, Global};
 use std::marker::Model;
 
-/// Takes a stream in pieces, and answers its items in order.
+/// Takes a stream in chunks, and returns its items in order.
 ///
-/// A contract sees a decoder as its version and the bytes that came and that no answer has taken; a header that was read
-/// still counts among them until its message is answered.
+/// A contract sees a decoder as its version and its pending bytes, those that no call has taken; a header that was read
+/// is still among them until its message is returned.
 #[derive(Drop)]
 pub struct Decoder {
     version: Version,
@@ -28,7 +30,8 @@ impl Model for Decoder {
 
     ghost Value = { Unread };
 
-    ghost view = { λ decoder. record { version = decoder.version; bytes = held_bytes decoder.head ++ decoder.pending } };
+    ghost view = { λ decoder.
+        record { version = decoder.version; bytes = held_bytes decoder.head ++ decoder.pending } };
 
     ghost invariant = { λ decoder. (length (held_bytes decoder.head ++ decoder.pending) < 2 ^ 64)
         × (length (held_bytes decoder.head) ≡ held_length decoder.head) };
@@ -60,7 +63,7 @@ fn skips_unknown(version: Version) -> bool
     version >= Version::V9
 }
 
-/// Takes the held header and `count` bytes behind it, if as many have come. An `Err` takes nothing.
+/// Takes the held header and `count` bytes after it, if as many have come. An `Err` takes nothing.
 #[inline(always)]
 fn take_payload(
     head: &mut Option<[u8; 8]>,
@@ -71,7 +74,8 @@ fn take_payload(
         ((length pending.old < count) × (head.new ≡ head.old) × (pending.new ≡ pending.old))
         (λ payload. (count ≤ length pending.old) × (payload ≡ take count pending.old)
         × (head.new ≡ None) × (pending.new ≡ drop count pending.old))) }
-    ensures refused { OnErr result ((count ≤ length pending.old) × (head.new ≡ head.old) × (pending.new ≡ pending.old)) }
+    ensures refused { OnErr result
+        ((count ≤ length pending.old) × (head.new ≡ head.old) × (pending.new ≡ pending.old)) }
 {
     if pending.len() < count {
         return Ok(None);
@@ -82,11 +86,13 @@ fn take_payload(
 }
 
 impl Decoder {
-    ghost use Rattle.std.specs.Prelude.{◌≡◌, ◌+◌, ◌≤◌, ◌++◌, [], length, OnOk, OnErr, IfOk, IfErr, IsOk, MatchOption, None, Ok};
+    ghost use Rattle.std.specs.Prelude.{◌≡◌, ◌+◌, ◌≤◌, ◌++◌, [], length, OnOk, OnErr, IfOk, IfErr, IsOk, MatchOption};
+    ghost use Rattle.std.specs.Prelude.{None, Ok};
     ghost use Rattle.shared_core_base.specs.Version.{version_number};
-    ghost use Rattle.shared_core.specs.Items.{AnswersNext, NoItemBegins, PayloadIsNext, RefusesPiece, TakesEight, TakesItem};
+    ghost use Rattle.shared_core.specs.Items.{AnswersNext, NoItemBegins, PayloadIsNext, RefusesPiece, TakesEight};
+    ghost use Rattle.shared_core.specs.Items.{TakesItem, item_taken};
 
-    /// A decoder of this version, which is at least V5, before any byte has come. It takes no memory.
+    /// Returns a decoder of this version, which is at least V5, before any byte has come. Does not allocate.
     pub fn new(alloc: Global, version: Version) -> Decoder
         requires { 5 ≤ version_number version }
         ensures { result ≡ record { version = version; bytes = [] } }
@@ -98,7 +104,7 @@ impl Decoder {
         }
     }
 
-    /// How many bytes no answer has taken yet.
+    /// Returns the number of bytes that no call has taken yet.
     pub fn pending(&self) -> u64
         ensures { result ≡ length self.now.bytes }
     {
@@ -106,10 +112,10 @@ impl Decoder {
         held + self.pending.len() as u64
     }
 
-    /// Puts a piece of the stream, of any length, behind the bytes that came before, without copying it.
+    /// Appends a chunk of the stream, of any length, to the pending bytes, without copying it.
     ///
-    /// An empty piece is not kept and never refused. A refused piece comes back in the error, and nothing has changed:
-    /// `TooLong` only where the pending bytes would be more than 2^64 - 1, else `OutOfMemory`.
+    /// An empty chunk is not kept and never rejected. A rejected chunk is returned in the error, and nothing has
+    /// changed: `TooLong` only if the pending bytes would be more than 2^64 - 1, otherwise `OutOfMemory`.
     pub fn push(&mut self, piece: Bytes) -> Result<(), PushError>
         ensures ok { OnOk result (self.new ≡ record self.old { bytes = self.old.bytes ++ piece }) }
         ensures err { IfErr result (RefusesPiece self.old.bytes piece) }
@@ -131,17 +137,62 @@ impl Decoder {
     /// The next message, or `None` exactly where the bytes that came hold no further whole item; then at most
     /// 4,294,967,302 bytes are pending, a header and all but one byte of its payload.
     ///
-    /// A payload that lies in one piece is cut from it; one that straddles pieces is joined, once. Where the next header's
-    /// code stands for no type, the answer goes by the version: before V9 it is `UnknownMessageType`, which takes exactly
-    /// the eight bytes of the header, and reading goes on behind them; from V9 on it is `SkippedMessage`, which takes the
-    /// header and its payload, once that has come. `OutOfMemory` comes only where a whole payload is to be taken, and takes
-    /// nothing: a later call answers as if this one had not been made.
+    /// A payload that lies in one chunk is cut from it; one that straddles chunks is joined, once. Where the next
+    /// header's code is no type's, the result goes by the version: before V9 it is `UnknownMessageType`, which takes
+    /// exactly the eight bytes of the header, and reading goes on after them; from V9 on it is `SkippedMessage`, which
+    /// takes the header and its payload, once that has come. `OutOfMemory` comes only where a whole payload is to be
+    /// taken, and takes nothing: a later call returns as if this one had not been made.
     pub fn consume_next(&mut self) -> Result<Option<RawMessage>, DecodingError>
         ensures next { AnswersNext self.old.version self.old.bytes result self.new.bytes }
         ensures version { self.new.version ≡ self.old.version }
         ensures short { result ≡ Ok None → length self.new.bytes ≤ 4294967302 }
         // what is taken is eight bytes at least, so a loop over the messages ends
         ensures shorter { TakesEight self.old.bytes result self.new.bytes }
+    {
+        let Ok(found) = self.take_item() else {
+            return Err(DecodingError::OutOfMemory);
+        };
+        let Some(taken) = found else {
+            return Ok(None);
+        };
+        match taken {
+            Taken::Message(message) => Ok(Some(message)),
+            Taken::Unknown(unknown) => Err(DecodingError::UnknownMessageType(unknown)),
+            Taken::Skipped(code, payload) => Err(DecodingError::SkippedMessage(code, payload)),
+        }
+    }
+
+    /// The next item, of any kind, or `None` exactly where no whole one remains: what `consume_next` returns, for a
+    /// caller to whom an unknown header or a skipped message is an item like any other. A failed allocation takes
+    /// nothing, and comes only where a whole payload is to be taken.
+    pub fn next_item(&mut self) -> Result<Option<Item>, AllocError>
+        ensures taken { IfOk result (λ found. MatchOption found
+            (NoItemBegins self.old.version self.old.bytes × (self.new.bytes ≡ self.old.bytes)
+            × (length self.new.bytes ≤ 4294967302))
+            (λ item. TakesItem self.old.version self.old.bytes item self.new.bytes)) }
+        ensures refused { OnErr result
+            ((self.new.bytes ≡ self.old.bytes) × PayloadIsNext self.old.version self.old.bytes) }
+        ensures shorter { IfOk result (λ found.
+            IfSome found (λ item. length self.new.bytes + 8 ≤ length self.old.bytes)) }
+        ensures version { self.new.version ≡ self.old.version }
+    {
+        let Some(taken) = self.take_item()? else {
+            return Ok(None);
+        };
+        Ok(Some(taken.into_item()))
+    }
+
+    /// Takes the next item: what `next_item` returns, with the error of a code that is no type's.
+    fn take_item(&mut self) -> Result<Option<Taken>, AllocError>
+        ensures taken { IfOk result (λ found. MatchOption found
+            (NoItemBegins self.old.version self.old.bytes × (self.new.bytes ≡ self.old.bytes))
+            (λ taken. TakesItem self.old.version self.old.bytes (item_taken taken) self.new.bytes)) }
+        ensures short { IfOk result (λ found. IfNone found (length self.new.bytes ≤ 4294967302)) }
+        ensures refused { OnErr result
+            ((self.new.bytes ≡ self.old.bytes) × PayloadIsNext self.old.version self.old.bytes) }
+        ensures shorter { IfOk result (λ found.
+            IfSome found (λ taken. length self.new.bytes + 8 ≤ length self.old.bytes)) }
+        ensures version { self.new.version ≡ self.old.version }
     {
         let Some(head) = hold_head(&mut self.head, &mut self.pending) else {
             return Ok(None);
@@ -152,53 +203,22 @@ impl Decoder {
             Err(unknown) => {
                 if !skips_unknown(self.version) {
                     self.head = None;
-                    return Err(DecodingError::UnknownMessageType(unknown));
+                    return Ok(Some(Taken::Unknown(unknown)));
                 }
                 let code = unknown.code();
                 let length = (word & 0xFFFF_FFFF) as usize;
-                let Ok(skipped) = take_payload(&mut self.head, &mut self.pending, length) else {
-                    return Err(DecodingError::OutOfMemory);
-                };
+                let skipped = take_payload(&mut self.head, &mut self.pending, length)?;
                 let Some(payload) = skipped else {
                     return Ok(None);
                 };
-                return Err(DecodingError::SkippedMessage(code, payload));
+                return Ok(Some(Taken::Skipped(code, payload)));
             }
         };
         let length = header.message_length() as usize;
-        let Ok(taken) = take_payload(&mut self.head, &mut self.pending, length) else {
-            return Err(DecodingError::OutOfMemory);
-        };
+        let taken = take_payload(&mut self.head, &mut self.pending, length)?;
         let Some(payload) = taken else {
             return Ok(None);
         };
-        Ok(Some(RawMessage::new(header, payload)))
-    }
-
-    /// The next item, of any kind, or `None` exactly where no whole one remains: what `consume_next` answers, for a caller
-    /// to whom an unknown header or a skipped message is an item like any other. Want of memory takes nothing, and comes only
-    /// where a whole payload is to be taken.
-    pub fn next_item(&mut self) -> Result<Option<Item>, AllocError>
-        ensures taken { IfOk result (λ found. MatchOption found
-            (NoItemBegins self.old.version self.old.bytes × (self.new.bytes ≡ self.old.bytes)
-            × (length self.new.bytes ≤ 4294967302))
-            (λ item. TakesItem self.old.version self.old.bytes item self.new.bytes)) }
-        ensures refused { OnErr result ((self.new.bytes ≡ self.old.bytes) × PayloadIsNext self.old.version self.old.bytes) }
-        ensures shorter { IfOk result (λ found. IfSome found (λ item. length self.new.bytes + 8 ≤ length self.old.bytes)) }
-        ensures version { self.new.version ≡ self.old.version }
-    {
-        match self.consume_next() {
-            Ok(None) => Ok(None),
-            Ok(Some(message)) => Ok(Some(Item::Message(message))),
-            Err(DecodingError::UnknownMessageType(unknown)) => {
-                Ok(Some(Item::Unknown(unknown.code())))
-            }
-            Err(DecodingError::SkippedMessage(code, payload)) => {
-                Ok(Some(Item::Skipped(code, payload)))
-            }
-            Err(DecodingError::OutOfMemory) => Err(AllocError),
-            // The other refusals are those of a message's payload.
-            Err(_) => unreachable!(),
-        }
+        Ok(Some(Taken::Message(RawMessage::new(header, payload))))
     }
 }

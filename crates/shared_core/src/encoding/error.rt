@@ -1,4 +1,4 @@
-//! Why a stream is not taken, and why its messages are not answered.
+//! The errors of decoding and of pushing chunks.
 
 use bytes::Bytes;
 use shared_core_base::error::{self, InvocationErrorCode, OutOfMemory, codes, error_of};
@@ -9,7 +9,7 @@ use std::alloc::{AllocError, AllocFailed, Global};
 use std::error::Error;
 use std::fmt;
 
-/// Why no message was answered.
+/// Why no message was returned or decoded.
 #[derive(Debug, Drop)]
 pub enum DecodingError {
     /// The payload of a message of this type is not well-formed. The error beside it is always `Malformed`.
@@ -23,12 +23,12 @@ pub enum DecodingError {
         /// `id` or `result`.
         field: &'static str,
     },
-    /// The next header's code stands for no type, before V9. Its eight bytes are taken.
+    /// The next header's code is no type's, before V9. Its eight bytes are taken.
     UnknownMessageType(UnknownMessageType),
-    /// The next message's code stands for no type, from V9 on. Its header and its payload are taken: this is the code, and
+    /// The next message's code is no type's, from V9 on. Its header and its payload are taken: this is the code, and
     /// the payload.
     SkippedMessage(u16, Bytes),
-    /// A request for memory was refused. Nothing is taken.
+    /// An allocation failed. Nothing is taken.
     OutOfMemory,
 }
 
@@ -103,7 +103,7 @@ impl fmt::Display for DecodingError {
 
 impl Error for DecodingError {}
 
-/// Why a piece was not taken. The piece comes back.
+/// Why a chunk was not taken. The chunk is returned.
 #[derive(Debug, Drop)]
 pub enum PushError {
     /// There is no memory for one more segment.
@@ -129,10 +129,10 @@ impl fmt::Display for PushError {
 
 impl Error for PushError {}
 
-/// Why a list of pieces was not decoded.
+/// Why a list of chunks was not decoded.
 #[derive(Debug, Drop)]
 pub enum PiecesError {
-    /// The joined pieces are more than 2^64 - 1 bytes.
+    /// The joined chunks are more than 2^64 - 1 bytes.
     TooLong,
     /// There is no memory for the list of items, a segment or a payload.
     OutOfMemory,

@@ -9,12 +9,13 @@ use bytes::Bytes;
 use shared_core_base::version::Version;
 use std::alloc::Global;
 
-/// The items of the stream that comes in these pieces, in order, and the decoder that holds what is left: however the
-/// stream is cut, the list is the items of the joined pieces, and the decoder holds the rest, which no item begins.
+/// Returns the items of the stream that comes in these chunks, in order, and the decoder that holds what is left.
+/// However the stream is split, the list is the items of the joined chunks, and the decoder holds the remaining bytes,
+/// with which no item begins.
 ///
-/// Whatever items were written at the front of the stream, the list begins with them. The version is at least V5.
-/// `TooLong` comes only where the joined pieces are more than 2^64 - 1 bytes. A list of no pieces takes no memory. The
-/// pieces are shared and not copied.
+/// Whatever items were written at the beginning of the stream, the list begins with them. The version is at least V5.
+/// `TooLong` comes only if the joined chunks are more than 2^64 - 1 bytes. An empty list of chunks does not allocate.
+/// The chunks are shared and not copied.
 pub fn decode_pieces(
     alloc: Global,
     version: Version,
@@ -35,7 +36,7 @@ pub fn decode_pieces(
     Ok((items, decoder))
 }
 
-/// Pushes a piece, and then moves each whole item to the list.
+/// Pushes a chunk, and then moves each whole item to the list.
 fn feed(decoder: &mut Decoder, items: &mut Vec<Item>, piece: &Bytes) -> Result<(), PiecesError>
     ensures moved { OnOk result ((stream : List ℕ)
         → IsItemsThen decoder.old.version stream items.old.items decoder.old.bytes

@@ -1,5 +1,6 @@
-//! A message as it stands in the stream, and as a record of its type.
+//! A message as it is in the stream, and as a record of its type.
 ghost use Rattle.std.specs.Prelude.{◌≡◌, ◌≢◌, ◌≤◌, ◌<◌, ℕ, IfOk, IfErr, MatchResult, Err, Some};
+ghost use Rattle.std.specs.Result.{IsErrOf};
 ghost use Rattle.shared_core_record.specs.Payloads.{IsAccepted};
 ghost use Rattle.shared_core_wire.specs.Value.{Parts};
 ghost use Rattle.shared_core_base.specs.MessageType.{code_of};
@@ -17,7 +18,7 @@ use shared_core_record::record::{WireRecord, decode_payload};
 use shared_core_wire::error::WireError;
 use std::alloc::Global;
 
-/// A message as it stands in the stream: its header, and its payload, which is not looked into.
+/// A message as it is in the stream: its header, and its payload, which is not looked into.
 #[derive(Debug, PartialEq, Drop)]
 pub struct RawMessage {
     header: MessageHeader,
@@ -26,10 +27,12 @@ pub struct RawMessage {
 
 impl RawMessage {
     ghost use Rattle.shared_core.specs.Typed.{MeansParts, IsCanonical, RefusesPayload, RefusesTyped, mismatch_of};
-    ghost use Rattle.shared_core.specs.View.{notification_parts, lacking_field, AgreesWithType, AnswersLacking, IsMissing, IsOfNotification, RefusesNotification};
+    ghost use Rattle.shared_core.specs.View.{notification_parts, lacking_field, AgreesWithType, AnswersLacking};
+    ghost use Rattle.shared_core.specs.View.{IsMissing, IsOfNotification, RefusesNotification};
     ghost use Rattle.shared_core.specs.declared.encoding.error.DecodingError.TheVariants as error;
+    ghost use Rattle.shared_core_wire.specs.declared.error.WireError.TheVariants as wire;
 
-    /// The message of a header and the bytes behind it.
+    /// The message of a header and the bytes after it.
     pub(crate) fn new(header: MessageHeader, payload: Bytes) -> RawMessage
         ensures { result ≡ record { header = header; payload = payload } }
     {
@@ -50,7 +53,7 @@ impl RawMessage {
         self.header
     }
 
-    /// The bytes behind the header, as many as it says.
+    /// The bytes after the header, as many as it says.
     pub fn payload(&self) -> &Bytes
         ensures { result.now ≡ self.now.payload }
     {
@@ -59,10 +62,10 @@ impl RawMessage {
 
     /// The message as a record of its type.
     ///
-    /// First the types are compared, without memory and whatever the payload: where they differ the answer is
+    /// First the types are compared, without allocating and whatever the payload: if they differ the result is
     /// `UnexpectedMessageType` with the index, this message's type as the actual and the record's as the expected one.
-    /// Then `DecodeMessage` where the payload is not well-formed, `OutOfMemory` where a request for memory was refused, and
-    /// where both are so either. Bytes fields share the payload. The message stands after any refusal.
+    /// Then `DecodeMessage` if the payload is not well-formed, `OutOfMemory` if an allocation fails, and if both are
+    /// the case either. Bytes fields share the payload.
     pub fn decode_to<M: RestateMessage>(
         &self,
         alloc: Global,
@@ -90,19 +93,36 @@ impl RawMessage {
         )))
     }
 
-    /// The message as a notification, whatever notification it is: its id and its result, read by what all notifications have
-    /// in common. The type must be that of a notification.
+    /// The message as a record of its type, which the caller knows: what `decode_to` returns if the types are the same.
     ///
-    /// First `DecodeMessage` where the payload is not well-formed for the template of notifications, then `MissingField` with
-    /// the field `id` where there is none, then with `result`. `OutOfMemory` where a request for memory was refused. Bytes
-    /// fields share the payload. The message stands after any refusal.
+    /// `Malformed` if the payload is not well-formed, `OutOfMemory` if an allocation fails, and if both are the case
+    /// either. Bytes fields share the payload.
+    #[tactic(auto, using(crate::proofs::TypedPayloads::written_means))]
+    pub fn decode_as<M: RestateMessage>(&self, alloc: Global) -> Result<M, WireError>
+        requires { self.now.header.ty ≡ M.message_type }
+        ensures ok { IfOk result (λ message. MeansParts M.schema self.now.payload (M.parts message)) }
+        ensures malformed { IsErrOf result wire.Malformed → ¬ (IsAccepted M.schema self.now.payload) }
+        // what was written is read again
+        ensures written { (v : Parts) → IsCanonical M.schema v self.now.payload
+            → MatchResult result (λ message. M.parts message ≡ v) (λ refusal. refusal ≡ wire.OutOfMemory) }
+    {
+        decode_payload(alloc, &self.payload)
+    }
+
+    /// The message as a notification, whatever notification it is: its id and its result, read by what all
+    /// notifications have in common. The type must be that of a notification.
+    ///
+    /// First `DecodeMessage` if the payload is not well-formed for the template of notifications, then `MissingField`
+    /// with the field `id` if there is none, then with `result`. `OutOfMemory` if an allocation fails. Bytes fields
+    /// share the payload.
     #[tactic(auto, using(crate::proofs::Views::view_accepts, crate::proofs::Views::view_agrees))]
     pub fn decode_as_notification(&self, alloc: Global) -> Result<Notification, DecodingError>
         requires first { 0x8000 ≤ code_of self.now.header.ty }
         requires last { code_of self.now.header.ty < 0xFC00 }
-        ensures ok { IfOk result (λ found. MeansParts notification_template self.now.payload (notification_parts found)) }
+        ensures ok { IfOk result (λ found.
+            MeansParts notification_template self.now.payload (notification_parts found)) }
         ensures err { IfErr result (RefusesNotification self.now) }
-        // what the notification's own type accepts is no refusal, and the view holds what its meaning holds
+        // what the notification's own type accepts is no error, and the view holds what its meaning holds
         ensures accepts { (s : ℕ) → message_schema self.now.header.ty ≡ Some s → IsOfNotification s self.now.payload
             → IsAccepted notification_template self.now.payload }
         ensures agrees { IfOk result (λ found. (s : ℕ) → message_schema self.now.header.ty ≡ Some s

@@ -1,0 +1,123 @@
+//! The calls of `bench/measure.h`, which repeat the work of the library so that it can be measured. They are a static
+//! library of their own, so that the library for C holds none of them.
+#![tactic(auto)]
+
+ghost use Rattle.journal_calls.specs.Answers.{Answers, Writes};
+ghost use Rattle.journal_calls.specs.Payloads.{AnswersFrame, AnswersWellFormed};
+ghost use Rattle.measured_calls.specs.Comparisons.{AnswersComparisons};
+ghost use Rattle.measured_calls.specs.Streams.{AnswersItems, AnswersMessages};
+
+use journal_calls::answer::answer_of;
+use measured_calls::frames::{Buffer, Rounds};
+use measured_calls::{commands, frames, payloads, streams};
+use std::alloc::Global;
+
+#[cfg(test)]
+mod tests;
+
+/// Reads a stream of a version from 5 to 9, which comes in chunks of this many bytes (0: in one chunk), and writes a
+/// number for each item: the message's header, or the unknown code in bits 48 to 63 and, at version 9, in bits 0 to 31
+/// the length of the payload that is skipped with it. Returns the number of items.
+///
+/// The stream is copied once, and then read `rounds` times by a new decoder each (0 counts as 1); the numbers are those
+/// of the last. Fails on an unsupported version, on a stream with more items than `words` has room for, and on
+/// allocation failure.
+#[unsafe(no_mangle)]
+pub extern "C" fn measure_items(
+    alloc: Global,
+    version: u32,
+    stream: &[u8],
+    piece: usize,
+    rounds: usize,
+    words: &mut [u64],
+) -> i64
+    ensures { Answers result (AnswersItems version stream.now words.new) }
+{
+    answer_of(streams::items(alloc, version, stream, piece, rounds, words))
+}
+
+/// As `measure_items`, but each message of a named type is decoded to its record, and nothing is written. Returns the
+/// number of these messages. `Malformed` if the payload of one is not well-formed for its type.
+#[unsafe(no_mangle)]
+pub extern "C" fn measure_messages(
+    alloc: Global,
+    version: u32,
+    stream: &[u8],
+    piece: usize,
+    rounds: usize,
+) -> i64
+    ensures { Answers result (AnswersMessages version stream.now) }
+{
+    answer_of(streams::messages(alloc, version, stream, piece, rounds))
+}
+
+/// Decodes each command of a stream of a version from 5 to 9 twice, and compares the two `rounds` times (0: not at
+/// all), which does not allocate. Payloads are compared, unless `ignore_payloads` is not 0. Returns the number of equal
+/// comparisons: all of them. `Malformed` if the payload of a command is not well-formed for its type; other items are
+/// skipped.
+#[unsafe(no_mangle)]
+pub extern "C" fn measure_compare(
+    alloc: Global,
+    version: u32,
+    stream: &[u8],
+    ignore_payloads: u32,
+    rounds: usize,
+) -> i64
+    ensures { Answers result (AnswersComparisons version stream.now rounds) }
+{
+    answer_of(commands::compare(alloc, version, stream, ignore_payloads != 0, rounds))
+}
+
+/// Decodes a payload for the named message type that has the code, and writes the frame of that message at a version
+/// from 5 to 9. Returns the frame's length in bytes. The payload is decoded once, and the message encoded `rounds`
+/// times (0 counts as 1).
+#[unsafe(no_mangle)]
+pub extern "C" fn measure_frame(
+    alloc: Global,
+    version: u32,
+    code: u16,
+    payload: &[u8],
+    rounds: usize,
+    out: &mut [u8],
+) -> i64
+    ensures { Answers result (Writes (AnswersFrame version code payload.now) out.old out.new) }
+{
+    let rounds = Rounds {
+        count: rounds,
+        buffer: Buffer::New,
+    };
+    answer_of(frames::write_frame(alloc, version, code, payload, rounds, out))
+}
+
+/// As `measure_frame`, but all rounds share one buffer, which is cleared before each: only the first, and a suspension
+/// before V7, allocates.
+#[unsafe(no_mangle)]
+pub extern "C" fn measure_frame_into(
+    alloc: Global,
+    version: u32,
+    code: u16,
+    payload: &[u8],
+    rounds: usize,
+    out: &mut [u8],
+) -> i64
+    ensures { Answers result (Writes (AnswersFrame version code payload.now) out.old out.new) }
+{
+    let rounds = Rounds {
+        count: rounds,
+        buffer: Buffer::Reused,
+    };
+    answer_of(frames::write_frame(alloc, version, code, payload, rounds, out))
+}
+
+/// As `journal_is_well_formed`, but repeated `rounds` times (0 counts as 1).
+#[unsafe(no_mangle)]
+pub extern "C" fn measure_well_formed(
+    alloc: Global,
+    schema: u32,
+    payload: &[u8],
+    rounds: usize,
+) -> i64
+    ensures { Answers result (AnswersWellFormed schema payload.now) }
+{
+    answer_of(payloads::is_well_formed(alloc, schema, payload, rounds))
+}

@@ -1,0 +1,106 @@
+//! The header before each message: its type, its length and its flag.
+ghost use Rattle.std.specs.Prelude.{◌≡◌, Some, None};
+
+use crate::header::MessageType;
+use crate::type_kinds::UnknownMessageType;
+
+/// What is before a message: its type, the length of its payload in bytes, and whether an acknowledgement is requested.
+/// A contract sees it as the record of these three parts.
+#[derive(Clone, Copy, Debug, PartialEq, Eq)]
+pub struct MessageHeader {
+    ty: MessageType,
+    length: u32,
+    requested_ack: Option<bool>,
+}
+
+const REQUESTED_ACK_BIT: u32 = 47;
+
+impl MessageHeader {
+    /// A header without a flag, of a payload of `length` bytes.
+    pub fn new(ty: MessageType, length: u32) -> MessageHeader
+        ensures { result ≡ record { ty = ty; length = length; requested_ack = None } }
+    {
+        MessageHeader {
+            ty,
+            length,
+            requested_ack: None,
+        }
+    }
+
+    /// A header with a flag, of a payload of `length` bytes. The flag is written whatever the type, and read back where
+    /// the type allows it.
+    pub fn new_with_requested_ack(
+        ty: MessageType,
+        requested_ack: bool,
+        length: u32,
+    ) -> MessageHeader
+        ensures { result ≡ record { ty = ty; length = length; requested_ack = Some requested_ack } }
+    {
+        MessageHeader {
+            ty,
+            length,
+            requested_ack: Some(requested_ack),
+        }
+    }
+
+    /// The type of the message.
+    pub fn message_type(&self) -> MessageType
+        ensures { result ≡ self.now.ty }
+    {
+        self.ty
+    }
+
+    /// The length of the payload in bytes.
+    pub fn message_length(&self) -> u32
+        ensures { result ≡ self.now.length }
+    {
+        self.length
+    }
+
+    /// Whether an acknowledgement is asked for. A header that was read has a flag exactly where its type allows one.
+    pub fn requested_ack(&self) -> Option<bool>
+        ensures { result ≡ self.now.requested_ack }
+    {
+        self.requested_ack
+    }
+}
+
+impl TryFrom<u64> for MessageHeader {
+    type Error = UnknownMessageType;
+
+    ghost use Rattle.shared_core_base.specs.MessageHeader.{ReadsHeader};
+
+    ghost try_from_gives = { ReadsHeader };
+
+    #[tactic(auto, unfolding(crate::specs::MessageHeader::header_of))]
+    fn try_from(word: u64) -> Result<MessageHeader, UnknownMessageType> {
+        let ty = MessageType::try_from((word >> 48) as u16)?;
+        let requested_ack = if ty.allows_ack() {
+            Some((word >> REQUESTED_ACK_BIT) & 1 == 1)
+        } else {
+            None
+        };
+        Ok(MessageHeader {
+            ty,
+            length: (word & 0xFFFF_FFFF) as u32,
+            requested_ack,
+        })
+    }
+}
+
+impl From<MessageHeader> for u64 {
+    ghost use Rattle.std.specs.Prelude.{◌≡◌};
+    ghost use Rattle.shared_core_base.specs.MessageHeader.{word_of};
+
+    ghost from_gives = { λ header word. word ≡ word_of header };
+
+    #[tactic(auto, unfolding(crate::specs::MessageHeader::word_of))]
+    fn from(header: MessageHeader) -> u64 {
+        let length = u64::from(header.length);
+        let low = match header.requested_ack {
+            Some(true) => (1 << REQUESTED_ACK_BIT) | length,
+            _ => length,
+        };
+        (u64::from(u16::from(header.ty)) << 48) | low
+    }
+}

@@ -1,0 +1,116 @@
+//! What kind of message a type is of, and how types and unknown codes print.
+ghost use Rattle.std.specs.Prelude.{◌≡◌, ◌≤◌, ◌<◌, IsTrue, ◌↔◌};
+ghost use Rattle.shared_core_base.specs.MessageType.{code_of, allows_ack};
+
+use crate::command_type::CommandType;
+use crate::header::MessageType;
+use std::error::Error;
+use std::fmt;
+use std::marker::Model;
+
+const FIRST_COMMAND: u16 = 0x0400;
+
+const FIRST_NOTIFICATION: u16 = 0x8000;
+
+const FIRST_BEHIND_NOTIFICATIONS: u16 = 0xFC00;
+
+impl MessageType {
+    /// Whether this is a command: its code is from 0x0400 to below 0x8000. Custom entries count by their code too.
+    pub fn is_command(&self) -> bool
+        ensures { IsTrue result ↔ ((0x0400 ≤ code_of self.now) × (code_of self.now < 0x8000)) }
+    {
+        (FIRST_COMMAND..FIRST_NOTIFICATION).contains(&u16::from(*self))
+    }
+
+    /// Whether this is a notification: its code is from 0x8000 to below 0xFC00. Custom entries count by their code too.
+    pub fn is_notification(&self) -> bool
+        ensures { IsTrue result ↔ ((0x8000 ≤ code_of self.now) × (code_of self.now < 0xFC00)) }
+    {
+        (FIRST_NOTIFICATION..FIRST_BEHIND_NOTIFICATIONS).contains(&u16::from(*self))
+    }
+
+    /// Whether a header of this type may ask for an acknowledgement: true of `ProposeRunCompletion` alone.
+    pub fn allows_ack(&self) -> bool
+        ensures { result ≡ allows_ack self.now }
+    {
+        matches!(self, MessageType::ProposeRunCompletion)
+    }
+
+    /// The name of the variant, for printing: a custom entry prints as `CustomEntry(64513)`.
+    pub fn debug_name(&self) -> DebugName
+        ensures { result ≡ self.now }
+    {
+        DebugName(*self)
+    }
+}
+
+/// Prints the text of the type's command where `CommandType::try_from` succeeds, as `get state`, else the debug name, as
+/// `CustomEntry(64513)`.
+impl fmt::Display for MessageType {
+    ghost use Rattle.std.specs.Prelude.{Some};
+    ghost use Rattle.shared_core_base.specs.CommandType.{message_type_text};
+
+    ghost output = { λ ty. Some (message_type_text ty) };
+
+    fn fmt<W: fmt::Write>(&self, f: &mut fmt::Formatter<W>) -> fmt::Result {
+        match CommandType::try_from(*self) {
+            Ok(command) => write!(f, "{command}"),
+            Err(ty) => write!(f, "{}", ty.debug_name()),
+        }
+    }
+}
+
+/// Prints the name of a message type's variant. A contract sees the type.
+#[derive(Clone, Copy, Debug)]
+pub struct DebugName(MessageType);
+
+impl Model for DebugName {
+    ghost use Rattle.shared_core_base.specs.declared.header.MessageType.{MessageType};
+
+    ghost Value = { MessageType };
+
+    ghost view = { λ name. name.0 };
+
+    ghost inverse = { λ ty. record { 0 = ty } };
+}
+
+impl fmt::Display for DebugName {
+    ghost use Rattle.std.specs.Prelude.{Some};
+    ghost use Rattle.shared_core_base.specs.MessageType.{debug_name_of};
+
+    ghost output = { λ ty. Some (debug_name_of ty) };
+
+    fn fmt<W: fmt::Write>(&self, f: &mut fmt::Formatter<W>) -> fmt::Result {
+        match self.0 {
+            MessageType::CustomEntry(code) => write!(f, "CustomEntry({code})"),
+            ty => f.write_str(ty.variant_name()),
+        }
+    }
+}
+
+/// A code that stands for no message type: no named type has it, and none of its upper six bits is set.
+#[derive(Debug, Drop)]
+pub struct UnknownMessageType(pub(crate) u16);
+
+impl UnknownMessageType {
+    /// The code that was refused.
+    pub fn code(&self) -> u16
+        ensures { result ≡ self.now.0 }
+    {
+        self.0
+    }
+}
+
+impl fmt::Display for UnknownMessageType {
+    ghost use Rattle.std.specs.Prelude.{Some};
+    ghost use Rattle.shared_core_base.specs.MessageType.{unknown_type_text};
+
+    ghost output = { λ unknown. Some (unknown_type_text unknown.0) };
+
+    fn fmt<W: fmt::Write>(&self, f: &mut fmt::Formatter<W>) -> fmt::Result {
+        let code = self.0;
+        write!(f, "unknown protocol.message code 0x{code:x}")
+    }
+}
+
+impl Error for UnknownMessageType {}

@@ -1,0 +1,78 @@
+#!/bin/sh
+# The last version and the calls for C are the same wherever they are listed.
+#
+# The last version is the same in the library, in the programs, in the tools and on pages. A call for C is the same in
+# journal_ffi, the header and the module for Python, and has tests, adversarial calls and a promise. Each crate has a
+# sentence in crates/README.md. It reads the code as it stands. What differs is shown above the last line.
+set -u
+cd "$(dirname "$0")/../.." || exit 1
+. scripts/checks/lib.sh
+
+# The last version: that of the library, those that callers from C, the programs and the test vectors can ask for, and what pages and comments say.
+last=$(sed -n '/fn maximum_supported_version/,/^    }$/s/^        Version::V\([0-9]*\)$/\1/p' crates/shared_core_base/src/version.rt)
+for place in include/pendratsoa.h python/pendratsoa.py tools/generators/record_vectors.py crates/conformance/src/cases.rt crates/journal_calls/src/answer.rt \
+  crates/journal_calls/specs/Answers.antt crates/journal_diff/src/options.rt crates/journal_dump/src/command_line.rt; do
+  echo "$place $last" >> "$work/last"
+  echo "$place $(grep -oE 'Version::V[0-9]+|Some V[0-9]+|LAST_VERSION (= )?[0-9]+' "$place" | grep -oE '[0-9]+$' | sort -n | tail -n 1)" >> "$work/asked"
+done
+for place in crates/journal_diff/src/options.rt crates/journal_dump/src/command_line.rt; do
+  echo "$place, by its words $last" >> "$work/last"
+  echo "$place, by its words $(sed -n 's/^const VERSIONS.*"\([0-9]*\)"\];$/\1/p' "$place")" >> "$work/asked"
+done
+same "the last version of shared_core_base and those that can be asked for" "$work/last" "$work/asked"
+find README.md conformance bench/README.md bench/src docs include examples python crates/*/src crates/*/specs -name '*.[a-z]*' | sort \
+  | xargs grep -noE '\bversion (is )?from 5 to [0-9]+' > "$work/values"
+grep " to $last\$" "$work/values" > "$work/lines"
+same "the last version of shared_core_base, and pages and comments" "$work/values" "$work/lines"
+
+# The calls for C: a line each, its name and what it takes in C's words. In journal_ffi a slice is one parameter, and memory another.
+cat crates/journal_ffi/src/*.rt | awk '
+  /^pub extern "C" fn journal_/ { text = ""; inside = 1 }
+  inside { text = text $0 }
+  inside && / -> / {
+    inside = 0
+    line = text; sub(/^.* fn /, "", line); sub(/\(.*/, "", line)
+    sub(/^[^(]*\( */, "", text); sub(/,? *\) -> .*/, "", text)
+    count = split(text, taken, /, */)
+    for (i = 1; i <= count; i++) {
+      split(taken[i], parts, ": *")
+      type = parts[2]; is_slice = sub(/\]$/, "", type)
+      sub(/^&mut \[/, "", type); sub(/^&\[/, "const ", type); sub(/u/, "uint", type)
+      if (type != "Global") line = line " " type "_t " (is_slice ? "*" parts[1] " size_t" : parts[1])
+    }
+    print line
+  }
+' | sort > "$work/calls"
+awk '
+  /^int64_t journal_/ { text = ""; inside = 1 }
+  inside { text = text " " $0 }
+  inside && /;/ {
+    inside = 0
+    sub(/^ int64_t /, "", text); sub(/\(/, " ", text); sub(/\);.*/, "", text); gsub(/size_t [a-z_]+/, "size_t", text); gsub(/,/, "", text)
+    gsub(/ +/, " ", text); print text
+  }
+' include/pendratsoa.h | sort > "$work/lines"
+same "the calls of journal_ffi and include/pendratsoa.h" "$work/calls" "$work/lines"
+
+# Each stands in the module for Python, with what it takes and with a function that makes it.
+sed 's/const //g; s/uint[0-9]*_t \*[a-z_]* size_t/slice_/g; s/uint\([0-9]*\)_t [a-z_]*/u\1/g' "$work/calls" > "$work/values"
+sed -n '/^ *"journal_/ { s/[",+:]/ /g; s/  */ /g; s/^ //; s/ $//; p; }' python/pendratsoa.py | sort > "$work/lines"
+same "the calls and the parameters in python/pendratsoa.py" "$work/values" "$work/lines"
+sed 's/ .*//' "$work/calls" > "$work/values"
+grep -o '_library\.journal_[a-z_]*' python/pendratsoa.py | sed 's/.*\.//' | sort -u > "$work/lines"
+same "the calls and the functions of python/pendratsoa.py" "$work/values" "$work/lines"
+
+# It has tests, is called by nobody who means well, and stands in the table of promises.
+grep -oh 'journal_[a-z_]*(' crates/journal_ffi/src/tests/*.rt | sed 's/(//' | sort -u > "$work/lines"
+same "the calls and the tests of journal_ffi" "$work/values" "$work/lines"
+sed -n 's/^    \[[A-Z_]*\] = {"\(journal_[a-z_]*\)".*/\1/p' tests/c/hostile_calls.c | sort > "$work/lines"
+same "the calls and the list of tests/c/hostile_calls.c" "$work/values" "$work/lines"
+awk -F'|' '/^## / { inside = /^## journal_ffi:/ } inside && /^\| / { print $(NF - 1) }' docs/PROOFS.md | grep -o '`journal_[a-z_]*`' | tr -d '`' | grep -v '^journal_calls$' | sort -u > "$work/lines"
+same "the calls and the promises of docs/PROOFS.md" "$work/values" "$work/lines"
+
+# Each crate has a sentence in crates/README.md, in the order of crates.txt.
+sed -n 's/^\([a-z_]*\)[a-z ]*:.*/\1/p' crates.txt > "$work/values"
+sed -n 's/^| `\([a-z_]*\)` |.*/\1/p' crates/README.md > "$work/lines"
+same "crates.txt and crates/README.md" "$work/values" "$work/lines"
+
+finish

@@ -1,0 +1,91 @@
+#!/bin/sh
+# Comments and pages use the field's words, and not the dialect of earlier versions.
+#
+# Each line below is a pattern (of awk) and the better words. It is searched in pages and in comments, code in backquotes
+# left out, also where it goes over the end of a line. A word with honest other uses is here only in the wrong phrase.
+set -u
+cd "$(dirname "$0")/../.." || exit 1
+. scripts/checks/lib.sh
+
+cat > "$work/patterns" << 'END'
+[Ww]ant of memory|out of memory, or a failed allocation
+[Rr]equests? for memory|allocation
+[Aa]sk(s|ed|ing)? for (no |more )*memory|allocate
+[Tt]ak(es?|ing) no memory|does not allocate
+[Mm]emory (is|was) refused|an allocation fails
+[Ll]ets? go of|drop
+[Ww]rong bod(y|ies)|mutant
+[Nn]obody means well|adversarial
+[Hh]ostile (bytes|messages?|streams?|calls|arguments|input)|adversarial
+(texts?|lines?) for people|human-readable
+the layer above|the SDK state machine
+[Oo]ne behind the other|one after the other
+(stands?|comes?|goes|is|are|written) behind|after
+in front of|before
+(the|one|canonical|longer|free|shortest) spellings?|encoding
+ spell(s|ed)? |encodes
+conformance lines|test vectors
+(in|of) pieces|chunks
+a piece|a chunk
+(is|are) told (how|what|the|that)|is given
+(if|where) (it|none) is not said|by default
+(is|are) let go|is dropped
+in any cut|however it is split
+(call|it|function|and) answers |returns
+answers (how|what|whether|the|a|an|its|no) |returns
+is answered|is returned
+stands? as it (was|stood)|is unchanged
+stands? in one another|are nested
+END
+
+git ls-files -- '*.md' '*.rt' '*.antt' '*.proto' '*.py' '*.sh' '*.awk' '*.c' '*.h' '*.rs' > "$work/files"
+# shellcheck disable=SC2046 # the names are split; none has a blank
+awk -v patterns="$work/patterns" -v self=scripts/checks/words.sh '
+  BEGIN {
+    while ((getline line < patterns) > 0) {
+      count++
+      at = index(line, "|")
+      # the last bar, since a pattern has its own
+      for (at = length(line); substr(line, at, 1) != "|"; at--) ;
+      pattern[count] = substr(line, 1, at - 1)
+      better[count] = substr(line, at + 1)
+      all = all (count > 1 ? "|" : "") pattern[count]
+    }
+  }
+  FNR == 1 {
+    before = ""
+    fenced = 0
+    marks = ""
+    if (FILENAME ~ /\.(rt|proto|rs)$/) marks = "//[/!]?"
+    if (FILENAME ~ /\.antt$/) marks = "--+"
+    if (FILENAME ~ /\.(py|sh|awk)$/) marks = "#+"
+    if (FILENAME ~ /\.(c|h)$/) marks = "(/[*]|[*]|//)"
+    page = FILENAME ~ /\.md$/
+    files++
+  }
+  FILENAME == self || /@generated/ { next }
+  page && /^ *```/ { fenced = !fenced; before = ""; next }
+  page && (fenced || /^    / && before == "") { next }
+  {
+    text = $0
+    if (!page) {
+      if (text !~ "^ *" marks "( |$)") { before = ""; next }
+      sub("^ *" marks " ?", "", text)
+    }
+    sub(/^ +/, "", text)
+    gsub(/`[^`]*`/, "`", text)
+    if (text == "") { before = ""; next }
+    # with the line before, where the phrase ends in this one
+    joined = before " " text " "
+    if (joined ~ all)
+      for (i = 1; i <= count; i++)
+        if (match(joined, pattern[i]) && RSTART + RLENGTH - 1 > length(before) + 1)
+          print FILENAME ":" FNR ": " substr(joined, RSTART, RLENGTH) " (better: " better[i] ")"
+    before = text
+  }
+  END { print files " files" }' $(cat "$work/files") > "$work/found"
+passed=$(sed -n 's/^\([0-9]*\) files$/\1/p' "$work/found")
+failed=$(grep -c 'better: ' "$work/found")
+sed '$d' "$work/found"
+passed=$((passed - $(sed -n 's/^\([^:]*\):.*better: .*/\1/p' "$work/found" | sort -u | grep -c .)))
+finish

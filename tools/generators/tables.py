@@ -1,0 +1,140 @@
+"""The tables that contracts cite, each a definition with a row for what proto/journal.proto says once: schemas, the schema of each type, and
+what of a command is compared and printed. And the list of types for the scripts that write and list streams.
+"""
+from . import laid_out
+from .commands import Entry
+from .proto import OneOf, earlier, messages, schema_name, schemas, typed
+from .records import KINDS, missing  # noqa: F401
+
+ABOUT = "The tables of schemas, of message types and of compared commands, for contracts."
+SOURCE = "proto/journal.proto"
+
+TYPES = """\
+# The types that the protocol names: the code in hex digits, and the name. For list_stream.awk and write_stream.awk.
+"""
+
+TABLE = """\
+-- The schemas of the protocol's messages (this project's own, but for SuspensionMessageV6), each with a name for its
+-- index in the table. Rows are in the order of their numbers, a oneof at its least number.
+use Rattle.std.specs.Prelude.{ℕ, List, [], ◌∷◌}
+use Rattle.shared_core_wire.specs.Schema.{Row, Table, U32, U64, Boolean, Enumeration, Text, ByteString, Message, Plain, Optional, Repeated, OneOf, table_of}
+"""
+
+MESSAGES = """\
+-- The schemas of messages.
+use Rattle.std.specs.Prelude.{◌≡◌, ◌⊎◌, ℕ, Option, Some, None}
+use Rattle.shared_core_base.specs.declared.header.MessageType.{MessageType}
+"""
+
+COMMANDS = """\
+-- What of each command is compared, and what is printed where two of them differ.
+use Rattle.std.specs.Prelude.{ℕ, List, [], ◌∷◌, codes}
+use Rattle.shared_core_record.specs.Table as schema
+use Rattle.shared_core_compare.specs.CommandFields.{CommandFields}
+
+-- The commands, by their schemas.
+abbrev pub commands : List (ℕ × CommandFields)
+"""
+
+LABELS = {"plain": "Plain", "optional": "Optional", "message": "Optional", "repeated": "Repeated"}
+
+
+def kind(field):
+    """The kind of a field."""
+    return f"Message {schema_name(field.message)}" if field.kind == "message" else KINDS[field.kind]
+
+
+def row(row):
+    """A row of a schema."""
+    if isinstance(row, OneOf):
+        members = "".join(f"({member.number}, {kind(member)}) ∷ " for member in row.members)
+        return f"OneOf ({members}[])"
+    held = f"({kind(row)})" if row.kind == "message" else kind(row)
+    return f"{LABELS[row.presence]} {row.number} {held}"
+
+
+def least(row):
+    """The number at which a row stands."""
+    return min(member.number for member in row.members) if isinstance(row, OneOf) else row.number
+
+
+def types():
+    """The list of types."""
+    return TYPES + "".join(f"{message.code:04x} {message.type_name()}\n" for message in typed())
+
+
+def table():
+    """The table of schemas."""
+    parts = [TABLE]
+    for message in schemas():
+        name = schema_name(message.name)
+        parts.append(f"\n-- The schema of {message.name}.\nabbrev pub {name} : ℕ\n{name} = {message.schema}\n")
+    parts.append("\n-- The schemas, in the order of the names above.\nabbrev pub schemas : List (List Row)\nschemas =\n")
+    for message in schemas():
+        rows = "".join(f"{row(one)} ∷ " for one in sorted(message.rows, key=least))
+        parts.append(f"    -- {message.name}\n    {'∷ ' if message.schema else ''}({rows}[])\n")
+    parts.append(
+        "    ∷ []\n\n-- How many schemas there are.\nabbrev pub schema_count : ℕ\n"
+        f"schema_count = {len(schemas())}\n"
+    )
+    parts.append("\n-- The table of the protocol's messages.\nabbrev pub table : Table\ntable = table_of schemas\n")
+    return "".join(parts)
+
+
+def variants(and_custom=True):
+    """The names of the types as a list in braces."""
+    return ", ".join([message.type_name() for message in typed()] + (["CustomEntry"] if and_custom else []))
+
+
+def message_schemas():
+    """The schema of each type."""
+    rows = "".join(f"message_schema {message.type_name()} = Some schema.{schema_name(message.name)}\n" for message in typed())
+    others = "".join(
+        f" ⊎ ((ty ≡ {last.type_name()}) × (s ≡ schema.{schema_name(message.name)}))" for message, last in earlier()
+    )
+    said = ", or ".join(
+        ["The schema is that of the type's payloads"]
+        + [f"the one that {last.type_name().lower()}s have before V{message.before_version}" for message, last in earlier()]
+    )
+    return (
+        f"{MESSAGES}use Rattle.shared_core_base.specs.declared.header.MessageType.TheVariants.{{{variants()}}}\n"
+        "use Rattle.shared_core_record.specs.Table as schema\n\n"
+        "-- The schema of a named type's payloads; a custom entry has none.\nabbrev pub message_schema : MessageType → Option ℕ\n"
+        f"{rows}message_schema (CustomEntry code) = None\n\n"
+        f"-- {said}.\nabbrev pub IsSchemaOf : MessageType → ℕ → Type 0\n"
+        f"IsSchemaOf ty s = (message_schema ty ≡ Some s){others}\n"
+    )
+
+
+def commands():
+    """What of each command is compared and printed."""
+    entries = []
+    for message in schemas():
+        if not message.is_command():
+            continue
+        entry = Entry(message)
+        not_compared = "".join(f"{number} ∷ " for number in entry.not_compared)
+        payloads = "".join(f"{number} ∷ " for number in entry.payloads)
+        printed = "".join(f'({number}, codes "{name}") ∷ ' for number, name in entry.printed)
+        entries.append(
+            f"(schema.{schema_name(message.name)}, record {{ not_compared = {not_compared}[]; payloads = {payloads}[]; "
+            f"printed = {printed}[]; }})\n"
+        )
+    return f"{COMMANDS}commands = {'    ∷ '.join(entries)}    ∷ []\n"
+
+
+def texts():
+    """The tables, not yet laid out."""
+    return {
+        "crates/shared_core_record/specs/Table.antt": table(),
+        "crates/shared_core_message/specs/Messages.antt": message_schemas(),
+        # COMPARE
+    }
+
+
+def paths():
+    return [*texts(), "proto/types.txt"]
+
+
+def files():
+    return {**laid_out(texts()), "proto/types.txt": types()}
