@@ -10,8 +10,8 @@ cd "$(dirname "$0")/../.." || exit 1
 
 # The last version: that of the library, those that callers from C, the programs and the test vectors can ask for, and what pages and comments say.
 last=$(sed -n '/fn maximum_supported_version/,/^    }$/s/^        Version::V\([0-9]*\)$/\1/p' crates/shared_core_base/src/version.rt)
-for place in include/pendratsoa.h python/pendratsoa.py tools/generators/record_vectors.py crates/conformance/src/cases.rt crates/journal_calls/src/answer.rt \
-  crates/journal_calls/specs/Answers.antt crates/journal_diff/src/options.rt crates/journal_dump/src/command_line.rt; do
+for place in include/pendratsoa.h python/pendratsoa.py tools/generators/record_vectors.py crates/test_vectors/src/cases.rt crates/journal_c_api/src/answer.rt \
+  crates/journal_c_api/specs/Answers.antt crates/journal_diff/src/options.rt crates/journal_dump/src/command_line.rt; do
   echo "$place $last" >> "$work/last"
   echo "$place $(grep -oE 'Version::V[0-9]+|Some V[0-9]+|LAST_VERSION (= )?[0-9]+' "$place" | grep -oE '[0-9]+$' | sort -n | tail -n 1)" >> "$work/asked"
 done
@@ -67,7 +67,7 @@ grep -oh 'journal_[a-z_]*(' crates/journal_ffi/src/tests/*.rt | sed 's/(//' | so
 same "the calls and the tests of journal_ffi" "$work/values" "$work/lines"
 sed -n 's/^    \[[A-Z_]*\] = {"\(journal_[a-z_]*\)".*/\1/p' tests/c/hostile_calls.c | sort > "$work/lines"
 same "the calls and the list of tests/c/hostile_calls.c" "$work/values" "$work/lines"
-awk -F'|' '/^## / { inside = /^## journal_ffi:/ } inside && /^\| / { print $(NF - 1) }' docs/PROOFS.md | grep -o '`journal_[a-z_]*`' | tr -d '`' | grep -v '^journal_calls$' | sort -u > "$work/lines"
+awk -F'|' '/^## / { inside = /^## journal_ffi:/ } inside && /^\| / { print $(NF - 1) }' docs/PROOFS.md | grep -o '`journal_[a-z_]*`' | tr -d '`' | grep -v '^journal_c_api$' | sort -u > "$work/lines"
 same "the calls and the promises of docs/PROOFS.md" "$work/values" "$work/lines"
 
 # Each crate has a sentence in crates/README.md, in the order of crates.txt.

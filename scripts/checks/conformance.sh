@@ -1,7 +1,7 @@
 #!/bin/sh
 # The library gives the answers of all of conformance/*.txt; with the word '-' those on standard input.
 #
-# It runs the proved program of crates/conformance where `rt ci` or `rt run` has built it, else it builds one without
+# It runs the proved program of crates/test_vectors where `rt ci` or `rt run` has built it, else it builds one without
 # the proofs, which is slow: it needs a minute for some ten thousand lines. Each line that fails is shown with the
 # result of the library instead.
 set -u
@@ -19,7 +19,7 @@ input() {
   if [ "$lines" = - ]; then cat; else cat conformance/*.txt; fi
 }
 
-program=crates/conformance/out/conformance
+program=crates/test_vectors/out/test_vectors
 if [ -x "$program" ]; then
   input | "$program"
   exit
@@ -30,7 +30,7 @@ echo "conformance.sh: built without the proofs" >&2
 input | split -l 6000 - "$work/part."
 for part in "$work"/part.*; do
   [ -e "$part" ] || continue
-  (cd crates/conformance && rt try < "$part" > "$work/out" 2> "$work/err")
+  (cd crates/test_vectors && rt try < "$part" > "$work/out" 2> "$work/err")
   sed '$d' "$work/out"
   if ! add "$(sed -n '$p' "$work/out")"; then
     echo "failed: rt try"

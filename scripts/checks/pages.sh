@@ -95,11 +95,11 @@ if awk '
   file == 1 && /^```$/ { inside = 0 }
   file == 1 && inside { page = page $0 "\n" }
   file == 2 { program = program $0 "\n" }
-  END { exit page == "" || index(program, page) == 0 }' README.md crates/first_program/src/main.rt
+  END { exit page == "" || index(program, page) == 0 }' README.md crates/readme_example/src/main.rt
 then
   passed=$((passed + 1))
 else
-  missing README.md 'its page of code is not part of crates/first_program/src/main.rt'
+  missing README.md 'its page of code is not part of crates/readme_example/src/main.rt'
 fi
 
 # what the page of a crate quotes of code is there, line by line
@@ -173,7 +173,7 @@ for page in README.md docs/PROOFS.md; do
 done
 
 # the version of the library: on the first line of a file that has these words, the number behind them
-version=$(sed -n 's/^pub const LIBRARY_VERSION: &str = "\(.*\)";$/\1/p' crates/journal_calls/src/names.rt)
+version=$(sed -n 's/^pub const LIBRARY_VERSION: &str = "\(.*\)";$/\1/p' crates/journal_c_api/src/names.rt)
 while IFS='|' read -r place words; do
   stated=$(grep -m 1 -oE "$words[0-9]+(\.[0-9]+)+" "$place" | grep -oE '[0-9]+(\.[0-9]+)+$')
   if [ -n "$version" ] && [ "$stated" = "$version" ]; then

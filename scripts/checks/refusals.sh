@@ -1,7 +1,7 @@
 #!/bin/sh
 # Each allocation of tests and of programs fails in turn.
 #
-# Each test of crates/shared_core_refusal_tests and of crates/replay_bench_tests, and the programs journal_list and
+# Each test of crates/shared_core_out_of_memory_tests and of crates/replay_bench_tests, and the programs journal_list and
 # journal_diff, run once for each allocation that they make, with that one failing, and at last with none.
 # A test has to pass. journal_list has to write its listing, or whole lines at the beginning of it and that memory is
 # short, and journal_diff its verdict, or nothing and that memory is short; both succeed if no allocation fails.
@@ -12,7 +12,7 @@ set -u
 cd "$(dirname "$0")/../.." || exit 1
 . scripts/checks/lib.sh
 
-test_crates='shared_core_refusal_tests replay_bench_tests'
+test_crates='shared_core_out_of_memory_tests replay_bench_tests'
 journal_list=crates/journal_list/out/journal_list
 journal_diff=crates/journal_diff/out/journal_diff
 

@@ -126,10 +126,10 @@ def write_same_but_payload(source, command, oneof):
     """The function that compares a oneof where payloads are ignored."""
     enum = source.use(f"{command.crate}::{command.module}", camel(oneof.name))
     source.use("crate::equality", "same_oneof")
-    source.use("shared_core_record::oneof", "OneOf")
+    source.use("shared_core_codec::oneof", "OneOf")
     source.ghost("std.specs.Prelude", "◌≡◌", "◌↔◌", "◌∷◌", "[]", "IsTrue")
     source.aliases.add("shared_core_wire.specs.Schema as row")
-    source.ghost("shared_core_record.specs.FieldParts", "option_part")
+    source.ghost("shared_core_codec.specs.FieldParts", "option_part")
     source.ghost("shared_core_compare.specs.Erasure", "without_payloads")
     members = [member for member in oneof.members if member.number in command.entry.payloads]
     erased = " ∷ ".join([str(member.number) for member in members] + ["[]"])

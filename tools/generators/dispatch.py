@@ -27,7 +27,7 @@ pub use shared_core_compare::equality::CommandMessageHeaderEq;
 pub use shared_core_compare::name::NamedCommandMessage;
 pub use shared_core_message::restate_message::{RestateEncodableMessage, RestateMessage};
 pub use shared_core_parts::notification::{CANCEL_SIGNAL_ID, CompletionId, Notification, NotificationId, NotificationResult};
-pub use shared_core_record::error::EncodingError;
+pub use shared_core_codec::error::EncodingError;
 
 // The parts of messages, and the template by which any notification is read.
 """
@@ -138,7 +138,7 @@ def type_schemas():
     )
     return (
         "//! The schemas of messages.\n\nghost use Rattle.std.specs.Prelude.{◌≡◌, ◌<◌, IfSome};\n"
-        "ghost use Rattle.shared_core_record.specs.Table.{schema_count};\nghost use Rattle.shared_core.specs.Visiting.{schema_at};\n\n"
+        "ghost use Rattle.shared_core_codec.specs.Table.{schema_count};\nghost use Rattle.shared_core.specs.Visiting.{schema_at};\n\n"
         "use shared_core_base::header::MessageType;\nuse shared_core_base::version::Version;\n\n"
         + comment(
             "The number of the schema that a type's payloads have at a version: its place in the table of the "

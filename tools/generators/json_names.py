@@ -1,5 +1,5 @@
-"""The fields of the protocol's messages as JSON names them, in the order of the schemas of shared_core_record: the table of names that the
-contracts of journal_json cite, and the table that the program goes by, which is proved to be the same.
+"""The fields of the protocol's messages as JSON names them, in the order of the schemas of shared_core_codec: the table of names that the
+contracts of shared_core_json cite, and the table that the program goes by, which is proved to be the same.
 """
 from . import laid_out
 from .proto import OneOf, schemas
@@ -63,8 +63,8 @@ def texts():
         ]
         rows.append(f"    // {name}\n    &[{', '.join(listed)}],\n")
     return {
-        "crates/journal_json/specs/Names.antt": NAMES + "".join(names) + "    ∷ []\n",
-        "crates/journal_json/src/schemas.rt": f"{SCHEMAS}pub static SCHEMAS: [&[Field]; {len(order)}] = [\n" + "".join(rows) + "];\n",
+        "crates/shared_core_json/specs/Names.antt": NAMES + "".join(names) + "    ∷ []\n",
+        "crates/shared_core_json/src/schemas.rt": f"{SCHEMAS}pub static SCHEMAS: [&[Field]; {len(order)}] = [\n" + "".join(rows) + "];\n",
     }
 
 

@@ -87,7 +87,7 @@ def surface():
 def texts():
     """The files, not yet laid out."""
     return {
-        "crates/conformance/src/schema_names.rt": schema_names(),
+        "crates/test_vectors/src/schema_names.rt": schema_names(),
         "crates/journal_ffi/src/tests/codes.rt": codes(),
         "tests/public_api/surface_messages.rt.in": surface(),
         "tests/wire/listed_types.rt.in": listed_types(),

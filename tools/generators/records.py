@@ -183,17 +183,17 @@ class Source:
         if self.values:
             ghosts.append(f"Rattle.shared_core_wire.specs.Value.{{{', '.join(sorted(self.values))}}}")
         ghosts += sorted(self.ghosts)
-        ghosts.append("Rattle.shared_core_record.specs.Table as tables")
+        ghosts.append("Rattle.shared_core_codec.specs.Table as tables")
         if self.views:
-            ghosts.append(f"Rattle.shared_core_record.specs.FieldParts.{{{', '.join(sorted(self.views))}}}")
-        ghosts.append(f"Rattle.shared_core_record.specs.EqualityRules.{{{', '.join(sorted(self.rules))}}}")
+            ghosts.append(f"Rattle.shared_core_codec.specs.FieldParts.{{{', '.join(sorted(self.views))}}}")
+        ghosts.append(f"Rattle.shared_core_codec.specs.EqualityRules.{{{', '.join(sorted(self.rules))}}}")
         uses = set(self.uses)
         for message in self.parts:
             home = "crate" if self.crate == PARTS_CRATE else PARTS_CRATE
             uses.add(f"{home}::{snake(message)}::{message}")
         if self.presences:
             shown = ", ".join(sorted(self.presences))
-            uses.add(f"shared_core_record::{{{shown}}}" if len(self.presences) > 1 else f"shared_core_record::{shown}")
+            uses.add(f"shared_core_codec::{{{shown}}}" if len(self.presences) > 1 else f"shared_core_codec::{shown}")
         if self.shadowed:
             uses.add("std::result")
         code = "".join(self.body)
@@ -224,10 +224,10 @@ def part_laws(message):
 def write_oneof(source, module, name, oneof, about, derived=()):
     """The enum of a oneof and its impl."""
     source.uses |= {
-        "shared_core_record::kind::FieldKind",
-        "shared_core_record::occurrence::Occurrence",
-        "shared_core_record::oneof::OneOf",
-        "shared_core_record::size::Size",
+        "shared_core_codec::kind::FieldKind",
+        "shared_core_codec::occurrence::Occurrence",
+        "shared_core_codec::oneof::OneOf",
+        "shared_core_codec::size::Size",
         "shared_core_wire::error::WireError",
     }
     source.values.add("Member")
@@ -242,7 +242,7 @@ def write_oneof(source, module, name, oneof, about, derived=()):
         number = member.number
         rules = ["equality_rules"]
         if member.kind == "message":
-            source.uses.add("shared_core_record::record::WireRecord")
+            source.uses.add("shared_core_codec::record::WireRecord")
             source.kinds.add("Message")
             kind = f"Message tables.{schema_name(member.message)}"
             held = member.message
@@ -308,9 +308,9 @@ def write_record(source, crate, message, shared):
     module = snake(message.name)
     name = message.name
     source.uses |= {
-        "shared_core_record::occurrence::Occurrence",
-        "shared_core_record::record::WireRecord",
-        "shared_core_record::size::Size",
+        "shared_core_codec::occurrence::Occurrence",
+        "shared_core_codec::record::WireRecord",
+        "shared_core_codec::size::Size",
         "shared_core_wire::error::WireError",
         "std::alloc::Global",
     }
@@ -334,7 +334,7 @@ def write_record(source, crate, message, shared):
         at = f"message.{row.name}"
         fields.append(comment(row.comment, "    "))
         if isinstance(row, OneOf):
-            source.uses.add("shared_core_record::oneof::OneOf")
+            source.uses.add("shared_core_codec::oneof::OneOf")
             source.views.add("option_part")
             enum = camel(row.name)
             fields.append(f"    pub {row.name}: Option<{enum}>,\n")
@@ -429,7 +429,7 @@ def write_message(source, message):
         "shared_core_message::frame::encode_frame_into",
         "shared_core_message::restate_message::{RestateEncodableMessage, RestateMessage}",
         "shared_core_base::version::Version",
-        "shared_core_record::error::EncodingError",
+        "shared_core_codec::error::EncodingError",
     }
     source.uses.discard("shared_core_message::restate_message::RestateMessage")
     source.body.append(

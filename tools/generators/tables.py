@@ -29,7 +29,7 @@ use Rattle.shared_core_base.specs.declared.header.MessageType.{MessageType}
 COMMANDS = """\
 -- What of each command is compared, and what is printed where two of them differ.
 use Rattle.std.specs.Prelude.{ℕ, List, [], ◌∷◌, codes}
-use Rattle.shared_core_record.specs.Table as schema
+use Rattle.shared_core_codec.specs.Table as schema
 use Rattle.shared_core_compare.specs.CommandFields.{CommandFields}
 
 -- The commands, by their schemas.
@@ -98,7 +98,7 @@ def message_schemas():
     )
     return (
         f"{MESSAGES}use Rattle.shared_core_base.specs.declared.header.MessageType.TheVariants.{{{variants()}}}\n"
-        "use Rattle.shared_core_record.specs.Table as schema\n\n"
+        "use Rattle.shared_core_codec.specs.Table as schema\n\n"
         "-- The schema of a named type's payloads; a custom entry has none.\nabbrev pub message_schema : MessageType → Option ℕ\n"
         f"{rows}message_schema (CustomEntry code) = None\n\n"
         f"-- {said}.\nabbrev pub IsSchemaOf : MessageType → ℕ → Type 0\n"
@@ -126,7 +126,7 @@ def commands():
 def texts():
     """The tables, not yet laid out."""
     return {
-        "crates/shared_core_record/specs/Table.antt": table(),
+        "crates/shared_core_codec/specs/Table.antt": table(),
         "crates/shared_core_message/specs/Messages.antt": message_schemas(),
         # COMPARE
     }

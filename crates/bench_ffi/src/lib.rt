@@ -2,14 +2,14 @@
 //! library of their own, so that the library for C holds none of them.
 #![tactic(auto)]
 
-ghost use Rattle.journal_calls.specs.Answers.{Answers, Writes};
-ghost use Rattle.journal_calls.specs.Payloads.{AnswersFrame, AnswersWellFormed};
-ghost use Rattle.measured_calls.specs.Comparisons.{AnswersComparisons};
-ghost use Rattle.measured_calls.specs.Streams.{AnswersItems, AnswersMessages};
+ghost use Rattle.journal_c_api.specs.Answers.{Answers, Writes};
+ghost use Rattle.journal_c_api.specs.Payloads.{AnswersFrame, AnswersWellFormed};
+ghost use Rattle.measured_c_api.specs.Comparisons.{AnswersComparisons};
+ghost use Rattle.measured_c_api.specs.Streams.{AnswersItems, AnswersMessages};
 
-use journal_calls::answer::answer_of;
-use measured_calls::frames::{Buffer, Rounds};
-use measured_calls::{commands, frames, payloads, streams};
+use journal_c_api::answer::answer_of;
+use measured_c_api::frames::{Buffer, Rounds};
+use measured_c_api::{commands, frames, payloads, streams};
 use std::alloc::Global;
 
 #[cfg(test)]

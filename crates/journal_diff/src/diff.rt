@@ -12,7 +12,7 @@ use std::alloc::{AllocError, Global};
 use std::error::Error;
 use std::fmt;
 use std::io::{Read, Write};
-use text_output::{OutputFailed, write_whole};
+use stream_lines::output::{OutputFailed, write_whole};
 
 /// The number of bytes that are read at a time.
 const PIECE: usize = 65536;

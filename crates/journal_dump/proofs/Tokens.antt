@@ -5,9 +5,9 @@ use Rattle.json.specs.Token.{Token}
 use Rattle.json.specs.Json.{Members, member, no_members, boolean}
 use Rattle.json.specs.Tree.{members_tokens}
 use Rattle.shared_core_wire.specs.Acceptance.{accepts_payload}
-use Rattle.shared_core_record.specs.Table.{table}
-use Rattle.shared_core_record.specs.Payloads.{IsAccepted, payload_meaning}
-use Rattle.journal_json.specs.Form.{value_json}
+use Rattle.shared_core_codec.specs.Table.{table}
+use Rattle.shared_core_codec.specs.Payloads.{IsAccepted, payload_meaning}
+use Rattle.shared_core_json.specs.Form.{value_json}
 use Rattle.journal_dump.specs.Lines.{ack_tokens, ack_members, bytes_json, payload_members}
 
 pub then_tokens : (old new front rest : List Token) → new ≡ old ++ front → new ++ rest ≡ old ++ (front ++ rest)

@@ -1,9 +1,9 @@
 -- The result for a payload that is to be printed.
 use Rattle.std.specs.Prelude.{◌≡◌, ℕ, List, Option, Some, None, Result, Ok, Err}
-use Rattle.shared_core_record.specs.Payloads.{IsAccepted, payload_meaning}
-use Rattle.journal_json.specs.declared.error.JsonError.{JsonError}
-use Rattle.journal_json.specs.declared.error.JsonError.TheVariants.{Malformed, TooLong, OutOfMemory}
-use Rattle.journal_json.specs.Payloads.{IsSpelling, IsTooLong}
+use Rattle.shared_core_codec.specs.Payloads.{IsAccepted, payload_meaning}
+use Rattle.shared_core_json.specs.declared.error.JsonError.{JsonError}
+use Rattle.shared_core_json.specs.declared.error.JsonError.TheVariants.{Malformed, TooLong, OutOfMemory}
+use Rattle.shared_core_json.specs.Payloads.{IsSpelling, IsTooLong}
 
 -- There is a schema, the payload is well-formed for it, and the canonical payload of what it means is too long to be written.
 abbrev pub IsLongFor : Option ℕ → List ℕ → Type 0

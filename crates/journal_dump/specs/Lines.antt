@@ -9,12 +9,12 @@ use Rattle.json.specs.Tree.{json_tokens}
 use Rattle.json.specs.Print.{print}
 use Rattle.shared_core_base.specs.MessageType.{code_of, debug_name_of}
 use Rattle.shared_core_wire.specs.Acceptance.{accepts_payload}
-use Rattle.shared_core_record.specs.Table as schema
-use Rattle.shared_core_record.specs.Payloads.{payload_meaning}
+use Rattle.shared_core_codec.specs.Table as schema
+use Rattle.shared_core_codec.specs.Payloads.{payload_meaning}
 use Rattle.shared_core.specs.declared.encoding.item.Item.{Item}
 use Rattle.shared_core.specs.declared.encoding.item.Item.TheVariants.{Message, Unknown, Skipped}
 use Rattle.shared_core.specs.Visiting.{schema_at}
-use Rattle.journal_json.specs.Form.{value_json}
+use Rattle.shared_core_json.specs.Form.{value_json}
 use Rattle.journal_dump.specs.declared.options.Options.{Options}
 
 -- Bytes in base64.

@@ -2,18 +2,18 @@
 
 ghost use Rattle.std.specs.Prelude.{IfOk};
 ghost use Rattle.std.specs.Result.{IsErrOf};
-ghost use Rattle.shared_core_record.specs.Payloads.{IsAccepted, payload_meaning};
-ghost use Rattle.journal_json.specs.Payloads.{IsSpelling, IsTooLong};
-ghost use Rattle.journal_json.specs.declared.error.JsonError.TheVariants.{Malformed, TooLong};
+ghost use Rattle.shared_core_codec.specs.Payloads.{IsAccepted, payload_meaning};
+ghost use Rattle.shared_core_json.specs.Payloads.{IsSpelling, IsTooLong};
+ghost use Rattle.shared_core_json.specs.declared.error.JsonError.TheVariants.{Malformed, TooLong};
 ghost use Rattle.shared_core.specs.Visiting.{schema_at};
 ghost use Rattle.journal_dump.specs.Canonical.{AnswersSpelling};
 
 use bytes::Bytes;
-use journal_json::{JsonError, write_canonical};
 use shared_core::header::MessageType;
 use shared_core::messages::{RecordVisitor, schema_at, visit_record};
 use shared_core::version::Version;
 use shared_core::wire::WireRecord;
+use shared_core_json::{JsonError, write_canonical};
 use std::alloc::Global;
 use std::fmt::Debug;
 use std::mem;

@@ -1,11 +1,11 @@
 //! The calls that compare two commands of a type, given by their payloads.
 
 ghost use Rattle.std.specs.Prelude.{nat_lt};
-ghost use Rattle.journal_calls.specs.Answers.{Answers, Writes};
-ghost use Rattle.journal_calls.specs.Commands.{AnswersDifference, AnswersSameness};
+ghost use Rattle.journal_c_api.specs.Answers.{Answers, Writes};
+ghost use Rattle.journal_c_api.specs.Commands.{AnswersDifference, AnswersSameness};
 
-use journal_calls::answer::answer_of;
-use journal_calls::commands;
+use journal_c_api::answer::answer_of;
+use journal_c_api::commands;
 use std::alloc::Global;
 
 /// Decodes two payloads for the command type that has the code, and returns 1 if the two commands are the same for a

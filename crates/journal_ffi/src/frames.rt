@@ -1,11 +1,11 @@
 //! The calls that make headers and frames.
 
-ghost use Rattle.journal_calls.specs.Answers.{Answers, Writes};
-ghost use Rattle.journal_calls.specs.Headers.{AnswersHeader};
-ghost use Rattle.journal_calls.specs.Payloads.{AnswersFrame};
+ghost use Rattle.journal_c_api.specs.Answers.{Answers, Writes};
+ghost use Rattle.journal_c_api.specs.Headers.{AnswersHeader};
+ghost use Rattle.journal_c_api.specs.Payloads.{AnswersFrame};
 
-use journal_calls::answer::answer_of;
-use journal_calls::{frames, headers};
+use journal_c_api::answer::answer_of;
+use journal_c_api::{frames, headers};
 use std::alloc::Global;
 
 /// Writes the eight bytes of the header that a message of the type that has the code has at a version from 5 to 9, by

@@ -1,10 +1,10 @@
 //! The call that reads streams.
 
-ghost use Rattle.journal_calls.specs.Answers.{Answers};
-ghost use Rattle.journal_calls.specs.Items.{WritesNext};
+ghost use Rattle.journal_c_api.specs.Answers.{Answers};
+ghost use Rattle.journal_c_api.specs.Items.{WritesNext};
 
-use journal_calls::answer::answer_of;
-use journal_calls::items;
+use journal_c_api::answer::answer_of;
+use journal_c_api::items;
 
 /// Finds the item that the bytes begin with, at a version from 5 to 9, and writes its six numbers: its kind (0 a
 /// message, 1 an unknown code, 2 a skipped message), its first eight bytes as one number, its code, its flag, its size

@@ -1,11 +1,11 @@
 //! The call that compares two journals.
 
 ghost use Rattle.std.specs.Prelude.{nat_lt, length};
-ghost use Rattle.journal_calls.specs.Answers.{Answers};
-ghost use Rattle.journal_calls.specs.Journals.{AnswersVerdict, WritesVerdict};
+ghost use Rattle.journal_c_api.specs.Answers.{Answers};
+ghost use Rattle.journal_c_api.specs.Journals.{AnswersVerdict, WritesVerdict};
 
-use journal_calls::answer::answer_of;
-use journal_calls::journals;
+use journal_c_api::answer::answer_of;
+use journal_c_api::journals;
 use std::alloc::Global;
 
 /// Compares a recorded journal with a replayed one, both streams of a version from 5 to 9, command by command, and

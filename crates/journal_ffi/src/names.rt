@@ -1,11 +1,11 @@
 //! The calls on names and numbers.
 
 ghost use Rattle.std.specs.Prelude.{◌≡◌, Ok, codes};
-ghost use Rattle.journal_calls.specs.Answers.{Answers, Writes};
-ghost use Rattle.journal_calls.specs.Names.{AnswersSchema, AnswersTypeCode, AnswersTypeName};
+ghost use Rattle.journal_c_api.specs.Answers.{Answers, Writes};
+ghost use Rattle.journal_c_api.specs.Names.{AnswersSchema, AnswersTypeCode, AnswersTypeName};
 
-use journal_calls::answer::answer_of;
-use journal_calls::names;
+use journal_c_api::answer::answer_of;
+use journal_c_api::names;
 
 /// Writes the version of the library, as "0.1.0".
 #[unsafe(no_mangle)]

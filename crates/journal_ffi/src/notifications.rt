@@ -1,10 +1,10 @@
 //! The call that reads notifications.
 
-ghost use Rattle.journal_calls.specs.Answers.{Answers};
-ghost use Rattle.journal_calls.specs.Notifications.{WritesNotification};
+ghost use Rattle.journal_c_api.specs.Answers.{Answers};
+ghost use Rattle.journal_c_api.specs.Notifications.{WritesNotification};
 
-use journal_calls::answer::answer_of;
-use journal_calls::notifications;
+use journal_c_api::answer::answer_of;
+use journal_c_api::notifications;
 use std::alloc::Global;
 
 /// Reads the id and the result of a notification of any type. Writes four numbers: the kind of its id (0 a completion,

@@ -1,11 +1,11 @@
 //! The calls on payloads, given by the numbers of their schemas.
 
 ghost use Rattle.std.specs.Prelude.{[], ◌∷◌};
-ghost use Rattle.journal_calls.specs.Answers.{Answers, Writes};
-ghost use Rattle.journal_calls.specs.Payloads.{AnswersCanonical, AnswersJson, AnswersWellFormed};
+ghost use Rattle.journal_c_api.specs.Answers.{Answers, Writes};
+ghost use Rattle.journal_c_api.specs.Payloads.{AnswersCanonical, AnswersJson, AnswersWellFormed};
 
-use journal_calls::answer::answer_of;
-use journal_calls::payloads;
+use journal_c_api::answer::answer_of;
+use journal_c_api::payloads;
 use std::alloc::Global;
 
 /// Returns 1 if a payload is well-formed for a schema, by its number (its index in the table), otherwise 0. `Unknown`

@@ -11,10 +11,10 @@ use Rattle.shared_core_base.specs.contracts.header.MessageTypePartialEq.TheImpl 
 use Rattle.shared_core_base.specs.CommandType.{command_type_of}
 use Rattle.shared_core_base.proofs.Types.{types_equal, types_same}
 use Rattle.shared_core_wire.specs.Acceptance.{accepts_payload}
-use Rattle.shared_core_record.specs.Equality.{parts_equal}
-use Rattle.shared_core_record.specs.EqualityRules.{parts_equal_decides}
-use Rattle.shared_core_record.specs.Payloads.{IsAccepted, payload_meaning}
-use Rattle.shared_core_record.specs.Table.{table}
+use Rattle.shared_core_codec.specs.Equality.{parts_equal}
+use Rattle.shared_core_codec.specs.EqualityRules.{parts_equal_decides}
+use Rattle.shared_core_codec.specs.Payloads.{IsAccepted, payload_meaning}
+use Rattle.shared_core_codec.specs.Table.{table}
 use Rattle.shared_core_message.specs.Messages.{message_schema}
 use Rattle.shared_core_compare.specs.Differences.{difference}
 use Rattle.shared_core_compare.specs.Erasure.{erased}

@@ -9,7 +9,7 @@ use Rattle.shared_core_base.specs.CommandType.{command_type_of}
 use Rattle.shared_core_wire.specs.declared.error.WireError.{WireError}
 use Rattle.shared_core_wire.specs.declared.error.WireError.TheVariants as wire
 use Rattle.shared_core_wire.specs.Value.{Parts}
-use Rattle.shared_core_record.specs.Payloads.{IsAccepted, payload_meaning}
+use Rattle.shared_core_codec.specs.Payloads.{IsAccepted, payload_meaning}
 use Rattle.shared_core_message.specs.Messages.{IsSchemaOf, message_schema}
 use Rattle.shared_core_compare.specs.Differences.{difference}
 use Rattle.shared_core_compare.specs.Erasure.{AreSame, erased}

@@ -8,10 +8,10 @@ use Rattle.shared_core_base.specs.MessageType.{IsNamed, allows_ack}
 use Rattle.shared_core_wire.specs.Canonical.{levels}
 use Rattle.shared_core_wire.specs.Fitting.{Fits}
 use Rattle.shared_core_wire.specs.Value.{Parts}
-use Rattle.shared_core_record.specs.Table.{table}
-use Rattle.shared_core_record.specs.Table as tables
-use Rattle.shared_core_record.specs.Payloads.{IsReadBack}
-use Rattle.shared_core_record.proofs.PayloadLaws.{canonical_is_read_back}
+use Rattle.shared_core_codec.specs.Table.{table}
+use Rattle.shared_core_codec.specs.Table as tables
+use Rattle.shared_core_codec.specs.Payloads.{IsReadBack}
+use Rattle.shared_core_codec.proofs.PayloadLaws.{canonical_is_read_back}
 use Rattle.shared_core_message.specs.Frames.{WireFits, WireForm, plain_form, wire_frame, wire_payload, wire_size}
 use Rattle.shared_core_runtime.specs.Flattening.{flattened}
 use Rattle.shared_core_runtime.specs.Versions.{is_before_v7, proposal_form, suspension_form}

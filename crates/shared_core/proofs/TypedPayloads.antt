@@ -3,8 +3,8 @@ use Rattle.std.proofs.Common.{◌≡◌, ℕ, List, Result, Ok, Err}
 use Rattle.std.specs.Prelude.{ℤ, IfOk, IfErr}
 use Rattle.shared_core_base.specs.declared.header.MessageType.{MessageType}
 use Rattle.shared_core_wire.specs.Value.{Parts}
-use Rattle.shared_core_record.specs.Payloads.{IsAccepted, payload_meaning}
-use Rattle.shared_core_record.proofs.PayloadLaws.{canonical_is_read_back}
+use Rattle.shared_core_codec.specs.Payloads.{IsAccepted, payload_meaning}
+use Rattle.shared_core_codec.proofs.PayloadLaws.{canonical_is_read_back}
 use Rattle.shared_core.specs.declared.encoding.raw_message.RawMessage.{RawMessage}
 use Rattle.shared_core.specs.declared.encoding.error.DecodingError.{DecodingError}
 use Rattle.shared_core.specs.declared.encoding.error.DecodingError.TheVariants.{DecodeMessage, OutOfMemory}

@@ -12,11 +12,11 @@ use Rattle.shared_core_wire.specs.Value.{Part, Parts, Absent, cons, nil}
 use Rattle.shared_core_wire.specs.Overlay.{NestedOverlay, message_overlay, oneof_over, own_records, payload_records}
 use Rattle.shared_core_wire.specs.Template.{is_within_template}
 use Rattle.shared_core_wire.proofs.TemplateView.{payload_views}
-use Rattle.shared_core_record.specs.Equality.{is_present}
-use Rattle.shared_core_record.specs.Table.{table, notification_template}
-use Rattle.shared_core_record.specs.Table as tables
-use Rattle.shared_core_record.specs.Payloads.{IsAccepted}
-use Rattle.shared_core_record.proofs.Tables.{are_schemas}
+use Rattle.shared_core_codec.specs.Equality.{is_present}
+use Rattle.shared_core_codec.specs.Table.{table, notification_template}
+use Rattle.shared_core_codec.specs.Table as tables
+use Rattle.shared_core_codec.specs.Payloads.{IsAccepted}
+use Rattle.shared_core_codec.proofs.Tables.{are_schemas}
 use Rattle.shared_core_message.specs.Messages.{message_schema}
 use Rattle.shared_core_parts.specs.declared.notification.Notification.{Notification}
 use Rattle.shared_core.specs.declared.encoding.raw_message.RawMessage.{RawMessage}

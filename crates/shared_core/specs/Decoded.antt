@@ -4,7 +4,7 @@ use Rattle.shared_core_base.specs.declared.header.MessageType.{MessageType}
 use Rattle.shared_core_base.specs.declared.version.Version.{Version}
 use Rattle.shared_core_wire.specs.Canonical.{levels}
 use Rattle.shared_core_wire.specs.Value.{Parts}
-use Rattle.shared_core_record.specs.Payloads.{IsReadBack}
+use Rattle.shared_core_codec.specs.Payloads.{IsReadBack}
 use Rattle.shared_core_message.specs.Frames.{WireForm, wire_frame, wire_payload}
 use Rattle.shared_core.specs.declared.encoding.error.DecodingError.{DecodingError}
 use Rattle.shared_core.specs.declared.encoding.error.DecodingError.TheVariants.{OutOfMemory}

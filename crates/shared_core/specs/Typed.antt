@@ -5,8 +5,8 @@ use Rattle.shared_core_wire.specs.declared.error.WireError.TheVariants.{Malforme
 use Rattle.shared_core_wire.specs.Value.{Parts}
 use Rattle.shared_core_wire.specs.Canonical.{canonical_payload}
 use Rattle.shared_core_wire.specs.Laws.{IsWritable}
-use Rattle.shared_core_record.specs.Table.{table}
-use Rattle.shared_core_record.specs.Payloads.{IsAccepted, payload_meaning}
+use Rattle.shared_core_codec.specs.Table.{table}
+use Rattle.shared_core_codec.specs.Payloads.{IsAccepted, payload_meaning}
 use Rattle.shared_core_errors.specs.declared.command_type_mismatch.CommandTypeMismatchError.{CommandTypeMismatchError}
 use Rattle.shared_core.specs.declared.encoding.raw_message.RawMessage.{RawMessage}
 use Rattle.shared_core.specs.declared.encoding.error.DecodingError.{DecodingError}

@@ -5,8 +5,8 @@ use Rattle.shared_core_wire.specs.Schema.{includes, all_numbers}
 use Rattle.shared_core_wire.specs.Overlay.{payload_records}
 use Rattle.shared_core_wire.specs.Template.{are_apart, part_at}
 use Rattle.shared_core_wire.specs.Value.{Part, Parts, Absent, nil, cons}
-use Rattle.shared_core_record.specs.Table.{table, notification_template}
-use Rattle.shared_core_record.specs.Payloads.{IsAccepted, payload_meaning}
+use Rattle.shared_core_codec.specs.Table.{table, notification_template}
+use Rattle.shared_core_codec.specs.Payloads.{IsAccepted, payload_meaning}
 use Rattle.shared_core_parts.specs.declared.notification.Notification.{Notification}
 use Rattle.shared_core_parts.specs.contracts.notification_template.IdOneOf.TheImpl as ids
 use Rattle.shared_core_parts.specs.contracts.notification_template.ResultOneOf.TheImpl as results

@@ -7,7 +7,7 @@ use Rattle.shared_core_base.specs.declared.version.Version.{Version}
 use Rattle.shared_core_base.specs.CommandType.{command_type_of}
 use Rattle.shared_core_wire.specs.Value.{Parts}
 use Rattle.shared_core_base.specs.Version.{version_number}
-use Rattle.shared_core_record.specs.Table.{schemas, suspension, suspension_v6}
+use Rattle.shared_core_codec.specs.Table.{schemas, suspension, suspension_v6}
 use Rattle.shared_core_message.specs.Frames.{WireForm, plain_form}
 use Rattle.shared_core_message.specs.Messages.{message_schema}
 use Rattle.shared_core_runtime.specs.Versions.{suspension_form, proposal_form}

@@ -10,6 +10,7 @@ mod record_visitor;
 mod schemas;
 
 pub use shared_core_base::error::ErrorBehavior;
+pub use shared_core_codec::error::EncodingError;
 pub use shared_core_compare::difference::CommandMessageHeaderDiff;
 pub use shared_core_compare::equality::CommandMessageHeaderEq;
 pub use shared_core_compare::name::NamedCommandMessage;
@@ -17,7 +18,6 @@ pub use shared_core_message::restate_message::{RestateEncodableMessage, RestateM
 pub use shared_core_parts::notification::{
     CANCEL_SIGNAL_ID, CompletionId, Notification, NotificationId, NotificationResult,
 };
-pub use shared_core_record::error::EncodingError;
 
 // The parts of messages, and the template by which any notification is read.
 pub use shared_core_parts::failure::Failure;

@@ -1,6 +1,6 @@
 //! The payload of a message: its records one after the other, and the trait of what is read from them and written.
 
-pub use shared_core_record::record::{WireRecord, decode_parts};
+pub use shared_core_codec::record::{WireRecord, decode_parts};
 pub use shared_core_wire::error::WireError;
 pub use shared_core_wire::record::WireValue;
 pub use shared_core_wire::records::{Record, Records};

@@ -4,9 +4,9 @@ use Rattle.std.specs.Prelude.{filter, flat_map}
 use Rattle.std.specs.List.{list_any}
 use Rattle.shared_core_wire.specs.Schema.{Row, numbers, includes}
 use Rattle.shared_core_wire.specs.Value.{Part, Parts, cons, empty_part}
-use Rattle.shared_core_record.specs.Equality.{part_equal}
-use Rattle.shared_core_record.specs.EqualityRules.{part_equal_sound, part_equal_refl, both_of}
-use Rattle.shared_core_record.specs.Table.{table}
+use Rattle.shared_core_codec.specs.Equality.{part_equal}
+use Rattle.shared_core_codec.specs.EqualityRules.{part_equal_sound, part_equal_refl, both_of}
+use Rattle.shared_core_codec.specs.Table.{table}
 use Rattle.shared_core_compare.specs.Commands.{CommandFields, command_fields, first_part, rest_parts, row_part, name_part, name_number}
 use Rattle.shared_core_compare.specs.Erasure.{erased, erased_part, erased_parts, has_any, without_payloads}
 use Rattle.shared_core_compare.specs.Differences.{are_covered, difference, field_line, is_printed_whole, numbered_line, row_text}

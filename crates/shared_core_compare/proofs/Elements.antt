@@ -3,7 +3,7 @@ use Rattle.std.proofs.Common.{◌≡◌, ◌++◌, ◌∷◌, List, [], ℕ, ref
 use Rattle.std.specs.Prelude.{map, flat_map}
 use Rattle.std.specs.List.{join_by}
 use Rattle.shared_core_wire.specs.Value.{Part, Bytes}
-use Rattle.shared_core_record.specs.FieldParts.{parts_of}
+use Rattle.shared_core_codec.specs.FieldParts.{parts_of}
 use Rattle.shared_core_compare.specs.Differences.{bytes_of, listed}
 
 flat_elements : {X : Type 0} (part : X → Part) (text : Part → List ℕ) (xs : List X)

@@ -6,9 +6,9 @@ use Rattle.std.specs.declared.fmt.Formatter.{Formatter}
 use Rattle.shared_core_base.specs.Differences.{diff_line}
 use Rattle.shared_core_wire.specs.Schema.{Message}
 use Rattle.shared_core_wire.specs.Value.{Part}
-use Rattle.shared_core_record.specs.EqualityRules.{part_test_is}
-use Rattle.shared_core_record.specs.FieldParts.{elements_part, message_part}
-use Rattle.shared_core_record.specs.Table as schema
+use Rattle.shared_core_codec.specs.EqualityRules.{part_test_is}
+use Rattle.shared_core_codec.specs.FieldParts.{elements_part, message_part}
+use Rattle.shared_core_codec.specs.Table as schema
 use Rattle.shared_core_parts.specs.Texts.{headers_text}
 use Rattle.shared_core_parts.specs.declared.header.Header.{Header}
 use Rattle.shared_core_parts.specs.contracts.header.HeaderWireRecord.TheImpl as header

@@ -2,8 +2,8 @@
 use Rattle.std.specs.Prelude.{ℕ, List, [], ◌∷◌, codes, nat_eq, if◌then◌else◌}
 use Rattle.shared_core_wire.specs.Schema.{Row, numbers, includes}
 use Rattle.shared_core_wire.specs.Value.{Part, Parts, Absent, nil, cons}
-use Rattle.shared_core_record.specs.Table as schema
-use Rattle.shared_core_record.specs.Table.{table}
+use Rattle.shared_core_codec.specs.Table as schema
+use Rattle.shared_core_codec.specs.Table.{table}
 
 -- The fields of a command that are not compared, and those that are printed. A field is identified by its number, a
 -- printed oneof by the least number of its members.

@@ -6,9 +6,9 @@ use Rattle.shared_core_base.specs.Differences.{bytes_text, diff_line}
 use Rattle.shared_core_wire.specs.Schema.{Kind, Row, Text, ByteString, Message, Plain, Optional, Repeated, OneOf, numbers, includes, member_kind}
 use Rattle.shared_core_wire.specs.Value.{Part, Parts, Number, Bytes, Nested, Elements, Member, nil, cons}
 use Rattle.shared_core_wire.specs.Template.{part_at}
-use Rattle.shared_core_record.specs.Table.{table}
-use Rattle.shared_core_record.specs.Table as schema
-use Rattle.shared_core_record.specs.Equality.{is_present, part_equal}
+use Rattle.shared_core_codec.specs.Table.{table}
+use Rattle.shared_core_codec.specs.Table as schema
+use Rattle.shared_core_codec.specs.Equality.{is_present, part_equal}
 use Rattle.shared_core_parts.specs.Texts.{value_text, failure_text, header_text, state_keys_text}
 use Rattle.shared_core_compare.specs.Commands.{command_fields, first_part, rest_parts, name_number}
 use Rattle.shared_core_compare.specs.Erasure.{has_any}

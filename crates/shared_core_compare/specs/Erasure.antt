@@ -3,7 +3,7 @@ use Rattle.std.specs.Prelude.{◌≡◌, ℕ, Bool, ◌&&◌, List, [], ◌∷�
 use Rattle.std.specs.List.{list_any}
 use Rattle.shared_core_wire.specs.Schema.{Kind, Row, Message, Plain, Optional, Repeated, OneOf, numbers, includes, member_kind}
 use Rattle.shared_core_wire.specs.Value.{Part, Parts, Absent, Nested, Elements, Member, nil, cons, default_of, empty_part, empty_value}
-use Rattle.shared_core_record.specs.Table.{table}
+use Rattle.shared_core_codec.specs.Table.{table}
 use Rattle.shared_core_compare.specs.Commands.{CommandFields, command_fields, first_part, rest_parts}
 
 -- What a present field holds when its content is erased: a message is the empty one, anything else its default.

@@ -2,7 +2,7 @@
 //! `CompletePromiseCommandMessage` compared.
 
 ghost use Rattle.std.specs.Prelude.{IsTrue, [], refl, ◌↔◌, ◌∷◌, ◌≡◌};
-ghost use Rattle.shared_core_record.specs.FieldParts.{option_part};
+ghost use Rattle.shared_core_codec.specs.FieldParts.{option_part};
 ghost use Rattle.shared_core_compare.specs.Erasure.{without_payloads};
 ghost use Rattle.shared_core_wire.specs.Schema as row;
 
@@ -12,7 +12,7 @@ use crate::name::NamedCommandMessage;
 use crate::printed::{PrintedMessage, PrintedOneOf};
 use shared_core_call_commands::CompletePromiseCommandMessage;
 use shared_core_call_commands::complete_promise_command_message::Completion;
-use shared_core_record::oneof::OneOf;
+use shared_core_codec::oneof::OneOf;
 use std::fmt;
 use std::fmt::Formatter;
 

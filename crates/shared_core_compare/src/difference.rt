@@ -5,19 +5,19 @@ ghost use Rattle.std.specs.Fmt.{WritesOnOk};
 ghost use Rattle.shared_core_base.specs.Differences.{diff_line};
 ghost use Rattle.shared_core_wire.specs.Schema.{ByteString, Message, Text, U32};
 ghost use Rattle.shared_core_wire.specs.Value.{Bytes as Content, Number};
-ghost use Rattle.shared_core_record.specs.Equality.{part_equal};
-ghost use Rattle.shared_core_record.specs.FieldParts.{elements_part, message_part, option_part, text_part};
-ghost use Rattle.shared_core_record.specs.Table as schema;
+ghost use Rattle.shared_core_codec.specs.Equality.{part_equal};
+ghost use Rattle.shared_core_codec.specs.FieldParts.{elements_part, message_part, option_part, text_part};
+ghost use Rattle.shared_core_codec.specs.Table as schema;
 ghost use Rattle.shared_core_compare.specs.Differences.{difference, elements_text, field_line, is_printed_whole, kind_text, member_text, message_text, present_text};
 
 use crate::equality::{same_message, same_messages, same_oneof};
 use crate::printed::{PrintedMessage, PrintedOneOf};
 use bytes::Bytes;
 use shared_core_base::fmt::{BytesText, DiffFormatter};
+use shared_core_codec::oneof::OneOf;
+use shared_core_codec::record::WireRecord;
 use shared_core_parts::header::Header;
 use shared_core_parts::texts::HeadersText;
-use shared_core_record::oneof::OneOf;
-use shared_core_record::record::WireRecord;
 use std::fmt;
 use std::fmt::{Display, Formatter};
 

@@ -1,11 +1,11 @@
 //! Whether two commands are equal, apart from what a replay may change.
 
 ghost use Rattle.std.specs.Prelude.{◌≡◌, ◌↔◌, IsTrue};
-ghost use Rattle.shared_core_record.specs.FieldParts.{elements_part, message_part, option_part};
+ghost use Rattle.shared_core_codec.specs.FieldParts.{elements_part, message_part, option_part};
 ghost use Rattle.shared_core_compare.specs.Erasure.{erased};
 
-use shared_core_record::oneof::OneOf;
-use shared_core_record::record::WireRecord;
+use shared_core_codec::oneof::OneOf;
+use shared_core_codec::record::WireRecord;
 
 /// Commands that are compared with recorded ones.
 ///

@@ -2,7 +2,7 @@
 //! `GetEagerStateCommandMessage` compared.
 
 ghost use Rattle.std.specs.Prelude.{IsTrue, [], refl, ◌↔◌, ◌∷◌, ◌≡◌};
-ghost use Rattle.shared_core_record.specs.FieldParts.{option_part};
+ghost use Rattle.shared_core_codec.specs.FieldParts.{option_part};
 ghost use Rattle.shared_core_compare.specs.Erasure.{without_payloads};
 ghost use Rattle.shared_core_wire.specs.Schema as row;
 
@@ -10,7 +10,7 @@ use crate::difference::{CommandMessageHeaderDiff, write_bytes, write_oneof};
 use crate::equality::{CommandMessageHeaderEq, same_oneof};
 use crate::name::NamedCommandMessage;
 use crate::printed::{PrintedMessage, PrintedOneOf};
-use shared_core_record::oneof::OneOf;
+use shared_core_codec::oneof::OneOf;
 use shared_core_state_commands::GetEagerStateCommandMessage;
 use shared_core_state_commands::get_eager_state_command_message::Result;
 use std::fmt;

@@ -6,7 +6,7 @@ ghost use Rattle.shared_core_compare.specs.Commands.{name_part};
 
 use shared_core_base::error::OutOfMemory;
 use shared_core_base::text::copy_text;
-use shared_core_record::record::WireRecord;
+use shared_core_codec::record::WireRecord;
 use std::alloc::Global;
 
 /// Commands with a name that users give.

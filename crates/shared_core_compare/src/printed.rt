@@ -4,6 +4,8 @@ ghost use Rattle.std.specs.Prelude.{◌≡◌};
 ghost use Rattle.std.specs.Fmt.{WritesOnOk};
 ghost use Rattle.shared_core_compare.specs.Differences.{member_text, message_text};
 
+use shared_core_codec::oneof::OneOf;
+use shared_core_codec::record::WireRecord;
 use shared_core_parts::failure::Failure;
 use shared_core_parts::idempotent_request_target::IdempotentRequestTarget;
 use shared_core_parts::state_keys::StateKeys;
@@ -11,8 +13,6 @@ use shared_core_parts::texts::StateKeysText;
 use shared_core_parts::value::Value;
 use shared_core_parts::void::Void;
 use shared_core_parts::workflow_target::WorkflowTarget;
-use shared_core_record::oneof::OneOf;
-use shared_core_record::record::WireRecord;
 use std::fmt;
 use std::fmt::Formatter;
 

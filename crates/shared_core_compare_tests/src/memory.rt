@@ -3,11 +3,11 @@
 use crate::failing_writer::{DIFFERENCE, FULL_CALL, write_to_room};
 use crate::room::Room;
 use crate::steps::{expect, read};
-use held_memory::without_memory;
 use shared_core::OutOfMemory;
 use shared_core::messages::{CallCommandMessage, CommandMessageHeaderEq, NamedCommandMessage};
 use std::alloc::{AllocError, Global};
 use std::test::Fail;
+use test_support::without_memory;
 
 /// The results of two calls.
 #[derive(Drop)]

@@ -7,7 +7,7 @@ use Rattle.shared_core_base.specs.MessageHeader.{word_of}
 use Rattle.shared_core_wire.specs.Value.{Parts}
 use Rattle.shared_core_wire.specs.Canonical.{canonical_payload, size}
 use Rattle.shared_core_wire.specs.Fitting.{Fits}
-use Rattle.shared_core_record.specs.Table.{table}
+use Rattle.shared_core_codec.specs.Table.{table}
 
 -- The header of a payload: its type, its length and its flag.
 abbrev pub header_of_payload : MessageType → Option Bool → List ℕ → MessageHeader

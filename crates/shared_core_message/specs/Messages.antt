@@ -3,7 +3,7 @@
 use Rattle.std.specs.Prelude.{◌≡◌, ◌⊎◌, ℕ, Option, Some, None}
 use Rattle.shared_core_base.specs.declared.header.MessageType.{MessageType}
 use Rattle.shared_core_base.specs.declared.header.MessageType.TheVariants.{Start, Suspension, Error, End, ProposeRunCompletion, AwaitingOn, ProposeRunCompletionAck, GetStateEphemeralCommand, GetStateEphemeralNotification, InputCommand, OutputCommand, GetLazyStateCommand, SetStateCommand, ClearStateCommand, ClearAllStateCommand, GetLazyStateKeysCommand, GetEagerStateCommand, GetEagerStateKeysCommand, GetPromiseCommand, PeekPromiseCommand, CompletePromiseCommand, SleepCommand, CallCommand, OneWayCallCommand, SendSignalCommand, RunCommand, AttachInvocationCommand, GetInvocationOutputCommand, CompleteAwakeableCommand, GetLazyStateCompletionNotification, GetLazyStateKeysCompletionNotification, GetPromiseCompletionNotification, PeekPromiseCompletionNotification, CompletePromiseCompletionNotification, SleepCompletionNotification, CallCompletionNotification, CallInvocationIdCompletionNotification, RunCompletionNotification, AttachInvocationCompletionNotification, GetInvocationOutputCompletionNotification, SignalNotification, CustomEntry}
-use Rattle.shared_core_record.specs.Table as schema
+use Rattle.shared_core_codec.specs.Table as schema
 
 -- The schema of a named type's payloads; a custom entry has none.
 abbrev pub message_schema : MessageType → Option ℕ

@@ -6,13 +6,13 @@ ghost use Rattle.std.specs.Result.{IsErrOf};
 ghost use Rattle.shared_core_base.specs.MessageHeader.{word_of};
 ghost use Rattle.shared_core_wire.specs.Canonical.{canonical_payload, size};
 ghost use Rattle.shared_core_wire.specs.Fitting.{Fits};
-ghost use Rattle.shared_core_record.specs.Table.{table};
-ghost use Rattle.shared_core_record.specs.declared.error.EncodingError.TheVariants.{PayloadTooLong, OutOfMemory};
+ghost use Rattle.shared_core_codec.specs.Table.{table};
+ghost use Rattle.shared_core_codec.specs.declared.error.EncodingError.TheVariants.{PayloadTooLong, OutOfMemory};
 ghost use Rattle.shared_core_message.specs.Frames.{frame};
 
 use crate::restate_message::RestateMessage;
 use shared_core_base::header::MessageHeader;
-use shared_core_record::error::EncodingError;
+use shared_core_codec::error::EncodingError;
 
 /// Appends the frame of a record, with or without the flag in its header. After an error the buffer is unchanged. Its
 /// capacity never shrinks.

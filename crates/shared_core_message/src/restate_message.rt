@@ -5,15 +5,15 @@ ghost use Rattle.std.specs.Result.{IsErrOf};
 ghost use Rattle.shared_core_base.specs.declared.header.MessageType.{MessageType as AnyType};
 ghost use Rattle.shared_core_base.specs.MessageType.{IsNamed};
 ghost use Rattle.shared_core_base.specs.declared.version.Version.{Version as AnyVersion};
-ghost use Rattle.shared_core_record.specs.declared.error.EncodingError.TheVariants.{PayloadTooLong, OutOfMemory};
+ghost use Rattle.shared_core_codec.specs.declared.error.EncodingError.TheVariants.{PayloadTooLong, OutOfMemory};
 ghost use Rattle.shared_core_message.specs.Frames.{WireForm, WireFits, wire_size, wire_frame};
 ghost use Rattle.shared_core_message.specs.Messages.{IsSchemaOf};
 
 use bytes::Bytes;
 use shared_core_base::header::MessageType;
 use shared_core_base::version::Version;
-use shared_core_record::error::EncodingError;
-use shared_core_record::record::WireRecord;
+use shared_core_codec::error::EncodingError;
+use shared_core_codec::record::WireRecord;
 use std::alloc::Global;
 
 /// A record that is the payload of messages of a type.

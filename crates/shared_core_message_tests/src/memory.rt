@@ -1,11 +1,11 @@
 //! Tests that decoding allocates only what the message holds.
 
 use bytes::Bytes;
-use held_memory::without_memory;
-use shared_core_record::record::WireRecord;
+use shared_core_codec::record::WireRecord;
 use shared_core_runtime::ProposeRunCompletionAckMessage;
 use std::alloc::Global;
 use std::test::Fail;
+use test_support::without_memory;
 
 /// The id 1, a thousand times, and then 2.
 fn records(alloc: Global) -> Result<Bytes, Fail> {

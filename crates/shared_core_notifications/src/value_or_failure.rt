@@ -4,17 +4,17 @@
 ghost use Rattle.std.specs.Prelude.{[], refl, ◌∷◌};
 ghost use Rattle.shared_core_wire.specs.Schema.{Message};
 ghost use Rattle.shared_core_wire.specs.Value.{Member};
-ghost use Rattle.shared_core_record.specs.Table as tables;
-ghost use Rattle.shared_core_record.specs.FieldParts.{message_part};
-ghost use Rattle.shared_core_record.specs.EqualityRules.{different_members, equality_rules};
+ghost use Rattle.shared_core_codec.specs.Table as tables;
+ghost use Rattle.shared_core_codec.specs.FieldParts.{message_part};
+ghost use Rattle.shared_core_codec.specs.EqualityRules.{different_members, equality_rules};
 
+use shared_core_codec::kind::FieldKind;
+use shared_core_codec::occurrence::Occurrence;
+use shared_core_codec::oneof::OneOf;
+use shared_core_codec::record::WireRecord;
+use shared_core_codec::size::Size;
 use shared_core_parts::failure::Failure;
 use shared_core_parts::value::Value;
-use shared_core_record::kind::FieldKind;
-use shared_core_record::occurrence::Occurrence;
-use shared_core_record::oneof::OneOf;
-use shared_core_record::record::WireRecord;
-use shared_core_record::size::Size;
 use shared_core_wire::error::WireError;
 
 /// A result that is a value or a failure.

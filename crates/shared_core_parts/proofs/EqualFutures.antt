@@ -10,9 +10,9 @@ use Rattle.shared_core_parts.specs.Futures.{future_parts, future_layer, futures_
 use Rattle.shared_core_parts.specs.declared.future.Future.{Future}
 use Rattle.shared_core_parts.specs.declared.future.Future.TheViews.{out-Future}
 use Rattle.shared_core_parts.specs.declared.future.Future.TheFolds.{fold_out-Future}
-use Rattle.shared_core_record.specs.Equality.{part_equal, parts_equal}
-use Rattle.shared_core_record.specs.EqualityRules.{equal_elements, equal_enums, equal_numbers, equal_texts, part_test_is}
-use Rattle.shared_core_record.specs.FieldParts.{elements_part, enum_part, text_part}
+use Rattle.shared_core_codec.specs.Equality.{part_equal, parts_equal}
+use Rattle.shared_core_codec.specs.EqualityRules.{equal_elements, equal_enums, equal_numbers, equal_texts, part_test_is}
+use Rattle.shared_core_codec.specs.FieldParts.{elements_part, enum_part, text_part}
 use Rattle.shared_core_wire.specs.Value.{Parts}
 
 numbers_equal : (xs ys : List ℕ) → pointwise eqb xs ys ≡ part_equal (elements_part value.Number xs) (elements_part value.Number ys)

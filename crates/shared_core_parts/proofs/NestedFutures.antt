@@ -2,7 +2,7 @@
 use Rattle.std.proofs.Common.{◌≡◌, List, [], ◌∷◌, Result, Ok, Err, refl, sym, ap, ◌∙◌}
 use Rattle.std.specs.Prelude.{OnOk}
 use Rattle.shared_core_wire.specs.Value.{Part, Parts, Elements, Nested, cons, ◌+++◌}
-use Rattle.shared_core_record.specs.FieldParts.{elements_part, parts_of}
+use Rattle.shared_core_codec.specs.FieldParts.{elements_part, parts_of}
 use Rattle.shared_core_parts.specs.Futures.{future_parts, future_elements, futures_part}
 use Rattle.shared_core_parts.specs.declared.future.Future.{Future}
 

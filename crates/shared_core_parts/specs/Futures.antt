@@ -2,7 +2,7 @@
 use Rattle.std.specs.Prelude.{List, map}
 use Rattle.shared_core_wire.specs.Value.{Part, Parts, Nested, Elements, nil, cons}
 use Rattle.shared_core_wire.specs.Value as value
-use Rattle.shared_core_record.specs.FieldParts.{text_part, enum_part, parts_of, elements_part}
+use Rattle.shared_core_codec.specs.FieldParts.{text_part, enum_part, parts_of, elements_part}
 use Rattle.shared_core_parts.specs.declared.future.Future.{Future}
 use Rattle.shared_core_parts.specs.declared.future.Future.TheOpen.{Future-F}
 use Rattle.shared_core_parts.specs.declared.future.Future.TheFolds.{fold-Future}

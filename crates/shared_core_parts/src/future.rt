@@ -5,24 +5,24 @@ ghost use Rattle.std.specs.Result.{IsErrOf};
 ghost use Rattle.shared_core_wire.specs.ReadRecords.{read_records};
 ghost use Rattle.shared_core_wire.specs.Schema.{Message, Repeated};
 ghost use Rattle.shared_core_wire.specs.Value.{empty_value};
-ghost use Rattle.shared_core_record.specs.Table.{table};
-ghost use Rattle.shared_core_record.specs.Table as tables;
-ghost use Rattle.shared_core_record.specs.FieldParts.{message_part};
-ghost use Rattle.shared_core_record.specs.Computed.{IsComputed};
-ghost use Rattle.shared_core_record.specs.Folding.{fold_read};
-ghost use Rattle.shared_core_record.specs.Occurrences.{schema_accepts, RecordMerges, repeated_accepts, FieldExtends, merged_with};
-ghost use Rattle.shared_core_record.specs.RowSpelling.{capped, value_bytes, measured_row, measured_rows, before_row, before_rows, row_size, rows_size};
-ghost use Rattle.shared_core_record.specs.RowFitting.{ValueFits, FieldFits, FieldsFit};
-ghost use Rattle.shared_core_record.specs.Equality.{part_equal, parts_equal};
+ghost use Rattle.shared_core_codec.specs.Table.{table};
+ghost use Rattle.shared_core_codec.specs.Table as tables;
+ghost use Rattle.shared_core_codec.specs.FieldParts.{message_part};
+ghost use Rattle.shared_core_codec.specs.Computed.{IsComputed};
+ghost use Rattle.shared_core_codec.specs.Folding.{fold_read};
+ghost use Rattle.shared_core_codec.specs.Occurrences.{schema_accepts, RecordMerges, repeated_accepts, FieldExtends, merged_with};
+ghost use Rattle.shared_core_codec.specs.RowSpelling.{capped, value_bytes, measured_row, measured_rows, before_row, before_rows, row_size, rows_size};
+ghost use Rattle.shared_core_codec.specs.RowFitting.{ValueFits, FieldFits, FieldsFit};
+ghost use Rattle.shared_core_codec.specs.Equality.{part_equal, parts_equal};
 ghost use Rattle.shared_core_wire.specs.declared.error.WireError.TheVariants as error;
 ghost use Rattle.shared_core_parts.specs.Futures.{future_parts, future_elements, futures_part};
 
-use shared_core_record::message_bytes::MessageBytes;
-use shared_core_record::occurrence::Occurrence;
-use shared_core_record::record::WireRecord;
-use shared_core_record::size::Size;
-use shared_core_record::write::write_length;
-use shared_core_record::{packed, plain, repeated};
+use shared_core_codec::message_bytes::MessageBytes;
+use shared_core_codec::occurrence::Occurrence;
+use shared_core_codec::record::WireRecord;
+use shared_core_codec::size::Size;
+use shared_core_codec::write::write_length;
+use shared_core_codec::{packed, plain, repeated};
 use shared_core_wire::error::WireError;
 use shared_core_wire::records::Records;
 use std::alloc::Global;
@@ -63,15 +63,15 @@ impl WireRecord for Future {
         encode_future(self, out, end)
     }
 
-    ghost use Rattle.shared_core_record.specs.EqualityRules.{parts_equal_decides};
+    ghost use Rattle.shared_core_codec.specs.EqualityRules.{parts_equal_decides};
 
     ghost equality = { λ a b. parts_equal_decides (future_parts a) (future_parts b) };
 }
 
 impl PartialEq for Future {
     ghost use Rattle.std.specs.Ordering.{on};
-    ghost use Rattle.shared_core_record.specs.Equality.{parts_equal};
-    ghost use Rattle.shared_core_record.specs.EqualityRules.{parts_equal_laws};
+    ghost use Rattle.shared_core_codec.specs.Equality.{parts_equal};
+    ghost use Rattle.shared_core_codec.specs.EqualityRules.{parts_equal_laws};
     ghost use Rattle.shared_core_parts.specs.Futures.{future_parts};
 
     ghost eq = { on future_parts parts_equal };
@@ -166,7 +166,7 @@ fn measure_futures(futures: &Vec<Future>, size: &mut Size)
 }
 
 #[cycle(measure_future)]
-#[tactic(auto, using(shared_core_record::proofs::Measuring::measured_message_is, shared_core_record::proofs::FittingRows::fit_message))]
+#[tactic(auto, using(shared_core_codec::proofs::Measuring::measured_message_is, shared_core_codec::proofs::FittingRows::fit_message))]
 fn measure_nested(future: &Future, size: &mut Size)
     ensures sum { size.new ≡ capped (size.old + length (value_bytes 4 (Message tables.future) (message_part future_parts future.now))) }
     ensures fit { ValueFits (Message tables.future) (message_part future_parts future.now) }
@@ -205,7 +205,7 @@ fn encode_futures(futures: &Vec<Future>, out: &mut [u8], end: usize) -> usize
 }
 
 #[cycle(encode_future)]
-#[tactic(auto, using(shared_core_record::proofs::Backwards::message_before, shared_core_record::proofs::Backwards::message_size))]
+#[tactic(auto, using(shared_core_codec::proofs::Backwards::message_before, shared_core_codec::proofs::Backwards::message_size))]
 fn encode_nested(future: &Future, out: &mut [u8], end: usize) -> usize
     requires within { end ≤ length out.old }
     requires room { length (value_bytes 4 (Message tables.future) (message_part future_parts future.now)) ≤ end }

@@ -12,8 +12,8 @@ use crate::notification::NotificationId;
 use shared_core_base::error::OutOfMemory;
 use shared_core_base::values;
 use shared_core_base::values::TerminalFailure;
-use shared_core_record::oneof::OneOf;
-use shared_core_record::record::WireRecord;
+use shared_core_codec::oneof::OneOf;
+use shared_core_codec::record::WireRecord;
 use std::alloc::Global;
 use std::hash::{Hash, Hasher};
 

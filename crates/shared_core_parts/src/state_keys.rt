@@ -2,15 +2,15 @@
 //! The record `StateKeys`.
 
 ghost use Rattle.shared_core_wire.specs.Value.{Bytes as Content, cons, nil};
-ghost use Rattle.shared_core_record.specs.Table as tables;
-ghost use Rattle.shared_core_record.specs.FieldParts.{elements_part};
-ghost use Rattle.shared_core_record.specs.EqualityRules.{equality_rules};
+ghost use Rattle.shared_core_codec.specs.Table as tables;
+ghost use Rattle.shared_core_codec.specs.FieldParts.{elements_part};
+ghost use Rattle.shared_core_codec.specs.EqualityRules.{equality_rules};
 
 use bytes::Bytes;
-use shared_core_record::occurrence::Occurrence;
-use shared_core_record::record::WireRecord;
-use shared_core_record::repeated;
-use shared_core_record::size::Size;
+use shared_core_codec::occurrence::Occurrence;
+use shared_core_codec::record::WireRecord;
+use shared_core_codec::repeated;
+use shared_core_codec::size::Size;
 use shared_core_wire::error::WireError;
 use std::alloc::Global;
 

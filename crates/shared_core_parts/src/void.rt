@@ -2,12 +2,12 @@
 //! The record `Void`.
 
 ghost use Rattle.shared_core_wire.specs.Value.{nil};
-ghost use Rattle.shared_core_record.specs.Table as tables;
-ghost use Rattle.shared_core_record.specs.EqualityRules.{equality_rules};
+ghost use Rattle.shared_core_codec.specs.Table as tables;
+ghost use Rattle.shared_core_codec.specs.EqualityRules.{equality_rules};
 
-use shared_core_record::occurrence::Occurrence;
-use shared_core_record::record::WireRecord;
-use shared_core_record::size::Size;
+use shared_core_codec::occurrence::Occurrence;
+use shared_core_codec::record::WireRecord;
+use shared_core_codec::size::Size;
 use shared_core_wire::error::WireError;
 use std::alloc::Global;
 

@@ -4,8 +4,8 @@ use Rattle.shared_core_wire.specs.Schema.{Kind, Row, U32, Text, Message, Plain, 
 use Rattle.shared_core_wire.specs.Value.{Part, Parts, Absent, Number, Bytes, Nested, Elements, Member, nil, cons, ◌+++◌}
 use Rattle.shared_core_wire.specs.Canonical.{kind_of, levels, part_levels}
 use Rattle.shared_core_wire.specs.Fitting.{ElementsFit, Fits, PartFits, is_single}
-use Rattle.shared_core_record.specs.Table.{table}
-use Rattle.shared_core_record.specs.Table as tables
+use Rattle.shared_core_codec.specs.Table.{table}
+use Rattle.shared_core_codec.specs.Table as tables
 use Rattle.shared_core_runtime.specs.Flattening.{elements_in, flattened, joined_lists, messages_in, messages_of_part, part_at}
 
 -- ---- the messages in a suspension are futures

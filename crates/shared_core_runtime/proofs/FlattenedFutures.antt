@@ -5,7 +5,7 @@ use Rattle.std.specs.Prelude.{OnOk, String, string_bytes}
 use Rattle.std.specs.List.{AllZip, AppendsClones}
 use Rattle.shared_core_wire.proofs.Runs.{parts_append_assoc, parts_append_nil}
 use Rattle.shared_core_wire.specs.Value.{Part, Parts, Number, Elements, cons, nil, ◌+++◌}
-use Rattle.shared_core_record.specs.FieldParts.{enum_number, enum_part, elements_part, message_part, option_part, parts_of, text_part}
+use Rattle.shared_core_codec.specs.FieldParts.{enum_number, enum_part, elements_part, message_part, option_part, parts_of, text_part}
 use Rattle.shared_core_parts.specs.Futures.{future_elements, future_layer, future_parts, futures_part}
 use Rattle.shared_core_parts.specs.declared.future.Future.{Future}
 use Rattle.shared_core_parts.specs.declared.future.Future.TheViews.{out-Future}

@@ -1,7 +1,7 @@
 -- A tree of futures as the three lists of what it awaits.
 use Rattle.std.specs.Prelude.{◌≡◌, ℕ, zero, suc, List, [], ◌∷◌, ◌++◌}
 use Rattle.shared_core_wire.specs.Value.{Part, Parts, Absent, Number, Bytes, Nested, Elements, Member, nil, cons, ◌+++◌}
-use Rattle.shared_core_record.specs.FieldParts.{parts_of, text_part}
+use Rattle.shared_core_codec.specs.FieldParts.{parts_of, text_part}
 use Rattle.shared_core_runtime.specs.declared.suspension_message_v6.SuspensionMessageV6.{SuspensionMessageV6}
 
 unfoldable mutual

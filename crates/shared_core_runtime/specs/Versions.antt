@@ -3,7 +3,7 @@ use Rattle.std.specs.Prelude.{Bool, true, nat_lt, Some, None, if◌then◌else�
 use Rattle.shared_core_base.specs.declared.version.Version.{Version}
 use Rattle.shared_core_base.specs.Version.{version_number}
 use Rattle.shared_core_wire.specs.Value.{Parts}
-use Rattle.shared_core_record.specs.Table as tables
+use Rattle.shared_core_codec.specs.Table as tables
 use Rattle.shared_core_message.specs.Frames.{WireForm, plain_form}
 use Rattle.shared_core_runtime.specs.Flattening.{flattened}
 

@@ -6,19 +6,19 @@ ghost use Rattle.shared_core_wire.specs.Value.{Bytes as Content, Number, cons, n
 ghost use Rattle.shared_core_base.specs.declared.header.MessageType.TheVariants as types;
 ghost use Rattle.shared_core_message.specs.Frames.{plain_form};
 ghost use Rattle.std.proofs.Common.{inl};
-ghost use Rattle.shared_core_record.specs.Table as tables;
-ghost use Rattle.shared_core_record.specs.EqualityRules.{equality_rules};
+ghost use Rattle.shared_core_codec.specs.Table as tables;
+ghost use Rattle.shared_core_codec.specs.EqualityRules.{equality_rules};
 
 use bytes::Bytes;
 use shared_core_base::header::MessageType;
 use shared_core_base::version::Version;
+use shared_core_codec::error::EncodingError;
+use shared_core_codec::occurrence::Occurrence;
+use shared_core_codec::plain;
+use shared_core_codec::record::WireRecord;
+use shared_core_codec::size::Size;
 use shared_core_message::frame::encode_frame_into;
 use shared_core_message::restate_message::{RestateEncodableMessage, RestateMessage};
-use shared_core_record::error::EncodingError;
-use shared_core_record::occurrence::Occurrence;
-use shared_core_record::plain;
-use shared_core_record::record::WireRecord;
-use shared_core_record::size::Size;
 use shared_core_wire::error::WireError;
 use std::alloc::Global;
 

@@ -5,16 +5,16 @@ ghost use Rattle.std.specs.Prelude.{refl};
 ghost use Rattle.shared_core_wire.specs.Value.{Number, cons, nil};
 ghost use Rattle.shared_core_base.specs.declared.header.MessageType.TheVariants as types;
 ghost use Rattle.std.proofs.Common.{inr};
-ghost use Rattle.shared_core_record.specs.Table as tables;
-ghost use Rattle.shared_core_record.specs.FieldParts.{elements_part, text_part};
-ghost use Rattle.shared_core_record.specs.EqualityRules.{equality_rules};
+ghost use Rattle.shared_core_codec.specs.Table as tables;
+ghost use Rattle.shared_core_codec.specs.FieldParts.{elements_part, text_part};
+ghost use Rattle.shared_core_codec.specs.EqualityRules.{equality_rules};
 
 use shared_core_base::header::MessageType;
+use shared_core_codec::occurrence::Occurrence;
+use shared_core_codec::record::WireRecord;
+use shared_core_codec::size::Size;
+use shared_core_codec::{packed, repeated};
 use shared_core_message::restate_message::RestateMessage;
-use shared_core_record::occurrence::Occurrence;
-use shared_core_record::record::WireRecord;
-use shared_core_record::size::Size;
-use shared_core_record::{packed, repeated};
 use shared_core_wire::error::WireError;
 use std::alloc::Global;
 

@@ -9,11 +9,11 @@ use crate::propose_run_completion_message::ProposeRunCompletionMessage;
 use crate::suspension_message::SuspensionMessage;
 use crate::suspension_message_v6::SuspensionMessageV6;
 use shared_core_base::version::Version;
+use shared_core_codec::error::EncodingError;
+use shared_core_codec::record::WireRecord;
 use shared_core_message::frame::encode_frame_into;
 use shared_core_message::restate_message::RestateEncodableMessage;
 use shared_core_parts::future::Future;
-use shared_core_record::error::EncodingError;
-use shared_core_record::record::WireRecord;
 use std::alloc::{AllocError, Global};
 
 /// Unchanged at every version. From V7 on the header requests an acknowledgement; before V7 it does not.

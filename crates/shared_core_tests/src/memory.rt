@@ -3,10 +3,10 @@
 use crate::frames::{INPUT, INPUT_PAYLOAD};
 use crate::steps::{expect, next, push_copy};
 use bytes::Bytes;
-use held_memory::without_memory;
 use shared_core::Version;
 use shared_core::encoding::{Decoder, DecodingError};
 use std::test::Fail;
+use test_support::without_memory;
 
 /// Whether the decoder runs out of memory for its next message and keeps what was pushed, while an empty chunk needs
 /// none.

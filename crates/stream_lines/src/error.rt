@@ -1,9 +1,9 @@
 //! The error of `print_lines`: why printing ended before the last line.
 
+use crate::output::OutputFailed;
 use std::alloc::AllocError;
 use std::error::Error;
 use std::fmt;
-use text_output::OutputFailed;
 
 /// The error of `print_lines`: why printing ended before the last line.
 #[derive(Clone, Copy, Debug, PartialEq, Eq, Drop)]

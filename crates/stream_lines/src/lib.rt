@@ -3,6 +3,7 @@
 
 pub mod error;
 pub mod line_printer;
+pub mod output;
 pub mod print;
 
 pub use crate::error::PrintError;

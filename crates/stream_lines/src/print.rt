@@ -9,12 +9,12 @@ ghost use Rattle.stream_lines.specs.Printing.{lines, most_pending, ArePrinted, I
 
 use crate::error::PrintError;
 use crate::line_printer::LinePrinter;
+use crate::output::write_whole;
 use bytes::Bytes;
 use shared_core::encoding::{Decoder, PushError};
 use shared_core::version::Version;
 use std::alloc::{AllocError, Global};
 use std::io::{Read, Write};
-use text_output::write_whole;
 
 /// Writes a line for each item of a stream of a version, of at least V5, and at its end a line for the bytes that are in no item.
 ///

@@ -3,13 +3,13 @@ ghost use Rattle.std.specs.Prelude.{◌≡◌, ◌+◌, ◌<◌, ◌≤◌, ◌^
 ghost use Rattle.std.specs.Prelude.{vec_capacity};
 ghost use Rattle.std.specs.Result.{IsErrOf};
 ghost use Rattle.shared_core_base.specs.Version.{version_number};
-ghost use Rattle.shared_core_record.specs.declared.error.EncodingError.TheVariants.{PayloadTooLong, OutOfMemory};
+ghost use Rattle.shared_core_codec.specs.declared.error.EncodingError.TheVariants.{PayloadTooLong, OutOfMemory};
 ghost use Rattle.shared_core_message.specs.Frames.{wire_size, wire_frame};
 
 use bytes::Bytes;
 use shared_core_base::version::Version;
+use shared_core_codec::error::EncodingError;
 use shared_core_message::restate_message::RestateEncodableMessage;
-use shared_core_record::error::EncodingError;
 use std::alloc::Global;
 
 /// Writes messages as frames of a version. A contract sees it as the record of its version.

@@ -1,20 +1,20 @@
 //! A message as it is in the stream, and as a record of its type.
 ghost use Rattle.std.specs.Prelude.{◌≡◌, ◌≢◌, ◌≤◌, ◌<◌, ℕ, IfOk, IfErr, MatchResult, Err, Some};
 ghost use Rattle.std.specs.Result.{IsErrOf};
-ghost use Rattle.shared_core_record.specs.Payloads.{IsAccepted};
+ghost use Rattle.shared_core_codec.specs.Payloads.{IsAccepted};
 ghost use Rattle.shared_core_wire.specs.Value.{Parts};
 ghost use Rattle.shared_core_base.specs.MessageType.{code_of};
-ghost use Rattle.shared_core_record.specs.Table.{notification_template};
+ghost use Rattle.shared_core_codec.specs.Table.{notification_template};
 ghost use Rattle.shared_core_message.specs.Messages.{message_schema};
 
 use crate::encoding::DecodingError;
 use crate::errors::CommandTypeMismatchError;
 use bytes::Bytes;
 use shared_core_base::header::{MessageHeader, MessageType};
+use shared_core_codec::record::{WireRecord, decode_payload};
 use shared_core_message::restate_message::RestateMessage;
 use shared_core_parts::notification::Notification;
 use shared_core_parts::notification_template::NotificationTemplate;
-use shared_core_record::record::{WireRecord, decode_payload};
 use shared_core_wire::error::WireError;
 use std::alloc::Global;
 

@@ -2,7 +2,7 @@
 //! The schemas of messages.
 
 ghost use Rattle.std.specs.Prelude.{◌≡◌, ◌<◌, IfSome};
-ghost use Rattle.shared_core_record.specs.Table.{schema_count};
+ghost use Rattle.shared_core_codec.specs.Table.{schema_count};
 ghost use Rattle.shared_core.specs.Visiting.{schema_at};
 
 use shared_core_base::header::MessageType;

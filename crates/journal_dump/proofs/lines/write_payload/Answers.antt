@@ -5,10 +5,10 @@ use Rattle.base64.specs.Engines.{standard}
 use Rattle.json.specs.Token.{key, string, boolean, end_object}
 use Rattle.json.specs.Json.{Members}
 use Rattle.json.specs.Tree.{json_tokens, members_tokens}
-use Rattle.shared_core_record.specs.Payloads.{payload_meaning}
-use Rattle.journal_json.specs.Form.{value_json}
-use Rattle.journal_json.specs.Payloads.{IsSpelling, WritesJson}
-use Rattle.journal_json.specs.declared.error.JsonError.TheVariants.{Malformed}
+use Rattle.shared_core_codec.specs.Payloads.{payload_meaning}
+use Rattle.shared_core_json.specs.Form.{value_json}
+use Rattle.shared_core_json.specs.Payloads.{IsSpelling, WritesJson}
+use Rattle.shared_core_json.specs.declared.error.JsonError.TheVariants.{Malformed}
 use Rattle.journal_dump.specs.Canonical.{AnswersSpelling}
 use Rattle.shared_core.specs.Visiting.{schema_at}
 use Rattle.journal_dump.proofs.Tokens.{then_tokens, shown_message, shown_malformed}

@@ -1,5 +1,5 @@
-use Rattle.shared_core_record.specs.FieldParts.{message_part}
-use Rattle.shared_core_record.specs.EqualityRules.{equal_elements, equal_messages}
+use Rattle.shared_core_codec.specs.FieldParts.{message_part}
+use Rattle.shared_core_codec.specs.EqualityRules.{equal_elements, equal_messages}
 use Rattle.shared_core_compare.proofs.equality.same_messages.Goals as goal
 
 pub returns : goal.returns

@@ -1,10 +1,10 @@
 use Rattle.std.proofs.Common.{◌≤◌, drop, sym, refl, subst, arith, rules}
 use Rattle.shared_core_parts.specs.declared.future.Future.TheFolds.{the_lemmas}
 use Rattle.shared_core_parts.proofs.NestedFutures.{future_part, all_parts}
-use Rattle.shared_core_record.proofs.Backwards.{IsBehind, behind_all, behind_next, behind_room, behind_start, message_before}
+use Rattle.shared_core_codec.proofs.Backwards.{IsBehind, behind_all, behind_next, behind_room, behind_start, message_before}
 use Rattle.shared_core_parts.specs.Futures.{future_parts}
-use Rattle.shared_core_record.specs.RowSpelling.{row_bytes, row_size}
-use Rattle.shared_core_record.specs.Table.{future}
+use Rattle.shared_core_codec.specs.RowSpelling.{row_bytes, row_size}
+use Rattle.shared_core_codec.specs.Table.{future}
 use Rattle.shared_core_wire.specs.Schema.{Message, Repeated}
 use Rattle.shared_core_wire.specs.Value.{Part}
 use Rattle.shared_core_parts.proofs.future.+encode_future.Goals as goal

@@ -1,8 +1,8 @@
 use Rattle.std.proofs.Common.{drop}
 use Rattle.shared_core_parts.proofs.NestedFutures.{future_part}
-use Rattle.shared_core_record.proofs.Backwards.{IsBehind}
-use Rattle.shared_core_record.proofs.Measuring.{from_index}
-use Rattle.shared_core_record.specs.Table.{future}
+use Rattle.shared_core_codec.proofs.Backwards.{IsBehind}
+use Rattle.shared_core_codec.proofs.Measuring.{from_index}
+use Rattle.shared_core_codec.specs.Table.{future}
 use Rattle.shared_core_wire.specs.Schema.{Message}
 use Rattle.shared_core_parts.proofs.future.+encode_future.Given as goal
 

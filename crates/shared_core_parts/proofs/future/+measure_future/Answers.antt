@@ -1,11 +1,11 @@
 use Rattle.std.proofs.Common.{◌∙◌, ap, refl, subst, arith}
 use Rattle.shared_core_parts.proofs.NestedFutures.{future_part, all_parts}
-use Rattle.shared_core_record.proofs.ElementLoops.{measure_step}
-use Rattle.shared_core_record.proofs.FittingRows.{fit_end}
-use Rattle.shared_core_record.proofs.Measuring.{count_from}
-use Rattle.shared_core_record.specs.RowFitting.{FieldFits}
-use Rattle.shared_core_record.specs.RowSpelling.{measured_row}
-use Rattle.shared_core_record.specs.Table.{future}
+use Rattle.shared_core_codec.proofs.ElementLoops.{measure_step}
+use Rattle.shared_core_codec.proofs.FittingRows.{fit_end}
+use Rattle.shared_core_codec.proofs.Measuring.{count_from}
+use Rattle.shared_core_codec.specs.RowFitting.{FieldFits}
+use Rattle.shared_core_codec.specs.RowSpelling.{measured_row}
+use Rattle.shared_core_codec.specs.Table.{future}
 use Rattle.shared_core_wire.specs.Schema.{Message, Repeated}
 use Rattle.shared_core_wire.specs.Value.{Part}
 use Rattle.shared_core_parts.proofs.future.+measure_future.Goals as goal

@@ -1,6 +1,6 @@
 use Rattle.shared_core_parts.proofs.NestedFutures.{future_part}
-use Rattle.shared_core_record.proofs.ElementLoops.{IsMeasured}
-use Rattle.shared_core_record.specs.Table.{future}
+use Rattle.shared_core_codec.proofs.ElementLoops.{IsMeasured}
+use Rattle.shared_core_codec.specs.Table.{future}
 use Rattle.shared_core_wire.specs.Schema.{Message}
 use Rattle.shared_core_parts.proofs.future.+measure_future.Given as goal
 

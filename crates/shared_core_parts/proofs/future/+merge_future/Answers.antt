@@ -5,10 +5,10 @@ use Rattle.shared_core_wire.specs.Overlay.{all_elements, message_overlay}
 use Rattle.shared_core_wire.specs.Schema.{Message}
 use Rattle.shared_core_wire.specs.Value.{Nested}
 use Rattle.std.specs.Prelude.{[], ◌∷◌}
-use Rattle.shared_core_record.specs.Table.{table, future}
-use Rattle.shared_core_record.specs.Occurrences.{value_in}
-use Rattle.shared_core_record.proofs.FieldElements.{element_appended, element_refused}
-use Rattle.shared_core_record.proofs.MergingRecords.{computed_accepted, computed_merged, computed_refused, message_becomes, message_refused, no_message}
+use Rattle.shared_core_codec.specs.Table.{table, future}
+use Rattle.shared_core_codec.specs.Occurrences.{value_in}
+use Rattle.shared_core_codec.proofs.FieldElements.{element_appended, element_refused}
+use Rattle.shared_core_codec.proofs.MergingRecords.{computed_accepted, computed_merged, computed_refused, message_becomes, message_refused, no_message}
 use Rattle.shared_core_parts.specs.Futures.{future_parts}
 use Rattle.shared_core_parts.proofs.NestedFutures.{future_part, grown}
 use Rattle.shared_core_parts.proofs.future.+merge_future.Goals as goal

@@ -2,9 +2,9 @@ use Rattle.std.proofs.Common.{◌≡◌, ◌+◌, ◌*◌}
 use Rattle.shared_core_wire.specs.ReadRecords.{read_records}
 use Rattle.shared_core_wire.specs.RecordsLeft.{records_left}
 use Rattle.shared_core_wire.specs.Places.{EachLies}
-use Rattle.shared_core_record.specs.Table.{future}
-use Rattle.shared_core_record.specs.Folding.{fold_read}
-use Rattle.shared_core_record.specs.Occurrences.{merged_with}
+use Rattle.shared_core_codec.specs.Table.{future}
+use Rattle.shared_core_codec.specs.Folding.{fold_read}
+use Rattle.shared_core_codec.specs.Occurrences.{merged_with}
 use Rattle.shared_core_parts.specs.Futures.{future_parts}
 use Rattle.shared_core_parts.proofs.future.+merge_future.Given as goal
 

@@ -1,0 +1,48 @@
+-- The result of the calls on commands.
+use Rattle.std.specs.Prelude.{◌≡◌, ◌⊎◌, ℕ, Bool, List, Option, Some, None, Result, Ok, Err, codes}
+use Rattle.shared_core_base.specs.declared.header.MessageType.{MessageType}
+use Rattle.shared_core_base.specs.MessageType.{type_of}
+use Rattle.shared_core_wire.specs.Value.{Parts}
+use Rattle.shared_core_codec.specs.Payloads.{IsAccepted, payload_meaning}
+use Rattle.shared_core_compare.specs.Differences.{difference}
+use Rattle.shared_core_compare.specs.Erasure.{AreSame}
+use Rattle.shared_core.specs.Visiting.{command_schema}
+use Rattle.journal_c_api.specs.declared.answer.Refusal.{Refusal}
+use Rattle.journal_c_api.specs.declared.answer.Refusal.TheVariants.{Malformed, OutOfMemory, Unknown}
+
+-- Where both payloads are well-formed for the schema, this holds of the result and of the two commands that they mean;
+-- else it is Malformed. An allocation may fail.
+abbrev pub ComparesPayloads : {T : Type 0} → (T → Parts → Parts → Type 0) → ℕ → List ℕ → List ℕ → Result T Refusal → Type 0
+ComparesPayloads holds s first second (Ok answer) =
+    IsAccepted s first × IsAccepted s second × holds answer (payload_meaning s first) (payload_meaning s second)
+ComparesPayloads holds s first second (Err Malformed) = ¬ (IsAccepted s first × IsAccepted s second)
+ComparesPayloads holds s first second (Err OutOfMemory) = Unit {0}
+ComparesPayloads holds s first second (Err refusal) = ⊥
+
+-- The number is 1 and two commands of a schema are the same but for what is not compared, or it is 0 and they are not.
+abbrev pub IsOneWhereSame : ℕ → Bool → ℕ → Parts → Parts → Type 0
+IsOneWhereSame s ignore number a b = ((number ≡ 1) × AreSame s ignore a b) ⊎ ((number ≡ 0) × ¬ (AreSame s ignore a b))
+
+-- The text is the difference of two commands of a schema, each line after three spaces.
+abbrev pub IsDifference : ℕ → List ℕ → Parts → Parts → Type 0
+IsDifference s text a b = text ≡ difference s (codes "   ") a b
+
+-- What holds at the schema of a command's type; where there is no type, or it is no command's, the result is Unknown.
+abbrev pub AtSchema : {T : Type 0} → Option ℕ → Result T Refusal → (ℕ → Type 0) → Type 0
+AtSchema (Some s) answer holds = holds s
+AtSchema None answer holds = answer ≡ Err Unknown
+
+-- The schema of a type's payloads, if there is a type and its messages are commands.
+abbrev pub schema_of_type : Option MessageType → Option ℕ
+schema_of_type (Some ty) = command_schema ty
+schema_of_type None = None
+
+-- The result of journal_header_eq.
+abbrev pub AnswersSameness : ℕ → Bool → List ℕ → List ℕ → Result ℕ Refusal → Type 0
+AnswersSameness code ignore first second answer =
+    AtSchema (schema_of_type (type_of code)) answer (λ s. ComparesPayloads (IsOneWhereSame s ignore) s first second answer)
+
+-- The result of journal_difference.
+abbrev pub AnswersDifference : ℕ → List ℕ → List ℕ → Result (List ℕ) Refusal → Type 0
+AnswersDifference code first second answer =
+    AtSchema (schema_of_type (type_of code)) answer (λ s. ComparesPayloads (IsDifference s) s first second answer)

@@ -1,0 +1,31 @@
+-- The result of the call on headers.
+use Rattle.std.specs.Prelude.{◌≡◌, ℕ, Bool, true, List, Option, Some, None, Result, Ok, Err, if◌then◌else◌}
+use Rattle.std.specs.Int.{w64, to_be_bytes}
+use Rattle.shared_core_base.specs.declared.version.Version.{Version}
+use Rattle.shared_core_base.specs.declared.header.MessageType.{MessageType}
+use Rattle.shared_core_base.specs.declared.header.MessageType.TheVariants.{ProposeRunCompletion}
+use Rattle.shared_core_base.specs.declared.message_header.MessageHeader.{MessageHeader}
+use Rattle.shared_core_base.specs.MessageHeader.{word_of}
+use Rattle.shared_core_base.specs.MessageType.{type_of}
+use Rattle.shared_core_runtime.specs.Versions.{is_before_v7}
+use Rattle.journal_c_api.specs.declared.answer.Refusal.{Refusal}
+use Rattle.journal_c_api.specs.declared.answer.Refusal.TheVariants.{Unknown}
+use Rattle.journal_c_api.specs.Answers.{spoken_version}
+
+-- The flag of a type's headers at a version: the proposal of a run's result asks for an acknowledgement from V7 on, and no other header has a flag.
+abbrev pub flag_at : Version → MessageType → Option Bool
+flag_at version ProposeRunCompletion = if is_before_v7 version then None else Some true
+flag_at version ty = None
+
+-- The header that a type's messages have at a version, by the length of the payload.
+abbrev pub header_at : Version → MessageType → ℕ → MessageHeader
+header_at version ty payload_length = record { ty = ty; length = payload_length; requested_ack = flag_at version ty }
+
+-- Its eight bytes, the first byte highest; Unknown where there is no version or no type.
+abbrev pub header_answer : Option Version → Option MessageType → ℕ → Result (List ℕ) Refusal
+header_answer (Some version) (Some ty) payload_length = Ok (to_be_bytes w64 (word_of (header_at version ty payload_length)))
+header_answer version ty payload_length = Err Unknown
+
+-- The result of journal_header.
+abbrev pub AnswersHeader : ℕ → ℕ → ℕ → Result (List ℕ) Refusal → Type 0
+AnswersHeader number code payload_length answer = answer ≡ header_answer (spoken_version number) (type_of code) payload_length

@@ -1,0 +1,78 @@
+-- The result of the call on the items of a stream.
+use Rattle.std.specs.Prelude.{◌≡◌, ℕ, ◌+◌, ◌-◌, ◌<◌, ◌≤◌, nat_lt, List, [], ◌∷◌, ◌++◌, length, Some, None, Result, Ok, Err, if◌then◌else◌}
+use Rattle.std.specs.Int.{from_bool}
+use Rattle.shared_core_base.specs.declared.version.Version.{Version}
+use Rattle.shared_core_base.specs.MessageHeader.{ack_bit}
+use Rattle.shared_core_base.specs.MessageType.{code_of}
+use Rattle.shared_core.specs.declared.encoding.item.Item.{Item}
+use Rattle.shared_core.specs.declared.encoding.item.Item.TheVariants.{Message, Unknown as UnknownCode, Skipped}
+use Rattle.shared_core.specs.Items.{front_word, body_length, item_of, IsItem, NoItemBegins}
+use Rattle.journal_c_api.specs.declared.answer.Refusal.{Refusal}
+use Rattle.journal_c_api.specs.declared.answer.Refusal.TheVariants.{NoRoom, Unknown}
+use Rattle.journal_c_api.specs.declared.items.Announced.{Announced}
+use Rattle.journal_c_api.specs.Answers.{spoken_version, written_over}
+
+-- Which of the three kinds an item is.
+abbrev pub item_kind : Item → ℕ
+item_kind (Message message) = 0
+item_kind (UnknownCode code) = 1
+item_kind (Skipped code payload) = 2
+
+-- The code of an item's type, or the one that denotes none.
+abbrev pub item_code : Item → ℕ
+item_code (Message message) = code_of message.header.ty
+item_code (UnknownCode code) = code
+item_code (Skipped code payload) = code
+
+-- Whether an item asks for an acknowledgement, as a number: a header's flag alone does.
+abbrev pub item_ack : Item → ℕ
+item_ack (Message message) = ack_bit message.header.requested_ack
+item_ack other = 0
+
+-- The payload of an item; an unknown code is skipped alone.
+abbrev pub item_payload : Item → List ℕ
+item_payload (Message message) = message.payload
+item_payload (UnknownCode code) = []
+item_payload (Skipped code payload) = payload
+
+-- The six numbers of an item of this word that takes this many bytes, the last of which are its payload.
+abbrev pub item_numbers : ℕ → ℕ → Item → List ℕ
+item_numbers word size item =
+    item_kind item ∷ word ∷ item_code item ∷ item_ack item ∷ size ∷ (size - length (item_payload item)) ∷ []
+
+-- What a word says of the item that it begins, whatever bytes are after it: what it is, and how many of them belong to
+-- it.
+pub record Announces (version : Version) (word : ℕ) (announced : Announced) : Type 0 where
+  pub kind_is : (body : List ℕ) → item_kind (item_of version word body) ≡ announced.kind
+  pub code_is : (body : List ℕ) → item_code (item_of version word body) ≡ announced.code
+  pub ack_is : (body : List ℕ) → item_ack (item_of version word body) ≡ from_bool announced.asks_ack
+  pub length_is : announced.length ≡ body_length version word
+
+-- How many bytes are missing at least: of a header that is not whole, or else of what the header says; none where an item is whole.
+abbrev pub missing_bytes : Version → List ℕ → ℕ
+missing_bytes version bytes =
+    if nat_lt (length bytes) 8 then 8 - length bytes else (8 + body_length version (front_word bytes)) - length bytes
+
+-- An item is at the front of the bytes, and its numbers are written over the slice.
+abbrev pub WritesItem : Version → List ℕ → List ℕ → List ℕ → Type 0
+WritesItem version bytes old new =
+    (item : Item) × (first : List ℕ) × (rest : List ℕ) × IsItem version first item × (bytes ≡ first ++ rest)
+    × (new ≡ written_over (item_numbers (front_word bytes) (length first) item) old)
+
+-- So many bytes are missing of the item that the bytes begin with: with any fewer after them no whole item is at their
+-- front, and the slice is as it was. Where none are missing, an item is there, and its numbers are written.
+pub record FindsItem (version : Version) (bytes old new : List ℕ) (missing : ℕ) : Type 0 where
+  pub counted : missing ≡ missing_bytes version bytes
+  pub needed : (more : List ℕ) → length more < missing → NoItemBegins version (bytes ++ more)
+  pub found : missing ≡ 0 → WritesItem version bytes old new
+  pub kept : 0 < missing → new ≡ old
+
+-- The result of journal_next, and what it writes: Unknown where the number denotes no version, and otherwise NoRoom
+-- where the slice has fewer than six numbers; either leaves the slice as it was.
+abbrev pub WritesNext : ℕ → List ℕ → List ℕ → List ℕ → Result ℕ Refusal → Type 0
+WritesNext number bytes old new (Ok missing) =
+    (version : Version) × (spoken_version number ≡ Some version) × (6 ≤ length old) × FindsItem version bytes old new missing
+WritesNext number bytes old new (Err Unknown) = (spoken_version number ≡ None) × (new ≡ old)
+WritesNext number bytes old new (Err NoRoom) =
+    (version : Version) × (spoken_version number ≡ Some version) × (length old < 6) × (new ≡ old)
+WritesNext number bytes old new (Err refusal) = ⊥

@@ -1,0 +1,150 @@
+//! The results of the calls.
+
+ghost use Rattle.std.specs.Prelude.{◌≡◌, MatchOption};
+ghost use Rattle.journal_c_api.specs.Answers.{answer_number, bytes_of, spoken_version, written_over, IsSpoken, Writes};
+
+use shared_core::header::UnknownMessageType;
+use shared_core::messages::EncodingError;
+use shared_core::version::Version;
+use shared_core::wire::WireError;
+use shared_core_json::JsonError;
+use std::alloc::AllocError;
+
+/// The errors of the calls.
+#[derive(Clone, Copy, Debug, PartialEq, Eq)]
+pub enum Refusal {
+    /// A payload is not well-formed for its schema.
+    Malformed,
+    /// An allocation failed.
+    OutOfMemory,
+    /// The slice for numbers is too short.
+    NoRoom,
+    /// A payload would have more than 4,294,967,295 bytes.
+    TooLong,
+    /// The number denotes no supported version, no schema or no named type.
+    Unknown,
+    /// A notification has no id.
+    NoId,
+    /// A notification has an id, and no result.
+    NoResult,
+}
+
+impl From<AllocError> for Refusal {
+    ghost use Rattle.std.specs.Prelude.{◌≡◌};
+    ghost use Rattle.journal_c_api.specs.declared.answer.Refusal.TheVariants.{OutOfMemory};
+
+    ghost from_gives = { λ _ refusal. refusal ≡ OutOfMemory };
+
+    fn from(_error: AllocError) -> Refusal {
+        Refusal::OutOfMemory
+    }
+}
+
+impl From<UnknownMessageType> for Refusal {
+    ghost use Rattle.std.specs.Prelude.{◌≡◌};
+    ghost use Rattle.journal_c_api.specs.declared.answer.Refusal.TheVariants.{Unknown};
+
+    ghost from_gives = { λ _ refusal. refusal ≡ Unknown };
+
+    fn from(_error: UnknownMessageType) -> Refusal {
+        Refusal::Unknown
+    }
+}
+
+impl From<WireError> for Refusal {
+    ghost use Rattle.std.specs.Prelude.{◌≡◌};
+    ghost use Rattle.journal_c_api.specs.Answers.{wire_refusal};
+
+    ghost from_gives = { λ error refusal. refusal ≡ wire_refusal error };
+
+    fn from(error: WireError) -> Refusal {
+        match error {
+            WireError::Malformed => Refusal::Malformed,
+            WireError::OutOfMemory => Refusal::OutOfMemory,
+        }
+    }
+}
+
+impl From<EncodingError> for Refusal {
+    ghost use Rattle.std.specs.Prelude.{◌≡◌};
+    ghost use Rattle.journal_c_api.specs.Answers.{encoding_refusal};
+
+    ghost from_gives = { λ error refusal. refusal ≡ encoding_refusal error };
+
+    fn from(error: EncodingError) -> Refusal {
+        match error {
+            EncodingError::PayloadTooLong => Refusal::TooLong,
+            EncodingError::OutOfMemory => Refusal::OutOfMemory,
+        }
+    }
+}
+
+impl From<JsonError> for Refusal {
+    ghost use Rattle.std.specs.Prelude.{◌≡◌};
+    ghost use Rattle.journal_c_api.specs.Answers.{json_refusal};
+
+    ghost from_gives = { λ error refusal. refusal ≡ json_refusal error };
+
+    fn from(error: JsonError) -> Refusal {
+        match error {
+            JsonError::Malformed => Refusal::Malformed,
+            JsonError::TooLong => Refusal::TooLong,
+            JsonError::OutOfMemory => Refusal::OutOfMemory,
+        }
+    }
+}
+
+/// Returns a count unchanged, and an error as its number. A count of 2^63 or more, which no slice holds, is `TooLong`.
+pub fn answer_of(answer: Result<usize, Refusal>) -> i64
+    ensures { result ≡ answer_number answer }
+{
+    let refusal = match answer {
+        Ok(count) => match i64::try_from(count) {
+            Ok(count) => return count,
+            Err(_) => Refusal::TooLong,
+        },
+        Err(refusal) => refusal,
+    };
+    match refusal {
+        Refusal::Malformed => -1,
+        Refusal::OutOfMemory => -2,
+        Refusal::NoRoom => -3,
+        Refusal::TooLong => -4,
+        Refusal::Unknown => -5,
+        Refusal::NoId => -6,
+        Refusal::NoResult => -7,
+    }
+}
+
+/// The version that a number denotes, if it is supported.
+pub fn version_of(number: u32) -> Result<Version, Refusal>
+    ensures { IsSpoken number result }
+{
+    match number {
+        5 => Ok(Version::V5),
+        6 => Ok(Version::V6),
+        7 => Ok(Version::V7),
+        8 => Ok(Version::V8),
+        9 => Ok(Version::V9),
+        _ => Err(Refusal::Unknown),
+    }
+}
+
+/// Writes elements at the front of a slice that has room for all of them, and otherwise nothing.
+pub fn write_over<T: Copy>(elements: &[T], out: &mut [T])
+    ensures { out.new ≡ written_over elements.now out.old }
+{
+    if elements.len() <= out.len() {
+        out[..elements.len()].copy_from_slice(elements);
+    }
+}
+
+/// Writes the bytes of a result at the front of a slice that has room for all of them, and returns how many they are,
+/// also where it has not.
+pub fn write_answer(answer: Result<Vec<u8>, Refusal>, out: &mut [u8]) -> Result<usize, Refusal>
+    ensures { Writes (λ written. written ≡ bytes_of answer) out.old out.new result }
+{
+    let bytes = answer?;
+    write_over(bytes.as_slice(), out);
+    Ok(bytes.len())
+}

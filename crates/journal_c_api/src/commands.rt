@@ -1,0 +1,109 @@
+//! Commands compared, by their payloads.
+
+ghost use Rattle.journal_c_api.specs.Answers.{Writes, bytes_of};
+ghost use Rattle.journal_c_api.specs.Commands.{AnswersDifference, AnswersSameness, ComparesPayloads, IsDifference, IsOneWhereSame};
+
+use crate::answer::{Refusal, write_answer};
+use crate::payloads::decoded;
+use shared_core::fmt::Difference;
+use shared_core::header::MessageType;
+use shared_core::messages::{CommandMessage, CommandVisitor, visit_command};
+use std::alloc::Global;
+
+/// 1 where the commands that two payloads of a code mean are the same for a replay, and otherwise 0; where payloads are
+/// ignored, the content of user data is not compared.
+///
+/// `Malformed` where one of the two is not well-formed for the type, `Unknown` where the code is that of no command.
+pub fn header_eq(
+    alloc: Global,
+    code: u16,
+    first: &[u8],
+    second: &[u8],
+    ignore_payloads: bool,
+) -> Result<usize, Refusal>
+    ensures { AnswersSameness code ignore_payloads first.now second.now result }
+{
+    let ty = MessageType::try_from(code)?;
+    let comparing = Comparing {
+        alloc,
+        first,
+        second,
+        ignore_payloads,
+    };
+    visit_command(ty, comparing).ok_or(Refusal::Unknown)?
+}
+
+/// Writes a line for each printed field in which the commands that two payloads of a code mean differ: a line feed, three spaces and
+/// `name: first != second`.
+///
+/// `Malformed` where one of the two is not well-formed for the type, `Unknown` where the code is that of no command.
+#[tactic(auto, using(crate::proofs::Writing::writes_answer))]
+pub fn write_difference(
+    alloc: Global,
+    code: u16,
+    first: &[u8],
+    second: &[u8],
+    out: &mut [u8],
+) -> Result<usize, Refusal>
+    ensures { Writes (AnswersDifference code first.now second.now) out.old out.new result }
+{
+    write_answer(difference(alloc, code, first, second), out)
+}
+
+/// The lines of the printed fields in which the commands that two payloads of a code mean differ.
+fn difference(alloc: Global, code: u16, first: &[u8], second: &[u8]) -> Result<Vec<u8>, Refusal>
+    ensures { AnswersDifference code first.now second.now (bytes_of result) }
+{
+    let ty = MessageType::try_from(code)?;
+    let printing = Printing {
+        alloc,
+        first,
+        second,
+    };
+    visit_command(ty, printing).ok_or(Refusal::Unknown)?
+}
+
+/// Decodes two payloads, and returns 1 where the commands are the same, and otherwise 0.
+#[derive(Drop)]
+struct Comparing<'a> {
+    alloc: Global,
+    first: &'a [u8],
+    second: &'a [u8],
+    ignore_payloads: bool,
+}
+
+impl<'a> CommandVisitor for Comparing<'a> {
+    type Output = Result<usize, Refusal>;
+
+    ghost answers = { λ self ty schema answer. ComparesPayloads (IsOneWhereSame schema self.ignore_payloads) schema self.first.now self.second.now answer };
+
+    fn visit<M: CommandMessage>(self) -> Result<usize, Refusal> {
+        let first = decoded::<M>(self.alloc, self.first)?;
+        let second = decoded::<M>(self.alloc, self.second)?;
+        Ok(usize::from(first.header_eq(&second, self.ignore_payloads)))
+    }
+}
+
+/// Decodes two payloads, and returns the lines of the printed fields in which the commands differ.
+#[derive(Drop)]
+struct Printing<'a> {
+    alloc: Global,
+    first: &'a [u8],
+    second: &'a [u8],
+}
+
+impl<'a> CommandVisitor for Printing<'a> {
+    type Output = Result<Vec<u8>, Refusal>;
+
+    ghost answers = { λ self ty schema answer. ComparesPayloads (IsDifference schema) schema self.first.now self.second.now (bytes_of answer) };
+
+    fn visit<M: CommandMessage>(self) -> Result<Vec<u8>, Refusal> {
+        let actual = decoded::<M>(self.alloc, self.first)?;
+        let expected = decoded::<M>(self.alloc, self.second)?;
+        let difference = Difference {
+            actual: &actual,
+            expected: &expected,
+        };
+        Ok(difference.to_string(self.alloc)?.into_bytes())
+    }
+}

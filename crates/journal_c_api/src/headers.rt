@@ -1,0 +1,49 @@
+//! Headers of messages.
+
+ghost use Rattle.std.specs.Prelude.{◌≡◌, ◌-◌, ℕ, List, Ok, length, take};
+ghost use Rattle.journal_c_api.specs.Answers.{Writes};
+ghost use Rattle.journal_c_api.specs.Headers.{AnswersHeader, flag_at};
+ghost use Rattle.journal_c_api.specs.Payloads.{AnswersFrame};
+
+use crate::answer::{Refusal, version_of, write_over};
+use shared_core::header::{MessageHeader, MessageType};
+use shared_core::version::Version;
+
+/// Writes the eight bytes of the header that a message of a type has at a version, by the length of its payload in
+/// bytes, and returns 8.
+pub fn write_header(
+    version: u32,
+    code: u16,
+    payload_length: u32,
+    out: &mut [u8],
+) -> Result<usize, Refusal>
+    ensures { Writes (AnswersHeader version code payload_length) out.old out.new result }
+{
+    let version = version_of(version)?;
+    let ty = MessageType::try_from(code)?;
+    let header = match requested_ack(version, ty) {
+        Some(flag) => MessageHeader::new_with_requested_ack(ty, flag, payload_length),
+        None => MessageHeader::new(ty, payload_length),
+    };
+    let bytes = u64::from(header).to_be_bytes();
+    write_over(&bytes, out);
+    Ok(bytes.len())
+}
+
+/// The flag of a type's headers at a version.
+fn requested_ack(version: Version, ty: MessageType) -> Option<bool>
+    ensures { result ≡ flag_at version ty }
+{
+    if ty.allows_ack() && version >= Version::V7 {
+        Some(true)
+    } else {
+        None
+    }
+}
+
+/// Each frame of `journal_frame` begins with the header that `journal_header` writes for its version, its type and the length of its payload.
+#[tactic(auto, using(crate::proofs::FrameHeaders::begins_frame))]
+pub fn headers_begin_frames()
+    ensures { (version code : ℕ) (payload frame : List ℕ) → AnswersFrame version code payload (Ok frame)
+        → AnswersHeader version code (length frame - 8) (Ok (take 8 frame)) }
+{}

@@ -1,0 +1,44 @@
+-- Commands of a stream compared, one after the other.
+use Rattle.std.proofs.Common.{◌≡◌, ℕ, ◌+◌, ◌*◌, List, [], ◌∷◌, ◌++◌, Ok, Err, ap, sym, ◌∙◌, arith}
+use Rattle.std.proofs.Math.Nat.{add-zero, mul-add, mul-zero}
+use Rattle.shared_core_base.specs.declared.version.Version.{Version}
+use Rattle.shared_core.specs.declared.encoding.item.Item.{Item}
+use Rattle.shared_core.specs.declared.encoding.item.Item.TheVariants.{Message, Unknown, Skipped}
+use Rattle.shared_core.specs.Items.{TakesItem, IsItemsThen}
+use Rattle.shared_core.proofs.Items.{then_takes}
+use Rattle.journal_c_api.specs.declared.answer.Refusal.{Refusal}
+use Rattle.journal_c_api.specs.declared.answer.Refusal.TheVariants.{Malformed, OutOfMemory}
+use Rattle.shared_core.specs.Visiting.{command_schema}
+use Rattle.measured_c_api.specs.Comparisons.{ComparesItem, ComparesAll}
+use Rattle.measured_c_api.specs.Streams.{Decodes, count_with}
+use Rattle.measured_c_api.proofs.Counting.{count_more}
+
+-- what a compared item says of the items behind which it stands
+pub item_compared : (rounds : ℕ) (item : Item) (held : ℕ) → ComparesItem rounds item (Ok held)
+    → Decodes command_schema item × (held ≡ rounds * count_with command_schema (item ∷ []))
+item_compared rounds (Message message) held (accepted, is) = (accepted, is ∙ ap (λ n. rounds * n) (sym (add-zero _)))
+item_compared rounds (Unknown code) held is = (tt, is ∙ sym (mul-zero rounds))
+item_compared rounds (Skipped code payload) held is = (tt, is ∙ sym (mul-zero rounds))
+
+-- the comparisons that hold among some items and one more
+pub comparisons_more : (rounds : ℕ) (items : List Item) (item : Item) (count held : ℕ)
+    → count ≡ rounds * count_with command_schema items → held ≡ rounds * count_with command_schema (item ∷ [])
+    → count + held ≡ rounds * count_with command_schema (items ++ item ∷ [])
+comparisons_more rounds items item count held before one =
+    let each = mul-add rounds (count_with command_schema items) (count_with command_schema (item ∷ [])) in
+    let all = ap (λ n. rounds * n) (count_more command_schema items item) in
+    omega (arith, before, one, each, all)
+
+does_not_decode : (rounds : ℕ) (item : Item) → ComparesItem rounds item (Err Malformed) → ¬ (Decodes command_schema item)
+does_not_decode rounds (Message message) refused = refused
+does_not_decode rounds (Unknown code) refused = absurd refused
+does_not_decode rounds (Skipped code payload) refused = absurd refused
+
+pub item_refused : (rounds : ℕ) (version : Version) (stream old new : List ℕ) (items : List Item) (item : Item) (refusal : Refusal)
+    → IsItemsThen version stream items old → TakesItem version old item new → ComparesItem rounds item (Err refusal)
+    → ComparesAll rounds version stream (Err refusal)
+item_refused rounds version stream old new items item Malformed before taken refused = (items, item, new, then_takes version stream old new items item before taken, does_not_decode rounds item refused)
+item_refused rounds version stream old new items item OutOfMemory before taken refused = tt
+item_refused rounds version stream old new items (Message message) other before taken refused = absurd refused
+item_refused rounds version stream old new items (Unknown code) other before taken refused = absurd refused
+item_refused rounds version stream old new items (Skipped code payload) other before taken refused = absurd refused

@@ -1,0 +1,113 @@
+//! The size of a canonical payload: a sum, capped at 2^32, and what each kind of record adds to it.
+
+ghost use Rattle.std.specs.Prelude.{◌≡◌, ◌+◌, ◌*◌, ◌^◌, ◌<◌, ◌≤◌, length};
+ghost use Rattle.shared_core_wire.specs.Spelling.{shortest_varint, key_bytes};
+ghost use Rattle.shared_core_codec.specs.RowSpelling.{length_record, capped, measured_message};
+
+use shared_core_wire::varint::varint_len;
+use std::marker::Model;
+
+/// A number of bytes, capped at 2^32, since no payload may have so many.
+#[derive(Drop)]
+pub struct Size {
+    total: u64,
+}
+
+impl Model for Size {
+    ghost use Rattle.std.specs.Prelude.{ℕ, ◌^◌, ◌≤◌};
+
+    ghost Value = { ℕ };
+
+    ghost view = { λ s. s.total };
+
+    ghost invariant = { λ s. s.total ≤ 2 ^ 32 };
+}
+
+/// The wire type of a varint.
+pub const VARINT: u64 = 0;
+
+/// The wire type of length-delimited bytes.
+pub const LENGTH: u64 = 2;
+
+/// The number of a key: a field number and a wire type (0 to 5).
+#[inline]
+pub fn key(number: u32, wire_type: u64) -> u64
+    requires { wire_type < 8 }
+    ensures { result ≡ 8 * number + wire_type }
+{
+    8 * u64::from(number) + wire_type
+}
+
+/// The number of bytes of the shortest varint of a number.
+#[inline]
+#[tactic(auto, using(crate::proofs::Varints::one_byte))]
+pub(crate) fn varint_size(number: u64) -> u64
+    ensures len { result ≡ length (shortest_varint number) }
+    ensures bound { result ≤ 10 }
+{
+    // most varints are keys, lengths and small numbers of one byte
+    if number < 128 {
+        return 1;
+    }
+    varint_len(number)
+}
+
+impl Size {
+    /// The first size that is too long for a payload.
+    pub const LIMIT: u64 = 1 << 32;
+
+    /// No bytes.
+    #[inline]
+    pub fn new() -> Size
+        ensures { result ≡ 0 }
+    {
+        Size { total: 0 }
+    }
+
+    /// The number of bytes, or 2^32 if it is more.
+    #[inline]
+    pub fn total(&self) -> u64
+        ensures value { result ≡ self.now }
+        ensures bound { result ≤ 2 ^ 32 }
+    {
+        self.total
+    }
+
+    /// Adds a number of bytes.
+    #[inline]
+    pub(crate) fn add(&mut self, more: u64)
+        ensures { self.new ≡ capped (self.old + more) }
+    {
+        self.total = self.total.saturating_add(more).min(Size::LIMIT);
+    }
+
+    /// Adds a length-delimited record of these bytes.
+    #[inline]
+    pub(crate) fn add_length_record(&mut self, number: u32, content: &[u8])
+        ensures { self.new ≡ capped (self.old + length (length_record number content.now)) }
+    {
+        self.add(varint_size(key(number, LENGTH)));
+        self.add(varint_size(content.len() as u64));
+        self.add(content.len() as u64);
+    }
+
+    /// Adds a record of a varint.
+    #[inline]
+    pub(crate) fn add_varint_record(&mut self, number: u32, value: u64)
+        ensures { self.new ≡ capped (capped (self.old + length (key_bytes number 0)) + length (shortest_varint value)) }
+    {
+        self.add(varint_size(key(number, VARINT)));
+        self.add(varint_size(value));
+    }
+
+    /// Adds a length-delimited record of this length.
+    #[inline]
+    #[tactic(auto, unfolding(crate::specs::RowSpelling::measured_message))]
+    pub fn add_sized(&mut self, number: u32, content: &Size)
+        ensures { self.new ≡ measured_message number content.now self.old }
+    {
+        self.add(varint_size(key(number, LENGTH)));
+        self.add(varint_size(content.total()));
+        self.add(content.total());
+    }
+}

@@ -1,0 +1,94 @@
+-- What is written on going over the numbers of a packed run, and over the records of a payload.
+use Rattle.std.proofs.Common.{◌≡◌, ℕ, zero, suc, ◌-◌, ◌<◌, List, [], ◌∷◌, ◌++◌, length, drop, Some, None, Result, Ok, Err, true, false, append_assoc, refl, sym, ap, ◌∙◌, arith}
+use Rattle.std.proofs.lemmas.List.{length-append}
+use Rattle.json.specs.Token.{Token, begin_object, end_object, string, null}
+use Rattle.shared_core_wire.proofs.Groups.{behind}
+use Rattle.shared_core_wire.proofs.Readers.{varint_pos, varint_reads}
+use Rattle.shared_core_wire.specs.Reader.{varint_at}
+use Rattle.shared_core_wire.specs.ReadRecords.{PlacedRecord, read_records}
+use Rattle.shared_core_wire.specs.declared.error.WireError.{WireError}
+use Rattle.std.specs.Prelude.{OnOk}
+use Rattle.std.specs.Str.{is_utf8}
+use Rattle.shared_core_json.specs.Fields.{NamedField, schema_fields, field_numbered}
+use Rattle.shared_core_json.specs.Written.{text_token, numbers_past, end_tokens, record_tokens, next_begun, items_tokens, payload_tokens}
+
+numbers_over : (past : ℕ) (bytes : List ℕ) → numbers_past past bytes ≡ numbers_past 0 (drop past bytes)
+unfolding numbers_past
+numbers_over zero bytes = refl
+numbers_over (suc past) [] = refl
+numbers_over (suc past) (b ∷ bs) = numbers_over past bs
+
+pub numbers_stop : (bytes : List ℕ) → varint_at bytes ≡ None → numbers_past 0 bytes ≡ []
+unfolding numbers_past
+numbers_stop [] e = refl
+numbers_stop (b ∷ bs) e = rw (e, numbers_past) refl
+
+numbers_first : (bytes text rest : List ℕ) (n : ℕ) → varint_at bytes ≡ Some (n, rest) → bytes ≡ text ++ rest → 0 < length text → numbers_past 0 bytes ≡ n ∷ numbers_past 0 rest
+unfolding numbers_past
+numbers_first [] text rest n e parts h = absurd (omega (arith, ap length parts, length-append text rest))
+numbers_first (b ∷ bs) text rest n e parts h =
+    rw (e, numbers_past) (ap (λ (xs : List ℕ). n ∷ xs) (numbers_over (length bs - length rest) bs ∙ ap (numbers_past 0) (behind b bs text rest parts h)))
+
+pub record NumbersTurn (bytes : List ℕ) (n : ℕ) (rest : List ℕ) : Type 0 where
+  pub shorter : length rest < length bytes
+  pub more : numbers_past 0 bytes ≡ n ∷ numbers_past 0 rest
+
+pub numbers_turn : (bytes : List ℕ) (n : ℕ) (rest : List ℕ) → varint_at bytes ≡ Some (n, rest) → NumbersTurn bytes n rest
+numbers_turn bytes n rest e =
+    let f = varint_reads bytes (n, rest) e in
+    let long = varint_pos f.text n f.is in
+    record {
+      shorter = omega (arith, ap length f.parts, length-append f.text rest);
+      more = numbers_first bytes f.text rest n e f.parts (omega arith);
+    }
+
+suc_less : (n : ℕ) → suc n - 1 ≡ n
+suc_less n = omega arith
+
+pub payload_none : (levels s : ℕ) (bytes : List ℕ) → levels ≡ 0 → payload_tokens levels s bytes ≡ null ∷ []
+unfolding payload_tokens
+payload_none levels s bytes e = rw e refl
+
+pub payload_whole : (levels s : ℕ) (bytes : List ℕ) → 0 < levels
+    → payload_tokens levels s bytes ≡ begin_object ∷ (items_tokens (payload_tokens (levels - 1)) (schema_fields s) 0 (read_records (levels - 1) bytes) ++ end_object ∷ [])
+unfolding payload_tokens
+payload_whole zero s bytes h = absurd (omega arith)
+payload_whole (suc left) s bytes h = rw (suc_less left) refl
+
+pub on_ok : {A E P Q : Type 0} (r : Result A E) → (P → Q) → OnOk r P → OnOk r Q
+on_ok (Ok x) f p = f p
+on_ok (Err e) f p = tt
+
+pub text_is : (bytes text : List ℕ) → text ≡ bytes → is_utf8 bytes ≡ true → string text ≡ text_token bytes
+text_is bytes text e u = rw (u, e) refl
+
+pub no_text : (bytes : List ℕ) → is_utf8 bytes ≡ false → null ≡ text_token bytes
+no_text bytes u = rw u refl
+
+-- one more step of a walk whose result stays
+pub step_on : (old new front rest all : List Token) → new ≡ old ++ front → old ++ (front ++ rest) ≡ all → new ++ rest ≡ all
+step_on old new front rest all e h = rw e (append_assoc old front rest ∙ h)
+
+-- what stands between two brackets
+pub enclosed : (first last : Token) (before begun looped ended whole middle : List Token) → begun ≡ before ++ first ∷ [] → looped ≡ begun ++ middle → ended ≡ looped → whole ≡ ended ++ last ∷ [] → whole ≡ before ++ (first ∷ (middle ++ last ∷ []))
+enclosed first last before begun looped ended whole middle b l e w =
+    w ∙ ap (λ (ts : List Token). ts ++ last ∷ []) (e ∙ l ∙ ap (λ (ts : List Token). ts ++ middle) b)
+    ∙ append_assoc (before ++ first ∷ []) middle (last ∷ []) ∙ append_assoc before (first ∷ []) (middle ++ last ∷ [])
+
+module _ (nested : ℕ → List ℕ → List Token) (fields : List NamedField) where
+  pub record_turn : (begun now : ℕ) (old new all : List Token) (r : PlacedRecord) (items whole : List (Result PlacedRecord WireError))
+      → new ≡ old ++ record_tokens nested begun (field_numbered fields r.field_record.number) r.field_record.value
+      → now ≡ next_begun begun (field_numbered fields r.field_record.number)
+      → whole ≡ Ok r ∷ items → old ++ items_tokens nested fields begun whole ≡ all → new ++ items_tokens nested fields now items ≡ all
+  unfolding items_tokens
+  record_turn begun now old new all r items whole e n w h =
+      rw n (step_on old new _ _ all e (sym (ap (λ (is : List (Result PlacedRecord WireError)). old ++ items_tokens nested fields begun is) w) ∙ h))
+
+  pub error_turn : (begun : ℕ) (old all : List Token) (x : WireError) (items whole : List (Result PlacedRecord WireError))
+      → whole ≡ Err x ∷ items → old ++ items_tokens nested fields begun whole ≡ all → old ++ items_tokens nested fields begun items ≡ all
+  unfolding items_tokens
+  error_turn begun old all x items whole w h = sym (ap (λ (is : List (Result PlacedRecord WireError)). old ++ items_tokens nested fields begun is) w) ∙ h
+
+  pub items_end : (begun : ℕ) (items : List (Result PlacedRecord WireError)) → items ≡ [] → items_tokens nested fields begun items ≡ end_tokens begun
+  unfolding items_tokens
+  items_end begun items w = rw w refl

@@ -1,0 +1,36 @@
+use Rattle.std.proofs.Common.{◌∷◌, ◌++◌, ◌-◌, refl, sym, ap, ◌∙◌, rules, arith, List}
+use Rattle.json.specs.Token.{Token, begin_object, end_object}
+use Rattle.shared_core_wire.specs.RecordsLeft.{placed_of, placed_result, records_left}
+use Rattle.shared_core_json.specs.Fields.{schema_fields}
+use Rattle.shared_core_json.specs.Written.{payload_tokens}
+use Rattle.shared_core_json.proofs.Walk.{on_ok, enclosed, record_turn, error_turn, items_end, payload_none, payload_whole}
+use Rattle.shared_core_json.proofs.write.+payload.Goals as goal
+
+pub write_payload-returns-then-levels-eq0-clause-tokens : goal.write_payload-returns-then-levels-eq0-clause-tokens
+write_payload-returns-then-levels-eq0-clause-tokens t c =
+    on_ok c.null.result (λ w. w ∙ ap (λ (ts : List Token). c.args.out.now.tokens ++ ts) (sym (payload_none c.args.levels c.args.schema c.args.payload.now c.if-levels-eq0.true))) c.null.ensures.ok
+
+pub write_payload-loop-item-preserved-in-Ok : goal.write_payload-loop-item-preserved-in-Ok
+write_payload-loop-item-preserved-in-Ok t c = record {
+  tokens = record_turn (payload_tokens (c.args.levels - 1)) (schema_fields c.args.schema) c.loop-item.begun _ c.loop-item.out.tokens _ _ (placed_of c.in-Ok.found) _ _
+      c.in_ok-begun.ensures.tokens c.in_ok-begun.ensures.begun (c.in-Some.ensures.steps ∙ ap (λ x. placed_result x ∷ records_left c.next.new.self) c.in-Ok.is) c.loop-item.invariant.tokens;
+  before = search rules;
+}
+
+pub write_payload-loop-item-preserved : goal.write_payload-loop-item-preserved
+write_payload-loop-item-preserved t c = record {
+  tokens = error_turn (payload_tokens (c.args.levels - 1)) (schema_fields c.args.schema) c.loop-item.begun c.loop-item.out.tokens _ c.in_default.field-0 _ _
+      (c.in-Some.ensures.steps ∙ ap (λ x. placed_result x ∷ records_left c.next.new.self) c.in_default.is) c.loop-item.invariant.tokens;
+  before = search rules;
+}
+
+pub write_payload-returns-clause-tokens : goal.write_payload-returns-clause-tokens
+write_payload-returns-clause-tokens t c =
+    let nested = payload_tokens (c.args.levels - 1) in
+    let fields = schema_fields c.args.schema in
+    let ended = items_end nested fields c.loop-item.begun _ c.in-None.ensures.steps.0 in
+    let looped = c.in_ok-end_list.ensures.tokens ∙ ap (λ (ts : List Token). c.loop-item.out.tokens ++ ts) (sym ended) ∙ c.loop-item.invariant.tokens in
+    let whole = payload_whole c.args.levels c.args.schema c.args.payload.now (omega arith) in
+    on_ok c.end_object.result
+    (λ w. enclosed begin_object end_object c.args.out.now.tokens c.begin_object.new.self.tokens c.end_list.new.out.tokens c.end_list.new.out.tokens _ _ c.in_ok-begin_object.ensures.ok looped refl w ∙ ap (λ (ts : List Token). c.args.out.now.tokens ++ ts) (sym whole))
+    c.end_object.ensures.ok

@@ -1,0 +1,85 @@
+-- The fields of a schema, with their JSON names.
+use Rattle.std.specs.Prelude.{ℕ, zero, suc, Bool, true, false, List, [], ◌∷◌, ◌++◌, map, nat_eq, if◌then◌else◌, Option, Some, None}
+use Rattle.shared_core_wire.specs.Schema.{Row, Plain, Optional, Repeated, OneOf, Kind as AnyKind, U32, U64, Boolean, Enumeration, Text, ByteString, Message}
+use Rattle.shared_core_codec.specs.Table.{table, schemas}
+use Rattle.std.specs.Borrow.{Bor}
+use Rattle.shared_core_json.specs.Names.{names}
+use Rattle.shared_core_json.specs.declared.fields.Kind.{Kind}
+use Rattle.shared_core_json.specs.declared.fields.Kind.TheVariants as kind
+use Rattle.shared_core_json.specs.declared.fields.Field.{Field}
+
+-- A field: its number, its name, its kind, and whether each of its records is an element of a list.
+pub record NamedField : Type 0 where
+  pub number : ℕ
+  pub name : List ℕ
+  pub kind : AnyKind
+  pub is_element : Bool
+
+-- The names of a schema's fields, by its index in a list.
+abbrev pub names_at : List (List (ℕ × List ℕ)) → ℕ → List (ℕ × List ℕ)
+names_at [] s = []
+names_at (ns ∷ nss) zero = ns
+names_at (ns ∷ nss) (suc s) = names_at nss s
+
+-- The names of a schema's fields.
+abbrev pub names_of : ℕ → List (ℕ × List ℕ)
+names_of = names_at names
+
+-- The name of a field, by its number.
+abbrev pub name_of : List (ℕ × List ℕ) → ℕ → List ℕ
+name_of [] n = []
+name_of (name ∷ names) n = if nat_eq n name.0 then name.1 else name_of names n
+
+-- Whether the elements of a repeated field have records of their own: numbers are packed into one.
+abbrev pub stands_alone : AnyKind → Bool
+stands_alone U32 = false
+stands_alone k = true
+
+-- The fields of a row.
+abbrev pub row_fields : List (ℕ × List ℕ) → Row → List NamedField
+row_fields ns (Plain n k) = record { number = n; name = name_of ns n; kind = k; is_element = false } ∷ []
+row_fields ns (Optional n k) = record { number = n; name = name_of ns n; kind = k; is_element = false } ∷ []
+row_fields ns (Repeated n k) = record { number = n; name = name_of ns n; kind = k; is_element = stands_alone k } ∷ []
+row_fields ns (OneOf members) = map (λ m. record { number = m.0; name = name_of ns m.0; kind = m.1; is_element = false }) members
+
+-- The fields of some rows.
+abbrev pub fields_of_rows : List (ℕ × List ℕ) → List Row → List NamedField
+fields_of_rows ns [] = []
+fields_of_rows ns (row ∷ rows) = row_fields ns row ++ fields_of_rows ns rows
+
+-- The fields of each schema of a list.
+abbrev pub fields_of_each : List (List (ℕ × List ℕ)) → List (List Row) → List (List NamedField)
+fields_of_each nss [] = []
+fields_of_each [] (rows ∷ lists) = fields_of_rows [] rows ∷ fields_of_each [] lists
+fields_of_each (ns ∷ nss) (rows ∷ lists) = fields_of_rows ns rows ∷ fields_of_each nss lists
+
+-- The fields of each schema of the table.
+abbrev pub all_fields : List (List NamedField)
+all_fields = fields_of_each names schemas
+
+-- The fields of a schema.
+unfoldable pub schema_fields : ℕ → List NamedField
+schema_fields s = fields_of_rows (names_of s) (table s)
+
+-- The field that has a number.
+abbrev pub field_numbered : List NamedField → ℕ → Option NamedField
+field_numbered [] n = None
+field_numbered (f ∷ fs) n = if nat_eq n f.number then Some f else field_numbered fs n
+
+-- The schema kind of a kind of the program.
+abbrev pub kind_view : Kind → AnyKind
+kind_view kind.U32 = U32
+kind_view kind.U64 = U64
+kind_view kind.Boolean = Boolean
+kind_view kind.Enumeration = Enumeration
+kind_view kind.Text = Text
+kind_view kind.ByteString = ByteString
+kind_view (kind.Message s) = Message s
+
+-- The schema field of a field of the program.
+abbrev pub field_view : Field → NamedField
+field_view f = record { number = f.0; name = f.1.now; kind = kind_view f.2; is_element = f.3 }
+
+-- The schema fields of a list of the program.
+abbrev pub fields_view : Bor (List Field) → List NamedField
+fields_view fs = map field_view fs.now

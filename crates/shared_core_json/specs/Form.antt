@@ -1,0 +1,78 @@
+-- The JSON form of a value of the protocol's messages, by proto3's JSON mapping.
+use Rattle.std.specs.Prelude.{ℕ, ◌-◌, ◌^◌, Bool, true, false, not, List, [], ◌∷◌, ◌++◌, codes, decimal, nat_lt, ◌==◌, if◌then◌else◌}
+use Rattle.base64.specs.GeneralPurpose.{encode_of}
+use Rattle.base64.specs.Engines.{standard}
+use Rattle.json.specs.Json.{Json, null, boolean, number, string, array, object, Items, no_items, item, Members, no_members, member}
+use Rattle.json.specs.Tree.{json_tokens}
+use Rattle.json.specs.Print.{print}
+use Rattle.shared_core_wire.specs.Schema.{Kind, Row, U64, Boolean, Enumeration, ByteString, Message, Plain, Optional, Repeated, OneOf}
+use Rattle.shared_core_wire.specs.Value.{Part, Parts, Absent, Number, Bytes, Nested, Elements, Member, nil, cons}
+use Rattle.shared_core_wire.specs.Canonical.{number_of, kind_of, rows_of_kind, is_default}
+use Rattle.shared_core_codec.specs.Table.{table}
+use Rattle.shared_core_json.specs.Fields.{names_of, name_of}
+
+-- The digits of an enum's number, whose low 32 bits are an i32.
+abbrev pub enum_digits : ℕ → List ℕ
+enum_digits n = if nat_lt n (2 ^ 31) then decimal n else (codes "-" ++ decimal (2 ^ 32 - n))
+
+-- A number: 64 bits as a string, a bool as such, an enum by its signed number.
+abbrev pub number_json : Kind → ℕ → Json
+number_json U64 n = string (decimal n)
+number_json Boolean n = boolean (not (n == 0))
+number_json Enumeration n = number (enum_digits n)
+number_json k n = number (decimal n)
+
+-- Bytes: a text unchanged, others in standard base64 with padding.
+abbrev pub bytes_json : Kind → List ℕ → Json
+bytes_json ByteString bytes = string (encode_of standard bytes)
+bytes_json k bytes = string bytes
+
+-- Whether a row has a member in the object: not if it is absent, a list without elements, or a plain default.
+abbrev pub is_present : Row → Part → Bool
+is_present row Absent = false
+is_present row (Elements nil) = false
+is_present (Plain n k) p = not (is_default p)
+is_present (Optional n k) p = true
+is_present (Repeated n k) p = true
+is_present (OneOf members) p = true
+
+-- The names of the fields of a kind's message.
+abbrev pub names_of_kind : Kind → List (ℕ × List ℕ)
+names_of_kind (Message s) = names_of s
+names_of_kind k = []
+
+-- A member before others, if it is present.
+abbrev pub member_if : Bool → List ℕ → Json → Members → Members
+member_if present name json others = if present then member name json others else others
+
+unfoldable mutual
+  -- The JSON of a part: a number, bytes, a message as an object, the elements of a repeated field as an array, the member of a oneof.
+  pub part_json : Part → Kind → Json
+  part_json Absent k = null
+  part_json (Number n) k = number_json k n
+  part_json (Bytes bytes) k = bytes_json k bytes
+  part_json (Nested ps) k = object (members_json (names_of_kind k) ps (rows_of_kind table k))
+  part_json (Elements ps) k = array (items_json ps k)
+  part_json (Member n p) k = part_json p k
+
+  -- The elements of a repeated field, in order.
+  pub items_json : Parts → Kind → Items
+  items_json nil k = no_items
+  items_json (cons p ps) k = item (part_json p k) (items_json ps k)
+
+  -- The members of a message's object: one for each present row, in the order of the schema, each by the name of its
+  -- field.
+  pub members_json : List (ℕ × List ℕ) → Parts → List Row → Members
+  members_json names nil rows = no_members
+  members_json names (cons p ps) [] = no_members
+  members_json names (cons p ps) (row ∷ rows) =
+      member_if (is_present row p) (name_of names (number_of row p)) (part_json p (kind_of row p)) (members_json names ps rows)
+
+-- The JSON of a value of the schema s.
+abbrev pub value_json : ℕ → Parts → Json
+value_json s v = object (members_json (names_of s) v (table s))
+
+-- Its text: without spaces, with the escapes \" \\ \b \f \n \r \t, \u00xx for the other control characters, and all
+-- else unescaped.
+abbrev pub json_text : ℕ → Parts → List ℕ
+json_text s v = print (json_tokens (value_json s v))

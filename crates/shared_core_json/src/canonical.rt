@@ -1,0 +1,79 @@
+//! Decoding a payload, writing it canonically, and from there as JSON.
+
+ghost use Rattle.std.specs.Prelude.{◌≡◌, ◌≤◌, ◌^◌, IfOk, OnOk};
+ghost use Rattle.std.specs.Result.{IsErrOf};
+ghost use Rattle.std.specs.Str.{IsUtf8};
+ghost use Rattle.shared_core_wire.specs.Canonical.{canonical_payload, size};
+ghost use Rattle.shared_core_wire.specs.Fitting.{Fits};
+ghost use Rattle.shared_core_codec.specs.Table.{table};
+ghost use Rattle.shared_core_codec.specs.Payloads.{IsAccepted, payload_meaning};
+ghost use Rattle.json.specs.Lex.{tokens};
+ghost use Rattle.json.specs.Tree.{json_tokens};
+ghost use Rattle.shared_core_json.specs.Form.{json_text, value_json};
+ghost use Rattle.shared_core_json.specs.Payloads.{IsSpelling, IsTooLong};
+ghost use Rattle.shared_core_json.specs.declared.error.JsonError.TheVariants.{Malformed, TooLong};
+
+use crate::error::JsonError;
+use crate::write::write_message;
+use bytes::Bytes;
+use json::Writer;
+use shared_core_codec::record::{WireRecord, decode_payload};
+use std::alloc::Global;
+
+/// Overwrites the buffer with the canonical payload of what a payload means. `Malformed` if the payload is not
+/// well-formed for the message; `TooLong` if the canonical payload has more than 4,294,967,295 bytes; `OutOfMemory` if
+/// an allocation fails.
+pub fn write_canonical<M: WireRecord>(
+    alloc: Global,
+    payload: &Bytes,
+    canonical: &mut Vec<u8>,
+) -> Result<(), JsonError>
+    ensures accepted { OnOk result (IsAccepted M.schema payload.now) }
+    ensures spelled { OnOk result (IsSpelling M.schema (payload_meaning M.schema payload.now) canonical.new.items) }
+    ensures malformed { IsErrOf result Malformed → ¬ (IsAccepted M.schema payload.now) }
+    ensures too_long { IsErrOf result TooLong → IsTooLong M.schema payload.now }
+{
+    let message: M = decode_payload(alloc, payload)?;
+    encode_over(&message, canonical)
+}
+
+/// Overwrites the buffer with the canonical payload of a record. `encode_payload_into` appends it, and its contract
+/// does not say that the value fits its schema.
+fn encode_over<M: WireRecord>(message: &M, canonical: &mut Vec<u8>) -> Result<(), JsonError>
+    ensures written { OnOk result (canonical.new.items ≡ canonical_payload table M.schema (M.parts message.now)) }
+    ensures fit { Fits table (M.parts message.now) (table M.schema) }
+    ensures not_malformed { IsErrOf result Malformed → ⊥ }
+    ensures too_long { IsErrOf result TooLong → 2 ^ 32 ≤ size table M.schema (M.parts message.now) }
+{
+    let Some(len) = message.encoded_len() else {
+        return Err(JsonError::TooLong);
+    };
+    canonical.clear();
+    canonical.resize(len as usize, 0)?;
+    message.fill_payload(&mut canonical[..]);
+    Ok(())
+}
+
+/// Returns the JSON of a payload of the message whose schema is at this index of the table. The errors are those of
+/// `write_canonical`.
+pub fn json_of<M: WireRecord>(
+    alloc: Global,
+    schema: u32,
+    payload: &Bytes,
+) -> Result<Vec<u8>, JsonError>
+    requires { M.schema ≡ schema }
+    ensures accepted { IfOk result (λ text. IsAccepted M.schema payload.now) }
+    ensures text { IfOk result (λ text. text.items ≡ json_text M.schema (payload_meaning M.schema payload.now)) }
+    ensures utf8 { IfOk result (λ text. IsUtf8 text.items) }
+    // parsed as JSON, it is these tokens again
+    ensures reads_back { IfOk result (λ text. tokens text.items ≡ json_tokens (value_json M.schema (payload_meaning M.schema payload.now))) }
+    ensures malformed { IsErrOf result Malformed → ¬ (IsAccepted M.schema payload.now) }
+    ensures too_long { IsErrOf result TooLong → IsTooLong M.schema payload.now }
+{
+    let mut canonical = Vec::new(alloc);
+    write_canonical::<M>(alloc, payload, &mut canonical)?;
+    let mut out = Writer::new(Vec::new(alloc));
+    let mut base64 = String::new(alloc);
+    write_message(&mut out, &mut base64, schema, canonical.as_slice())?;
+    Ok(out.into_inner())
+}

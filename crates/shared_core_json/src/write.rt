@@ -1,0 +1,201 @@
+//! Writing canonical payloads as JSON, in one pass and by one table of fields for all messages.
+
+ghost use Rattle.std.specs.Prelude.{◌≡◌, ◌<◌, ◌^◌, [], ◌∷◌, ◌++◌, false, nat_eq, OnOk, IfOk};
+ghost use Rattle.json.specs.Token.{number, null, end_array};
+ghost use Rattle.json.specs.Token as token;
+ghost use Rattle.base64.specs.GeneralPurpose.{encode_of};
+ghost use Rattle.base64.specs.Engines.{standard};
+ghost use Rattle.shared_core_wire.specs.View.{value_of};
+ghost use Rattle.shared_core_json.specs.Form.{enum_digits};
+ghost use Rattle.shared_core_json.specs.Fields.{kind_view, field_view, schema_fields, field_numbered};
+ghost use Rattle.shared_core_json.specs.Payloads.{WritesJson};
+ghost use Rattle.shared_core_json.specs.Written.{low, varint_token, run_tokens, text_token, length_tokens, value_tokens, end_tokens, lead_tokens, record_tokens, next_begun, payload_tokens};
+
+use crate::fields::{Field, Kind, find_field};
+use base64::engine::general_purpose::STANDARD;
+use json::Writer;
+use shared_core_wire::record::WireValue;
+use shared_core_wire::records::{Record, Records};
+use shared_core_wire::varint::read_varint;
+use std::alloc::AllocError;
+
+/// How deep messages may be nested, the outermost included: a payload has depths 0 to 100, and the walk needs one more.
+const LEVELS: u32 = 102;
+
+/// Writes the JSON of the value of a schema whose canonical payload this is (what it writes for another payload is
+/// unspecified). `base64` is a buffer that is overwritten. If an allocation fails, some tokens may be written.
+pub fn write_message(
+    out: &mut Writer,
+    base64: &mut String,
+    schema: u32,
+    canonical: &[u8],
+) -> Result<(), AllocError>
+    ensures tokens { OnOk result (WritesJson schema canonical.now out.old.tokens out.new.tokens) }
+    ensures before { out.new.before ≡ out.old.before }
+{
+    write_payload(out, base64, schema, canonical, LEVELS)
+}
+
+/// Writes a payload as an object; it may be nested this deep, itself included.
+#[cycle(payload)]
+fn write_payload(
+    out: &mut Writer,
+    base64: &mut String,
+    schema: u32,
+    payload: &[u8],
+    levels: u32,
+) -> Result<(), AllocError>
+    ensures tokens { OnOk result (out.new.tokens ≡ out.old.tokens ++ payload_tokens levels schema payload.now) }
+    ensures before { out.new.before ≡ out.old.before }
+{
+    if levels == 0 {
+        return out.null();
+    }
+    out.begin_object()?;
+    let mut begun = 0;
+    for item in Records::within(payload, levels - 1) {
+        if let Ok(found) = item {
+            begun = write_record(out, base64, schema, &found, begun, levels - 1)?;
+        }
+    }
+    end_list(out, begun)?;
+    out.end_object()
+}
+
+/// Writes a record as a member or an element, where the list of the field `begun` is open (0 for none), and returns the
+/// list that is open after it.
+#[cycle(payload)]
+fn write_record(
+    out: &mut Writer,
+    base64: &mut String,
+    schema: u32,
+    found: &Record<'_>,
+    begun: u32,
+    left: u32,
+) -> Result<u32, AllocError>
+    ensures tokens { OnOk result (out.new.tokens ≡ out.old.tokens
+        ++ record_tokens (payload_tokens left) begun (field_numbered (schema_fields schema) found.now.number) (value_of found.now.value)) }
+    ensures begun { IfOk result (λ now. now ≡ next_begun begun (field_numbered (schema_fields schema) found.now.number)) }
+    ensures before { out.new.before ≡ out.old.before }
+{
+    let Some(field) = find_field(schema, found.number) else {
+        return Ok(begun);
+    };
+    if begun != field.0 {
+        begin_member(out, &field, begun)?;
+    }
+    write_value(out, base64, field.2, found.value, left)?;
+    Ok(if field.3 { field.0 } else { 0 })
+}
+
+/// Writes a field's name, and the beginning of its list, after closing the open list.
+fn begin_member(out: &mut Writer, field: &Field, begun: u32) -> Result<(), AllocError>
+    requires { nat_eq begun (field_view field.now).number ≡ false }
+    ensures tokens { OnOk result (out.new.tokens ≡ out.old.tokens ++ lead_tokens begun (field_view field.now)) }
+    ensures before { out.new.before ≡ out.old.before }
+{
+    end_list(out, begun)?;
+    out.key(field.1)?;
+    if field.3 {
+        out.begin_array()?;
+    }
+    Ok(())
+}
+
+/// Closes the open list, if there is one.
+fn end_list(out: &mut Writer, begun: u32) -> Result<(), AllocError>
+    ensures tokens { OnOk result (out.new.tokens ≡ out.old.tokens ++ end_tokens begun) }
+    ensures before { out.new.before ≡ out.old.before }
+{
+    if begun == 0 {
+        return Ok(());
+    }
+    out.end_array()
+}
+
+/// Writes the value of a record of a field of this kind; null if the kind has no such value.
+#[cycle(payload)]
+fn write_value(
+    out: &mut Writer,
+    base64: &mut String,
+    kind: Kind,
+    value: WireValue<'_>,
+    left: u32,
+) -> Result<(), AllocError>
+    ensures tokens { OnOk result (out.new.tokens ≡ out.old.tokens ++ value_tokens (payload_tokens left) (kind_view kind) (value_of value.entry)) }
+    ensures before { out.new.before ≡ out.old.before }
+{
+    match value {
+        WireValue::Varint(number) => write_varint(out, kind, number),
+        WireValue::Length(bytes) => match kind {
+            Kind::U32 => write_run(out, bytes),
+            Kind::Text => write_text(out, bytes),
+            Kind::ByteString => write_base64(out, base64, bytes),
+            Kind::Message(schema) => write_payload(out, base64, schema, bytes, left),
+            _ => out.null(),
+        },
+        _ => out.null(),
+    }
+}
+
+/// Writes a number.
+fn write_varint(out: &mut Writer, kind: Kind, number: u64) -> Result<(), AllocError>
+    ensures tokens { OnOk result (out.new.tokens ≡ out.old.tokens ++ varint_token (kind_view kind) number ∷ []) }
+    ensures before { out.new.before ≡ out.old.before }
+{
+    match kind {
+        Kind::U32 => out.u64(number % 4_294_967_296),
+        Kind::U64 => out.quoted_u64(number),
+        Kind::Boolean => out.boolean(number != 0),
+        Kind::Enumeration => write_enumeration(out, number % 4_294_967_296),
+        _ => out.null(),
+    }
+}
+
+/// Writes 32 bits as an i32.
+fn write_enumeration(out: &mut Writer, bits: u64) -> Result<(), AllocError>
+    requires { bits < 2 ^ 32 }
+    ensures tokens { OnOk result (out.new.tokens ≡ out.old.tokens ++ number (enum_digits bits) ∷ []) }
+    ensures before { out.new.before ≡ out.old.before }
+{
+    if bits < 2_147_483_648 {
+        out.u64(bits)
+    } else {
+        out.i64(bits as i64 - 4_294_967_296)
+    }
+}
+
+/// Writes the numbers of a packed run as an array.
+fn write_run(out: &mut Writer, run: &[u8]) -> Result<(), AllocError>
+    ensures tokens { OnOk result (out.new.tokens ≡ out.old.tokens ++ run_tokens run.now) }
+    ensures before { out.new.before ≡ out.old.before }
+{
+    out.begin_array()?;
+    let mut rest = run;
+    while let Some((number, after)) = read_varint(rest) {
+        out.u64(number % 4_294_967_296)?;
+        rest = after;
+    }
+    out.end_array()
+}
+
+/// Writes a text, with JSON's escapes.
+fn write_text(out: &mut Writer, bytes: &[u8]) -> Result<(), AllocError>
+    ensures tokens { OnOk result (out.new.tokens ≡ out.old.tokens ++ text_token bytes.now ∷ []) }
+    ensures before { out.new.before ≡ out.old.before }
+{
+    match std::str::from_utf8(bytes) {
+        Ok(text) => out.string(text),
+        Err(_) => out.null(),
+    }
+}
+
+/// Writes bytes in base64, using the buffer `base64`.
+fn write_base64(out: &mut Writer, base64: &mut String, bytes: &[u8]) -> Result<(), AllocError>
+    ensures tokens { OnOk result (out.new.tokens ≡ out.old.tokens ++ token.string (encode_of standard bytes.now) ∷ []) }
+    ensures before { out.new.before ≡ out.old.before }
+{
+    base64.clear();
+    STANDARD.encode_string(bytes, base64)?;
+    out.string(base64.as_str())
+}

@@ -1,6 +1,0 @@
-use Rattle.std.proofs.Common.{rules}
-use Rattle.shared_core_record.proofs.FittingRows.{fit_enum}
-use Rattle.shared_core_record.proofs.enumeration.I32Scalar.is_default.Goals as goal
-
-pub returns-clause-fit : goal.returns-clause-fit
-returns-clause-fit c = fit_enum c.args.self.now (search rules)

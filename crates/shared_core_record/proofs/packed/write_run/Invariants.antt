@@ -1,7 +1,0 @@
-use Rattle.std.proofs.Common.{drop}
-use Rattle.shared_core_record.proofs.Backwards.{IsBehind}
-use Rattle.shared_core_record.proofs.Measuring.{packed_from}
-use Rattle.shared_core_record.proofs.packed.write_run.Given as goal
-
-abbrev pub invariant-loop-i : goal.invariant-loop-i
-invariant-loop-i l = IsBehind (packed_from l.numbers.items l.i) l.end l.start (drop l.end l.fn.out) (drop l.start l.out)

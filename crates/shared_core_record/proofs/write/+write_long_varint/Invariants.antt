@@ -1,4 +1,0 @@
-use Rattle.shared_core_record.proofs.write.+write_long_varint.Given as goal
-
-abbrev pub decreases-write_long_varint : goal.decreases-write_long_varint
-decreases-write_long_varint l = l.number
