@@ -1,46 +1,15 @@
 #!/bin/sh
-# The library for C: installed, its examples and the module for Python, test vectors, a million adversarial calls.
+# The library for C: installed, its constants and examples, a million adversarial calls.
 #
 # scripts/install.sh puts it into a folder and takes it away again, and both libraries show the calls of
-# include/pendratsoa.h alone. The examples in C and Python list streams alike, and as list_stream.awk does; the
-# test vectors are answered by the calls; and tests/c/hostile_calls.c makes a million calls from an adversary
-# with. It takes the proved static library, which scripts/static_library.sh builds over what rt ci has proved.
+# include/pendratsoa.h alone. The examples in C and Python list streams alike, and as list_stream.awk does; and
+# tests/c/hostile_calls.c makes a million adversarial calls. It takes the proved static library, which
+# scripts/static_library.sh builds over what rt ci has proved.
 set -u
 cd "$(dirname "$0")/../.." || exit 1
 . scripts/checks/lib.sh
 
-for tool in cc ld objcopy ar nm; do
-  command -v $tool > /dev/null || not_run "there is no $tool"
-done
-sh scripts/static_library.sh journal_ffi
-case $? in
-  0) ;;
-  2) not_run 'there is no static library' ;;
-  *) failed=1; finish ;;
-esac
-
-# case_of NAME COMMAND..: a case that is a command, which passed where its status is 0
-case_of() {
-  name=$1
-  shift
-  "$@" > "$work/log" 2> "$work/err"
-  ended=$?
-  [ $ended -eq 0 ] || head -n 20 "$work/log"
-  outcome "$name" $ended
-}
-
-# counted NAME COMMAND..: a command whose last line is 'N passed, M failed'
-counted() {
-  name=$1
-  shift
-  "$@" > "$work/log" 2> "$work/err"
-  counts=$(sed -n '$p' "$work/log")
-  if ! add "$counts"; then
-    outcome "$name" 1
-  elif [ "${counts##*, }" != '0 failed' ]; then
-    head -n 20 "$work/log"
-  fi
-}
+static_library
 
 # Installed beside a file of another's, below a folder whose name is not plain.
 prefix="$work/a prefix"
@@ -205,14 +174,6 @@ status=
 status=$?
 fails 'an input that is a folder' 1 listing 'input failed'
 status=
-
-# The module, and the test vectors by it.
-if [ -n "$python" ]; then
-  case_of 'the tests of the module' "$python" -m unittest discover -s python
-  case_of 'the tests of the example' "$python" -m unittest discover -s examples/python
-  cat conformance/*.txt conformance/json/*.txt > "$work/lines"
-  counted 'the conformance lines' "$python" scripts/checks/conformance_calls.py < "$work/lines"
-fi
 
 # Calls from an adversary.
 # shellcheck disable=SC2086 # the flags are split

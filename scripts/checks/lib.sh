@@ -27,6 +27,11 @@ not_run() {
   finish
 }
 
+# needs TOOL PACKAGE: ends the check where there is no such tool, which is in this Debian package
+needs() {
+  command -v "$1" > /dev/null || not_run "there is no $1; the Debian package $2 has it"
+}
+
 # left_out WHAT WHY: says that a part is not run
 left_out() {
   echo "$check: $1: not run, since $2"
@@ -58,6 +63,59 @@ same() {
     echo "failed: $1"
     diff "$2" "$3" | head -n 20
   fi
+}
+
+# case_of NAME COMMAND..: counts a case that is a command, which passed where its status is 0
+case_of() {
+  name=$1
+  shift
+  "$@" > "$work/log" 2> "$err"
+  ended=$?
+  [ $ended -eq 0 ] || head -n 20 "$work/log"
+  outcome "$name" $ended
+}
+
+# counted NAME COMMAND..: a command whose last line is 'N passed, M failed', which are added to the tally
+counted() {
+  name=$1
+  shift
+  "$@" > "$work/log" 2> "$err"
+  counts=$(sed -n '$p' "$work/log")
+  if ! add "$counts"; then
+    head -n 20 "$work/log"
+    outcome "$name" 1
+  elif [ "${counts##*, }" != '0 failed' ]; then
+    head -n 20 "$work/log"
+  fi
+}
+
+# static_library: the proved static library for C is crates/journal_ffi/out/libjournal_ffi.a; where it cannot be built
+# the check ends with 'not run'
+static_library() {
+  needs cc gcc
+  for tool in ld objcopy ar nm; do
+    needs $tool binutils
+  done
+  sh scripts/static_library.sh journal_ffi
+  case $? in
+    0) ;;
+    2) not_run 'there is no static library' ;;
+    *) failed=1; finish ;;
+  esac
+}
+
+# installed_library: the library for C is installed below $prefix, a folder in $work, where PKG_CONFIG_PATH,
+# PENDRATSOA_LIBRARY (the shared library) and LD_LIBRARY_PATH lead; where it cannot be built the check ends with 'not
+# run'
+installed_library() {
+  static_library
+  prefix=$work/prefix
+  case_of 'install.sh' sh scripts/install.sh "$prefix"
+  [ "$failed" -eq 0 ] || finish
+  PKG_CONFIG_PATH=$prefix/lib/pkgconfig
+  PENDRATSOA_LIBRARY=$prefix/lib/libpendratsoa.so
+  LD_LIBRARY_PATH=$prefix/lib
+  export PKG_CONFIG_PATH PENDRATSOA_LIBRARY LD_LIBRARY_PATH
 }
 
 # program_of CRATE: $program is the proved program of a crate, which rt ci or scripts/run.sh --proved leaves in out/;

@@ -1,0 +1,58 @@
+#!/bin/sh
+# Installs the Debian packages of scripts/packages.txt that are missing: scripts/packages.sh
+#
+# It does what it can: without apt-get, without the rights for it or without a network nothing is installed, which it
+# says in one line, and its status is 0. It takes ten minutes at most. No test needs it: a check whose tool is absent
+# says 'not run'.
+set -u
+cd "$(dirname "$0")/.." || exit 0
+
+seconds=600
+wanted=$(sed 's/ *#.*//' scripts/packages.txt)
+
+# missing: the packages that are not installed, on one line
+missing() {
+  for package in $wanted; do
+    case $(dpkg-query -W -f '${db:Status-Status}' "$package" 2> /dev/null) in
+      installed) ;;
+      *) printf ' %s' "$package" ;;
+    esac
+  done
+}
+
+# apt WORD..: apt-get, within what is left of the time
+apt() {
+  left=$((end - $(date +%s)))
+  [ "$left" -gt 0 ] || return 1
+  DEBIAN_FRONTEND=noninteractive timeout "$left" apt-get -qq -y -o DPkg::Lock::Timeout="$left" "$@" \
+    < /dev/null > /dev/null 2>&1
+}
+
+for tool in apt-get dpkg-query timeout; do
+  if ! command -v $tool > /dev/null; then
+    echo "packages.sh: nothing is installed, since there is no $tool"
+    exit 0
+  fi
+done
+packages=$(missing)
+[ -n "$packages" ] || exit 0
+if [ "$(id -u)" -ne 0 ]; then
+  echo "packages.sh: nothing is installed, since only root may:$packages"
+  exit 0
+fi
+
+end=$(($(date +%s) + seconds))
+# the lists of packages may be absent or old
+# shellcheck disable=SC2086 # the names are split
+if ! apt install --no-install-recommends $packages; then
+  apt update
+  if ! apt install --no-install-recommends $packages; then
+    # a package that cannot be had does not keep the others away
+    for package in $packages; do
+      apt install --no-install-recommends "$package"
+    done
+  fi
+fi
+packages=$(missing)
+[ -z "$packages" ] || echo "packages.sh: not installed:$packages"
+exit 0
