@@ -1,6 +1,6 @@
 """Checks the conformance lines on standard input by the calls for C: conformance_calls.py < LINES
 
-It takes python/pendratsoa.py, and the numbers of the schemas from docs/C.md. Lines of the kind `record` have no call.
+It takes the package in python/, and the numbers of the schemas from docs/C.md. Lines of the kind `record` have no call.
 Besides, a stream is the same byte by byte, a canonical payload is its own answer and has the same JSON, a frame is a
 header and the canonical payload, and a command is the same as itself. The last line is 'N passed, M failed'.
 """

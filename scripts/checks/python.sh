@@ -12,7 +12,7 @@ installed_library
 PYTHONPATH=python
 PYTHONDONTWRITEBYTECODE=1
 export PYTHONPATH PYTHONDONTWRITEBYTECODE
-case_of 'the tests of the module' python3 -m unittest discover -s python
+case_of 'the tests of the module' python3 -m unittest discover -s python/tests
 case_of 'the tests of the example' python3 -m unittest discover -s examples/python
 cat conformance/*.txt conformance/json/*.txt > "$work/lines"
 counted 'the test vectors' python3 scripts/checks/conformance_calls.py < "$work/lines"

@@ -13,6 +13,7 @@ GENERATORS = (
     "message_types",
     "tables",
     "lists",
+    "bindings",
     "records",
     "dispatch",
     "commands",

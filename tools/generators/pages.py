@@ -1,5 +1,5 @@
-"""What pages repeat of proto/journal.proto: how many schemas, types and commands there are, wherever a page, the header for C or the module for
-Python says so, and the list of schemas in docs/C.md. All else of these files is written by hand.
+"""What pages repeat of proto/journal.proto: how many schemas, types and commands there are, wherever a page or the
+header for C says so, and the list of schemas in docs/C.md. All else of these files is written by hand.
 """
 import re
 import textwrap
@@ -19,7 +19,6 @@ SAID = re.compile(r"((?:[Tt]he|[Aa]ll|its|these|each of the) )(\d+)( (?:named )?
 
 DEFINED = {
     "include/pendratsoa.h": re.compile(r"^(#define JOURNAL_SCHEMAS )(\d+)()$", re.M),
-    "python/pendratsoa.py": re.compile(r"^(SCHEMAS = )(\d+)()$", re.M),
 }
 
 LISTED = "docs/C.md"

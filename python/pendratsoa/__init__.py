@@ -19,11 +19,13 @@ import os
 from enum import IntEnum
 from typing import Any, Callable, Dict, Iterator, NamedTuple, Optional, Tuple, Type, Union
 
+from ._protocol import SCHEMA_NAMES
+
 BytesLike = Union[bytes, bytearray, memoryview]
 
 FIRST_VERSION = 5
 LAST_VERSION = 9
-SCHEMAS = 53
+SCHEMAS = len(SCHEMA_NAMES)
 
 
 class JournalError(Exception):

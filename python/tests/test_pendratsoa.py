@@ -11,7 +11,7 @@ import unittest
 import pendratsoa
 from pendratsoa import IdKind, Message, Notification, ResultKind, Skipped, Stream, UnknownCode, Verdict, VerdictKind
 
-TOP = pathlib.Path(__file__).resolve().parents[1]
+TOP = pathlib.Path(__file__).resolve().parents[2]
 HEADER = (TOP / "include/pendratsoa.h").read_text()
 PROJECT = (TOP / "python/pyproject.toml").read_text()
 RECORDED = (TOP / "examples/streams/recorded").read_bytes()
