@@ -1,70 +1,185 @@
 #!/bin/sh
-# Builds a program of this repository and runs it.
+# Runs a program of this repository: the proved one if it is up to date, otherwise one that is built without the proofs.
 #
-#   scripts/run.sh [--proved] list [STREAM [PIECE] [v9]]
+#   scripts/run.sh [--proved] list [STREAM [BYTES] [v9]]
 #       the listing of a stream, of examples/streams/replay if none is given
 #   scripts/run.sh [--proved] diff [--ignore-payloads] [--protocol 5..9] RECORDED REPLAYED
 #       where two journals differ
-#   scripts/run.sh [--proved] dump [--protocol 5..9] [--type NAME].. [--no-payload] [STREAM]
+#   scripts/run.sh [--proved] dump [--protocol 5..9] [--type NAME].. [--no-payload] [FILE]
 #       a stream as JSON, the standard input if none is given
+#   scripts/run.sh list|diff|dump --help
+#       what docs/PROGRAMS.md says of the program
 #
-# Without --proved nothing is proved, which takes less than a minute; with it every crate below the program is proved
-# first. The status is the program's.
+# The first run without the proofs builds the program, in less than a minute, and keeps it. With --proved every crate
+# below the program is proved first. The arguments and the files are checked before anything is built. The status is the
+# program's, and 2 if it is not run.
 set -eu
 
+top=$(cd "$(dirname "$0")/.." && pwd)
+
 usage() {
-  sed -n '2,12s/^# \{0,1\}//p' "$0"
+  sed -n '2,15s/^# \{0,1\}//p' "$top/scripts/run.sh"
 }
 
-# run PROGRAM ARGUMENT..: builds the program and runs it with these arguments
-run() {
-  program=$1
-  shift
-  cd "$(dirname "$0")/../crates/$program"
-  if [ "$proved" = yes ]; then
-    rt run -- "$@"
-  else
-    echo 'run.sh: built without the proofs; --proved builds the proved program' >&2
-    # What the tool says of the run comes after the program's own lines.
-    rt try -- "$@"
-  fi
+# refuse WHY: says in one line why the program is not run, and ends
+refuse() {
+  echo "run.sh: $1" >&2
+  exit 2
 }
 
-# place FILE: the file's path from the root, since the program runs in another folder
-place() {
+# misused: says how the command is used, and ends
+misused() {
+  sed -n "s|^#   scripts/\(run.sh .*\] $command .*\)|usage: \1|p" "$top/scripts/run.sh" >&2
+  exit 2
+}
+
+# page: prints what docs/PROGRAMS.md says of the command, and ends
+page() {
+  awk -v heading="## journal_$command: " '
+    /^## / { is_shown = index($0, heading) == 1 }
+    is_shown' "$top/docs/PROGRAMS.md"
+  exit 0
+}
+
+# version: prints the program's version, and ends
+version() {
+  sed -n "s/^#define JOURNAL_LIBRARY_VERSION \"\(.*\)\"$/journal_$command \1/p" "$top/include/pendratsoa.h"
+  exit 0
+}
+
+# check_file FILE: refuses what is no file that can be read
+check_file() {
+  [ -e "$1" ] || refuse "no such file: $1"
+  [ ! -d "$1" ] || refuse "a folder: $1"
+  [ -r "$1" ] || refuse "cannot be read: $1"
+}
+
+# is_type NAME: whether a type has this name in a dump
+is_type() {
   case $1 in
-    /* | -*) echo "$1" ;;
-    *) echo "$PWD/$1" ;;
+    'CustomEntry('[1-9][0-9][0-9][0-9][0-9]')')
+      code=${1#*'('}
+      [ "${code%?}" -ge 64512 ] && [ "${code%?}" -le 65535 ]
+      ;;
+    *) name=$1 awk '!/^#/ && $2 == ENVIRON["name"] { found = 1 } END { exit !found }' "$top/proto/types.txt" ;;
   esac
 }
 
-proved=no
+# is_chunk NUMBER: whether the lister reads so many bytes at a time
+is_chunk() {
+  case $1 in
+    '' | *[!0-9]* | ??????*) return 1 ;;
+  esac
+  [ "$1" -ge 1 ] && [ "$1" -le 65536 ]
+}
+
+# check_value OPTION VALUE: refuses a value that the option cannot have
+check_value() {
+  case $1 in
+    --protocol)
+      case $2 in
+        [5-9]) ;;
+        *) refuse "--protocol is from 5 to 9, and not '$2'" ;;
+      esac
+      ;;
+    --type) is_type "$2" || refuse "--type: proto/types.txt has no '$2'" ;;
+  esac
+}
+
+# check_named FILE: refuses one file more than $files, and what cannot be read
+check_named() {
+  [ "$files" -gt 0 ] || misused
+  files=$((files - 1))
+  [ "$command $1" = 'diff -' ] || check_file "$1"
+}
+
+# check_option NAME: refuses an option that is none of $options
+check_option() {
+  case $options in
+    *" $1 "*) ;;
+    *) misused ;;
+  esac
+}
+
+# check_arguments OPTIONS FILES ARGUMENT..: refuses arguments of diff and dump that are none of these options, and more
+# than this many files; $files is then how many are left
+check_arguments() {
+  options=$1
+  files=$2
+  shift 2
+  while [ $# -gt 0 ]; do
+    case $1 in
+      -h | --help) page ;;
+      -V | --version) version ;;
+      --)
+        shift
+        for argument in "$@"; do
+          check_named "$argument"
+        done
+        return
+        ;;
+      --protocol=* | --type=*)
+        check_option "${1%%=*}"
+        check_value "${1%%=*}" "${1#*=}"
+        ;;
+      --protocol | --type)
+        check_option "$1"
+        [ $# -gt 1 ] || misused
+        check_value "$1" "$2"
+        shift
+        ;;
+      -?*) check_option "$1" ;;
+      *) check_named "$1" ;;
+    esac
+    shift
+  done
+}
+
+# build: $program is the program of the command
+build() {
+  program=$(sh "$top/scripts/program.sh" $how "journal_$command") || exit 2
+  case $program in
+    */unproved/*) echo 'run.sh: built without the proofs; --proved builds the proved program' >&2 ;;
+  esac
+}
+
+how=--unproved
 if [ "${1-}" = --proved ]; then
-  proved=yes
+  how=
   shift
 fi
 command=${1---help}
 [ $# -eq 0 ] || shift
 case $command in
   list)
-    stream=$(dirname "$0")/../examples/streams/replay
-    if [ $# -gt 0 ]; then
-      stream=$1
-      shift
-    fi
-    [ -r "$stream" ] || { echo "run.sh: no such file: $stream" >&2; exit 2; }
-    run journal_list "$@" < "$stream"
+    case ${1-} in
+      -h | --help) page ;;
+      -V | --version) version ;;
+    esac
+    stream=${1-$top/examples/streams/replay}
+    [ $# -eq 0 ] || shift
+    check_file "$stream"
+    case $# in
+      0) ;;
+      1) [ "$1" = v9 ] || is_chunk "$1" || misused ;;
+      2) { is_chunk "$1" && [ "$2" = v9 ]; } || misused ;;
+      *) misused ;;
+    esac
+    build
+    exec "$program" "$@" < "$stream"
     ;;
-  diff | dump)
-    # each argument that names a file stands for it from wherever the program runs
-    for argument in "$@"; do
-      shift
-      [ ! -e "$argument" ] || argument=$(place "$argument")
-      set -- "$@" "$argument"
-    done
-    run "journal_$command" "$@"
+  diff)
+    check_arguments ' --ignore-payloads --protocol ' 2 "$@"
+    [ "$files" -eq 0 ] || misused
+    build
+    exec "$program" "$@"
     ;;
-  --help) usage ;;
+  dump)
+    check_arguments ' --no-payload --protocol --type ' 1 "$@"
+    build
+    exec "$program" "$@"
+    ;;
+  -h | --help) usage ;;
   *)
     usage >&2
     exit 2

@@ -7,6 +7,7 @@
 # verdict. Where there is no rt it has status 2.
 set -u
 cd "$(dirname "$0")/.." || exit 1
+. scripts/up_to_date.sh
 
 case $#:${1-} in
   1:journal_ffi | 1:bench_ffi) crate=$1 ;;
@@ -15,44 +16,7 @@ esac
 top=$PWD
 library=crates/$crate/out/lib$crate.a
 
-# below CRATE: the crates of this repository on which a crate stands
-below() {
-  awk -F: -v crate="$1" '
-    /^#/ || !NF { next }
-    { split($1, name, " "); listed[name[1]] = $2 }
-    function visit(name,  words, count, i) {
-      if (!(name in listed) || name in seen) return
-      seen[name] = 1
-      count = split(listed[name], words, " ")
-      for (i = 1; i <= count; i++) visit(words[i])
-      if (name != crate) print name
-    }
-    END { visit(crate) }' crates.txt
-}
-
-# sources CRATE..: the folders and files that they are made of
-sources() {
-  echo crates.txt
-  for crate in "$@"; do
-    for part in src specs proofs; do
-      [ ! -d "crates/$crate/$part" ] || echo "crates/$crate/$part"
-    done
-  done
-}
-
-# is_newer FILE CRATE..: whether a file is there and none of the sources of these crates is newer
-is_newer() {
-  file=$1
-  shift
-  # shellcheck disable=SC2046 # no name has a space
-  [ -e "$file" ] && [ -z "$(find $(sources "$@") -newer "$file" -print | sed 1q)" ]
-}
-
-libraries=$(below "$crate")
-# shellcheck disable=SC2086 # the names are split
-if is_newer "$library" "$crate" $libraries; then
-  exit 0
-fi
+! is_up_to_date "$library" "$crate" || exit 0
 if ! command -v rt > /dev/null; then
   echo 'static_library.sh: not run, since there is no rt'
   exit 2
@@ -60,6 +24,7 @@ fi
 
 # The libraries that rt ci leaves have no stamp, and rt lib would prove them again; rattle itself takes them as they
 # are.
+libraries=$(below "$crate")
 are_of_ci=yes
 for name in $libraries; do
   kept=crates/$name/out/rlib

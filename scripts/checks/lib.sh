@@ -121,11 +121,12 @@ installed_library() {
 # program_of CRATE: $program is the proved program of a crate, which rt ci or scripts/run.sh --proved leaves in out/;
 # where there is none, or a source is newer, $program is empty and $why says so
 program_of() {
+  . scripts/up_to_date.sh
   program=$PWD/crates/$1/out/$1
   why=
   if [ ! -x "$program" ]; then
     why="there is no crates/$1/out/$1"
-  elif [ -n "$(find crates/*/src -name '*.rt' -newer "$program")" ]; then
+  elif ! is_up_to_date "$program" "$1"; then
     why="crates/$1/out/$1 is older than a source"
   fi
   if [ -n "$why" ]; then

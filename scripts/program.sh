@@ -1,0 +1,84 @@
+#!/bin/sh
+# Builds a program if it is not up to date, and prints where it is: scripts/program.sh [--unproved] CRATE
+#
+# The proved program is crates/CRATE/out/CRATE; to prove every crate below it takes more than an hour of processor time.
+# With --unproved it takes that one if it is up to date, and otherwise builds crates/CRATE/out/unproved/CRATE without
+# the proofs, which takes less than a minute. That one stops at a bad access, and is slower. The status is 2 where there
+# is no rt.
+set -eu
+cd "$(dirname "$0")/.."
+. scripts/up_to_date.sh
+
+is_unproved=no
+if [ "${1-}" = --unproved ]; then
+  is_unproved=yes
+  shift
+fi
+if [ $# -ne 1 ] || [ ! -e "crates/$1/src/main.rt" ]; then
+  echo 'usage: program.sh [--unproved] CRATE' >&2
+  exit 1
+fi
+crate=$1
+proved=crates/$crate/out/$crate
+unproved=crates/$crate/out/unproved/$crate
+
+# take PROGRAM: prints where an up-to-date program is, and ends
+take() {
+  if is_up_to_date "$1" "$crate"; then
+    echo "$PWD/$1"
+    exit 0
+  fi
+}
+
+# linked FOLDER TARGET: a folder of links to what another one has
+linked() {
+  rm -f "$2"
+  mkdir "$2"
+  ln -s "$1"/* "$2"
+}
+
+# keeping_kit: a kit below $work whose rt try leaves its program in $work/program. The toolchain's own rt try deletes
+# what it has built and run; so this is a folder of links to the toolchain, with another linker, and rt copied, since it
+# looks for the rest beside itself.
+keeping_kit() {
+  page=$(rt doc)
+  kit=${page%/*}
+  for folder in '' /bin /toolchain /toolchain/bin; do
+    linked "$kit$folder" "$work/kit$folder"
+  done
+  rm "$work/kit/bin/rt" "$work/kit/bin/rtlib.py" "$work/kit/toolchain/bin/ld.lld"
+  cp "$kit/bin/rt" "$kit/bin/rtlib.py" "$work/kit/bin/"
+  # it is run without an environment
+  cat > "$work/kit/toolchain/bin/ld.lld" << END
+#!/bin/sh
+'$kit/toolchain/bin/ld.lld' "\$@" && '$(command -v cp)' program '$work/program'
+END
+  chmod +x "$work/kit/toolchain/bin/ld.lld"
+}
+
+take "$proved"
+[ "$is_unproved" = no ] || take "$unproved"
+if ! command -v rt > /dev/null; then
+  echo 'program.sh: nothing is built, since there is no rt, the command of the Rattle toolchain' >&2
+  exit 2
+fi
+work=$(mktemp -d)
+trap 'rm -rf "$work"' EXIT
+if [ "$is_unproved" = yes ]; then
+  echo "program.sh: building $crate without the proofs, once, which takes less than a minute" >&2
+  keeping_kit
+  # the program is run without input and arguments, and may refuse that
+  (cd "crates/$crate" && "$work/kit/bin/rt" try --steps 1 < /dev/null) > "$work/log" 2>&1 || :
+  if [ -e "$work/program" ]; then
+    mkdir -p "${unproved%/*}"
+    mv "$work/program" "$unproved"
+  fi
+  take "$unproved"
+else
+  echo "program.sh: proving $crate and what is not proved yet below it, which can take more than an hour" >&2
+  # it is run too, without input and arguments, and may refuse that
+  (cd "crates/$crate" && rt run < /dev/null) > "$work/log" 2>&1 || :
+  take "$proved"
+fi
+cat "$work/log" >&2
+exit 1

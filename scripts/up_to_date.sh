@@ -1,0 +1,40 @@
+# What the scripts that build share. They go to the top of the repository, and say '. scripts/up_to_date.sh'.
+
+# below CRATE: the crates of this repository on which a crate stands
+below() {
+  awk -F: -v crate="$1" '
+    /^#/ || !NF { next }
+    { split($1, name, " "); listed[name[1]] = $2 }
+    function visit(name,  words, count, i) {
+      if (!(name in listed) || name in seen) return
+      seen[name] = 1
+      count = split(listed[name], words, " ")
+      for (i = 1; i <= count; i++) visit(words[i])
+      if (name != crate) print name
+    }
+    END { visit(crate) }' crates.txt
+}
+
+# sources CRATE..: the folders and files that they are made of
+sources() {
+  echo crates.txt
+  for crate in "$@"; do
+    for part in src specs proofs; do
+      [ ! -d "crates/$crate/$part" ] || echo "crates/$crate/$part"
+    done
+  done
+}
+
+# is_newer FILE CRATE..: whether a file is there and none of the sources of these crates is newer
+is_newer() (
+  file=$1
+  shift
+  # shellcheck disable=SC2046 # no name has a space
+  [ -e "$file" ] && [ -z "$(find $(sources "$@") -newer "$file" -print | sed 1q)" ]
+)
+
+# is_up_to_date FILE CRATE: whether a file is there and no source of the crate, nor of one on which it stands, is newer
+is_up_to_date() {
+  # shellcheck disable=SC2046 # no name has a space
+  is_newer "$1" "$2" $(below "$2")
+}
