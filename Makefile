@@ -6,8 +6,8 @@ help:
 	@echo 'make test                   the gate: every proof, test and check, more than an hour (sh scripts/test.sh)'
 	@echo 'make check [NAME=dump]      lists the checks, or runs those that are named, or all (sh scripts/check.sh)'
 	@echo 'make generate [NAME=..]     makes the files that are not written by hand (python3 tools/generate.py)'
-	@echo 'make install PREFIX=..      puts the library for C below a folder (sh scripts/install.sh)'
-	@echo 'make uninstall PREFIX=..    takes it away again'
+	@echo 'make install PREFIX=..      puts the programs and the library for C below a folder (sh scripts/install.sh)'
+	@echo 'make uninstall PREFIX=..    removes them'
 	@echo 'make bench [NAME=speed]     lists what is measured, or measures it (sh scripts/bench.sh)'
 
 quick:
@@ -23,10 +23,10 @@ generate:
 	python3 tools/generate.py $(NAME)
 
 install:
-	sh scripts/install.sh '$(PREFIX)'
+	DESTDIR='$(DESTDIR)' sh scripts/install.sh '$(PREFIX)'
 
 uninstall:
-	sh scripts/install.sh --uninstall '$(PREFIX)'
+	DESTDIR='$(DESTDIR)' sh scripts/install.sh --uninstall '$(PREFIX)'
 
 bench:
 	sh scripts/bench.sh $(NAME)

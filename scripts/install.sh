@@ -1,16 +1,23 @@
 #!/bin/sh
-# Installs the library for C below a folder, or takes away what it installed:
+# Installs the programs and the library for C below a folder, or removes what it installed:
 #
-#   scripts/install.sh PREFIX              the header, the static and the shared library, and a file for pkg-config
-#   scripts/install.sh --uninstall PREFIX  takes exactly these files away
+#   scripts/install.sh [--library] [--libdir DIR] PREFIX
+#   scripts/install.sh --uninstall [--libdir DIR] PREFIX
 #
-# What is installed is proved. scripts/static_library.sh builds it, and proves what is not proved yet, which takes more
-# than an hour of processor time the first time.
-# Both libraries show the calls of include/pendratsoa.h and nothing else, and need the C library alone.
+#   PREFIX       a folder, as /usr/local; it gets the programs in bin, the header in include, the static and the shared
+#                library and a file for pkg-config in lib, and man pages and completion for bash and zsh in share
+#   --library    the library alone, its man pages with it: no program is proved or built for that
+#   --libdir     where the libraries are, below PREFIX, instead of lib
+#   --uninstall  removes exactly these files
+#
+# What is installed is proved. What is not up to date is proved first: every crate below the programs and the library,
+# which takes more than an hour of processor time the first time, and no time where nothing has changed. The variable
+# DESTDIR is a folder in which PREFIX is made, for a package, and CC the C compiler. Both libraries export the calls of
+# include/pendratsoa.h and nothing else, and need the C library alone.
 set -eu
 
 usage() {
-  echo 'usage: install.sh [--uninstall] PREFIX' >&2
+  echo 'usage: install.sh [--library] [--libdir DIR] PREFIX, or install.sh --uninstall [--libdir DIR] PREFIX' >&2
   exit 2
 }
 
@@ -20,35 +27,50 @@ not_installed() {
   exit 2
 }
 
-action=install
-if [ "${1-}" = --uninstall ]; then
-  action=uninstall
-  shift
-fi
-case $#:${1-} in
-  1: | 1:-*) usage ;;
-  1:*) ;;
-  *) usage ;;
-esac
-prefix=$1
 top=$(cd "$(dirname "$0")/.." && pwd)
 header=$top/include/pendratsoa.h
+programs='journal_list journal_diff journal_dump'
+action=install
+libdir=lib
+while [ $# -gt 1 ]; do
+  case $1 in
+    --library) programs= ;;
+    --libdir) libdir=$2; shift ;;
+    --uninstall) action=uninstall ;;
+    *) usage ;;
+  esac
+  shift
+done
+case ${1-} in
+  --help) sed -n '2,17s/^# \{0,1\}//p' "$0"; exit 0 ;;
+  '' | -*) usage ;;
+esac
+prefix=$1
+target=${DESTDIR-}$prefix
 version=$(sed -n 's/^#define JOURNAL_LIBRARY_VERSION "\(.*\)"$/\1/p' "$header")
 soname=libpendratsoa.so.${version%%.*}
+calls=$(awk '/^int64_t journal_/ { sub(/^int64_t /, ""); sub(/\(.*/, ""); print }' "$header")
 
-# what is installed, below PREFIX
-files="include/pendratsoa.h
-lib/libpendratsoa.a
-lib/libpendratsoa.so.$version
-lib/$soname
-lib/libpendratsoa.so
-lib/pkgconfig/pendratsoa.pc"
+# library_files, program_files: what is installed, below PREFIX
+library_files() {
+  printf '%s\n' include/pendratsoa.h share/man/man3/pendratsoa.3
+  printf "$libdir/%s\n" libpendratsoa.a "libpendratsoa.so.$version" "$soname" libpendratsoa.so pkgconfig/pendratsoa.pc
+  # shellcheck disable=SC2086 # the names are split
+  printf 'share/man/man3/%s.3\n' $calls
+}
+program_files() {
+  for program in $programs; do
+    printf '%s\n' "bin/$program" "share/man/man1/$program.1" "share/bash-completion/completions/$program.bash" \
+      "share/zsh/site-functions/_$program"
+  done
+}
 
 if [ "$action" = uninstall ]; then
+  files=$(library_files; program_files)
   for file in $files; do
-    rm -f "$prefix/$file"
+    rm -f "$target/$file"
   done
-  echo "install.sh: took away from $prefix: $(echo "$files" | tr '\n' ' ')"
+  echo "install.sh: removed from $target: $(echo "$files" | tr '\n' ' ')"
   exit 0
 fi
 
@@ -61,11 +83,14 @@ command -v rt > /dev/null || not_installed 'there is no rt, the command of the R
 sh "$top/scripts/static_library.sh" journal_ffi
 archive=$top/crates/journal_ffi/out/libjournal_ffi.a
 heap=$(dirname "$(rt doc)")/c/liblibc_c.a
+for program in $programs; do
+  sh "$top/scripts/program.sh" "$program" > /dev/null || not_installed "$program is not proved"
+done
 work=$(mktemp -d)
 trap 'rm -rf "$work"' EXIT
 
 # One object of the calls and what they need, in which no other name is seen. The header has the names.
-awk '/^int64_t journal_/ { sub(/^int64_t /, ""); sub(/\(.*/, ""); print }' "$header" > "$work/calls"
+echo "$calls" > "$work/calls"
 # shellcheck disable=SC2046 # the names are words
 ld -r --gc-sections $(sed 's/^/--require-defined=/' "$work/calls") -o "$work/all.o" "$archive" "$heap"
 objcopy --keep-global-symbols="$work/calls" --strip-unneeded --remove-section=.llvm_addrsig \
@@ -79,12 +104,16 @@ ar rcsD "$work/libpendratsoa.a" "$work/pendratsoa.o"
 "$compiler" -shared -Wl,-soname,"$soname" -Wl,--version-script,"$work/calls.map" -Wl,-z,defs,-z,now \
   -o "$work/libpendratsoa.so" "$work/pendratsoa.o"
 
-mkdir -p "$prefix/include" "$prefix/lib/pkgconfig"
-prefix=$(cd "$prefix" && pwd)
+# The folder may be moved after it is installed, unless it is for a package.
+if [ -n "${DESTDIR-}" ]; then
+  found=$prefix
+else
+  found='${pcfiledir}/..'$(echo "/$libdir" | sed 's|/[^/]*|/..|g')
+fi
 cat > "$work/pendratsoa.pc" << END
-prefix=$prefix
+prefix=$found
 includedir=\${prefix}/include
-libdir=\${prefix}/lib
+libdir=\${prefix}/$libdir
 
 Name: pendratsoa
 Description: The journal protocol of the Restate SDKs
@@ -95,15 +124,27 @@ END
 
 # place FILE MODE TARGET: puts a file where it belongs. A program that runs keeps the file that it has open.
 place() {
-  rm -f "$prefix/$3"
-  cp "$1" "$prefix/$3"
-  chmod "$2" "$prefix/$3"
+  mkdir -p "$target/${3%/*}"
+  rm -f "$target/$3"
+  cp "$1" "$target/$3"
+  chmod "$2" "$target/$3"
 }
 
 place "$header" 644 include/pendratsoa.h
-place "$work/libpendratsoa.a" 644 lib/libpendratsoa.a
-place "$work/libpendratsoa.so" 755 "lib/libpendratsoa.so.$version"
-place "$work/pendratsoa.pc" 644 lib/pkgconfig/pendratsoa.pc
-ln -sfn "libpendratsoa.so.$version" "$prefix/lib/$soname"
-ln -sfn "$soname" "$prefix/lib/libpendratsoa.so"
-echo "install.sh: installed pendratsoa $version, proved, below $prefix"
+place "$work/libpendratsoa.a" 644 "$libdir/libpendratsoa.a"
+place "$work/libpendratsoa.so" 755 "$libdir/libpendratsoa.so.$version"
+place "$work/pendratsoa.pc" 644 "$libdir/pkgconfig/pendratsoa.pc"
+ln -sfn "libpendratsoa.so.$version" "$target/$libdir/$soname"
+ln -sfn "$soname" "$target/$libdir/libpendratsoa.so"
+place "$top/share/man/man3/pendratsoa.3" 644 share/man/man3/pendratsoa.3
+echo '.so man3/pendratsoa.3' > "$work/call.3"
+for call in $calls; do
+  place "$work/call.3" 644 "share/man/man3/$call.3"
+done
+for program in $programs; do
+  place "$top/crates/$program/out/$program" 755 "bin/$program"
+done
+for file in $(program_files | sed '/^bin/d'); do
+  place "$top/$file" 644 "$file"
+done
+echo "install.sh: installed pendratsoa $version, proved, below $target"

@@ -27,14 +27,21 @@ refuse() {
   exit 2
 }
 
+# usage_line: prints how the command is used
+usage_line() {
+  sed -n "s|^#   scripts/\(run.sh .*\] $command .*\)|usage: \1|p" "$top/scripts/run.sh"
+}
+
 # misused: says how the command is used, and ends
 misused() {
-  sed -n "s|^#   scripts/\(run.sh .*\] $command .*\)|usage: \1|p" "$top/scripts/run.sh" >&2
+  usage_line >&2
   exit 2
 }
 
-# page: prints what docs/PROGRAMS.md says of the command, and ends
+# page: prints how the command is used, and what docs/PROGRAMS.md says of its program, and ends
 page() {
+  usage_line
+  echo
   awk -v heading="## journal_$command: " '
     /^## / { is_shown = index($0, heading) == 1 }
     is_shown' "$top/docs/PROGRAMS.md"

@@ -15,18 +15,18 @@ static_library
 prefix="$work/a prefix"
 mkdir -p "$prefix/lib"
 echo other > "$prefix/lib/other"
-for words in '' '--install' "$prefix other"; do
+for words in '' '--install' '--library' '--libdir lib' "$prefix other"; do
   # shellcheck disable=SC2086 # the words are split
   sh scripts/install.sh $words > "$work/out" 2> "$work/err"
   [ $? -eq 2 ] && grep -q '^usage: install.sh' "$work/err"
   outcome "install.sh $words" $?
 done
 without_compiler='there is no no-compiler, and it needs a C compiler and binutils'
-CC=no-compiler sh scripts/install.sh "$prefix" > "$work/out" 2> "$work/err"
+CC=no-compiler sh scripts/install.sh --library "$prefix" > "$work/out" 2> "$work/err"
 [ $? -eq 2 ] && [ "$(cat "$work/err")" = "install.sh: nothing is installed, since $without_compiler" ]
 outcome 'install.sh without a compiler' $?
-case_of 'install.sh' sh scripts/install.sh "$prefix"
-case_of 'install.sh again' sh scripts/install.sh "$prefix"
+case_of 'install.sh --library' sh scripts/install.sh --library "$prefix"
+case_of 'install.sh --library again' sh scripts/install.sh --library "$prefix"
 [ "$failed" -eq 0 ] || finish
 library=$prefix/lib/libpendratsoa.so
 
@@ -48,12 +48,12 @@ same 'what the shared library needs and is called' "$work/wanted" "$work/names"
 awk '/^```c$/ { is_code = 1; next } /^```$/ { is_code = 0 } is_code' docs/C.md > "$work/page.c"
 sed -n 's/^It prints `\(.*\)`\..*/\1/p' docs/C.md > "$work/wanted"
 if command -v pkg-config > /dev/null; then
+  # the folder has another name by then, which pkg-config can say without quotes
   plain=$work/plain
   ln -s "$prefix" "$plain"
-  sed "s|^prefix=.*|prefix=$plain|" "$prefix/lib/pkgconfig/pendratsoa.pc" > "$work/pendratsoa.pc"
   # shellcheck disable=SC2046 # the flags are split
   case_of 'the program of docs/C.md' cc -std=c99 -Wall -Wextra -Werror "$work/page.c" \
-    $(PKG_CONFIG_PATH=$work pkg-config --cflags --libs pendratsoa) -o "$work/page"
+    $(PKG_CONFIG_PATH=$plain/lib/pkgconfig pkg-config --cflags --libs pendratsoa) -o "$work/page"
   LD_LIBRARY_PATH=$prefix/lib "$work/page" > "$work/out" 2> "$work/err"
   same 'what it prints' "$work/wanted" "$work/out"
 else

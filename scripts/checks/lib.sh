@@ -110,7 +110,7 @@ static_library() {
 installed_library() {
   static_library
   prefix=$work/prefix
-  case_of 'install.sh' sh scripts/install.sh "$prefix"
+  case_of 'install.sh' sh scripts/install.sh --library "$prefix"
   [ "$failed" -eq 0 ] || finish
   PKG_CONFIG_PATH=$prefix/lib/pkgconfig
   PENDRATSOA_LIBRARY=$prefix/lib/libpendratsoa.so

@@ -69,7 +69,8 @@ shown() {
 for command in list diff dump; do
   run_sh $command --help
   shown "run.sh $command --help"
-  grep -q "^    sh scripts/run.sh $command " "$out" && ! grep '^## ' "$out" | grep -qv "^## journal_$command: "
+  grep -q "^usage: run.sh .*\] $command " "$out" && grep -q "^    journal_$command " "$out" &&
+    ! grep '^## ' "$out" | grep -qv "^## journal_$command: "
   outcome "run.sh $command --help shows the program's section" $?
   run_sh $command --version
   shown "run.sh $command --version"

@@ -24,6 +24,8 @@ GENERATORS = (
     "random_vectors",
     "dumps",
     "peer",
+    "man_pages",
+    "completions",
 )
 
 
