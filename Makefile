@@ -1,11 +1,12 @@
 # A front for the scripts, which say more with --help: no rule of it does anything else.
-.PHONY: help quick test check generate install uninstall bench
+.PHONY: help quick test check generate view install uninstall bench
 
 help:
 	@echo 'make quick                  what can be known in two minutes, without a proof (sh scripts/test.sh --quick)'
 	@echo 'make test                   the gate: every proof, test and check, more than an hour (sh scripts/test.sh)'
 	@echo 'make check [NAME=dump]      lists the checks, or runs those that are named, or all (sh scripts/check.sh)'
 	@echo 'make generate [NAME=..]     makes the files that are not written by hand (python3 tools/generate.py)'
+	@echo 'make view STREAM=.. [OTHER=..] [OUT=..]   a page that shows a journal, or two (sh scripts/run.sh view)'
 	@echo 'make install PREFIX=..      puts the programs and the library for C below a folder (sh scripts/install.sh)'
 	@echo 'make uninstall PREFIX=..    removes them'
 	@echo 'make bench [NAME=speed]     lists what is measured, or measures it (sh scripts/bench.sh)'
@@ -21,6 +22,9 @@ check:
 
 generate:
 	python3 tools/generate.py $(NAME)
+
+view:
+	sh scripts/run.sh view '$(STREAM)' $(if $(OTHER),'$(OTHER)') $(if $(OUT),-o '$(OUT)')
 
 install:
 	DESTDIR='$(DESTDIR)' sh scripts/install.sh '$(PREFIX)'

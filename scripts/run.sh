@@ -7,7 +7,9 @@
 #       where two journals differ
 #   scripts/run.sh [--proved] dump [--protocol 5..9] [--type NAME].. [--no-payload] [FILE]
 #       a stream as JSON, the standard input if none is given
-#   scripts/run.sh list|diff|dump --help
+#   scripts/run.sh [--proved] view [OPTION].. STREAM [OTHER] [-o FILE]
+#       a page that shows a journal, or two side by side
+#   scripts/run.sh list|diff|dump|view --help
 #       what docs/PROGRAMS.md says of the program
 #
 # The first run without the proofs builds the program, in less than a minute, and keeps it. With --proved every crate
@@ -18,7 +20,7 @@ set -eu
 top=$(cd "$(dirname "$0")/.." && pwd)
 
 usage() {
-  sed -n '2,15s/^# \{0,1\}//p' "$top/scripts/run.sh"
+  sed -n '2,17s/^# \{0,1\}//p' "$top/scripts/run.sh"
 }
 
 # refuse WHY: says in one line why the program is not run, and ends
@@ -185,6 +187,13 @@ case $command in
     check_arguments ' --no-payload --protocol --type ' 1 "$@"
     build
     exec "$program" "$@"
+    ;;
+  view)
+    case ${1-} in
+      -h | --help) page ;;
+    esac
+    command -v python3 > /dev/null || refuse 'view: there is no python3'
+    exec python3 "$top/view/make_page.py" $how "$@"
     ;;
   -h | --help) usage ;;
   *)

@@ -34,6 +34,7 @@ NAMES = (
     "random_vectors",
     "dumps",
     "peer",
+    "page_fields",
     "pages",
     "man_pages",
     "completions",

@@ -8,7 +8,7 @@ set -u
 cd "$(dirname "$0")/../.." || exit 1
 . scripts/checks/lib.sh
 
-folders='bench|conformance|crates|docs|examples|include|proto|python|scripts|share|tests|tools'
+folders='bench|conformance|crates|docs|examples|include|proto|python|scripts|share|tests|tools|view'
 pages=$(find . -name '*.md' -not -path '*/out/*' -not -path '*/target/*' | sed 's|^\./||' | sort)
 
 # missing PAGE WHAT

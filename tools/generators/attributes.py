@@ -24,6 +24,7 @@ GENERATORS = (
     "random_vectors",
     "dumps",
     "peer",
+    "page_fields",
     "man_pages",
     "completions",
 )

@@ -1,0 +1,26 @@
+#!/bin/sh
+# The page of journal_view: its maker, and the page in a headless Chromium, by keys and with adversarial payloads.
+#
+# It takes the proved journal_dump and journal_diff. The browser is driven over a pipe, without a network.
+set -u
+cd "$(dirname "$0")/../.." || exit 1
+. scripts/checks/lib.sh
+
+needs python3 python3
+for crate in journal_dump journal_diff; do
+  program_of $crate
+  [ -n "$program" ] || not_run "$why"
+done
+PYTHONDONTWRITEBYTECODE=1
+export PYTHONDONTWRITEBYTECODE
+counted 'the maker of the page' python3 view/tests/test_make_page.py
+if ! command -v chromium > /dev/null; then
+  left_out 'the page in a browser' 'there is no chromium; the Debian package chromium has it'
+elif ! timeout 60 chromium --headless --no-sandbox --disable-gpu --user-data-dir="$work/browser" --dump-dom about:blank \
+  > "$out" 2> "$err" < /dev/null; then
+  left_out 'the page in a browser' 'chromium does not start here'
+else
+  counted 'the page in a browser' timeout 300 python3 view/tests/test_page.py
+fi
+
+finish

@@ -1,0 +1,219 @@
+#!/usr/bin/env python3
+"""Writes a page that shows one journal, or two side by side: view/make_page.py [OPTION].. STREAM [OTHER]
+
+The items are the lines of journal_dump, and with two journals the difference is what journal_diff prints: nothing of a
+stream is decoded here. The page is one file with its data, style and script inside, and requests nothing.
+"""
+import argparse
+import base64
+import hashlib
+import html
+import json
+import pathlib
+import re
+import string
+import subprocess
+import sys
+
+HERE = pathlib.Path(__file__).resolve().parent
+ROOT = HERE.parent
+
+# The files of the script, in the order in which they take from each other.
+SCRIPTS = ("text", "bytes", "items", "rows", "summary", "list", "detail", "filter", "top", "keys")
+
+# How many items a page shows, of all its journals, by default.
+ITEMS = 200_000
+
+# The most characters of a line whose payload is in the page, and of all lines of a journal.
+LINE_CHARACTERS = 4 << 20
+JOURNAL_CHARACTERS = 64 << 20
+
+# What the first line of journal_diff says: the kind of the verdict, by a pattern that has the index of the command.
+VERDICTS = (
+    ("same", re.compile(r"same, (?P<index>\d+) commands?$")),
+    ("recorded ends", re.compile(r"recorded ends at command (?P<index>\d+)$")),
+    ("replayed ends", re.compile(r"replayed ends at command (?P<index>\d+)$")),
+    ("differs", re.compile(r"command (?P<index>\d+): ")),
+    ("recorded malformed", re.compile(r"journal_diff: the recorded command (?P<index>\d+) is malformed$")),
+    ("replayed malformed", re.compile(r"journal_diff: the replayed command (?P<index>\d+) is malformed$")),
+)
+
+
+class Failure(Exception):
+    """Why there is no page: a line for the standard error, and the status."""
+
+    def __init__(self, line, status):
+        super().__init__(line)
+        self.status = status
+
+
+def parse_arguments(words):
+    """The parsed command line."""
+    parser = argparse.ArgumentParser(
+        prog="run.sh view", description="Writes a page that shows one journal, or two side by side."
+    )
+    parser.add_argument("stream", metavar="STREAM", help="a journal; with OTHER the recorded one")
+    parser.add_argument("other", metavar="OTHER", nargs="?", help="the replayed journal")
+    parser.add_argument("-o", "--output", metavar="FILE", default="journal.html", help="the page; - is the output")
+    parser.add_argument("--protocol", choices="56789", default="8", help="the version of the protocol, 8 by default")
+    parser.add_argument("--ignore-payloads", action="store_true", help="payloads of user data are not compared")
+    parser.add_argument(
+        "--items", type=int, default=ITEMS, metavar="N", help=f"how many items the page shows, {ITEMS:,} by default"
+    )
+    parser.add_argument("--unproved", action="store_true", help="takes programs that are built without the proofs")
+    arguments = parser.parse_args(words)
+    if arguments.items < 1:
+        parser.error("--items is at least 1")
+    return arguments
+
+
+def program(name, unproved):
+    """The path of a program, which is built if it is not up to date; unproved if that is enough."""
+    words = ["sh", str(ROOT / "scripts" / "program.sh"), *(["--unproved"] if unproved else []), f"journal_{name}"]
+    built = subprocess.run(words, stdin=subprocess.DEVNULL, stdout=subprocess.PIPE, encoding="utf-8")
+    if built.returncode != 0:
+        raise Failure(f"view: journal_{name} cannot be built", 2)
+    path = built.stdout.strip()
+    if "/unproved/" in path:
+        print(f"view: journal_{name} is built without the proofs; --proved builds the proved program", file=sys.stderr)
+    return path
+
+
+def shortened(line):
+    """An item's line without its payload, which is too long for a page."""
+    item = json.loads(line)
+    for name in ("message", "malformed", "bytes"):
+        item.pop(name, None)
+    item["leftOut"] = True
+    return json.dumps(item, separators=(",", ":"))
+
+
+def read_journal(words, path, most):
+    """A journal for the page: its lines as journal_dump prints them, the last of them that of the rest. `most` items
+    are kept; the others are counted."""
+    lines, last, items, characters, is_full = [], None, 0, 0, False
+    words = [*words, "--", path]
+    with subprocess.Popen(words, stdin=subprocess.DEVNULL, stdout=subprocess.PIPE, encoding="utf-8") as dump:
+        for line in dump.stdout:
+            if last is not None:
+                items += 1
+                kept = last if len(last) <= LINE_CHARACTERS else shortened(last)
+                is_full = is_full or len(lines) == most or characters + len(kept) > JOURNAL_CHARACTERS
+                if not is_full:
+                    lines.append(kept)
+                    characters += len(kept)
+            last = line.rstrip("\n")
+    if dump.returncode != 0 or last is None:
+        raise Failure(f"view: {path}: journal_dump ended with the status {dump.returncode}", dump.returncode or 1)
+    rest = json.loads(last)
+    return {
+        "name": pathlib.PurePath(path).name,
+        "items": items,
+        "shown": len(lines),
+        "bytes": rest["offset"] + rest["rest"],
+        "lines": [*lines, last],
+    }
+
+
+def verdict_of(text):
+    """What journal_diff printed, with its kind and the index of the command that it names; None for any other text."""
+    for kind, pattern in VERDICTS:
+        if match := pattern.match(text.split("\n", 1)[0]):
+            return {"kind": kind, "index": int(match["index"]), "text": text}
+    return None
+
+
+def compare(words, paths):
+    """The verdict on two journals, or why there is none: a command that is malformed."""
+    diff = subprocess.run(
+        [*words, "--", *paths], stdin=subprocess.DEVNULL, capture_output=True, encoding="utf-8", errors="replace"
+    )
+    verdict = verdict_of((diff.stdout or diff.stderr).rstrip("\n"))
+    if verdict is None:
+        sys.stderr.write(diff.stderr)
+        raise Failure(f"view: journal_diff ended with the status {diff.returncode}", diff.returncode or 1)
+    return verdict
+
+
+def messages_of(version):
+    """The types with their directions and their messages at a version, and the messages with their fields."""
+    protocol = json.loads((HERE / "protocol.json").read_text(encoding="utf-8"))
+    types = {}
+    for name, entry in protocol["types"].items():
+        earlier = [message for before, message in entry.get("before", {}).items() if version < int(before)]
+        types[name] = {"direction": entry["direction"], "message": earlier[0] if earlier else entry["message"]}
+    return {"types": types, "messages": protocol["messages"]}
+
+
+def embedded(text):
+    """JSON as the text of a script element: no tag and no comment begins in it."""
+    return text.replace("<", "\\u003c")
+
+
+def content_hash(text):
+    """A source of a Content-Security-Policy: the element with exactly this text."""
+    return f"'sha256-{base64.b64encode(hashlib.sha256(text.encode()).digest()).decode()}'"
+
+
+def policy(script, style):
+    """The page's Content-Security-Policy: this script, this style, nothing else, and no text that becomes a tag."""
+    return (
+        f"default-src 'none'; script-src {content_hash(script)}; style-src {content_hash(style)}; "
+        "base-uri 'none'; form-action 'none'; require-trusted-types-for 'script'; trusted-types 'none'"
+    )
+
+
+def page(journals, verdict, version, ignores_payloads):
+    """The page's text."""
+    script = "\n".join((HERE / "script" / f"{name}.js").read_text(encoding="utf-8") for name in SCRIPTS)
+    style = (HERE / "page.css").read_text(encoding="utf-8")
+    about = {
+        "version": version,
+        "ignoresPayloads": ignores_payloads,
+        "verdict": verdict,
+        "journals": [{name: value for name, value in journal.items() if name != "lines"} for journal in journals],
+        **messages_of(version),
+    }
+    parts = [
+        f'<script type="application/json" id="journal-{side}">\n{embedded(chr(10).join(journal["lines"]))}\n</script>'
+        for side, journal in enumerate(journals)
+    ]
+    return string.Template((HERE / "page.html").read_text(encoding="utf-8")).substitute(
+        policy=policy(script, style),
+        title=html.escape(" and ".join(journal["name"] for journal in journals)),
+        style=style,
+        script=script,
+        about=embedded(json.dumps(about, separators=(",", ":"))),
+        journals="\n".join(parts),
+    )
+
+
+def run(arguments):
+    """Makes the page and writes it."""
+    paths = [path for path in (arguments.stream, arguments.other) if path is not None]
+    protocol = ["--protocol", arguments.protocol]
+    dump = [program("dump", arguments.unproved), *protocol]
+    journals = [read_journal(dump, path, max(1, arguments.items // len(paths))) for path in paths]
+    verdict = None
+    if len(paths) == 2:
+        options = [*protocol, *(["--ignore-payloads"] if arguments.ignore_payloads else [])]
+        verdict = compare([program("diff", arguments.unproved), *options], paths)
+    text = page(journals, verdict, int(arguments.protocol), arguments.ignore_payloads)
+    if arguments.output == "-":
+        sys.stdout.buffer.write(text.encode())
+    else:
+        pathlib.Path(arguments.output).write_text(text, encoding="utf-8", newline="\n")
+        print(arguments.output)
+
+
+def main(words):
+    try:
+        run(parse_arguments(words))
+    except (Failure, OSError) as error:
+        print(error if isinstance(error, Failure) else f"view: {error.filename}: {error.strerror}", file=sys.stderr)
+        return getattr(error, "status", 2)
+    return 0
+
+
+if __name__ == "__main__":
+    sys.exit(main(sys.argv[1:]))

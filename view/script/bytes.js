@@ -1,0 +1,59 @@
+// Bytes as text, as JSON or in hex.
+
+function bytesOf(base64) {
+  return Uint8Array.from(atob(base64), (character) => character.charCodeAt(0));
+}
+
+/** The text that bytes are, or null where they are none; `isCut` allows a last character that is not whole. */
+function textOf(bytes, isCut = false) {
+  try {
+    const text = new TextDecoder("utf-8", { fatal: true, ignoreBOM: true }).decode(bytes, { stream: isCut });
+    return /[\u0000-\u0008\u000e-\u001f]/.test(text) ? null : text;
+  } catch {
+    return null;
+  }
+}
+
+const hexOf = (bytes) => Array.from(bytes, (byte) => byte.toString(16).padStart(2, "0")).join(" ");
+
+/** Sixteen bytes a line: the place of the first, the bytes in hex, and those that are printable. */
+function hexDump(bytes) {
+  const lines = [];
+  for (let start = 0; start < bytes.length; start += 16) {
+    const row = bytes.subarray(start, start + 16);
+    const printable = Array.from(row, (byte) => (byte >= 32 && byte < 127 ? String.fromCharCode(byte) : ".")).join("");
+    lines.push(`${start.toString(16).padStart(6, "0")}  ${hexOf(row).padEnd(47)}  ${printable}`);
+  }
+  return lines.join("\n");
+}
+
+/** A JSON text with line breaks; its numbers and strings stay as they are. */
+function indented(json) {
+  let depth = 0;
+  const line = () => `\n${"  ".repeat(depth)}`;
+  return json.replace(/"(?:[^"\\]|\\.)*"|[[{]\s*[\]}]|[[\]{},:]|\s+/g, (token) => {
+    if (token.startsWith('"')) return token;
+    if (/^\s+$/.test(token)) return "";
+    if (token.length > 1) return token[0] + token.at(-1);
+    if ("[{".includes(token)) return (depth++, token + line());
+    if ("]}".includes(token)) return (depth--, line() + token);
+    return token === "," ? token + line() : ": ";
+  });
+}
+
+function isJson(text) {
+  if (!/^\s*[[{]/.test(text)) return false;
+  try {
+    JSON.parse(text);
+    return true;
+  } catch {
+    return false;
+  }
+}
+
+/** A few characters of bytes, for a row. */
+function preview(base64) {
+  const bytes = bytesOf(base64.slice(0, 160));
+  const text = textOf(bytes, base64.length > 160);
+  return text === null ? `0x${hexOf(bytes.subarray(0, 24)).replaceAll(" ", "")}` : text.replace(/\s+/g, " ");
+}

@@ -1,0 +1,150 @@
+// The items of the journals, and what joins them: their ids.
+
+const ID_FIELDS = new Set(["completionId", "resultCompletionId", "invocationIdNotificationIdx"]);
+const NAME_PATH = /(^|\.)(\w*[nN]ame|key|\w+Key|keys)(\[\d+\])?$/;
+
+const fieldsOf = (schema) => about.messages[schema] ?? {};
+const typeOf = ({ dump, direction }) =>
+  dump.type ?? (direction === "rest" ? "rest" : `${direction} 0x${dump.code.toString(16).padStart(4, "0")}`);
+const groupOf = (item) => (about.types[item.dump.type] ? item.dump.type : DIRECTIONS[item.direction]);
+const schemaOf = (item) => about.types[item.dump.type]?.message;
+const isFuture = (item) => schemaOf(item) === "SuspensionMessageV6";
+
+function directionOf(dump) {
+  if ("rest" in dump) return "rest";
+  if (dump.unknown) return "unknown";
+  return dump.skipped ? "skipped" : (about.types[dump.type]?.direction ?? "custom");
+}
+
+/**
+ * The values in a message, each with its path, its kind, and whether journal_diff compares it. A future is one value,
+ * and so is a message without fields.
+ */
+function* valuesOf(message, schema, path = "", compared = true) {
+  for (const [name, value] of Object.entries(message)) {
+    const field = fieldsOf(schema)[name] ?? { kind: "text" };
+    const isCompared = compared && field.compared !== false && !(field.payload && about.ignoresPayloads);
+    const list = Array.isArray(value);
+    for (const [place, one] of (list ? value : [value]).entries()) {
+      const at = path + name + (list ? `[${place}]` : "");
+      const isNested = field.kind in about.messages && field.kind !== "Future" && Object.keys(one).length > 0;
+      if (isNested) yield* valuesOf(one, field.kind, `${at}.`, isCompared);
+      else yield { path: at, kind: field.kind, value: one, compared: isCompared };
+    }
+  }
+}
+
+/** The values of an item: of its message, or the bytes that are none. */
+function itemValues({ dump, ...item }) {
+  if (dump.message === undefined) {
+    return dump.bytes === undefined ? [] : [{ path: "bytes", kind: "bytes", value: dump.bytes, compared: false }];
+  }
+  if (isFuture({ dump })) return [{ path: "waiting", kind: "Future", value: dump.message, compared: false }];
+  return [...valuesOf(dump.message, schemaOf({ dump, ...item }), "", item.direction === "command")];
+}
+
+/** The keys of what a future awaits by itself: c3 is completion 3, s17 is signal 17, n and a name is a named signal. */
+function awaitedBy(future) {
+  return [
+    ...(future.waitingCompletions ?? []).map((id) => `c${id}`),
+    ...(future.waitingSignals ?? []).map((id) => `s${id}`),
+    ...(future.waitingNamedSignals ?? []).map((name) => `n${name}`),
+  ];
+}
+
+/** The keys of all that a future awaits. */
+function allAwaitedBy(future) {
+  return [...awaitedBy(future), ...(future.nestedFutures ?? []).flatMap(allAwaitedBy)];
+}
+
+/** The key of an id as one reads it. */
+function keyText(key) {
+  const kind = { c: "completion", e: "ephemeral state", s: "signal", n: "signal" }[key[0]];
+  return `${kind} ${key.slice(1)}`;
+}
+
+/** The keys of all that the futures of an item await. */
+function awaitedKeys(item) {
+  if (isFuture(item)) return allAwaitedBy(item.dump.message);
+  const fields = fieldsOf(schemaOf(item));
+  const futures = Object.entries(item.dump.message).filter(([name]) => fields[name]?.kind === "Future");
+  return futures.flatMap(([, future]) => allAwaitedBy(future));
+}
+
+/**
+ * What an item has to do with ids: each key, and the role of the item, which requests, proposes, acknowledges,
+ * completes or awaits it.
+ */
+function partsOf(item) {
+  const { type, message } = item.dump;
+  if (message === undefined || schemaOf(item) === undefined) return [];
+  const awaited = awaitedKeys(item);
+  if (awaited.length > 0) return awaited.map((key) => ({ key, role: "awaits" }));
+  if (type === "SignalNotification") {
+    if (message.name !== undefined) return [{ key: `n${message.name}`, role: "completes" }];
+    return message.idx === undefined ? [] : [{ key: `s${message.idx}`, role: "completes" }];
+  }
+  const letter = type.startsWith("GetStateEphemeral") ? "e" : "c";
+  const ids = Object.keys(fieldsOf(schemaOf(item))).filter((name) => ID_FIELDS.has(name));
+  // a number that is 0 is left out of JSON
+  return ids.map((name) => ({ key: `${letter}${message[name] ?? 0}`, role: roleOf(item) }));
+}
+
+/** What an item does with its ids. */
+function roleOf({ dump, direction }) {
+  if (dump.type === "ProposeRunCompletion") return "proposes";
+  if (dump.type === "ProposeRunCompletionAck") return "acknowledges";
+  return direction === "notification" || dump.type === "GetStateEphemeralNotification" ? "completes" : "requests";
+}
+
+/** The failure that an item carries: its code and its text. */
+function failureOf({ dump }) {
+  if (dump.message === undefined) return null;
+  if (dump.type === "Error") return dump.message;
+  return dump.message.failure ?? dump.message.completionFailure ?? null;
+}
+
+const failureText = (failure) => `${failure.code ?? 0}: ${failure.message ?? ""}`;
+
+/** The items of a key, by their roles. */
+const emptyThread = () => ({ requests: [], proposes: [], acknowledges: [], completes: [], awaits: [] });
+
+/** The items of a journal in order, last the rest; and what joins them: the items of each key by their roles. */
+function readJournal(side) {
+  const lines = byId(`journal-${side}`).textContent.trim().split("\n");
+  const threads = new Map();
+  let commands = 0;
+  const items = lines.map((line, place) => {
+    const dump = JSON.parse(line);
+    const item = { dump, line, side, number: place, direction: directionOf(dump), command: null };
+    item.size = dump.rest ?? HEADER + (dump.length ?? 0);
+    item.failure = failureOf(item);
+    item.parts = partsOf(item);
+    if (item.direction === "command") item.command = commands++;
+    for (const { key, role } of item.parts) {
+      if (!threads.has(key)) threads.set(key, emptyThread());
+      threads.get(key)[role].push(item);
+    }
+    return item;
+  });
+  if (items.at(-1).size === 0) items.pop();
+  return { items, threads, commands };
+}
+
+const journals = about.journals.map((_, side) => readJournal(side));
+const threadOf = (item, key) => journals[item.side].threads.get(key);
+const isOpen = (item) =>
+  item.parts.some(({ key, role }) => role === "requests" && threadOf(item, key).completes.length === 0);
+const isProblem = (item) =>
+  item.failure !== null || item.dump.malformed || ["unknown", "rest"].includes(item.direction);
+
+/** Where one goes from an item: to the completion of a command, to the command of a completion, to what is awaited. */
+function followed(item) {
+  for (const { key, role } of item.parts) {
+    const thread = threadOf(item, key);
+    const [first, second] = role === "requests" ? ["completes", "proposes"] : ["requests", "awaits"];
+    const other = [...thread[first], ...thread[second]].find((candidate) => candidate !== item);
+    if (other) return other;
+  }
+  return null;
+}

@@ -1,0 +1,106 @@
+// Keys and clicks, and the start.
+
+const KEYS = {
+  j: () => move(1),
+  k: () => move(-1),
+  ArrowDown: () => move(1),
+  ArrowUp: () => move(-1),
+  PageDown: () => move(Math.floor(list.clientHeight / rowHeight) - 1),
+  PageUp: () => move(1 - Math.floor(list.clientHeight / rowHeight)),
+  g: () => move(-rows.length),
+  Home: () => move(-rows.length),
+  G: () => move(rows.length),
+  End: () => move(rows.length),
+  n: () => moveToProblem(1),
+  p: () => moveToProblem(-1),
+  Enter: () => {
+    const next = itemsOf(selected).map(followed).find(Boolean);
+    if (next) location.hash = placeOf(next);
+  },
+  "/": () => {
+    byId("filters").open = true;
+    byId("text").select();
+    byId("text").focus();
+  },
+  "?": () => byId("help").showModal(),
+  Escape: () => byId("filter").reset(),
+};
+
+const OF_THE_LIST = new Set(["ArrowDown", "ArrowUp", "PageDown", "PageUp", "Home", "End", "Enter"]);
+
+function press(event) {
+  if (event.ctrlKey || event.metaKey || event.altKey || byId("help").open) return;
+  const isText = event.target === byId("text");
+  if (isText && (event.key === "Escape" || event.key === "Enter")) {
+    event.preventDefault();
+    filter();
+    list.focus();
+    return;
+  }
+  // keys that an element in focus takes by itself stay its own
+  const isElsewhere = event.target !== list && event.target !== document.body;
+  if (isText || !(event.key in KEYS) || (isElsewhere && OF_THE_LIST.has(event.key))) return;
+  event.preventDefault();
+  KEYS[event.key]();
+}
+
+function goToHash() {
+  const item = itemAt(location.hash.slice(1));
+  if (item) go(rowOf.get(item));
+  return item !== undefined;
+}
+
+const COLUMNS = {
+  number: "item",
+  offset: "offset",
+  type: "type",
+  index: "cmd",
+  text: "says",
+  link: "joined",
+  size: "size",
+};
+const PAIR_COLUMNS = { "side-0": "recorded", mark: "", "side-1": "replayed" };
+
+function start() {
+  drawTop();
+  drawCounts();
+  if (matchMedia("(max-width: 60rem)").matches) byId("filters").open = false;
+  for (const [name, text] of Object.entries(isPair ? PAIR_COLUMNS : COLUMNS)) {
+    byId("columns").append(element("span", name, text));
+  }
+  measure();
+  filter();
+  let timer = 0;
+  byId("text").addEventListener("input", () => {
+    clearTimeout(timer);
+    timer = setTimeout(filter, 120);
+  });
+  byId("filter").addEventListener("change", filter);
+  byId("filter").addEventListener("submit", (event) => event.preventDefault());
+  // the fields are emptied after the event
+  byId("filter").addEventListener("reset", () => {
+    byId("filter").querySelectorAll("input").forEach((input) => {
+      input.checked = false;
+      if (input.type === "search") input.value = "";
+    });
+    filter();
+  });
+  byId("help-button").addEventListener("click", KEYS["?"]);
+  list.addEventListener("scroll", () => paint(), { passive: true });
+  list.addEventListener("click", ({ target }) => {
+    const link = target.closest("[data-place]");
+    const row = target.closest("[data-row]");
+    if (link) location.hash = link.dataset.place;
+    else if (row) select(Number(row.dataset.row));
+  });
+  addEventListener("keydown", press);
+  addEventListener("hashchange", goToHash);
+  addEventListener("resize", measure);
+  addEventListener("beforeprint", () => paint(true));
+  addEventListener("afterprint", () => paint());
+  if (!goToHash()) go(Math.max(0, difference));
+  list.focus({ preventScroll: true });
+  document.body.dataset.ready = "true";
+}
+
+start();

@@ -1,0 +1,52 @@
+"""What the tests of the page share: a folder for journals and pages, and the maker."""
+import contextlib
+import io
+import pathlib
+import sys
+import tempfile
+import unittest
+
+sys.dont_write_bytecode = True
+VIEW = pathlib.Path(__file__).resolve().parent.parent
+STREAMS = VIEW.parent / "examples" / "streams"
+sys.path.insert(0, str(VIEW))
+
+import make_page  # noqa: E402
+
+FOLDER = tempfile.TemporaryDirectory()
+WORK = pathlib.Path(FOLDER.name)
+
+
+def written(name, data):
+    """The path of a file with these bytes."""
+    path = WORK / name
+    path.write_bytes(data)
+    return path
+
+
+def run(*words):
+    """The status of the maker, and what it printed on the standard output and on the standard error."""
+    output, error = io.StringIO(), io.StringIO()
+    with contextlib.redirect_stdout(output), contextlib.redirect_stderr(error):
+        try:
+            status = make_page.main(["--unproved", *map(str, words)])
+        except SystemExit as end:
+            status = end.code
+    return status, output.getvalue(), error.getvalue()
+
+
+def page_of(*words):
+    """The path of the page of these arguments."""
+    path = WORK / "page.html"
+    status, _, error = run(*words, "-o", path)
+    if status != 0:
+        raise AssertionError(f"status {status}: {error}")
+    return path
+
+
+def tell():
+    """Runs the tests of the program, and prints the last line of a check."""
+    runner = unittest.TextTestRunner(stream=sys.stdout)
+    result = unittest.main(module="__main__", exit=False, testRunner=runner).result
+    wrong = len(result.failures) + len(result.errors)
+    print(f"{result.testsRun - wrong} passed, {wrong} failed")

@@ -1,0 +1,156 @@
+#!/usr/bin/env python3
+"""The maker of the page without a browser: what it embeds, its policy, and how it ends."""
+import base64
+import hashlib
+import html.parser
+import json
+import pathlib
+import re
+import unittest
+
+from support import STREAMS, WORK, page_of, run, tell, written
+
+import make_page
+import samples
+
+
+class Scripts(html.parser.HTMLParser):
+    """The attributes and the texts of a page's scripts and styles, and its policy."""
+
+    def __init__(self, text):
+        super().__init__()
+        self.found, self.policy, self.tags, self.is_inside = [], None, [], False
+        self.feed(text)
+
+    def handle_starttag(self, tag, attributes):
+        attributes = dict(attributes)
+        self.tags.append(tag)
+        if attributes.get("http-equiv") == "Content-Security-Policy":
+            self.policy = attributes["content"]
+        self.is_inside = tag in ("script", "style")
+        if self.is_inside:
+            self.found.append([tag, attributes, ""])
+
+    def handle_endtag(self, tag):
+        self.is_inside = False
+
+    def handle_data(self, data):
+        if self.is_inside:
+            self.found[-1][2] += data
+
+
+class Embedding(unittest.TestCase):
+    def test_the_lines_are_those_of_the_dump(self):
+        page = Scripts(page_of(STREAMS / "replay").read_text())
+        (data,) = [text for _, attributes, text in page.found if attributes.get("id") == "journal-0"]
+        self.assertEqual(data.strip(), (STREAMS / "replay.dump").read_text().strip())
+
+    def test_no_tag_and_no_comment_begins_in_data(self):
+        hostile = '</script><!--<script>\u2028&amp;${title}$policy'
+        text = make_page.embedded(json.dumps({"text": hostile}))
+        self.assertNotIn("<", text)
+        self.assertEqual(json.loads(text), {"text": hostile})
+
+    def test_names_of_files_are_texts(self):
+        name = "<img src=x onerror=alert(1)>&amp;"
+        page = Scripts(page_of(written(name, b"")).read_text())
+        self.assertNotIn("img", page.tags)
+
+    def test_the_policy_has_this_script_and_this_style_alone(self):
+        page = Scripts(page_of(STREAMS / "recorded", STREAMS / "replayed_other_handler").read_text())
+        hashed = {
+            tag: base64.b64encode(hashlib.sha256(text.encode()).digest()).decode()
+            for tag, attributes, text in page.found
+            if "type" not in attributes
+        }
+        sources = page.policy.split("; ")
+        self.assertEqual(sources[:1], ["default-src 'none'"])
+        self.assertIn(f"script-src 'sha256-{hashed['script']}'", sources)
+        self.assertIn(f"style-src 'sha256-{hashed['style']}'", sources)
+        self.assertNotIn("unsafe", page.policy)
+
+    def test_the_page_names_no_address(self):
+        text = page_of(STREAMS / "replay").read_text()
+        self.assertEqual(set(re.findall(r"\w+://[^\s\"'`]*", text)), {"http://www.w3.org/2000/svg"})
+
+    def test_the_same_journal_has_the_same_page(self):
+        self.assertEqual(page_of(STREAMS / "replay").read_bytes(), page_of(STREAMS / "replay").read_bytes())
+
+
+class Limits(unittest.TestCase):
+    def embedded(self, *words):
+        page = Scripts(page_of(*words).read_text())
+        (lines,) = [text for _, attributes, text in page.found if attributes.get("id") == "journal-0"]
+        (about,) = [text for _, attributes, text in page.found if attributes.get("id") == "about"]
+        return [json.loads(line) for line in lines.strip().split("\n")], json.loads(about)["journals"][0]
+
+    def test_items_beyond_the_limit_are_counted(self):
+        lines, about = self.embedded(written("ten", samples.frame("End") * 10), "--items", "3")
+        self.assertEqual([line["offset"] for line in lines], [0, 8, 16, 80])
+        self.assertEqual((about["items"], about["shown"], about["bytes"]), (10, 3, 80))
+
+    def test_as_many_as_the_limit_are_all_shown(self):
+        lines, about = self.embedded(written("three", samples.frame("End") * 3), "--items", "3")
+        self.assertEqual((len(lines), about["items"], about["shown"]), (4, 3, 3))
+
+    def test_the_payload_of_a_long_line_is_left_out(self):
+        content = b"x" * make_page.LINE_CHARACTERS
+        stream = samples.frame("InputCommand", value={"content": content}) + samples.frame("End")
+        lines, about = self.embedded(written("long", stream))
+        self.assertTrue(lines[0]["leftOut"])
+        self.assertNotIn("message", lines[0])
+        self.assertEqual((lines[0]["type"], lines[1]["type"], about["shown"]), ("InputCommand", "End", 2))
+
+
+class Verdicts(unittest.TestCase):
+    def test_each_first_line(self):
+        for text, kind, index in (
+            ("same, 4 commands", "same", 4),
+            ("same, 1 command", "same", 1),
+            ("recorded ends at command 0", "recorded ends", 0),
+            ("replayed ends at command 12", "replayed ends", 12),
+            ("command 2: Found a mismatch\n- more", "differs", 2),
+            ("journal_diff: the recorded command 1 is malformed", "recorded malformed", 1),
+            ("journal_diff: the replayed command 3 is malformed", "replayed malformed", 3),
+        ):
+            self.assertEqual(make_page.verdict_of(text), {"kind": kind, "index": index, "text": text})
+
+    def test_other_texts_are_no_verdict(self):
+        for text in ("", "same", "journal_diff: out of memory", "recorded ends at command", "x\ncommand 1: y"):
+            self.assertIsNone(make_page.verdict_of(text))
+
+
+class Endings(unittest.TestCase):
+    def test_the_page_is_named(self):
+        path = WORK / "named.html"
+        self.assertEqual(run(STREAMS / "replay", "-o", path)[:2], (0, f"{path}\n"))
+        self.assertTrue(path.read_text().startswith("<!doctype html>"))
+
+    def test_a_stream_that_is_not_there(self):
+        status, output, error = run(WORK / "nothing", "-o", WORK / "unwritten.html")
+        self.assertEqual((status, output), (2, ""))
+        self.assertIn("nothing", error)
+        self.assertFalse((WORK / "unwritten.html").exists())
+
+    def test_a_folder_that_is_not_there(self):
+        status, output, error = run(STREAMS / "replay", "-o", WORK / "no folder" / "page.html")
+        self.assertEqual((status, output), (2, ""))
+        self.assertIn("no folder", error)
+
+    def test_other_arguments(self):
+        for words in ((), ("a", "b", "c"), ("--protocol", "4", "a"), ("--items", "0", "a"), ("--items", "x", "a")):
+            self.assertEqual(run(*words)[0], 2)
+
+
+class Protocol(unittest.TestCase):
+    def test_a_suspension_has_another_message_before_version_7(self):
+        for version, message in ((5, "SuspensionMessageV6"), (6, "SuspensionMessageV6"), (7, "SuspensionMessage")):
+            self.assertEqual(make_page.messages_of(version)["types"]["Suspension"]["message"], message)
+
+    def test_every_script_is_in_the_page(self):
+        scripts = {path.stem for path in (pathlib.Path(make_page.HERE) / "script").glob("*.js")}
+        self.assertEqual(scripts, set(make_page.SCRIPTS))
+
+
+if __name__ == "__main__":
+    tell()

@@ -1,0 +1,509 @@
+#!/usr/bin/env python3
+"""The page in a headless Chromium: what it shows, by its keys, and what no payload can do to it."""
+import json
+import unittest
+
+from support import FOLDER, STREAMS, WORK, page_of, tell, written
+
+import samples
+from browser import Browser
+from samples import frame, raw_frame
+
+HOSTILE = (
+    "</script><img src=x onerror=hacked=1>",
+    "<!--<script>hacked=1</script>",
+    "<svg/onload=hacked=1>",
+    "\"'><b onmouseover=hacked=1>&lt;i&gt;&amp;",
+    "${hacked=1}`$(hacked=1)\\u003cscript>",
+    "javascript:hacked=1",
+    "]]>\r\n\t\u2028\u2029\ufeff",
+    "\u202ereversed\u202c \u0000\u001b[31m",
+)
+
+browser = None
+
+
+def setUpModule():
+    global browser
+    browser = Browser()
+    unittest.addModuleCleanup(browser.__exit__)
+
+
+def hostile_stream():
+    """A journal in which every text, byte string and name is hostile."""
+    frames = []
+    for number, text in enumerate(HOSTILE):
+        data = text.encode()
+        frames += [
+            frame("Start", id=data, debug_id=text, key=text, state_map=[{"key": data, "value": data}]),
+            frame("InputCommand", name=text, headers=[{"key": text, "value": text}], value={"content": data}),
+            frame("CallCommand", service_name=text, handler_name=text, parameter=data, key=text, name=text,
+                  result_completion_id=number + 1),
+            frame("CallCompletionNotification", completion_id=number + 1,
+                  failure={"code": 500, "message": text, "metadata": [{"key": text, "value": text}]}),
+            frame("SignalNotification", name=text, value={"content": data}),
+            frame("Suspension", awaiting_on={"waiting_named_signals": [text]}),
+            frame("Error", code=500, message=text, stacktrace=text, related_command_name=text),
+            raw_frame(0xFC01, data),
+            raw_frame(0x0403, b"\xff" + data),
+        ]
+    return b"".join(frames)
+
+
+class PageTest(unittest.TestCase):
+    def tearDown(self):
+        self.assertEqual(browser.messages, [], "the console has errors")
+        self.assertEqual([url for url in browser.requests if not url.startswith(("file:", "about:"))], [])
+
+    def open(self, *words, place=""):
+        browser.open(page_of(*words), place)
+
+    def value(self, expression):
+        return browser.evaluate(expression)
+
+    def text(self, selector):
+        """The text of an element, with single spaces."""
+        text = self.value(f"document.querySelector({json.dumps(selector)})?.textContent ?? null")
+        return text if text is None else " ".join(text.split())
+
+    def selected(self):
+        """The text of the selected row."""
+        return self.text(".row[aria-selected=true]")
+
+    def rows(self):
+        return self.value("shown.length")
+
+    def search(self, text):
+        """Filters by keys."""
+        browser.press("/")
+        browser.type(text)
+        browser.press("Enter")
+
+
+class Examples(PageTest):
+    def test_every_stream_has_its_items(self):
+        streams = [path for path in STREAMS.iterdir() if not path.suffix]
+        self.assertGreater(len(streams), 5)
+        for stream in streams:
+            with self.subTest(stream=stream.name):
+                lines = (STREAMS / f"{stream.name}.stdout").read_text().splitlines()
+                self.open(stream)
+                rest = int(lines[-1].removeprefix("rest "))
+                self.assertEqual(self.rows(), len(lines) - (rest == 0))
+                self.assertIn(f" {stream.stat().st_size:,} bytes", f" {self.text('#facts')}")
+                self.assertEqual(self.value("document.title"), stream.name)
+
+    def test_unknown_skipped_and_rest_are_shown_as_such(self):
+        self.open(STREAMS / "unknown_type")
+        self.assertIn("unknown 0x0008", self.text("#row-0"))
+        self.open(STREAMS / "unknown_type", "--protocol", "9")
+        self.assertIn("skipped 0x0008", self.text("#row-0"))
+        self.assertIn("hex, 8 bytes", self.text("#detail"))
+        self.open(STREAMS / "cut_short")
+        browser.press("G")
+        self.assertIn("8 bytes at the end that are in no item", self.selected())
+
+    def test_a_row_says_what_the_item_is(self):
+        self.open(STREAMS / "replay")
+        self.assertEqual(self.text("#row-1 .number"), "#1")
+        self.assertEqual(self.text("#row-1 .type"), "InputCommand")
+        self.assertEqual(self.text("#row-1 .index"), "cmd 0")
+        self.assertEqual(self.text("#row-1 .text"), "value input")
+        self.assertEqual(self.text("#row-1 .offset"), "@ 27")
+        self.assertEqual(self.text("#row-1 .size"), "17 B")
+        self.assertEqual(self.value("document.querySelector('#row-1 .type').classList.contains('command')"), True)
+
+    def test_each_type_of_the_protocol(self):
+        self.open(STREAMS.parent.parent / "crates" / "journal_dump" / "stdin")
+        count = self.rows()
+        self.assertGreater(count, 100)
+        for _ in range(count):
+            browser.press("j")
+        self.assertEqual(self.value("selected"), count - 1)
+
+
+class Pairs(PageTest):
+    def test_the_difference_is_said_marked_and_in_sight(self):
+        self.open(STREAMS / "recorded", STREAMS / "replayed_other_handler")
+        self.assertIn("The journals part at command 2, CallCommand: recorded is", self.text("#sentence"))
+        self.assertEqual(self.text("#sentence .side-0"), "Greeter/greet")
+        self.assertEqual(self.text("#sentence .side-1"), "Greeter/greet_all")
+        self.assertIn("handler_name: greet != greet_all", self.text("#printed"))
+        self.assertIn("≠", self.selected())
+        self.assertEqual(self.value("document.querySelectorAll('.row.difference').length"), 1)
+        self.assertEqual([self.text(f"#row-{row} .mark b") for row in range(2)], ["=", "="])
+        self.assertIn("handlerName", self.text("tr.differs"))
+        self.assertEqual(self.text("tr.differs td"), "greet")
+
+    def test_it_opens_at_a_difference_that_is_far_down(self):
+        same = frame("ClearStateCommand", key=b"key") * 5000
+        recorded = same + frame("SleepCommand", wake_up_time=1, result_completion_id=1) + same
+        self.open(written("far", recorded), written("other", same + frame("RunCommand", result_completion_id=1)))
+        self.assertIn("part at command 5,000: recorded is SleepCommand", self.text("#sentence"))
+        self.assertIn("SleepCommand", self.selected())
+        inside = """(() => { const row = document.querySelector('.row.difference').getBoundingClientRect();
+            const list = document.getElementById('list').getBoundingClientRect();
+            return row.top >= list.top && row.bottom <= list.bottom; })()"""
+        self.assertTrue(self.value(inside))
+        browser.press("g")
+        self.assertIn("ClearStateCommand", self.selected())
+        browser.press("n")
+        self.assertIn("SleepCommand", self.selected())
+        self.assertTrue(self.value(inside))
+
+    def test_the_other_verdicts(self):
+        recorded, payload = STREAMS / "recorded", STREAMS / "replayed_other_payload"
+        first = written("first", recorded.read_bytes()[:17])
+        malformed = written("malformed", recorded.read_bytes()[:17] + b"\x04\x03\0\0\0\0\0\x01\xff")
+        for words, sentence in (
+            ((recorded, recorded), "The journals are the same: 4 commands."),
+            ((recorded, payload, "--ignore-payloads"), "The journals are the same: 4 commands."),
+            ((recorded, first), "The replayed journal ends before command 1, where the recorded one has SetState"),
+            ((first, recorded), "The recorded journal ends before command 1, where the replayed one has SetState"),
+            ((recorded, malformed), "There is no verdict: the replayed command 1 is malformed."),
+            ((recorded, written("empty", b"")), "The replayed journal ends before command 0"),
+        ):
+            with self.subTest(sentence=sentence):
+                self.open(*words)
+                self.assertIn(sentence, self.text("#sentence"))
+
+    def test_items_between_commands_are_aligned_by_what_they_are(self):
+        sleep, run = (frame(f"{name}CompletionNotification", completion_id=1) for name in ("Sleep", "Run"))
+        left, right = sleep + run + frame("End"), run + frame("End") + sleep
+        self.open(written("left", left), written("right", right))
+        cells = self.value("rows.map((row) => row.map((item) => item && item.number))")
+        self.assertEqual(cells, [[0, None], [1, 0], [2, 1], [None, 2]])
+
+
+class Joins(PageTest):
+    def open_order(self):
+        samples.write_orders(WORK)
+        self.open(WORK / "orders_recorded")
+
+    def test_a_command_and_its_completion_lead_to_each_other(self):
+        self.open_order()
+        self.assertEqual(self.text("#row-8 .link"), "→ #9, → #12")
+        self.assertEqual(self.text("#row-12 .link"), "← command 4")
+        browser.press(*"jjjjjjjj")
+        self.assertIn("CallCommand", self.selected())
+        self.value("[...document.querySelectorAll('#detail a')].find((link) => link.hash === '#item-12').click()")
+        browser.wait("selected === 12")
+        self.assertIn("requested by #8 CallCommand", self.text("#detail"))
+        browser.press("Enter")
+        browser.wait("selected === 8")
+        browser.press("Enter")
+        browser.wait("selected === 9")
+        self.value("history.back()")
+        browser.wait("selected === 8")
+
+    def test_a_click_in_the_row_follows_and_selects(self):
+        self.open_order()
+        self.value("document.querySelector('#row-12 .link').click()")
+        browser.wait("selected === 8")
+        self.value("document.querySelector('#row-5 .text').click()")
+        browser.wait("selected === 5")
+        self.assertIn("completion 1", self.text("#detail"))
+        self.assertIn("requested by #3 RunCommand", self.text("#detail"))
+        self.assertIn("proposed by #4 ProposeRunCompletion", self.text("#detail"))
+
+    def test_the_tree_of_a_suspension(self):
+        self.open_order()
+        self.value("select(11)")
+        tree = self.text(".future")
+        self.assertIn("future, combinator 1future, combinator 2completion 3 of #8 CallCommand, completed by #12", tree)
+        self.assertIn("completion 4 of #10 SleepCommand, open", tree)
+        self.assertIn("signal 17, completed by #13 SignalNotification", tree)
+        self.assertEqual(self.value("document.querySelectorAll('.future .future').length"), 2)
+
+    def test_a_suspension_before_version_7(self):
+        stream = written("v6", raw_frame(1, samples.payload("SuspensionMessageV6", {"waiting_completions": [1, 2]})))
+        self.open(stream, "--protocol", "6")
+        self.assertIn("completion 1, completion 2", self.text("#row-0"))
+
+    def test_a_completion_of_the_id_0(self):
+        self.open(written("zero", frame("RunCommand", name="a") + frame("RunCompletionNotification")))
+        self.assertEqual([self.text(f"#row-{row} .link") for row in (0, 1)], ["→ #1", "← command 0"])
+
+    def test_an_open_command_and_a_completion_of_none(self):
+        stream = frame("SleepCommand", result_completion_id=3) + frame("SleepCompletionNotification", completion_id=4)
+        self.open(written("open", stream))
+        self.assertEqual([self.text(f"#row-{row} .link") for row in (0, 1)], ["open", "no command"])
+        self.assertIn("not completed in this journal", self.text("#detail"))
+
+    def test_failures_are_red_with_code_and_message(self):
+        self.open_order()
+        browser.press("n")
+        self.assertIn("402: the card was declined", self.selected())
+        red = "getComputedStyle(document.querySelector('.row[aria-selected=true] .failure')).color"
+        self.assertEqual(self.value(red), "rgb(179, 32, 47)")
+        browser.press("n")
+        self.assertIn("402: order 1042 was not paid", self.selected())
+        browser.press("p")
+        self.assertIn("the card was declined", self.selected())
+
+
+class Payloads(PageTest):
+    def shown(self, content):
+        self.open(written("payload", frame("InputCommand", value={"content": content})))
+        return self.value("document.querySelector('.payload .form').textContent"), self.value(
+            "document.querySelector('.payload pre').textContent")
+
+    def test_text_json_and_hex(self):
+        self.assertEqual(self.shown("Grüße\n".encode()), ("text, 8 bytes", "Grüße\n"))
+        self.assertEqual(self.shown(b"\xff\x00AB"), ("hex, 4 bytes", f"000000  {'ff 00 41 42':47}  ..AB"))
+        self.assertEqual(self.shown(b'{"a":[1,{}],"b":"x, {y}"}'),
+                         ("JSON, 25 bytes", '{\n  "a": [\n    1,\n    {}\n  ],\n  "b": "x, {y}"\n}'))
+
+    def test_numbers_and_doubled_keys_of_json_stay_as_they_are(self):
+        _, text = self.shown(b'{"a":12345678901234567890,"a":1.0e-7,"\\u0041":"\\""}')
+        self.assertEqual(text, '{\n  "a": 12345678901234567890,\n  "a": 1.0e-7,\n  "\\u0041": "\\""\n}')
+
+    def test_what_only_looks_like_json_is_text(self):
+        self.assertEqual(self.shown(b"{a}"), ("text, 3 bytes", "{a}"))
+
+    def test_a_long_text_is_folded_and_unfolds(self):
+        text = "x" * 5000
+        _, folded = self.shown(text.encode())
+        self.assertLess(len(folded), 2000)
+        self.assertIn("characters are folded", self.text(".more"))
+        self.value("document.querySelector('.payload .more').click()")
+        self.assertEqual(self.value("document.querySelector('.payload pre').textContent"), text)
+        self.assertIsNone(self.text(".payload .more"))
+
+    def test_a_malformed_payload(self):
+        self.open(written("malformed", raw_frame(0x0403, b"\xff")))
+        self.assertIn("the payload is not well-formed", self.selected())
+        self.assertIn("hex, 1 byte", self.text("#detail"))
+
+
+class Hostile(PageTest):
+    def test_texts_stay_texts(self):
+        self.open(written("<img src=x onerror=hacked=1>", hostile_stream()))
+        count = self.rows()
+        self.assertEqual(count, 9 * len(HOSTILE))
+        for _ in range(count):
+            browser.press("j")
+        self.value("document.querySelectorAll('#detail details').forEach((one) => { one.open = true; })")
+        self.assertEqual(self.value("typeof hacked"), "undefined")
+        self.assertEqual(self.value("document.querySelectorAll('img, b[onmouseover], svg:not(.bar svg)').length"), 0)
+        self.assertEqual(self.value("document.querySelectorAll('body script').length"), 3)
+        self.assertEqual(self.value("document.title"), "<img src=x onerror=hacked=1>")
+
+    def test_a_payload_is_shown_as_it_is(self):
+        for text in HOSTILE[:6]:
+            self.open(written("hostile", frame("InputCommand", value={"content": text.encode()})))
+            self.assertEqual(self.value("document.querySelector('.payload pre').textContent"), text)
+            self.assertIn(text, self.value("document.querySelector('.row .text').textContent"))
+
+    def test_hidden_characters_are_shown_by_their_numbers(self):
+        self.open(written("hidden", frame("InputCommand", name="a\u202eb\u001b")))
+        self.assertIn("a\\u202eb\\u001b", self.text("#row-0 .text"))
+
+    def test_the_verdict_of_hostile_journals(self):
+        streams = [frame("RunCommand", name=text) for text in HOSTILE[:2]]
+        self.open(*(written(f"side{side}", stream) for side, stream in enumerate(streams)))
+        self.assertEqual(self.text("#sentence .side-0"), HOSTILE[0])
+        self.assertIn(HOSTILE[1], self.text("#printed"))
+        self.assertEqual(self.value("document.images.length"), 0)
+
+    def test_the_policy_refuses_scripts_and_tags(self):
+        self.open(STREAMS / "replay")
+        tags = ("innerHTML = '<img src=x>'", "insertAdjacentHTML('beforeend', '<b>')", "setAttribute('onclick', 'x')")
+        for action in tags:
+            with self.subTest(action=action), self.assertRaisesRegex(RuntimeError, "TypeError"):
+                self.value(f"document.body.{action}")
+        self.value("document.body.append(Object.assign(document.createElement('img'), { src: 'data:,' }))")
+        browser.wait("document.images[0].complete")
+        self.assertTrue(all("blocked" in message or "violates" in message for message in browser.messages))
+        self.assertGreater(len(browser.messages), 3)
+        browser.messages.clear()
+        browser.requests.clear()
+
+
+class Filter(PageTest):
+    def setUp(self):
+        samples.write_orders(WORK)
+        self.open(WORK / "orders_recorded")
+
+    def test_by_keys(self):
+        for text, count in (
+            ("declined", 1),
+            ("Zoë", 1),
+            ("type:call", 4),
+            ("name:charge", 1),
+            ("charge", 1),
+            ("type:call is:notification", 2),
+            ("is:failure", 2),
+            ("is:open", 2),
+            ("is:command", 9),
+            ("name:status", 3),
+            ("ff reserve nothing", 0),
+        ):
+            with self.subTest(text=text):
+                self.search(text)
+                self.assertEqual(self.rows(), count)
+                self.assertEqual(self.text("#matches"), f"{count} of 18 rows")
+                browser.press("Escape")
+                self.assertEqual(self.rows(), 18)
+
+    def test_the_selection_moves_within_what_is_shown(self):
+        self.search("is:notification")
+        self.assertIn("RunCompletionNotification", self.selected())
+        browser.press("j")
+        self.assertIn("CallInvocationIdCompletionNotification", self.selected())
+        browser.press("G")
+        self.assertIn("SignalNotification", self.selected())
+        browser.press("Escape")
+        self.assertIn("SignalNotification", self.selected())
+
+    def test_by_boxes(self):
+        self.value("document.querySelector('input[value=notification]').click()")
+        self.assertEqual(self.rows(), 4)
+        self.value("document.querySelector('input[value=SignalNotification]').click()")
+        self.assertEqual(self.rows(), 1)
+        self.value("document.querySelector('button[type=reset]').click()")
+        self.assertEqual(self.rows(), 18)
+
+    def test_letters_in_the_filter_are_no_keys(self):
+        browser.press("/")
+        browser.type("jkgn?")
+        self.assertEqual(self.value("document.getElementById('text').value"), "jkgn?")
+        self.assertEqual(self.value("document.getElementById('help').open"), False)
+
+    def test_a_link_shows_an_item_that_is_filtered_out(self):
+        self.search("is:failure")
+        self.assertIn("CallCompletionNotification", self.selected())
+        browser.press("Enter")
+        browser.wait("selected === 8")
+        self.assertEqual(self.rows(), 18)
+
+    def test_the_bars_are_as_long_as_their_bytes(self):
+        widths = self.value("""[...document.querySelectorAll('#types label')].map((label) =>
+            [label.querySelector('input').value, Number(label.querySelector('rect').getAttribute('width'))])""")
+        self.assertEqual(widths[0], ["InputCommand", 100])
+        self.assertAlmostEqual(dict(widths)["CallCommand"], 100 * 103 / 116)
+        self.assertIn("1 × · 103 B", self.text("#types"))
+
+
+class Keys(PageTest):
+    def test_the_list(self):
+        samples.write_orders(WORK)
+        self.open(WORK / "orders_recorded")
+        for key, row in (("j", 1), ("j", 2), ("k", 1), ("ArrowDown", 2), ("ArrowUp", 1), ("G", 17), ("j", 17), ("g", 0),
+                         ("k", 0), ("End", 17), ("Home", 0)):
+            browser.press(key)
+            self.assertEqual(self.value("selected"), row, key)
+
+    def test_help(self):
+        self.open(STREAMS / "replay")
+        browser.press("?")
+        self.assertTrue(self.value("document.getElementById('help').open"))
+        browser.press("j")
+        self.assertEqual(self.value("selected"), 0)
+        browser.press("Escape")
+        browser.wait("!document.getElementById('help').open")
+
+
+class Sizes(PageTest):
+    def test_a_hundred_thousand_items(self):
+        pair = [frame("RunCommand", result_completion_id=number, name=f"step {number}")
+                + frame("RunCompletionNotification", completion_id=number, value={"content": b"%d" % number})
+                for number in range(1, 50_001)]
+        stream = written("large", b"".join(pair))
+        self.open(stream)
+        self.assertEqual(self.rows(), 100_000)
+        self.assertLess(self.value("document.querySelectorAll('.row').length"), 100)
+        browser.press("G")
+        self.assertIn("← command 49999", self.selected().replace(",", ""))
+        browser.press("Enter")
+        browser.wait("selected === 99998")
+        self.search("name:50000")
+        self.assertEqual(self.rows(), 1)
+        browser.press("Escape")
+        self.value("list.scrollTop = list.scrollHeight / 2")
+        browser.wait("document.getElementById('row-50000') !== null")
+        self.assertLess(self.value("document.querySelectorAll('.row').length"), 100)
+        self.open(stream, "--items", "1000")
+        self.assertEqual(self.text("#notice"), "Of large the first 1,000 of 100,000 items are shown, and counted.")
+        self.assertEqual(self.rows(), 1000)
+
+    def test_a_difference_beyond_the_limit(self):
+        same = frame("ClearAllStateCommand") * 10
+        left, right = written("left", same + frame("End")), written("right", same + frame("OutputCommand"))
+        self.open(left, right, "--items", "8")
+        self.assertIn("The recorded journal ends before command 10, where the replayed one has a command that is past "
+                      "the items of this page", self.text("#sentence"))
+        self.assertEqual(self.value("difference"), -1)
+
+
+class Media(PageTest):
+    def setUp(self):
+        samples.write_orders(WORK)
+        self.addCleanup(browser.emulate)
+        self.addCleanup(browser.resize, 1440, 900)
+
+    def test_dark(self):
+        browser.emulate(dark=True)
+        self.open(WORK / "orders_recorded")
+        self.assertEqual(self.value("getComputedStyle(document.body).backgroundColor"), "rgb(20, 22, 27)")
+
+    def test_narrow_screens_have_all_in_their_width(self):
+        browser.resize(360, 740)
+        for words in (["orders_recorded"], ["orders_recorded", "orders_replayed"]):
+            self.open(*(WORK / word for word in words))
+            self.assertLessEqual(self.value("document.documentElement.scrollWidth"), 360)
+            self.assertEqual(self.value("document.getElementById('filters').open"), False)
+            browser.press("/")
+            self.assertEqual(self.value("document.getElementById('filters').open"), True)
+
+    def test_a_row_holds_what_is_in_it(self):
+        for width in (360, 800, 1100, 1440, 2000):
+            browser.resize(width, 900)
+            for words in (["orders_recorded"], ["orders_recorded", "orders_replayed"]):
+                self.open(*(WORK / word for word in words))
+                spills = """(() => { const bottom = (part) => part.getBoundingClientRect().bottom;
+                    return [...document.querySelectorAll('.row')].filter((row) =>
+                        [...row.querySelectorAll('span')].some((part) => bottom(part) > bottom(row) + 1));
+                    })().length"""
+                self.assertEqual(self.value(spills), 0, f"{width} {words}")
+
+    def test_paper_has_every_row(self):
+        stream = written("forty", frame("ClearStateCommand", key=b"a key") * 400)
+        self.open(stream)
+        count = "document.querySelectorAll('.row').length"
+        self.value(f"addEventListener('beforeprint', () => {{ window.printed = {count}; }})")
+        self.assertTrue(browser.print().startswith(b"%PDF"))
+        self.assertEqual(self.value("window.printed"), 400)
+        self.assertLess(self.value("document.querySelectorAll('.row').length"), 100)
+
+
+class Accessibility(PageTest):
+    def nodes(self):
+        tree = browser.call("Accessibility.getFullAXTree")["nodes"]
+        return [(node["role"]["value"], node.get("name", {}).get("value", "")) for node in tree if not node["ignored"]]
+
+    def test_landmarks_and_labels(self):
+        samples.write_orders(WORK)
+        self.open(WORK / "orders_recorded", WORK / "orders_replayed")
+        nodes = self.nodes()
+        for node in (("search", "Filter of items"), ("listbox", "The items in order"), ("region", "The selected item"),
+                     ("region", "Where the journals differ")):
+            self.assertIn(node, nodes)
+        self.assertTrue({"main", "banner"} <= {role for role, _ in nodes})
+        for role in ("checkbox", "searchbox", "button", "option", "link"):
+            names = [name for found, name in nodes if found == role]
+            self.assertTrue(names and all(names), role)
+
+    def test_the_active_row_is_the_selected_one(self):
+        self.open(STREAMS / "recorded")
+        browser.press("j")
+        self.assertEqual(self.value("document.activeElement.id"), "list")
+        active = "document.getElementById(document.getElementById('list').getAttribute('aria-activedescendant'))"
+        self.assertEqual(self.value(f"{active}.getAttribute('aria-selected')"), "true")
+        self.assertEqual(self.value(f"{active}.getAttribute('aria-posinset')"), "2")
+        self.assertEqual(self.value(f"{active}.getAttribute('aria-setsize')"), str(self.rows()))
+
+
+if __name__ == "__main__":
+    tell()
+    FOLDER.cleanup()
