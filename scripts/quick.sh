@@ -60,7 +60,7 @@ test_crate() {
     test_crate "$crate" > "$work/$crate" 2>&1
   done
 } &
-for check in table calls pages words generated; do
+for check in layout table calls pages words generated; do
   sh "scripts/checks/$check.sh" > "$work/$check" 2>&1
   counted "$check"
 done

@@ -296,13 +296,24 @@ sources() {
   done
 }
 
-# stage COMMAND..: runs a command, shows what it prints and adds its last 'N passed, M failed'
+# processor_seconds: sets $seconds to the processor time, in whole seconds, of all commands that have ended
+processor_seconds() {
+  # not in a pipeline: a subshell has times of its own
+  times > "$work/times"
+  seconds=$(tr 'ms' '  ' < "$work/times" | awk 'NR == 2 { printf "%d", 60 * $1 + $2 + 60 * $3 + $4 }')
+}
+
+# stage COMMAND..: runs a command, shows what it prints and its processor time, and adds its last 'N passed, M failed'
 stage() {
+  processor_seconds
+  before=$seconds
   {
     "$@"
     echo "$?" > "$work/stage.status"
   } 2>&1 | tee "$work/stage"
   status=$(cat "$work/stage.status")
+  processor_seconds
+  echo "$*: $((seconds - before)) processor seconds"
   counts=$(awk '/^[0-9]+ passed, [0-9]+ failed$/ { line = $0 } END { print line }' "$work/stage")
   if ! add "$counts" || { [ "$status" -ne 0 ] && [ "${counts##*, }" = '0 failed' ]; }; then
     echo "failed: $*, status $status"
