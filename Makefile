@@ -1,5 +1,5 @@
 # A front for the scripts, which say more with --help: no rule of it does anything else.
-.PHONY: help quick test check generate view install uninstall bench
+.PHONY: help quick test check generate view install uninstall python bench
 
 help:
 	@echo 'make quick                  what can be known in two minutes, without a proof (sh scripts/test.sh --quick)'
@@ -9,6 +9,7 @@ help:
 	@echo 'make view STREAM=.. [OTHER=..] [OUT=..]   a page that shows a journal, or two (sh scripts/run.sh view)'
 	@echo 'make install PREFIX=..      puts the programs and the library for C below a folder (sh scripts/install.sh)'
 	@echo 'make uninstall PREFIX=..    removes them'
+	@echo 'make python                 builds the package for Python, with the library in it (sh scripts/python.sh)'
 	@echo 'make bench [NAME=speed]     lists what is measured, or measures it (sh scripts/bench.sh)'
 
 quick:
@@ -31,6 +32,9 @@ install:
 
 uninstall:
 	DESTDIR='$(DESTDIR)' sh scripts/install.sh --uninstall '$(PREFIX)'
+
+python:
+	sh scripts/python.sh
 
 bench:
 	sh scripts/bench.sh $(NAME)

@@ -4,45 +4,38 @@ import os
 import sys
 from typing import Iterator, List, Optional
 
-from pendratsoa import Item, Malformed, Message, Stream, UnknownCode
+from pendratsoa import Item, Malformed, Message, Stream
 
-PIECE = 4096
+CHUNK = 4096
 CALLS = ("CallCommand", "OneWayCallCommand")
 
 
 def quoted(text: str) -> str:
-    """A text as the C example prints it: what is no letter of ASCII as the numbers of its bytes."""
+    """A text as the C example prints it: what is not a letter of ASCII as the numbers of its bytes."""
     plain = (chr(byte) if 0x20 <= byte <= 0x7E and byte not in b'"\\' else f"\\x{byte:02x}" for byte in text.encode())
     return f'"{"".join(plain)}"'
 
 
 def line(item: Item) -> str:
-    """The line of an item."""
-    if isinstance(item, UnknownCode):
-        return f"unknown {item.code:#x}"
-    if not isinstance(item, Message):
-        return f"skipped {item.code:#x} {len(item.payload)}"
-    words = [item.type, str(len(item.payload))]
-    if item.requires_ack:
-        words.append("ack")
-    if item.type in CALLS:
-        try:
-            call = item.json()
-            words += [quoted(call.get("serviceName", "")), quoted(call.get("handlerName", ""))]
-        except Malformed:
-            words.append("malformed")
-    return " ".join(words)
+    """The line of an item; that of a call has the names of the service and the handler."""
+    if not isinstance(item, Message) or item.type not in CALLS:
+        return str(item)
+    try:
+        call = item.json()
+    except Malformed:
+        return f"{item} malformed"
+    return f"{item} {quoted(call.get('serviceName', ''))} {quoted(call.get('handlerName', ''))}"
 
 
 class InputFailed(Exception):
     """The standard input cannot be read."""
 
 
-def pieces() -> Iterator[bytes]:
+def chunks() -> Iterator[bytes]:
     """The standard input, chunk by chunk."""
     try:
         with open(0, "rb", closefd=False) as stdin:
-            yield from iter(lambda: stdin.read(PIECE), b"")
+            yield from iter(lambda: stdin.read(CHUNK), b"")
     except OSError as error:
         raise InputFailed from error
 
@@ -54,8 +47,8 @@ def main(words: List[str]) -> Optional[str]:
         sys.exit(2)
     stream = Stream(int(words[0]) if words else 8)
     try:
-        for piece in pieces():
-            stream.feed(piece)
+        for chunk in chunks():
+            stream.feed(chunk)
             for item in stream:
                 print(line(item))
         print(f"rest {stream.rest}")

@@ -13,9 +13,9 @@ STREAM = bytes.fromhex("040000000000000972070a05696e707574" "0008000000000000" "
 
 
 class TestListing(unittest.TestCase):
-    def test_what_fails_is_its_answer(self):
+    def test_what_fails_is_returned(self):
         written = io.StringIO()
-        with mock.patch.object(listing, "pieces", return_value=[STREAM]), contextlib.redirect_stdout(written):
+        with mock.patch.object(listing, "chunks", return_value=[STREAM]), contextlib.redirect_stdout(written):
             self.assertIsNone(listing.main([]))
         self.assertEqual(written.getvalue(), "InputCommand 9\nunknown 0x8\nrest 8\n")
         for error, answer in (
@@ -23,7 +23,7 @@ class TestListing(unittest.TestCase):
             (MemoryError(), "listing.py: out of memory"),
             (listing.InputFailed(), "listing.py: input failed"),
         ):
-            with mock.patch.object(listing, "pieces", side_effect=error):
+            with mock.patch.object(listing, "chunks", side_effect=error):
                 self.assertEqual(listing.main([]), answer)
 
 

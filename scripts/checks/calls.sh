@@ -2,7 +2,7 @@
 # The last version and the calls for C are the same wherever they are listed.
 #
 # The last version is the same in the library, in the programs, in the tools and on pages. A call for C is the same in
-# journal_ffi, the header and the module for Python, and has tests, adversarial calls and a promise. Each crate has a
+# journal_ffi, the header and the package for Python, and has tests, adversarial calls and a promise. Each crate has a
 # sentence in crates/README.md. It reads the code as it stands. What differs is shown above the last line.
 set -u
 cd "$(dirname "$0")/../.." || exit 1
@@ -10,7 +10,7 @@ cd "$(dirname "$0")/../.." || exit 1
 
 # The last version: that of the library, those that callers from C, the programs and the test vectors can ask for, and what pages and comments say.
 last=$(sed -n '/fn maximum_supported_version/,/^    }$/s/^        Version::V\([0-9]*\)$/\1/p' crates/shared_core_base/src/version.rt)
-for place in include/pendratsoa.h python/pendratsoa/__init__.py tools/generators/record_vectors.py crates/test_vectors/src/cases.rt crates/journal_c_api/src/answer.rt \
+for place in include/pendratsoa.h python/pendratsoa/_request.py tools/generators/record_vectors.py crates/test_vectors/src/cases.rt crates/journal_c_api/src/answer.rt \
   crates/journal_c_api/specs/Answers.antt crates/journal_diff/src/options.rt crates/journal_dump/src/command_line.rt; do
   echo "$place $last" >> "$work/last"
   echo "$place $(grep -oE 'Version::V[0-9]+|Some V[0-9]+|LAST_VERSION (= )?[0-9]+' "$place" | grep -oE '[0-9]+$' | sort -n | tail -n 1)" >> "$work/asked"
@@ -54,12 +54,12 @@ awk '
 ' include/pendratsoa.h | sort > "$work/lines"
 same "the calls of journal_ffi and include/pendratsoa.h" "$work/calls" "$work/lines"
 
-# Each stands in the module for Python, with what it takes and with a function that makes it.
-sed 's/const //g; s/uint[0-9]*_t \*[a-z_]* size_t/slice_/g; s/uint\([0-9]*\)_t [a-z_]*/u\1/g' "$work/calls" > "$work/values"
-sed -n '/^ *"journal_/ { s/[",+:]/ /g; s/  */ /g; s/^ //; s/ $//; p; }' python/pendratsoa/__init__.py | sort > "$work/lines"
-same "the calls and the parameters in python/pendratsoa/__init__.py" "$work/values" "$work/lines"
+# Each is in the package for Python, with its parameters and with a function that makes it.
+sed 's/const //g; s/uint[0-9]*_t \*[a-z_]* size_t/_SLICE/g; s/uint\([0-9]*\)_t [a-z_]*/_U\1/g' "$work/calls" > "$work/values"
+sed -n '/^ *"journal_/ { s/[",+:]/ /g; s/  */ /g; s/^ //; s/ $//; p; }' python/pendratsoa/_library.py | sort > "$work/lines"
+same "the calls and the parameters in python/pendratsoa/_library.py" "$work/values" "$work/lines"
 sed 's/ .*//' "$work/calls" > "$work/values"
-grep -oh '_library\.journal_[a-z_]*' python/pendratsoa/*.py | sed 's/.*\.//' | sort -u > "$work/lines"
+grep -oh '\blibrary\.journal_[a-z_]*' python/pendratsoa/*.py | sed 's/.*\.//' | sort -u > "$work/lines"
 same "the calls and the functions of python/pendratsoa" "$work/values" "$work/lines"
 
 # It has tests, is called by nobody who means well, and stands in the table of promises.

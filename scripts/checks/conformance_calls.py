@@ -1,67 +1,53 @@
-"""Checks the conformance lines on standard input by the calls for C: conformance_calls.py < LINES
+"""Checks the test vectors on standard input by the calls for C: conformance_calls.py < LINES
 
-It takes the package in python/, and the numbers of the schemas from docs/C.md. Lines of the kind `record` have no call.
-Besides, a stream is the same byte by byte, a canonical payload is its own answer and has the same JSON, a frame is a
-header and the canonical payload, and a command is the same as itself. The last line is 'N passed, M failed'.
+It takes the package for Python, which has to be installed or in PYTHONPATH. Lines of the kind `record` have no call.
+Besides, a stream is the same byte by byte, a canonical payload is its own canonical payload and has the same JSON, a
+frame is a header and the canonical payload, and a command is the same as itself. The last line is 'N passed, M failed'.
 """
 
-import pathlib
-import re
 import sys
 
-TOP = pathlib.Path(__file__).resolve().parents[2]
-sys.path.insert(0, str(TOP / "python"))
-
-import pendratsoa  # noqa: E402
-from pendratsoa import Malformed, Message, Stream, UnknownCode  # noqa: E402
-
-PAGE = (TOP / "docs/C.md").read_text()
-SCHEMAS = {name: int(number) for number, name in re.findall(r"(\d+) `(\w+)`", PAGE)}
+import pendratsoa
+from pendratsoa import Malformed, Stream
 
 
 def payload(schema, data):
-    answer = pendratsoa.canonical(SCHEMAS[schema], data)
-    assert pendratsoa.is_well_formed(SCHEMAS[schema], data)
-    assert pendratsoa.canonical(SCHEMAS[schema], answer) == answer
-    assert pendratsoa.to_json(SCHEMAS[schema], data) == pendratsoa.to_json(SCHEMAS[schema], answer)
-    return answer.hex()
+    result = pendratsoa.canonical(schema, data)
+    assert pendratsoa.is_well_formed(schema, data)
+    assert pendratsoa.canonical(schema, result) == result
+    assert pendratsoa.to_json(schema, data) == pendratsoa.to_json(schema, result)
+    return result.hex()
 
 
 def merge(schema, *data):
-    merged = pendratsoa.canonical(SCHEMAS[schema], data[0])
+    merged = pendratsoa.canonical(schema, data[0])
     for more in data[1:]:
-        merged = pendratsoa.merge(SCHEMAS[schema], merged, more)
+        merged = pendratsoa.merge(schema, merged, more)
     return merged.hex()
 
 
 def frame(type_, version, data):
     code = pendratsoa.type_code(type_)
-    answer = pendratsoa.frame(int(version), code, data)
+    result = pendratsoa.frame(int(version), code, data)
     schema = pendratsoa.schema(int(version), code)
-    assert answer[:8] == pendratsoa.header(int(version), code, len(answer) - 8)
-    assert pendratsoa.canonical(schema, answer[8:]) == answer[8:]
-    return answer.hex()
+    assert result[:8] == pendratsoa.header(int(version), code, len(result) - 8)
+    assert pendratsoa.canonical(schema, result[8:]) == result[8:]
+    return result.hex()
 
 
-def stream(version, *pieces):
-    whole = b"".join(pieces)
-    listing = listed(int(version), pieces)
+def stream(version, *chunks):
+    whole = b"".join(chunks)
+    listing = listed(int(version), chunks)
     assert listing == listed(int(version), [whole[at : at + 1] for at in range(len(whole))])
     return listing
 
 
-def listed(version, pieces):
+def listed(version, chunks):
     stream = Stream(version)
     items = []
-    for piece in pieces:
-        stream.feed(piece)
-        for item in stream:
-            if isinstance(item, UnknownCode):
-                items.append(f"unknown {item.code:#x}")
-            elif isinstance(item, Message):
-                items.append(f"{item.type} {len(item.payload)}{' ack' if item.requires_ack else ''}")
-            else:
-                items.append(f"skipped {item.code:#x} {len(item.payload)}")
+    for chunk in chunks:
+        stream.feed(chunk)
+        items += map(str, stream)
     return ", ".join([*items, f"rest {stream.rest}"])
 
 
@@ -75,15 +61,15 @@ def compare(type_, first, second):
 
 
 def json(schema, data):
-    return pendratsoa.to_json(SCHEMAS[schema], data)
+    return pendratsoa.to_json(schema, data)
 
 
 KINDS = {"payload": payload, "merge": merge, "frame": frame, "stream": stream, "compare": compare, "json": json}
 NAMED = {"payload": 1, "merge": 1, "frame": 2, "stream": 1, "compare": 1, "json": 1}
 
 
-def answer(question):
-    """The answer of the library to what stands before ` = `."""
+def result_of(question):
+    """The result of the library for what is before ` = `."""
     kind, *words = question.split(" ")
     names, data = words[: NAMED[kind]], words[NAMED[kind] :]
     try:
@@ -99,14 +85,14 @@ def main():
         if not line or line.startswith("#") or question.split(" ")[0] not in KINDS:
             continue
         try:
-            found = answer(question)
+            found = result_of(question)
         except Exception as error:  # a line that breaks a law, or that a call refuses otherwise
             found = repr(error)
         if found == expected:
             passed += 1
         else:
             failed += 1
-            print(f"failed: {line[:300]}\n  answered: {found[:300]}")
+            print(f"failed: {line[:300]}\n  result: {found[:300]}")
     print(f"{passed} passed, {failed} failed")
     return failed > 0
 

@@ -191,7 +191,8 @@ docs/C.md|libpendratsoa\.so\.
 docs/C.md|The version\*\*, 
 include/pendratsoa.h|JOURNAL_LIBRARY_VERSION "
 include/pendratsoa.h|the version of the library, as "
-python/pendratsoa/__init__.py|The version of the library, as "
+python/pendratsoa/_calls.py|The version of the library, as "
+python/README.md|pendratsoa-
 python/pyproject.toml|^version = "
 scripts/checks/diff.sh|'journal_diff 
 scripts/checks/dump.sh|'journal_dump 

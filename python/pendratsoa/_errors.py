@@ -1,0 +1,61 @@
+"""The errors of the calls."""
+
+from __future__ import annotations
+
+from typing import Dict, Optional, Type
+
+
+class JournalError(Exception):
+    """A call failed, or the library returned what this package does not know.
+
+    `call` is the name of the function, `argument` that of the argument which is at fault, and `value` the value of that
+    argument. `argument` is None if no argument is at fault.
+    """
+
+    def __init__(
+        self, *texts: str, call: Optional[str] = None, argument: Optional[str] = None, value: object = None
+    ) -> None:
+        super().__init__(*texts)
+        self.call = call
+        self.argument = argument
+        self.value = value
+
+
+class Malformed(JournalError, ValueError):
+    """A payload is not well-formed for its schema."""
+
+
+class OutOfMemory(JournalError, MemoryError):
+    """An allocation failed. The call can be repeated."""
+
+
+class NoRoom(JournalError):
+    """A slice for numbers was too short. This package never passes such a slice."""
+
+
+class TooLong(JournalError, OverflowError):
+    """A payload has, or would have, more than 4,294,967,295 bytes, which no header can say."""
+
+
+class Unknown(JournalError, LookupError):
+    """A version, a schema, a code or a name does not exist, or is not of the kind that the call is for."""
+
+
+class NoId(JournalError, ValueError):
+    """A notification has no id."""
+
+
+class NoResult(JournalError, ValueError):
+    """A notification has an id, and no result."""
+
+
+# the error of each negative number that the library returns
+ERRORS: Dict[int, Type[JournalError]] = {
+    -1: Malformed,
+    -2: OutOfMemory,
+    -3: NoRoom,
+    -4: TooLong,
+    -5: Unknown,
+    -6: NoId,
+    -7: NoResult,
+}

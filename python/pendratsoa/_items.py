@@ -1,0 +1,133 @@
+"""The items of a stream."""
+
+from __future__ import annotations
+
+import dataclasses
+import json
+from dataclasses import dataclass
+from typing import Any, Optional, Union
+
+from . import _calls
+from ._calls import Notification
+from ._errors import Unknown
+from ._protocol import COMMAND_CODES, NOTIFICATION_CODES
+from ._request import BytesLike, Request, shown
+
+
+@dataclass(frozen=True, repr=False)
+class Message:
+    """A message of a stream of a version.
+
+    `code` is that of its type, and `requires_ack` whether its header requests an acknowledgement. As a text it is the
+    name of its type and the length of its payload in bytes.
+    """
+
+    version: int
+    code: int
+    payload: bytes
+    requires_ack: bool = False
+
+    @classmethod
+    def of(cls, type: Union[int, str], payload: BytesLike = b"", version: int = 8) -> Message:
+        """The message of a type, which is given by its code or by its name as "SleepCommand", with a payload.
+
+        It requests an acknowledgement if the header of its type does at this version. The payload is taken as it is:
+        `frame` refuses one that is malformed. `Unknown` if there is no such version or type.
+        """
+        code = _calls.type_code(type) if isinstance(type, str) else type
+        data, length = Request("Message.of", payload=payload).data("payload")
+        header = _calls.header(version, code, length)
+        # the flag is the high bit of the third byte
+        return cls(version, code, data, header[2] >= 0x80)
+
+    @property
+    def type(self) -> str:
+        """The name of its type, as "SleepCommand", or "CustomEntry(64513)"."""
+        return _calls.type_name(self.code)
+
+    @property
+    def schema(self) -> int:
+        """The number of its payload's schema. A custom entry has none: `Unknown`."""
+        return _calls.schema(self.version, self.code)
+
+    @property
+    def is_command(self) -> bool:
+        """Whether its code is that of a command, which those of custom entries may be."""
+        return self.code in COMMAND_CODES
+
+    @property
+    def is_notification(self) -> bool:
+        """Whether its code is that of a notification, which those of custom entries may be."""
+        return self.code in NOTIFICATION_CODES
+
+    def json(self) -> Any:
+        """What its payload means, as protobuf's JSON has it: dicts, lists, texts and numbers."""
+        return json.loads(_calls.to_json(self.schema, self.payload))
+
+    def canonical(self) -> bytes:
+        """The canonical encoding of its payload."""
+        return _calls.canonical(self.schema, self.payload)
+
+    def frame(self, version: Optional[int] = None) -> bytes:
+        """Its frame at a version, or at its own: the header, and after it the canonical payload.
+
+        The header is that of `header`: whether it requests an acknowledgement depends on the type and the version, and
+        not on `requires_ack`.
+        """
+        return _calls.frame(self.version if version is None else version, self.code, self.payload)
+
+    def notification(self) -> Notification:
+        """Its id and its result, if it is a notification."""
+        return _calls.notification(self.code, self.payload)
+
+    def __str__(self) -> str:
+        return f"{_name(self.code)} {len(self.payload)}{' ack' if self.requires_ack else ''}"
+
+    def __repr__(self) -> str:
+        return _fields(self)
+
+
+@dataclass(frozen=True)
+class UnknownCode:
+    """Eight bytes whose code is no type's, before version 9; `word` is all eight as one big-endian number."""
+
+    version: int
+    code: int
+    word: int
+
+    def __str__(self) -> str:
+        return f"unknown {self.code:#x}"
+
+
+@dataclass(frozen=True, repr=False)
+class Skipped:
+    """A message of an unknown type, which is skipped with its payload from version 9 on; `word` is its header's eight
+    bytes as one big-endian number."""
+
+    version: int
+    code: int
+    word: int
+    payload: bytes
+
+    def __str__(self) -> str:
+        return f"skipped {self.code:#x} {len(self.payload)}"
+
+    def __repr__(self) -> str:
+        return _fields(self)
+
+
+Item = Union[Message, UnknownCode, Skipped]
+
+
+def _name(code: int) -> str:
+    """The name of a type, or its code where a message was made with one that no type has."""
+    try:
+        return _calls.type_name(code)
+    except Unknown:
+        return f"code {code:#x}"
+
+
+def _fields(item: Union[Message, Skipped]) -> str:
+    """An item as dataclasses show it, with a long payload cut short."""
+    fields = (f"{field.name}={shown(getattr(item, field.name))}" for field in dataclasses.fields(item))
+    return f"{type(item).__name__}({', '.join(fields)})"

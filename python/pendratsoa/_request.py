@@ -1,0 +1,206 @@
+"""One call of the library: its arguments are checked, and what it returns is a value or an error."""
+
+from __future__ import annotations
+
+import ctypes
+import functools
+import operator
+from typing import Any, Callable, Optional, Tuple, Type, Union
+
+from ._errors import ERRORS, JournalError, Malformed, NoId, NoResult, OutOfMemory, TooLong, Unknown
+from ._library import library
+from ._protocol import SCHEMA_NAMES
+
+BytesLike = Union[bytes, bytearray, memoryview]
+
+# a schema, by its number or by the name of its record, as "SleepCommandMessage"
+Schema = Union[int, str]
+
+FIRST_VERSION = 5
+LAST_VERSION = 9
+SCHEMAS = len(SCHEMA_NAMES)
+
+# what is wrong with a payload, or with the call
+TEXTS = {
+    Malformed: "is not well-formed",
+    NoId: "has no id",
+    NoResult: "has an id, and no result",
+    OutOfMemory: "an allocation failed",
+    TooLong: "the result would have more than 4,294,967,295 bytes",
+}
+
+# what comes after the numbers that fit into 16 and 32 bits
+U16_END = 1 << 16
+U32_END = 1 << 32
+
+# the numbers that calls write
+ItemNumbers = ctypes.c_uint64 * 6
+NotificationNumbers = ctypes.c_uint64 * 4
+VerdictNumbers = ctypes.c_uint64 * 2
+
+
+def shown(value: object) -> str:
+    """A value as texts show it: of long bytes their beginning, and their number."""
+    if isinstance(value, (bytes, bytearray, memoryview)):
+        data = bytes(value)
+        return repr(data) if len(data) <= 32 else f"{data[:16]!r}.. ({len(data)} bytes)"
+    text = repr(value)
+    return text if len(text) <= 80 else f"{text[:77]}.."
+
+
+class Request:
+    """A call by its name in this package, with its arguments by their names. A method that takes the name of an
+    argument checks it, and returns what the library takes in its place."""
+
+    __slots__ = ("call", "arguments", "kind", "size")
+
+    def __init__(self, call: str, **arguments: object) -> None:
+        self.call = call
+        self.arguments = arguments
+        # of which kind the code has to be
+        self.kind = "a type"
+        # how many bytes are passed
+        self.size = 0
+
+    def version(self) -> int:
+        """The number of a version."""
+        return self._unsigned("version", U32_END)
+
+    def code(self, kind: str) -> int:
+        """The code of a type of this kind, as "a command"."""
+        self.kind = kind
+        return self._unsigned("code", U16_END)
+
+    def schema(self) -> int:
+        """The number of a schema, which may be given by the name of its record."""
+        name = self.arguments["schema"]
+        if not isinstance(name, str):
+            return self._unsigned("schema", U32_END)
+        if name not in SCHEMA_NAMES:
+            raise self._unknown("schema")
+        return SCHEMA_NAMES.index(name)
+
+    def length(self, argument: str) -> int:
+        """The length of a payload in bytes."""
+        number = self._integer(argument)
+        if number < 0:
+            raise ValueError(f"{self.call}: {argument} {number} is negative")
+        if number >= U32_END:
+            raise self.error(TooLong, f"{argument} {number} is more than 4,294,967,295", argument)
+        return number
+
+    def text(self, argument: str) -> Tuple[bytes, int]:
+        """A text as UTF-8, and its length in bytes."""
+        value = self.arguments[argument]
+        if not isinstance(value, str):
+            raise TypeError(f"{self.call}: {argument} must be a str, not {type(value).__name__}")
+        # half a surrogate is in no name; a class below str may encode itself otherwise
+        data = str.encode(value, "utf-8", "surrogatepass")
+        return data, len(data)
+
+    def data(self, argument: str) -> Tuple[bytes, int]:
+        """Bytes and their number. All but `bytes` are copied: they could change while the call runs."""
+        data = self.arguments[argument]
+        # and not a class below it, whose length could be another
+        if type(data) is not bytes:
+            try:
+                # a view that an error keeps would keep a bytearray from growing
+                with memoryview(data) as view:  # type: ignore[arg-type]
+                    data = view.tobytes()
+            except TypeError:
+                raise TypeError(f"{self.call}: {argument} must be bytes-like, not {type(data).__name__}") from None
+        self.size += len(data)
+        return data, len(data)
+
+    def returned(self, function: Callable[..., int], *parameters: Any) -> int:
+        """What a function returns, if that is no error."""
+        number = function(*parameters)
+        if number < 0:
+            raise self._refused(number)
+        return number
+
+    def written(self, function: Callable[..., int], *parameters: Any) -> bytes:
+        """The bytes that a function writes."""
+        # enough for most results, which are then made once
+        needed = 200 + self.size * 3 // 2
+        while True:
+            out = room_for(needed)()
+            room = len(out)
+            needed = function(*parameters, out, room)
+            if needed < 0:
+                raise self._refused(needed)
+            if needed <= room:
+                return memoryview(out)[:needed].tobytes()
+
+    def error(self, kind: Type[JournalError], text: str, argument: Optional[str] = None) -> JournalError:
+        """An error of this call, about one of its arguments or none."""
+        value = self.arguments.get(argument) if argument else None
+        return kind(f"{self.call}: {text}", call=self.call, argument=argument, value=value)
+
+    def unexpected(self, what: str) -> JournalError:
+        """The error that a later library may return something new."""
+        return self.error(JournalError, f"the library returned {what}, which this module does not know")
+
+    def _integer(self, argument: str) -> int:
+        value = self.arguments[argument]
+        try:
+            return operator.index(value)  # type: ignore[arg-type]
+        except TypeError:
+            raise TypeError(f"{self.call}: {argument} must be an int, not {type(value).__name__}") from None
+
+    def _unsigned(self, argument: str, end: int) -> int:
+        """A number that fits its parameter, below an end; ctypes would cut another."""
+        number = self._integer(argument)
+        if not 0 <= number < end:
+            raise self._unknown(argument)
+        return number
+
+    def _refused(self, number: int) -> JournalError:
+        """The error of a negative number. A later library may have further ones."""
+        kind = ERRORS.get(number)
+        if kind is Unknown:
+            return self._unknown(self._unknown_argument())
+        if kind is None or kind not in TEXTS:
+            return self.unexpected(str(number))
+        if kind in (OutOfMemory, TooLong):
+            return self.error(kind, TEXTS[kind])
+        argument = self._malformed_argument() if kind is Malformed else "payload"
+        return self.error(kind, f"{argument} {shown(self.arguments[argument])} {TEXTS[kind]}", argument)
+
+    def _unknown(self, argument: str) -> JournalError:
+        value = shown(self.arguments[argument])
+        if argument == "code":
+            return self.error(Unknown, f"code {value} is not that of {self.kind}", argument)
+        what = "type with the name" if argument == "name" else argument
+        return self.error(Unknown, f"there is no {what} {value}", argument)
+
+    def _unknown_argument(self) -> str:
+        """Which argument the library does not know."""
+        if "version" in self.arguments and not is_version(self.version()):
+            return "version"
+        return next(name for name in ("code", "schema", "name", "version") if name in self.arguments)
+
+    def _malformed_argument(self) -> str:
+        """Which payload is malformed."""
+        if "payload" in self.arguments:
+            return "payload"
+        schema = self.schema() if "schema" in self.arguments else library.journal_schema(LAST_VERSION, self.code(""))
+        is_first = library.journal_is_well_formed(schema, *self.data("first")) == 0
+        return "first" if is_first else "second"
+
+
+def is_version(number: int) -> bool:
+    """Whether the library knows a version."""
+    numbers = ItemNumbers()
+    return int(library.journal_next(number, None, 0, numbers, len(numbers))) >= 0
+
+
+@functools.lru_cache(maxsize=None)
+def _room(bits: int) -> Type[ctypes.Array[ctypes.c_char]]:
+    """Arrays of a power of two of bytes, of which each is made once: a new one for each length would be slow."""
+    return ctypes.c_char * (1 << bits)
+
+
+def room_for(length: int) -> Type[ctypes.Array[ctypes.c_char]]:
+    """Arrays of at least this many bytes."""
+    return _room((length - 1).bit_length())

@@ -1,0 +1,154 @@
+"""A stream that comes in chunks."""
+
+from __future__ import annotations
+
+import ctypes
+import threading
+from typing import Callable, Iterator, List, Optional, Protocol, Tuple, Union
+
+from ._items import Item, Message, Skipped, UnknownCode
+from ._library import library
+from ._request import BytesLike, ItemNumbers, Request
+
+# how many bytes are read from a file at a time
+CHUNK = 1 << 16
+
+
+class Readable(Protocol):
+    """A file that is open for reading bytes."""
+
+    def read(self, size: int, /) -> Optional[bytes]:
+        """At most this many bytes, none at its end."""
+
+
+class Receiver(Protocol):
+    """A socket, or what has its method."""
+
+    def recv(self, size: int, /) -> bytes:
+        """At most this many bytes, none at its end."""
+
+
+Source = Union[Readable, Receiver]
+
+
+class Stream:
+    """A stream of a version from 5 to 9, which comes in chunks of any size.
+
+    Each loop over it continues where the one before stopped, and ends when no whole item is left. More may be fed at
+    any time, within the loop too. Several threads may use one stream; each item then comes to one of them.
+    """
+
+    def __init__(self, version: int = 8) -> None:
+        self._request = Request("Stream", version=version)
+        self._version = self._request.version()
+        self._lock = threading.Lock()
+        self._numbers = ItemNumbers()
+        # bytes, their address, and where what is in no item yet begins in them; they change together, also where a
+        # signal interrupts
+        self._left: Tuple[bytes, int, int] = (b"", 0, 0)
+        # what came after them, and is joined to them once it is enough
+        self._chunks: List[bytes] = []
+        self._chunks_size = 0
+        # how many bytes are missing after `_left` at least; 0 if this is not known. It refuses an unknown version
+        self._missing = self._look()
+
+    @property
+    def version(self) -> int:
+        """The version of the stream."""
+        return self._version
+
+    @property
+    def rest(self) -> int:
+        """The number of bytes that are in no item yet."""
+        with self._lock:
+            data, _, begin = self._left
+            return len(data) - begin + self._chunks_size
+
+    def feed(self, data: BytesLike) -> None:
+        """Appends bytes to those that came. `bytes` are kept, others are copied."""
+        chunk, size = Request("feed", data=data).data("data")
+        if size > 0:
+            with self._lock:
+                self._chunks.append(chunk)
+                self._chunks_size += size
+
+    def read(self, file: Source, size: int = CHUNK) -> Iterator[Item]:
+        """Feeds what a binary file or a socket has, at most `size` bytes at a time, and iterates over the items as they
+        come. It ends where the file ends; the bytes in no item are then in `rest`.
+
+        A file that does not block and has no bytes yet is a `BlockingIOError`; the call can be repeated.
+        """
+        receive = _receiver(file)
+        if size < 1:
+            raise ValueError(f"read: size {size} is less than 1")
+        return self._read(receive, size)
+
+    def __iter__(self) -> Iterator[Item]:
+        while True:
+            item = self._next()
+            if item is None:
+                return
+            yield item
+
+    def __repr__(self) -> str:
+        return f"<Stream of version {self._version}, {self.rest} bytes in no item yet>"
+
+    def _read(self, receive: Callable[[int], Optional[bytes]], size: int) -> Iterator[Item]:
+        yield from self
+        while True:
+            data = receive(size)
+            if data is None:
+                raise BlockingIOError("read: the file has no bytes yet")
+            if len(data) == 0:
+                return
+            self.feed(data)
+            yield from self
+
+    def _next(self) -> Optional[Item]:
+        """The next item, or None if not all of it came."""
+        with self._lock:
+            if self._missing == 0:
+                self._missing = self._look()
+            if 0 < self._missing <= self._chunks_size:
+                self._join()
+                self._missing = self._look()
+            return self._take() if self._missing == 0 else None
+
+    def _look(self) -> int:
+        """Looks for an item, and returns how many bytes are missing at least."""
+        data, address, begin = self._left
+        numbers = self._numbers
+        parameters = self._version, address + begin, len(data) - begin, numbers, len(numbers)
+        return self._request.returned(library.journal_next, *parameters)
+
+    def _join(self) -> None:
+        """Joins what came to what is left, so that each byte is joined twice at most."""
+        data, _, begin = self._left
+        chunks = [data[begin:], *self._chunks] if begin < len(data) else self._chunks
+        data = chunks[0] if len(chunks) == 1 else b"".join(chunks)
+        self._left = data, ctypes.cast(ctypes.c_char_p(data), ctypes.c_void_p).value or 0, 0
+        self._chunks.clear()
+        self._chunks_size = 0
+
+    def _take(self) -> Item:
+        """The item that was found, which is taken from the bytes."""
+        kind, word, code, ack, size, payload_begin = self._numbers
+        if kind not in (0, 1, 2):
+            raise self._request.unexpected(f"an item of the kind {kind}")
+        data, address, begin = self._left
+        payload = data[begin + payload_begin : begin + size]
+        self._left = data, address, begin + size
+        if kind == 0:
+            return Message(self._version, code, payload, ack == 1)
+        if kind == 1:
+            return UnknownCode(self._version, code, word)
+        return Skipped(self._version, code, word, payload)
+
+
+def _receiver(file: Source) -> Callable[[int], Optional[bytes]]:
+    """What reads from a file: of a buffered one the method that does not wait until all bytes are there."""
+    for name in ("recv", "read1", "read"):
+        receive: Optional[Callable[[int], Optional[bytes]]] = getattr(file, name, None)
+        if receive is not None:
+            return receive
+    raise TypeError(f"read: file must have a method read or recv, which {type(file).__name__} has not")

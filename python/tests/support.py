@@ -1,0 +1,57 @@
+"""What the tests share: files of the repository, codes of types, and functions of the library that are replaced."""
+
+import pathlib
+import re
+from unittest import mock
+
+from pendratsoa import _library
+
+TOP = pathlib.Path(__file__).resolve().parents[2]
+HEADER = (TOP / "include/pendratsoa.h").read_text()
+RECORDED = (TOP / "examples/streams/recorded").read_bytes()
+REPLAYED = (TOP / "examples/streams/replayed_other_payload").read_bytes()
+
+SUSPENSION = 0x0001
+PROPOSE_RUN_COMPLETION = 0x0005
+INPUT_COMMAND = 0x0400
+SET_STATE_COMMAND = 0x0403
+CALL_COMMAND = 0x040D
+CALL_COMPLETION = 0x800D
+SIGNAL_NOTIFICATION = 0xFBFF
+CUSTOM_ENTRY = 0xFC01
+
+# an input with the value "input", eight bytes of code 8, and a message of 20 bytes that is not all there
+INPUT = bytes.fromhex("040000000000000972070a05696e707574")
+UNKNOWN_WORD = 0x0008_0000_0000_0000
+STREAM = INPUT + UNKNOWN_WORD.to_bytes(8, "big") + bytes.fromhex("0400000000000014")
+
+
+def types():
+    """The code and the name of each named type."""
+    for row in (TOP / "proto/types.txt").read_text().splitlines():
+        if not row.startswith("#"):
+            code, name = row.split()
+            yield int(code, 16), name
+
+
+def defined(pattern):
+    """The constants of the header whose values look so, by their names without JOURNAL_."""
+    found = re.findall(rf"^#define JOURNAL_(\w+) \(?({pattern})\)?(?: |$)", HEADER, re.M)
+    return {name: int(number) for name, number in found}
+
+
+def replaced(function, with_what):
+    """The library with another function in the place of this one."""
+    return mock.patch.object(_library.library, function, with_what)
+
+
+def returning(number, *numbers):
+    """A function that writes numbers into its slice of 64-bit numbers, and returns a number."""
+
+    def function(*parameters):
+        if numbers:
+            slices = [parameter for parameter in parameters if getattr(parameter, "_length_", 0) == len(numbers)]
+            slices[-1][:] = numbers
+        return number
+
+    return function

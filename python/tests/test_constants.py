@@ -1,0 +1,42 @@
+"""The constants of the package are those of the header, and its library is that of the header's version."""
+
+import re
+import unittest
+
+import pendratsoa
+from pendratsoa import IdKind, ResultKind, VerdictKind, _errors, _library
+from support import HEADER, TOP, defined
+
+
+class TestConstants(unittest.TestCase):
+    def test_errors(self):
+        names = {number: name.replace("_", "").lower() for name, number in defined(r"-\d+").items()}
+        self.assertEqual(names, {number: error.__name__.lower() for number, error in _errors.ERRORS.items()})
+
+    def test_kinds(self):
+        numbers = defined(r"\d+")
+        for kind in (*IdKind, *ResultKind, *VerdictKind):
+            self.assertEqual(numbers[kind.name], kind)
+
+    def test_versions_and_schemas(self):
+        numbers = defined(r"\d+")
+        self.assertEqual(numbers["FIRST_VERSION"], pendratsoa.FIRST_VERSION)
+        self.assertEqual(numbers["LAST_VERSION"], pendratsoa.LAST_VERSION)
+        self.assertEqual(numbers["SCHEMAS"], pendratsoa.SCHEMAS)
+        self.assertEqual(numbers["SCHEMAS"], len(pendratsoa.SCHEMA_NAMES))
+        self.assertRaises(pendratsoa.Unknown, pendratsoa.is_well_formed, pendratsoa.SCHEMAS, b"")
+
+    def test_calls(self):
+        self.assertEqual(re.findall(r"^int64_t (journal_\w+)\(", HEADER, re.M), list(_library.PARAMETERS))
+
+    def test_version_of_the_library(self):
+        self.assertIn(f'#define JOURNAL_LIBRARY_VERSION "{pendratsoa.library_version()}"\n', HEADER)
+        self.assertIn(f'\nversion = "{pendratsoa.library_version()}"\n', (TOP / "python/pyproject.toml").read_text())
+
+    def test_names_of_schemas_are_those_of_the_page(self):
+        listed = re.findall(r"(\d+) `(\w+)`", (TOP / "docs/C.md").read_text().partition("## Numbers of schemas")[2])
+        self.assertEqual([(int(number), name) for number, name in listed], list(enumerate(pendratsoa.SCHEMA_NAMES)))
+
+
+if __name__ == "__main__":
+    unittest.main()

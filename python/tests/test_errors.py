@@ -1,0 +1,190 @@
+"""What a call refuses: the kind of the error, its text and its fields."""
+
+import pickle
+import unittest
+
+import pendratsoa
+from pendratsoa import JournalError, Malformed, NoId, NoResult, OutOfMemory, Stream, TooLong, Unknown
+from support import CALL_COMMAND, CUSTOM_ENTRY, SET_STATE_COMMAND, SIGNAL_NOTIFICATION, replaced, returning
+
+BAD = b"\x12"
+
+
+class TestErrors(unittest.TestCase):
+    def test_each_names_the_call_the_argument_and_its_value(self):
+        long = b"\xff" * 1000
+        for call, kind, argument, value, text in (
+            (lambda: pendratsoa.type_name(8), Unknown, "code", 8, "type_name: code 8 is not that of a type"),
+            (lambda: pendratsoa.type_code("Sleep"), Unknown, "name", "Sleep", "type_code: there is no type with the name 'Sleep'"),
+            (lambda: pendratsoa.schema(4, 0), Unknown, "version", 4, "schema: there is no version 4"),
+            (lambda: pendratsoa.schema(8, 8), Unknown, "code", 8, "schema: code 8 is not that of a named type"),
+            (lambda: pendratsoa.header(4, 8, 0), Unknown, "version", 4, "header: there is no version 4"),
+            (lambda: pendratsoa.header(8, 8, 0), Unknown, "code", 8, "header: code 8 is not that of a type"),
+            (
+                lambda: pendratsoa.header(8, 0, 1 << 32),
+                TooLong,
+                "payload_length",
+                1 << 32,
+                "header: payload_length 4294967296 is more than 4,294,967,295",
+            ),
+            (
+                lambda: pendratsoa.frame(8, CUSTOM_ENTRY, b""),
+                Unknown,
+                "code",
+                CUSTOM_ENTRY,
+                "frame: code 64513 is not that of a named type",
+            ),
+            (
+                lambda: pendratsoa.frame(8, 2, BAD),
+                Malformed,
+                "payload",
+                BAD,
+                "frame: payload b'\\x12' is not well-formed",
+            ),
+            (lambda: pendratsoa.canonical(53, b""), Unknown, "schema", 53, "canonical: there is no schema 53"),
+            (
+                lambda: pendratsoa.to_json("Sleep", b""),
+                Unknown,
+                "schema",
+                "Sleep",
+                "to_json: there is no schema 'Sleep'",
+            ),
+            (
+                lambda: pendratsoa.canonical(13, long),
+                Malformed,
+                "payload",
+                long,
+                "canonical: payload b'\\xff\\xff\\xff\\xff\\xff\\xff\\xff\\xff\\xff\\xff\\xff\\xff\\xff\\xff\\xff\\xff'.. "
+                "(1000 bytes) is not well-formed",
+            ),
+            (
+                lambda: pendratsoa.merge(13, BAD, b""),
+                Malformed,
+                "first",
+                BAD,
+                "merge: first b'\\x12' is not well-formed",
+            ),
+            (
+                lambda: pendratsoa.merge("ErrorMessage", b"", BAD),
+                Malformed,
+                "second",
+                BAD,
+                "merge: second b'\\x12' is not well-formed",
+            ),
+            (
+                lambda: pendratsoa.header_eq(SET_STATE_COMMAND, b"", BAD),
+                Malformed,
+                "second",
+                BAD,
+                "header_eq: second b'\\x12' is not well-formed",
+            ),
+            (
+                lambda: pendratsoa.difference(SET_STATE_COMMAND, BAD, b""),
+                Malformed,
+                "first",
+                BAD,
+                "difference: first b'\\x12' is not well-formed",
+            ),
+            (
+                lambda: pendratsoa.difference(2, b"", b""),
+                Unknown,
+                "code",
+                2,
+                "difference: code 2 is not that of a command",
+            ),
+            (
+                lambda: pendratsoa.notification(CALL_COMMAND, b""),
+                Unknown,
+                "code",
+                CALL_COMMAND,
+                "notification: code 1037 is not that of a notification",
+            ),
+            (
+                lambda: pendratsoa.notification(SIGNAL_NOTIFICATION, b"\x22\x00"),
+                NoId,
+                "payload",
+                b"\x22\x00",
+                "notification: payload b'\"\\x00' has no id",
+            ),
+            (
+                lambda: pendratsoa.notification(SIGNAL_NOTIFICATION, b"\x10\x11"),
+                NoResult,
+                "payload",
+                b"\x10\x11",
+                "notification: payload b'\\x10\\x11' has an id, and no result",
+            ),
+            (
+                lambda: pendratsoa.compare_journals(10, b"", b""),
+                Unknown,
+                "version",
+                10,
+                "compare_journals: there is no version 10",
+            ),
+            (lambda: Stream(10), Unknown, "version", 10, "Stream: there is no version 10"),
+        ):
+            with self.subTest(text), self.assertRaises(kind) as raised:
+                call()
+            error = raised.exception
+            self.assertIs(type(error), kind)
+            self.assertEqual((str(error), error.argument, error.value), (text, argument, value))
+            self.assertEqual(error.call, text.partition(":")[0])
+
+    def test_what_fails_without_an_argument(self):
+        for number, kind, text in (
+            (-2, OutOfMemory, "canonical: an allocation failed"),
+            (-4, TooLong, "canonical: the result would have more than 4,294,967,295 bytes"),
+        ):
+            with replaced("journal_canonical", returning(number)), self.assertRaises(kind) as raised:
+                pendratsoa.canonical(0, b"")
+            self.assertEqual((str(raised.exception), raised.exception.argument), (text, None))
+
+    def test_what_a_later_library_may_return(self):
+        unknown = "the library returned {}, which this module does not know"
+        for function, found, call, what in (
+            ("journal_canonical", returning(-12), lambda: pendratsoa.canonical(0, b""), "-12"),
+            ("journal_schema", returning(-8), lambda: pendratsoa.schema(8, 0), "-8"),
+            (
+                "journal_notification",
+                returning(0, 3, 0, 0, 0),
+                lambda: pendratsoa.notification(SIGNAL_NOTIFICATION, b""),
+                "an id of the kind 3",
+            ),
+            (
+                "journal_notification",
+                returning(0, 0, 0, 0, 5),
+                lambda: pendratsoa.notification(SIGNAL_NOTIFICATION, b""),
+                "a result of the kind 5",
+            ),
+            (
+                "journal_verdict",
+                returning(0, 7, 0),
+                lambda: pendratsoa.compare_journals(8, b"", b""),
+                "a verdict of the kind 7",
+            ),
+        ):
+            with replaced(function, found), self.assertRaises(JournalError) as later:
+                call()
+            self.assertIs(type(later.exception), JournalError)
+            self.assertEqual(str(later.exception), f"{later.exception.call}: {unknown.format(what)}")
+
+    def test_they_are_errors_of_python_too(self):
+        for kind, other in (
+            (Malformed, ValueError),
+            (OutOfMemory, MemoryError),
+            (TooLong, OverflowError),
+            (Unknown, LookupError),
+            (NoId, ValueError),
+            (NoResult, ValueError),
+        ):
+            self.assertTrue(issubclass(kind, other) and issubclass(kind, JournalError))
+
+    def test_they_can_be_pickled(self):
+        with self.assertRaises(Malformed) as raised:
+            pendratsoa.canonical(13, BAD)
+        error = pickle.loads(pickle.dumps(raised.exception))
+        self.assertEqual(str(error), str(raised.exception))
+        self.assertEqual((error.call, error.argument, error.value), ("canonical", "payload", BAD))
+
+
+if __name__ == "__main__":
+    unittest.main()

@@ -1,0 +1,206 @@
+"""Arguments of wrong kinds, several threads and long loops: errors of Python, no crash and no growth of memory."""
+
+import array
+import inspect
+import itertools
+import os
+import pathlib
+import threading
+import tracemalloc
+import unittest
+
+import pendratsoa
+from pendratsoa import JournalError, Message, Stream
+from support import CALL_COMMAND, INPUT, RECORDED, SIGNAL_NOTIFICATION
+
+# how often a loop is done that must not take memory
+LOOPS = int(os.environ.get("PENDRATSOA_LOOPS", "20000"))
+
+FUNCTIONS = [getattr(pendratsoa, name) for name in pendratsoa.__all__ if inspect.isfunction(getattr(pendratsoa, name))]
+
+
+class LongerThanItIs(bytes):
+    """Bytes that say that there are more of them."""
+
+    def __len__(self):
+        return 1 << 40
+
+
+class OtherWhenEncoded(str):
+    """A text whose own bytes say that there are more of them."""
+
+    def encode(self, *_):
+        return LongerThanItIs(b"SleepCommand")
+
+
+class NoInteger:
+    """What says that it is an integer, and is none."""
+
+    def __index__(self):
+        return "8"
+
+
+def values():
+    """Values of all kinds, most of them of none that a call takes."""
+    released = memoryview(b"released")
+    released.release()
+    numbers = (0, 1, 8, -1, 1 << 16, (1 << 16) - 1, 1 << 32, (1 << 32) - 1, 1 << 63, 1 << 64, -(1 << 64), 1 << 1000)
+    texts = ("", "SleepCommand", "EndMessage", "\ud800", "\0", "x" * 100_000, OtherWhenEncoded("SleepCommand"))
+    data = (b"", b"\xff" * 1000, bytearray(INPUT), memoryview(INPUT)[::-2], memoryview(b""), LongerThanItIs(INPUT))
+    others = (None, True, 1.5, float("nan"), 1j, [], [1], {}, (), object(), NoInteger(), Ellipsis, int, released)
+    return (*numbers, *texts, *data, *others, array.array("d", [1.0]), Stream(), Message(8, 0, b""), lambda: None)
+
+
+class TestArguments(unittest.TestCase):
+    def tried(self, call, *arguments, **named):
+        """Whether a call refuses these by an error that a caller can expect."""
+        try:
+            call(*arguments, **named)
+        except (JournalError, TypeError, ValueError):
+            return True
+        return False
+
+    def test_every_kind_in_every_place(self):
+        for call in FUNCTIONS:
+            names = [name for name in inspect.signature(call).parameters if name != "ignore_payloads"]
+            good = {"version": 8, "code": 0x0400, "schema": 13, "name": "SleepCommand", "payload_length": 0}
+            good = {name: good.get(name, b"") for name in names}
+            refused = 0
+            for name, value in itertools.product(names, values()):
+                refused += self.tried(call, **{**good, name: value})
+            self.assertTrue(not names or refused > len(values()) // 2, call)
+
+    def test_every_kind_in_all_places_at_once(self):
+        for call in FUNCTIONS:
+            count = sum(name != "ignore_payloads" for name in inspect.signature(call).parameters)
+            for value in values():
+                self.tried(call, *[value] * count)
+
+    def test_messages_of_every_kind(self):
+        for value in values():
+            for message in (Message(value, value, value, value), Message(8, CALL_COMMAND, value), Message(8, value, b"")):
+                for name in ("type", "schema", "is_command", "is_notification"):
+                    self.tried(getattr, message, name)
+                for call in (message.json, message.canonical, message.frame, message.notification, message.__repr__):
+                    self.tried(call)
+            self.tried(Message.of, value, value, value)
+            self.tried(Message.of, "SleepCommand", value)
+
+    def test_streams_of_every_kind(self):
+        for value in values():
+            self.tried(Stream, value)
+            stream = Stream(9)
+            self.tried(stream.feed, value)
+            self.tried(list, stream)
+            self.tried(stream.read, value)
+            self.tried(stream.read, open, value)
+            self.assertGreaterEqual(stream.rest, 0)
+
+    def test_what_says_to_be_longer_than_it_is(self):
+        self.assertEqual(pendratsoa.canonical(20, LongerThanItIs(INPUT[8:])), INPUT[8:])
+        self.assertEqual(pendratsoa.type_name(pendratsoa.type_code(OtherWhenEncoded("CallCommand"))), "CallCommand")
+        stream = Stream()
+        stream.feed(LongerThanItIs(INPUT))
+        self.assertEqual((len(list(stream)), stream.rest), (1, 0))
+
+    def test_texts_of_what_is_of_another_kind(self):
+        for call, text in (
+            (lambda: pendratsoa.type_name("8"), "type_name: code must be an int, not str"),
+            (lambda: pendratsoa.schema(8.0, 0), "schema: version must be an int, not float"),
+            (lambda: pendratsoa.type_code(8), "type_code: name must be a str, not int"),
+            (lambda: pendratsoa.canonical(0, "text"), "canonical: payload must be bytes-like, not str"),
+            (lambda: pendratsoa.canonical(None, b""), "canonical: schema must be an int, not NoneType"),
+            (lambda: pendratsoa.merge(0, b"", 5), "merge: second must be bytes-like, not int"),
+            (lambda: Stream().feed("text"), "feed: data must be bytes-like, not str"),
+            (lambda: Stream("8"), "Stream: version must be an int, not str"),
+        ):
+            with self.assertRaises(TypeError) as error:
+                call()
+            self.assertEqual(str(error.exception), text)
+
+
+class TestThreads(unittest.TestCase):
+    def together(self, *work):
+        """Runs these at once."""
+        threads = [threading.Thread(target=each) for each in work]
+        for thread in threads:
+            thread.start()
+        for thread in threads:
+            thread.join()
+
+    def test_calls_at_once(self):
+        found = []
+
+        def work():
+            found.append([pendratsoa.canonical(13, b"\x12\x03abc" * (1 + at % 7)) for at in range(50)])
+
+        self.together(*[work] * 4)
+        self.assertEqual(found, [[b"\x12\x03abc"] * 50] * 4)
+
+    def test_bytes_that_change_while_they_are_read(self):
+        data = bytearray(b"\x12\x7f" + b"x" * 127) * 100
+        wrong = []
+
+        def change():
+            for at in range(2000):
+                data[0] = at % 256
+                data.append(0)
+                del data[-1]
+
+        def read():
+            for _ in range(200):
+                try:
+                    pendratsoa.canonical(13, data)
+                except pendratsoa.Malformed:
+                    pass
+                except Exception as error:
+                    wrong.append(error)
+
+        self.together(change, read, change, read)
+        # while a view copies it, a bytearray cannot grow, which is an error of whoever lets it grow
+        self.assertEqual(wrong, [])
+
+
+class TestMemory(unittest.TestCase):
+    def work(self):
+        """Calls of all kinds, some of which are refused."""
+        stream = Stream()
+        stream.feed(RECORDED)
+        for item in stream:
+            item.json()
+            item.frame()
+            item.canonical()
+        for _ in range(2):
+            with self.assertRaises(pendratsoa.Malformed):
+                pendratsoa.to_json(13, b"\xff" * 1000)
+            with self.assertRaises(pendratsoa.NoId):
+                pendratsoa.notification(SIGNAL_NOTIFICATION, b"")
+
+    def resident(self):
+        """The memory that the process has, in bytes."""
+        pages = int(pathlib.Path("/proc/self/statm").read_text().split()[1])
+        return pages * os.sysconf("SC_PAGE_SIZE")
+
+    def test_a_loop_takes_no_memory(self):
+        # each turn is some twenty calls
+        for _ in range(100):
+            self.work()
+        before = self.resident()
+        for _ in range(LOOPS // 20):
+            self.work()
+        self.assertLess(self.resident() - before, 1 << 20)
+
+    def test_a_loop_leaves_no_objects(self):
+        for _ in range(10):
+            self.work()
+        tracemalloc.start()
+        before, _ = tracemalloc.get_traced_memory()
+        for _ in range(100):
+            self.work()
+        after, _ = tracemalloc.get_traced_memory()
+        tracemalloc.stop()
+        self.assertLess(after - before, 20_000)
+
+
+if __name__ == "__main__":
+    unittest.main()

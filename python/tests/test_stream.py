@@ -1,0 +1,270 @@
+"""Items of streams, however they come."""
+
+import array
+import io
+import os
+import socket
+import threading
+import tracemalloc
+import unittest
+
+from pendratsoa import JournalError, Malformed, Message, Skipped, Stream, UnknownCode, canonical
+from support import CALL_COMMAND, INPUT, INPUT_COMMAND, RECORDED, STREAM, UNKNOWN_WORD, replaced, returning
+
+EXPECTED = [Message(8, INPUT_COMMAND, INPUT[8:], False), UnknownCode(8, 8, UNKNOWN_WORD)]
+
+
+class TestFeeding(unittest.TestCase):
+    def test_items_are_the_same_however_the_stream_is_split(self):
+        for size in range(1, len(STREAM) + 1):
+            stream = Stream()
+            found = []
+            for begin in range(0, len(STREAM), size):
+                stream.feed(memoryview(STREAM)[begin : begin + size])
+                found += stream
+            self.assertEqual(found, EXPECTED)
+            self.assertEqual(stream.rest, 8)
+
+    def test_chunks_that_come_before_any_is_read(self):
+        for size in range(1, len(STREAM) + 1):
+            stream = Stream()
+            for begin in range(0, len(STREAM), size):
+                stream.feed(STREAM[begin : begin + size])
+            self.assertEqual(stream.rest, len(STREAM))
+            self.assertEqual((list(stream), stream.rest), (EXPECTED, 8))
+
+    def test_feeding_within_the_loop(self):
+        stream = Stream()
+        stream.feed(INPUT)
+        found = 0
+        for _ in stream:
+            found += 1
+            self.assertEqual(stream.rest, 0)
+            if found < 100:
+                stream.feed(INPUT[:5])
+                stream.feed(b"")
+                stream.feed(INPUT[5:])
+        self.assertEqual((found, stream.rest), (100, 0))
+
+    def test_two_loops_at_once_share_the_items(self):
+        stream = Stream()
+        stream.feed(INPUT * 10)
+        self.assertEqual(len(list(zip(stream, stream))), 5)
+
+    def test_what_is_read_is_dropped(self):
+        stream = Stream()
+        tracemalloc.start()
+        found = 0
+        for _ in range(1000):
+            stream.feed(INPUT * 100)
+            found += sum(1 for _ in stream)
+        _, peak = tracemalloc.get_traced_memory()
+        tracemalloc.stop()
+        self.assertEqual((found, stream.rest), (100_000, 0))
+        # 1.7 MB came
+        self.assertLess(peak, 100_000)
+
+    def test_a_long_message_in_small_chunks_is_joined_once(self):
+        length = 1 << 24
+        stream = Stream()
+        stream.feed(INPUT[:4] + length.to_bytes(4, "big"))
+        self.assertEqual(list(stream), [])
+        chunk = bytes(1 << 10)
+        tracemalloc.start()
+        for _ in range(length >> 10):
+            self.assertEqual(list(stream), [])
+            stream.feed(chunk)
+        (message,) = stream
+        _, peak = tracemalloc.get_traced_memory()
+        tracemalloc.stop()
+        self.assertEqual((len(message.payload), stream.rest), (length, 0))
+        # the joined bytes and the payload, and the list of chunks
+        self.assertLess(peak, 2 * length + (1 << 20))
+
+    def test_any_view_of_bytes(self):
+        doubled = bytes(byte for byte in STREAM for _ in range(2))
+        for data in (
+            bytearray(STREAM),
+            memoryview(b"front" + STREAM + b"end")[5:-3],
+            memoryview(doubled)[::2],
+            array.array("B", STREAM),
+        ):
+            stream = Stream()
+            stream.feed(data)
+            self.assertEqual((list(stream), stream.rest), (EXPECTED, 8))
+
+    def test_bytes_that_change_once_they_were_fed(self):
+        data = bytearray(STREAM)
+        stream = Stream()
+        stream.feed(data)
+        data[:] = bytes(len(data))
+        del data[3:]
+        self.assertEqual(list(stream), EXPECTED)
+
+    def test_an_error_that_is_kept_locks_nothing(self):
+        stream = Stream()
+        stream.feed(INPUT)
+        data = bytearray(b"\x12")
+        kept = []
+        # assertRaises would clear the frames
+        try:
+            canonical(13, data)
+        except Malformed as error:
+            kept.append(error)
+        with replaced("journal_next", returning(-2)):
+            try:
+                list(stream)
+            except MemoryError as error:
+                kept.append(error)
+        self.assertEqual(len(kept), 2)
+        data += b"\x00"
+        stream.feed(data)
+        self.assertEqual((list(stream), stream.rest), (EXPECTED[:1], 2))
+
+    def test_an_item_of_another_kind(self):
+        stream = Stream()
+        stream.feed(STREAM)
+        with replaced("journal_next", returning(0, 3, 0, 0, 0, 17, 8)):
+            for _ in range(2):
+                with self.assertRaises(JournalError) as later:
+                    next(iter(stream))
+                self.assertIs(type(later.exception), JournalError)
+                text = "Stream: the library returned an item of the kind 3, which this module does not know"
+                self.assertEqual(str(later.exception), text)
+        self.assertEqual(list(stream), EXPECTED)
+
+    def test_its_version(self):
+        self.assertEqual([Stream(version).version for version in range(5, 10)], list(range(5, 10)))
+        stream = Stream()
+        with self.assertRaises(AttributeError):
+            stream.version = 9
+
+    def test_as_a_text(self):
+        stream = Stream(9)
+        stream.feed(b"123")
+        self.assertEqual(repr(stream), "<Stream of version 9, 3 bytes in no item yet>")
+
+
+class Trickle(io.RawIOBase):
+    """A raw file that has one byte at a time, and now and then none yet."""
+
+    def __init__(self, data):
+        self.data = data
+        self.at = 0
+        self.is_ready = True
+
+    def read(self, size):
+        self.is_ready = not self.is_ready or self.at % 5 > 0
+        if not self.is_ready:
+            return None
+        self.at += 1
+        return self.data[self.at - 1 : self.at]
+
+
+class TestReading(unittest.TestCase):
+    def test_files(self):
+        with open(os.path.join(os.path.dirname(__file__), "../../examples/streams/recorded"), "rb") as file:
+            stream = Stream()
+            found = list(stream.read(file))
+        fed = Stream()
+        fed.feed(RECORDED)
+        self.assertEqual((found, stream.rest), (list(fed), 0))
+
+    def test_every_size_and_what_is_left(self):
+        for size in range(1, len(STREAM) + 2):
+            stream = Stream()
+            self.assertEqual(list(stream.read(io.BytesIO(STREAM), size)), EXPECTED)
+            self.assertEqual(stream.rest, 8)
+
+    def test_what_was_fed_comes_first(self):
+        stream = Stream()
+        stream.feed(STREAM[:20])
+        self.assertEqual(list(stream.read(io.BytesIO(STREAM[20:]))), EXPECTED)
+        self.assertEqual(list(stream.read(io.BytesIO(b""))), [])
+
+    def test_items_come_before_the_end_of_a_pipe_and_of_a_socket(self):
+        reading, writing = os.pipe()
+        with open(reading, "rb") as file, open(writing, "wb", buffering=0) as other:
+            other.write(INPUT)
+            self.assertEqual(next(Stream().read(file)), EXPECTED[0])
+        first, second = socket.socketpair()
+        with first, second:
+            stream = Stream()
+            items = stream.read(first)
+            second.sendall(INPUT)
+            self.assertEqual(next(items), EXPECTED[0])
+            second.sendall(STREAM[len(INPUT) :])
+            second.shutdown(socket.SHUT_WR)
+            self.assertEqual((list(items), stream.rest), (EXPECTED[1:], 8))
+
+    def test_a_file_that_has_no_bytes_yet(self):
+        stream = Stream()
+        file = Trickle(STREAM)
+        found = []
+        waited = 0
+        while True:
+            try:
+                found += stream.read(file)
+                break
+            except BlockingIOError:
+                waited += 1
+        self.assertEqual((found, stream.rest), (EXPECTED, 8))
+        self.assertGreater(waited, 3)
+
+    def test_what_cannot_be_read(self):
+        for file, text in ((b"bytes", "bytes has not"), (None, "NoneType has not")):
+            with self.assertRaises(TypeError) as error:
+                Stream().read(file)
+            self.assertEqual(str(error.exception), f"read: file must have a method read or recv, which {text}")
+        with self.assertRaises(TypeError) as error:
+            list(Stream().read(io.StringIO("text")))
+        self.assertEqual(str(error.exception), "feed: data must be bytes-like, not str")
+        for size in (0, -1):
+            with self.assertRaises(ValueError):
+                Stream().read(io.BytesIO(), size)
+
+
+class TestItems(unittest.TestCase):
+    def test_version_9_skips_a_message_with_its_payload(self):
+        stream = Stream(9)
+        stream.feed(bytes.fromhex("00080000000000020003000300000000"))
+        self.assertEqual(list(stream), [Skipped(9, 8, UNKNOWN_WORD + 2, bytes.fromhex("0003"))])
+        self.assertEqual(stream.rest, 6)
+
+    def test_acknowledgement(self):
+        stream = Stream()
+        stream.feed(bytes.fromhex("00058000000000050801720178"))
+        (message,) = stream
+        self.assertTrue(message.requires_ack)
+        self.assertEqual(message.type, "ProposeRunCompletion")
+
+    def test_threads_share_a_stream(self):
+        stream = Stream()
+        found = []
+        total = 4000
+
+        def feed():
+            for _ in range(total // 4):
+                stream.feed(INPUT)
+
+        def read():
+            while sum(found) < total:
+                found.append(sum(1 for item in stream if item == EXPECTED[0]))
+
+        threads = [threading.Thread(target=work) for work in (feed, read) * 4]
+        for thread in threads:
+            thread.start()
+        for thread in threads:
+            thread.join()
+        self.assertEqual((sum(found), stream.rest), (total, 0))
+
+    def test_a_call_of_a_recorded_journal(self):
+        stream = Stream()
+        stream.feed(RECORDED)
+        call = next(item for item in stream if item.code == CALL_COMMAND)
+        self.assertEqual((call.type, call.is_command), ("CallCommand", True))
+        self.assertEqual((call.json()["serviceName"], call.json()["handlerName"]), ("Greeter", "greet"))
+
+
+if __name__ == "__main__":
+    unittest.main()

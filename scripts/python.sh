@@ -1,0 +1,33 @@
+#!/bin/sh
+# Makes the package for Python whole: scripts/python.sh [FOLDER], which is python/ or a copy of it.
+#
+# It puts the shared library beside the modules, so that 'pip install FOLDER' takes it along, and builds the wheel in
+# FOLDER/dist, which needs a Python with pip, setuptools and wheel (Debian's python3-pip, python3-setuptools and
+# python3-wheel). Nothing is downloaded. The library is that of scripts/install.sh, and needs what that needs.
+set -eu
+
+if [ $# -gt 1 ]; then
+  echo 'usage: python.sh [FOLDER]' >&2
+  exit 2
+fi
+top=$(cd "$(dirname "$0")/.." && pwd)
+folder=${1:-$top/python}
+work=$(mktemp -d)
+trap 'rm -rf "$work"' EXIT
+
+sh "$top/scripts/install.sh" "$work/prefix" > "$work/log"
+rm -f "$folder/pendratsoa/libpendratsoa.so"
+cp "$work/prefix/lib/libpendratsoa.so" "$folder/pendratsoa/libpendratsoa.so"
+echo "python.sh: the library is in $folder/pendratsoa"
+
+for python in python3 /usr/bin/python3; do
+  if "$python" -c 'import pip, setuptools, wheel' 2> /dev/null; then
+    # what an earlier build has left would be taken along
+    rm -rf "$folder/build"
+    "$python" -m pip wheel --quiet --disable-pip-version-check --no-cache-dir --no-index --no-deps \
+      --no-build-isolation --wheel-dir "$folder/dist" "$folder"
+    echo "python.sh: the wheel is $(ls "$folder"/dist/*.whl)"
+    exit 0
+  fi
+done
+echo 'python.sh: there is no wheel, since no python3 has pip, setuptools and wheel'
