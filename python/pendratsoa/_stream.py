@@ -111,6 +111,8 @@ class Stream:
                 self._missing = self._look()
             if 0 < self._missing <= self._chunks_size:
                 self._join()
+                # an error leaves it at that
+                self._missing = 0
                 self._missing = self._look()
             return self._take() if self._missing == 0 else None
 
