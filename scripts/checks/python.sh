@@ -50,6 +50,11 @@ same 'the package in an empty environment' "$work/wanted" "$out"
 PYTHONPATH=$site
 export PYTHONPATH
 case_of 'the tests' python3 -m unittest discover -s python/tests
+for other in python3.9 python3.10 python3.11 python3.12 python3.13 python3.14; do
+  if "$other" -c '' 2> /dev/null && [ "$("$other" --version)" != "$(python3 --version)" ]; then
+    case_of "the tests by $other" "$other" -m unittest discover -s python/tests
+  fi
+done
 case_of 'the tests of the example' python3 -m unittest discover -s examples/python
 cat conformance/*.txt conformance/json/*.txt > "$work/lines"
 counted 'the test vectors' python3 scripts/checks/conformance_calls.py < "$work/lines"
