@@ -7,7 +7,7 @@ import functools
 import operator
 from typing import Any, Callable, Optional, Tuple, Type, Union
 
-from ._errors import ERRORS, JournalError, Malformed, NoId, NoResult, OutOfMemory, TooLong, Unknown
+from ._errors import ERRORS, JournalError, Malformed, NoId, NoResult, NoRoom, OutOfMemory, TooLong, Unknown
 from ._library import library
 from ._protocol import SCHEMA_NAMES
 
@@ -20,11 +20,12 @@ FIRST_VERSION = 5
 LAST_VERSION = 9
 SCHEMAS = len(SCHEMA_NAMES)
 
-# what is wrong with a payload, or with the call
+# what is wrong: with a payload, which comes before these words, or with the call
 TEXTS = {
     Malformed: "is not well-formed",
     NoId: "has no id",
     NoResult: "has an id, and no result",
+    NoRoom: "a slice for numbers was too short",
     OutOfMemory: "an allocation failed",
     TooLong: "the result would have more than 4,294,967,295 bytes",
 }
@@ -44,7 +45,8 @@ def shown(value: object) -> str:
     if isinstance(value, (bytes, bytearray, memoryview)):
         data = bytes(value)
         return repr(data) if len(data) <= 32 else f"{data[:16]!r}.. ({len(data)} bytes)"
-    text = repr(value)
+    # Python refuses to write numbers of thousands of digits in decimals
+    text = hex(value) if isinstance(value, int) and value.bit_length() > 64 else repr(value)
     return text if len(text) <= 80 else f"{text[:77]}.."
 
 
@@ -84,9 +86,9 @@ class Request:
         """The length of a payload in bytes."""
         number = self._integer(argument)
         if number < 0:
-            raise ValueError(f"{self.call}: {argument} {number} is negative")
+            raise ValueError(f"{self.call}: {argument} {shown(number)} is negative")
         if number >= U32_END:
-            raise self.error(TooLong, f"{argument} {number} is more than 4,294,967,295", argument)
+            raise self.error(TooLong, f"{argument} {shown(number)} is more than 4,294,967,295", argument)
         return number
 
     def text(self, argument: str) -> Tuple[bytes, int]:
@@ -158,11 +160,11 @@ class Request:
     def _refused(self, number: int) -> JournalError:
         """The error of a negative number. A later library may have further ones."""
         kind = ERRORS.get(number)
+        if kind is None:
+            return self.unexpected(str(number))
         if kind is Unknown:
             return self._unknown(self._unknown_argument())
-        if kind is None or kind not in TEXTS:
-            return self.unexpected(str(number))
-        if kind in (OutOfMemory, TooLong):
+        if kind not in (Malformed, NoId, NoResult):
             return self.error(kind, TEXTS[kind])
         argument = self._malformed_argument() if kind is Malformed else "payload"
         return self.error(kind, f"{argument} {shown(self.arguments[argument])} {TEXTS[kind]}", argument)

@@ -4,7 +4,7 @@ import pickle
 import unittest
 
 import pendratsoa
-from pendratsoa import JournalError, Malformed, NoId, NoResult, OutOfMemory, Stream, TooLong, Unknown
+from pendratsoa import JournalError, Malformed, NoId, NoResult, NoRoom, OutOfMemory, Stream, TooLong, Unknown
 from support import CALL_COMMAND, CUSTOM_ENTRY, SET_STATE_COMMAND, SIGNAL_NOTIFICATION, replaced, returning
 
 BAD = b"\x12"
@@ -132,6 +132,7 @@ class TestErrors(unittest.TestCase):
     def test_what_fails_without_an_argument(self):
         for number, kind, text in (
             (-2, OutOfMemory, "canonical: an allocation failed"),
+            (-3, NoRoom, "canonical: a slice for numbers was too short"),
             (-4, TooLong, "canonical: the result would have more than 4,294,967,295 bytes"),
         ):
             with replaced("journal_canonical", returning(number)), self.assertRaises(kind) as raised:

@@ -44,7 +44,7 @@ def values():
     """Values of all kinds, most of them of none that a call takes."""
     released = memoryview(b"released")
     released.release()
-    numbers = (0, 1, 8, -1, 1 << 16, (1 << 16) - 1, 1 << 32, (1 << 32) - 1, 1 << 63, 1 << 64, -(1 << 64), 1 << 1000)
+    numbers = (0, 1, 8, -1, 1 << 16, (1 << 16) - 1, 1 << 32, (1 << 32) - 1, 1 << 63, 1 << 64, -(1 << 64), 1 << 100_000)
     texts = ("", "SleepCommand", "EndMessage", "\ud800", "\0", "x" * 100_000, OtherWhenEncoded("SleepCommand"))
     data = (b"", b"\xff" * 1000, bytearray(INPUT), memoryview(INPUT)[::-2], memoryview(b""), LongerThanItIs(INPUT))
     others = (None, True, 1.5, float("nan"), 1j, [], [1], {}, (), object(), NoInteger(), Ellipsis, int, released)
