@@ -15,7 +15,7 @@ folder=${1:-$top/python}
 work=$(mktemp -d)
 trap 'rm -rf "$work"' EXIT
 
-sh "$top/scripts/install.sh" --library "$work/prefix" > "$work/log"
+DESTDIR='' sh "$top/scripts/install.sh" --library "$work/prefix" > "$work/log"
 rm -f "$folder/pendratsoa/libpendratsoa.so"
 cp "$work/prefix/lib/libpendratsoa.so" "$folder/pendratsoa/libpendratsoa.so"
 echo "python.sh: the library is in $folder/pendratsoa"
