@@ -3,7 +3,8 @@
  *
  * Memory. The caller owns all of it, before, during and after a call. A call reads the `const` slices, writes the
  * others, and keeps no pointer; nothing that it allocates outlives it, and nothing has to be freed. Every pointer comes
- * with a count of elements; if the count is 0 it may be null. Slices of one call do not overlap.
+ * with a count of elements; if the count is 0 it may be null. A slice that a call writes overlaps
+ * no other of that call.
  *
  * Results. A call returns a number that is not negative, or one of the errors below. One that writes bytes returns how
  * many they are, and writes them if `room` is at least as much; if it is less, the slice is unchanged, and the call can
