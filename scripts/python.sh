@@ -21,7 +21,8 @@ cp "$work/prefix/lib/libpendratsoa.so" "$folder/pendratsoa/libpendratsoa.so"
 echo "python.sh: the library is in $folder/pendratsoa"
 
 for python in python3 /usr/bin/python3; do
-  if "$python" -c 'import pip, setuptools, wheel' 2> /dev/null; then
+  # setuptools first: after pip it does not find its own distutils
+  if "$python" -c 'import setuptools, wheel, pip' 2> /dev/null; then
     # what an earlier build has left would be taken along
     rm -rf "$folder/build"
     "$python" -m pip wheel --quiet --disable-pip-version-check --no-cache-dir --no-index --no-deps \

@@ -27,7 +27,7 @@ class TestMaking(unittest.TestCase):
 
     def test_the_flag_is_that_of_its_header(self):
         flags = [Message.of("ProposeRunCompletion", PROPOSAL, version).requires_ack for version in range(5, 10)]
-        self.assertEqual(flags, [True, True, False, False, False])
+        self.assertEqual(flags, [False, False, True, True, True])
 
     def test_what_does_not_exist(self):
         for arguments in (("Sleep",), (8,), ("SleepCommand", b"", 4), ("CustomEntry(64513)",), (1 << 16,)):
@@ -38,7 +38,7 @@ class TestMaking(unittest.TestCase):
 
 class TestMessage(unittest.TestCase):
     def test_its_frame_at_its_own_version_and_another(self):
-        for own, other, flag in ((6, 7, "80"), (7, 6, "00"), (9, 5, "00")):
+        for own, other, flag in ((6, 7, "00"), (7, 6, "80"), (9, 5, "80")):
             message = Message(own, PROPOSE_RUN_COMPLETION, PROPOSAL)
             self.assertEqual(message.frame(), bytes.fromhex(f"0005{flag}0000000005") + PROPOSAL)
             flag = "80" if flag == "00" else "00"

@@ -27,12 +27,12 @@ if grep -q '^python.sh: there is no wheel' "$work/log"; then
   left_out 'the wheel' 'no python3 has pip, setuptools and wheel; the Debian packages python3-pip, .. have them'
 else
   site="$work/a site"
+  # as scripts/python.sh looks for it
   python=python3
-  "$python" -c 'import pip' 2> /dev/null || python=/usr/bin/python3
-  case_of 'pip install of the wheel' "$python" -m pip install --quiet --disable-pip-version-check --no-cache-dir \
-    --no-index --no-deps --target "$site" "$wheel"
-  case_of 'pip install of the folder' "$python" -m pip install --quiet --disable-pip-version-check --no-cache-dir \
-    --no-index --no-deps --no-build-isolation --target "$work/other" "$work/python"
+  "$python" -c 'import setuptools, wheel, pip' 2> /dev/null || python=/usr/bin/python3
+  set -- "$python" -m pip install --quiet --disable-pip-version-check --no-cache-dir --no-index --no-deps
+  case_of 'pip install of the wheel' "$@" --target "$site" "$wheel"
+  case_of 'pip install of the folder' "$@" --no-build-isolation --target "$work/other" "$work/python"
   (cd python/pendratsoa && ls ./*.py py.typed && echo libpendratsoa.so) | sed 's|^./||' | sort > "$work/wanted"
   for place in "$site" "$work/other"; do
     (cd "$place/pendratsoa" && find . -type f ! -name '*.pyc') | sed 's|^./||' | sort > "$out"
@@ -60,7 +60,7 @@ cat conformance/*.txt conformance/json/*.txt > "$work/lines"
 counted 'the test vectors' python3 scripts/checks/conformance_calls.py < "$work/lines"
 awk '/^```python$/ { inside = 1; next } /^```$/ { inside = 0 } inside' python/README.md > "$work/page.py"
 sed -n 's/^    \([A-Z][A-Za-z]* {.*\)$/\1/p' python/README.md > "$work/wanted"
-cp examples/streams/recorded "$work/journal"
+cp examples/streams/replay "$work/journal"
 (cd "$work" && python3 page.py) > "$out" 2> "$err"
 same 'the lines of python/README.md' "$work/wanted" "$out"
 
