@@ -19,7 +19,7 @@ HERE = pathlib.Path(__file__).resolve().parent
 ROOT = HERE.parent
 
 # The files of the script, in the order in which they take from each other.
-SCRIPTS = ("text", "bytes", "items", "rows", "summary", "list", "detail", "filter", "top", "keys")
+SCRIPTS = ("text", "bytes", "items", "rows", "summary", "list", "lanes", "values", "detail", "filter", "top", "keys")
 
 # How many items a page shows, of all its journals, by default.
 ITEMS = 200_000
@@ -191,6 +191,9 @@ def page(journals, verdict, version, ignores_payloads):
 def run(arguments):
     """Makes the page and writes it."""
     paths = [path for path in (arguments.stream, arguments.other) if path is not None]
+    for path in paths:
+        if not pathlib.Path(path).is_file():
+            raise Failure(f"view: no such file: {path}", 2)
     protocol = ["--protocol", arguments.protocol]
     dump = [program("dump", arguments.unproved), *protocol]
     journals = [read_journal(dump, path, max(1, arguments.items // len(paths))) for path in paths]

@@ -1,7 +1,10 @@
 // Bytes as text, as JSON or in hex.
 
 function bytesOf(base64) {
-  return Uint8Array.from(atob(base64), (character) => character.charCodeAt(0));
+  const binary = atob(base64);
+  const bytes = new Uint8Array(binary.length);
+  for (let place = 0; place < bytes.length; place++) bytes[place] = binary.charCodeAt(place);
+  return bytes;
 }
 
 /** The text that bytes are, or null where they are none; `isCut` allows a last character that is not whole. */

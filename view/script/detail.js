@@ -51,53 +51,6 @@ function futureNode(future, item) {
   return element("div", "future", element("span", "form", `future${combinator}`), element("ul", "", leaves, nested));
 }
 
-/** How many characters of a text are shown before it is unfolded. */
-function foldedLength(text) {
-  const start = text.split("\n", FOLDED.lines).join("\n").length;
-  const length = Math.min(FOLDED.characters, start);
-  return text.length - length < FOLDED.least ? text.length : length;
-}
-
-/** A text of which a long one is folded: a button shows more. */
-function foldedNode(text, className) {
-  let length = foldedLength(text);
-  const block = element("pre", className, visible(text.slice(0, length)));
-  if (length === text.length) return block;
-  const button = Object.assign(element("button", "more"), { type: "button" });
-  const label = () => {
-    button.textContent = `Show more: ${number(text.length - length)} characters are folded`;
-  };
-  label();
-  button.addEventListener("click", () => {
-    length = Math.min(text.length, length + UNFOLDED);
-    block.replaceChildren(...visible(text.slice(0, length)));
-    if (length < text.length) label();
-    else button.remove();
-  });
-  return element("div", "folded", block, button);
-}
-
-/** Bytes as text, as JSON or in hex. */
-function bytesNode(base64) {
-  const bytes = bytesOf(base64);
-  if (bytes.length === 0) return element("span", "form", "0 bytes");
-  const text = textOf(bytes);
-  const json = text !== null && isJson(text);
-  const form = text === null ? "hex" : json ? "JSON" : "text";
-  return element("div", "payload",
-    element("span", "form", `${form}, ${counted(bytes.length, "byte")}`),
-    foldedNode(text === null ? hexDump(bytes) : json ? indented(text) : text, form.toLowerCase()));
-}
-
-function valueNode({ path, kind, value }, item) {
-  if (kind === "bytes") return bytesNode(value);
-  if (kind === "Future") return futureNode(value, item);
-  if (typeof value === "object") return element("span", "form", kind === "Void" ? "void" : "present, without a field");
-  if (kind === "text") return foldedNode(value, "string");
-  if (TIMES.test(path)) return element("span", "", value, element("span", "form", ` ${timeText(Number(value))}`));
-  return element("span", "", String(value));
-}
-
 /** What is known of an item from its header. */
 function factsOf(item) {
   const { dump } = item;
@@ -120,6 +73,17 @@ function tableRow(label, cells, className = "", note = "") {
   return element("tr", className, head, cells.map((cell) => element("td", "", cell ?? element("span", "form", "—"))));
 }
 
+/** How two values of a path are laid out, and the parts in which they differ. */
+function layoutsOf(pair, differs) {
+  const layouts = pair.map((value) => value && layoutOf(value));
+  if (!differs || !layouts.every(Boolean)) return layouts;
+  // JSON that differs only in its blanks is shown as it is
+  const isAlike = layouts[0].text === layouts[1].text;
+  const [one, other] = isAlike ? pair.map((value) => layoutOf(value, true)) : layouts;
+  const parts = differingParts(one.text, other.text);
+  return [{ ...one, part: parts[0] }, { ...other, part: parts[1] }];
+}
+
 /** The rows of what is in the messages: those that differ between two, which are marked, and the others. */
 function valueRows(row) {
   const values = row.map(valuesByPath);
@@ -129,7 +93,8 @@ function valueRows(row) {
     const differs = isPair && row.every(Boolean) && JSON.stringify(pair[0]?.value) !== JSON.stringify(pair[1]?.value);
     const isCompared = pair.every((value) => value?.compared !== false);
     const note = differs ? (isCompared ? "differs" : "differs, not compared") : "";
-    const nodes = pair.map((value, side) => value && valueNode(value, row[side]));
+    const layouts = layoutsOf(pair, differs);
+    const nodes = pair.map((value, side) => value && valueNode(value, row[side], layouts[side]));
     const className = differs && isCompared ? "differs" : "";
     return { differs, node: tableRow(path.replace(/\.content$/, ""), nodes, className, note) };
   });

@@ -31,7 +31,7 @@ const STATES = {
 /** Whether an item has a word of the filter. */
 function hasWord(item, word) {
   const [, field, rest] = word.match(/^(type|name|is):(.*)$/) ?? [null, null, word];
-  if (field === "is") return rest in STATES ? STATES[rest](item) : item.direction === rest;
+  if (field === "is") return Object.hasOwn(STATES, rest) ? STATES[rest](item) : item.direction === rest;
   const haystack = haystackOf(item);
   if (field === "type") return haystack.type.includes(rest);
   return (field === "name" ? haystack.names : haystack.all).includes(rest);

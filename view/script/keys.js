@@ -14,7 +14,7 @@ const KEYS = {
   n: () => moveToProblem(1),
   p: () => moveToProblem(-1),
   Enter: () => {
-    const next = itemsOf(selected).map(followed).find(Boolean);
+    const next = rows[selected]?.filter(Boolean).map(followed).find(Boolean);
     if (next) location.hash = placeOf(next);
   },
   "/": () => {
@@ -39,7 +39,7 @@ function press(event) {
   }
   // keys that an element in focus takes by itself stay its own
   const isElsewhere = event.target !== list && event.target !== document.body;
-  if (isText || !(event.key in KEYS) || (isElsewhere && OF_THE_LIST.has(event.key))) return;
+  if (isText || !Object.hasOwn(KEYS, event.key) || (isElsewhere && OF_THE_LIST.has(event.key))) return;
   event.preventDefault();
   KEYS[event.key]();
 }
@@ -68,6 +68,7 @@ function start() {
   for (const [name, text] of Object.entries(isPair ? PAIR_COLUMNS : COLUMNS)) {
     byId("columns").append(element("span", name, text));
   }
+  list.style.setProperty("--gutter", `${lanes.length > 0 ? lanes.length * LANE_WIDTH + 4 : 0}px`);
   measure();
   filter();
   let timer = 0;

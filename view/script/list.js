@@ -91,6 +91,7 @@ function paint(all = false) {
     node.setAttribute("aria-setsize", shown.length);
     node.classList.toggle("related", place !== selected && itemsOf(place).some((item) => related.has(item)));
   }
+  paintSpans(shown[first] ?? 0, shown[Math.min(last, shown.length) - 1] ?? -1);
   // in order, for a reader of the document
   if (canvas.childElementCount !== painted.size || all) {
     const places = [...painted.keys()].sort((one, other) => positions.get(one) - positions.get(other));

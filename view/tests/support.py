@@ -1,5 +1,6 @@
 """What the tests of the page share: a folder for journals and pages, and the maker."""
 import contextlib
+import functools
 import io
 import pathlib
 import sys
@@ -12,6 +13,9 @@ STREAMS = VIEW.parent / "examples" / "streams"
 sys.path.insert(0, str(VIEW))
 
 import make_page  # noqa: E402
+
+# to look whether a program is up to date takes longer than to run it
+make_page.program = functools.cache(make_page.program)
 
 FOLDER = tempfile.TemporaryDirectory()
 WORK = pathlib.Path(FOLDER.name)

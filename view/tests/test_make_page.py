@@ -128,8 +128,7 @@ class Endings(unittest.TestCase):
 
     def test_a_stream_that_is_not_there(self):
         status, output, error = run(WORK / "nothing", "-o", WORK / "unwritten.html")
-        self.assertEqual((status, output), (2, ""))
-        self.assertIn("nothing", error)
+        self.assertEqual((status, output, error), (2, "", f"view: no such file: {WORK / 'nothing'}\n"))
         self.assertFalse((WORK / "unwritten.html").exists())
 
     def test_a_folder_that_is_not_there(self):

@@ -103,6 +103,13 @@ class Examples(PageTest):
         browser.press("G")
         self.assertIn("8 bytes at the end that are in no item", self.selected())
 
+    def test_an_empty_journal(self):
+        self.open(written("empty", b""))
+        self.assertEqual(self.rows(), 0)
+        browser.press(*"jkgGnp", "Enter", "Escape")
+        self.search("nothing")
+        self.assertEqual(self.text("#facts"), "0 bytes0 items0 commandsprotocol version 8")
+
     def test_a_row_says_what_the_item_is(self):
         self.open(STREAMS / "replay")
         self.assertEqual(self.text("#row-1 .number"), "#1")
@@ -175,6 +182,36 @@ class Pairs(PageTest):
         self.assertEqual(cells, [[0, None], [1, 0], [2, 1], [None, 2]])
 
 
+class Marks(PageTest):
+    def marked(self, recorded, replayed):
+        """What is marked in the first and in the second of two values."""
+        streams = [frame("SetStateCommand", key=b"key", value={"content": value}) for value in (recorded, replayed)]
+        self.open(*(written(f"marked{side}", stream) for side, stream in enumerate(streams)))
+        return self.value("""[...document.querySelectorAll('tr.differs td')].map((cell) =>
+            cell.querySelector('mark')?.textContent ?? '')""")
+
+    def test_the_part_of_a_text_that_differs(self):
+        self.assertEqual(self.marked(b"a charge now", b"a refund now"), ["charge", "refund"])
+        self.assertEqual(self.marked(b"charge", b"chargeCard"), ["", "Card"])
+        self.assertEqual(self.marked(b"aa", b"aaa"), ["", "a"])
+        self.assertEqual(self.marked(b"\xff\x01\xff", b"\xff\x23\xff")[1].split(), ["23", "ff", ".#"])
+
+    def test_a_character_stays_whole(self):
+        self.assertEqual(self.marked("\U0001f600".encode(), "\U0001f601".encode()), ["\U0001f600", "\U0001f601"])
+        self.assertEqual(self.marked("\U0001f600".encode(), "\U0001fa00".encode()), ["\U0001f600", "\U0001fa00"])
+
+    def test_json_that_differs_in_its_blanks(self):
+        self.assertEqual(self.marked(b'{"a":1}', b'{"a": 1}'), ["", " "])
+        self.assertIn("text, 7 bytes", self.text("tr.differs"))
+
+    def test_a_difference_far_into_a_value_is_in_sight(self):
+        texts = [b"x" * 50_000 + middle + b"y" * 50_000 for middle in (b"left", b"right")]
+        self.assertEqual(self.marked(*texts), ["lef", "righ"])
+        self.assertIn("(49,800 characters before)", self.text("tr.differs"))
+        self.value("document.querySelector('tr.differs .more').click()")
+        self.assertEqual(self.value("document.querySelector('tr.differs pre').textContent"), texts[0].decode())
+
+
 class Joins(PageTest):
     def open_order(self):
         samples.write_orders(WORK)
@@ -205,6 +242,30 @@ class Joins(PageTest):
         self.assertIn("completion 1", self.text("#detail"))
         self.assertIn("requested by #3 RunCommand", self.text("#detail"))
         self.assertIn("proposed by #4 ProposeRunCompletion", self.text("#detail"))
+
+    def test_lines_from_commands_to_their_completions(self):
+        self.open_order()
+        ends = """[...document.querySelectorAll('.span')].map((span) => { const box = span.getBoundingClientRect();
+            const right = list.getBoundingClientRect().right - 40;
+            const row = (y) => Number(document.elementFromPoint(right, y).closest('.row').dataset.row);
+            return [row(box.top), row(box.bottom)]; })"""
+        self.assertEqual(sorted(self.value(ends)), [[3, 6], [8, 9], [8, 12]])
+        self.assertEqual(self.value("document.querySelectorAll('.span.selected').length"), 0)
+        self.value("select(8)")
+        self.assertEqual(self.value("document.querySelectorAll('.span.selected').length"), 2)
+        lefts = "[...document.querySelectorAll('.span.selected')].map((span) => span.getBoundingClientRect().left)"
+        self.assertEqual(len(set(self.value(lefts))), 2)
+        self.search("is:command")
+        self.assertEqual(self.value("document.querySelectorAll('.span').length"), 0)
+
+    def test_lines_in_one_lane_share_no_row(self):
+        commands = b"".join(frame("RunCommand", result_completion_id=number) for number in range(1, 10))
+        order = (5, 1, 9, 2, 8, 3, 7, 4, 6)
+        completions = b"".join(frame("RunCompletionNotification", completion_id=number) for number in order)
+        self.open(written("lanes", commands + completions))
+        for spans in self.value("lanes"):
+            self.assertTrue(all(one["to"] < other["from"] for one, other in zip(spans, spans[1:])))
+        self.assertLessEqual(self.value("lanes.length"), 6)
 
     def test_the_tree_of_a_suspension(self):
         self.open_order()
@@ -268,7 +329,7 @@ class Payloads(PageTest):
         self.assertIn("characters are folded", self.text(".more"))
         self.value("document.querySelector('.payload .more').click()")
         self.assertEqual(self.value("document.querySelector('.payload pre').textContent"), text)
-        self.assertIsNone(self.text(".payload .more"))
+        self.assertTrue(self.value("document.querySelector('.payload .more').hidden"))
 
     def test_a_malformed_payload(self):
         self.open(written("malformed", raw_frame(0x0403, b"\xff")))
@@ -336,6 +397,7 @@ class Filter(PageTest):
             ("is:failure", 2),
             ("is:open", 2),
             ("is:command", 9),
+            ("is:constructor", 0),
             ("name:status", 3),
             ("ff reserve nothing", 0),
         ):
