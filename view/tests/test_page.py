@@ -284,6 +284,7 @@ class Joins(PageTest):
     def test_a_completion_of_the_id_0(self):
         self.open(written("zero", frame("RunCommand", name="a") + frame("RunCompletionNotification")))
         self.assertEqual([self.text(f"#row-{row} .link") for row in (0, 1)], ["→ #1", "← command 0"])
+        self.assertIn("completion 0completed by #1", self.text("#detail"))
 
     def test_an_open_command_and_a_completion_of_none(self):
         stream = frame("SleepCommand", result_completion_id=3) + frame("SleepCompletionNotification", completion_id=4)
