@@ -1,5 +1,5 @@
 # A front for the scripts, which say more with --help: no rule of it does anything else.
-.PHONY: help quick test check generate view install uninstall python bench
+.PHONY: help quick test check generate view install uninstall python go bench
 
 help:
 	@echo 'make quick                  what can be known in two minutes, without a proof (sh scripts/test.sh --quick)'
@@ -10,6 +10,7 @@ help:
 	@echo 'make install PREFIX=..      puts the programs and the library for C below a folder (sh scripts/install.sh)'
 	@echo 'make uninstall PREFIX=..    removes them'
 	@echo 'make python                 builds the package for Python, with the library in it (sh scripts/python.sh)'
+	@echo 'make go                     builds and vets the package for Go over the library that pkg-config finds'
 	@echo 'make bench [NAME=speed]     lists what is measured, or measures it (sh scripts/bench.sh)'
 
 quick:
@@ -35,6 +36,9 @@ uninstall:
 
 python:
 	sh scripts/python.sh
+
+go:
+	cd go && go build . && go vet .
 
 bench:
 	sh scripts/bench.sh $(NAME)

@@ -62,6 +62,10 @@ sed 's/ .*//' "$work/calls" > "$work/values"
 grep -oh '\blibrary\.journal_[a-z_]*' python/pendratsoa/*.py | sed 's/.*\.//' | sort -u > "$work/lines"
 same "the calls and the functions of python/pendratsoa" "$work/values" "$work/lines"
 
+# The package for Go makes each.
+grep -o 'C\.journal_[a-z_]*' go/library.go | sed 's/.*\.//' | sort -u > "$work/lines"
+same "the calls and go/library.go" "$work/values" "$work/lines"
+
 # It has tests, is called by nobody who means well, and stands in the table of promises.
 grep -oh 'journal_[a-z_]*(' crates/journal_ffi/src/tests/*.rt | sed 's/(//' | sort -u > "$work/lines"
 same "the calls and the tests of journal_ffi" "$work/values" "$work/lines"

@@ -8,7 +8,7 @@ set -u
 cd "$(dirname "$0")/../.." || exit 1
 . scripts/checks/lib.sh
 
-folders='bench|conformance|crates|docs|examples|include|proto|python|scripts|share|tests|tools|view'
+folders='bench|conformance|crates|docs|examples|go|include|proto|python|scripts|share|tests|tools|view'
 pages=$(find . -name '*.md' -not -path '*/out/*' -not -path '*/target/*' | sed 's|^\./||' | sort)
 
 # missing PAGE WHAT
@@ -189,6 +189,8 @@ crates/journal_dump/src/command_line.rt|\.version\("
 crates/journal_ffi/src/names.rt|the version of the library, as "
 docs/C.md|libpendratsoa\.so\.
 docs/C.md|The version\*\*, 
+go/README.md|pendratsoa@v
+go/types.go|the version of the library, as "
 include/pendratsoa.h|JOURNAL_LIBRARY_VERSION "
 include/pendratsoa.h|the version of the library, as "
 python/pendratsoa/_calls.py|The version of the library, as "

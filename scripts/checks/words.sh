@@ -38,7 +38,7 @@ stands? as it (was|stood)|is unchanged
 stands? in one another|are nested
 END
 
-git ls-files -- '*.md' '*.rt' '*.antt' '*.proto' '*.py' '*.sh' '*.awk' '*.c' '*.h' '*.rs' > "$work/files"
+git ls-files -- '*.md' '*.rt' '*.antt' '*.proto' '*.py' '*.sh' '*.awk' '*.c' '*.h' '*.rs' '*.go' > "$work/files"
 # shellcheck disable=SC2046 # the names are split; none has a blank
 awk -v patterns="$work/patterns" -v self=scripts/checks/words.sh '
   BEGIN {
@@ -56,7 +56,7 @@ awk -v patterns="$work/patterns" -v self=scripts/checks/words.sh '
     before = ""
     fenced = 0
     marks = ""
-    if (FILENAME ~ /\.(rt|proto|rs)$/) marks = "//[/!]?"
+    if (FILENAME ~ /\.(rt|proto|rs|go)$/) marks = "//[/!]?"
     if (FILENAME ~ /\.antt$/) marks = "--+"
     if (FILENAME ~ /\.(py|sh|awk)$/) marks = "#+"
     if (FILENAME ~ /\.(c|h)$/) marks = "(/[*]|[*]|//)"

@@ -1,0 +1,232 @@
+package pendratsoa
+
+import (
+	"bytes"
+	"encoding/hex"
+	"errors"
+	"fmt"
+	"io"
+	"os"
+	"path/filepath"
+	"strconv"
+	"strings"
+	"testing"
+	"testing/iotest"
+)
+
+// A vectorKind says how many words of a test vector come before its bytes, and what the library returns for them.
+type vectorKind struct {
+	names  int
+	result func(names []string, data [][]byte) (string, error)
+}
+
+// The kinds of test vectors (conformance/README.md). No call prints a record.
+var vectorKinds = map[string]vectorKind{
+	"payload": {1, payloadVector},
+	"merge":   {1, mergeVector},
+	"frame":   {2, frameVector},
+	"stream":  {1, streamVector},
+	"compare": {1, compareVector},
+	"json":    {1, jsonVector},
+}
+
+func TestConformance(t *testing.T) {
+	passed, failed := 0, 0
+	for _, pattern := range []string{"../conformance/*.txt", "../conformance/json/*.txt"} {
+		for _, path := range must(filepath.Glob(pattern))(t) {
+			for _, line := range strings.Split(string(must(os.ReadFile(path))(t)), "\n") {
+				if line == "" || strings.HasPrefix(line, "#") || strings.HasPrefix(line, "record ") {
+					continue
+				}
+				question, want, _ := strings.Cut(line, " = ")
+				if found := vectorResult(question); found == want {
+					passed++
+				} else {
+					failed++
+					t.Errorf("%.300s\nreturned: %.300s", line, found)
+				}
+			}
+		}
+	}
+	if passed+failed < 13_000 {
+		t.Errorf("there are %d test vectors", passed+failed)
+	}
+	fmt.Printf("%d passed, %d failed\n", passed, failed)
+}
+
+// vectorResult returns what the library returns for the words of a test vector.
+func vectorResult(question string) string {
+	kind, rest, _ := strings.Cut(question, " ")
+	words := strings.Split(rest, " ")
+	vector, isKnown := vectorKinds[kind]
+	if !isKnown || len(words) <= vector.names {
+		return "no such test vector"
+	}
+	var data [][]byte
+	for _, word := range words[vector.names:] {
+		bytes, err := hex.DecodeString(strings.TrimPrefix(word, "-"))
+		if err != nil {
+			return err.Error()
+		}
+		data = append(data, bytes)
+	}
+	result, err := vector.result(words[:vector.names], data)
+	switch {
+	case errors.Is(err, ErrMalformed):
+		return "malformed"
+	case err != nil:
+		return err.Error()
+	}
+	return result
+}
+
+// digits returns bytes as test vectors have them.
+func digits(data []byte) string {
+	if len(data) == 0 {
+		return "-"
+	}
+	return hex.EncodeToString(data)
+}
+
+func payloadVector(names []string, data [][]byte) (string, error) {
+	schema, err := SchemaNamed(names[0])
+	if err != nil {
+		return "", err
+	}
+	isWellFormed, err := IsWellFormed(schema, data[0])
+	if err != nil {
+		return "", err
+	}
+	canonical, err := Canonical(schema, data[0])
+	if isWellFormed != (err == nil) {
+		return "", fmt.Errorf("well-formed: %v, and canonical: %w", isWellFormed, err)
+	} else if err != nil {
+		return "", err
+	}
+	// a canonical payload is its own result, and has the same JSON
+	again, err := Canonical(schema, canonical)
+	if err != nil || !bytes.Equal(again, canonical) {
+		return "", fmt.Errorf("the canonical payload of %x is %x, %w", canonical, again, err)
+	}
+	json, err := ToJSON(schema, data[0])
+	canonicalJSON, canonicalErr := ToJSON(schema, canonical)
+	if err != nil || canonicalErr != nil || !bytes.Equal(json, canonicalJSON) {
+		return "", fmt.Errorf("the JSON is %s, %v, of the canonical payload %s, %v", json, err, canonicalJSON, canonicalErr)
+	}
+	return digits(canonical), nil
+}
+
+func mergeVector(names []string, data [][]byte) (string, error) {
+	schema, err := SchemaNamed(names[0])
+	if err != nil {
+		return "", err
+	}
+	merged, err := Canonical(schema, data[0])
+	for _, payload := range data[1:] {
+		if err != nil {
+			break
+		}
+		merged, err = Merge(schema, merged, payload)
+	}
+	return digits(merged), err
+}
+
+func frameVector(names []string, data [][]byte) (string, error) {
+	code, err := TypeCode(names[0])
+	if err != nil {
+		return "", err
+	}
+	version, err := strconv.Atoi(names[1])
+	if err != nil {
+		return "", err
+	}
+	frame, err := Frame(version, code, data[0])
+	if err != nil {
+		return "", err
+	}
+	header, err := Header(version, code, len(frame)-headerSize)
+	if err != nil || !bytes.HasPrefix(frame, header) {
+		return "", fmt.Errorf("the frame is %x, and the header %x, %w", frame, header, err)
+	}
+	return digits(frame), nil
+}
+
+func streamVector(names []string, data [][]byte) (string, error) {
+	version, err := strconv.Atoi(names[0])
+	if err != nil {
+		return "", err
+	}
+	var chunks []io.Reader
+	for _, chunk := range data {
+		chunks = append(chunks, bytes.NewReader(chunk))
+	}
+	listing, err := list(NewDecoder(io.MultiReader(chunks...), version))
+	if err != nil {
+		return "", err
+	}
+	whole := bytes.NewReader(bytes.Join(data, nil))
+	again, err := list(NewDecoder(iotest.OneByteReader(whole), version))
+	if err != nil || again != listing {
+		return "", fmt.Errorf("the listing is %s, and byte by byte %s, %w", listing, again, err)
+	}
+	return listing, nil
+}
+
+// list returns the listing of a stream.
+func list(decoder *Decoder) (string, error) {
+	var items []string
+	for {
+		item, err := decoder.Next()
+		if err == io.EOF || err == io.ErrUnexpectedEOF {
+			return strings.Join(append(items, fmt.Sprintf("rest %d", decoder.Rest())), ", "), nil
+		} else if err != nil {
+			return "", err
+		}
+		items = append(items, itemText(item))
+	}
+}
+
+// itemText returns an item as the listing of a stream has it.
+func itemText(item Item) string {
+	switch item := item.(type) {
+	case UnknownCode:
+		return fmt.Sprintf("unknown %#x", item.Code)
+	case Skipped:
+		return fmt.Sprintf("skipped %#x %d", item.Code, len(item.Payload))
+	case Message:
+		if item.RequiresAck {
+			return fmt.Sprintf("%s %d ack", item.Type(), len(item.Payload))
+		}
+		return fmt.Sprintf("%s %d", item.Type(), len(item.Payload))
+	}
+	return "no item"
+}
+
+func compareVector(names []string, data [][]byte) (string, error) {
+	code, err := TypeCode(names[0])
+	if err != nil {
+		return "", err
+	}
+	var words []string
+	for _, ignorePayloads := range []bool{false, true} {
+		isSame, err := HeaderEq(code, data[0], data[1], ignorePayloads)
+		if err != nil {
+			return "", err
+		} else if isSame {
+			words = append(words, "same")
+		} else {
+			words = append(words, "other")
+		}
+	}
+	difference, err := Difference(code, data[0], data[1])
+	return strings.Join(append(words, digits([]byte(difference))), " "), err
+}
+
+func jsonVector(names []string, data [][]byte) (string, error) {
+	schema, err := SchemaNamed(names[0])
+	if err != nil {
+		return "", err
+	}
+	json, err := ToJSON(schema, data[0])
+	return string(json), err
+}

@@ -1,0 +1,131 @@
+package pendratsoa
+
+import (
+	"bytes"
+	"errors"
+	"io"
+)
+
+// The errors of readers that are none.
+var (
+	// ErrBadReadCount: a reader returned a count that is negative or greater than the room that it was given.
+	ErrBadReadCount = errors.New("pendratsoa: the reader returned an impossible count")
+	// ErrNilReader: the reader of a decoder is nil.
+	ErrNilReader = errors.New("pendratsoa: the reader is nil")
+)
+
+// How many bytes a block has room for at least, and how often in a row a reader may return nothing.
+const (
+	blockSize      = 32 << 10
+	mostEmptyReads = 100
+)
+
+// A Decoder reads the items of a stream from a reader.
+//
+// It reads into blocks of memory and never writes again what it has read: the payload of an item is a part of a block,
+// which is the caller's to keep or to change, and keeps its block in memory. Only an item that goes over the end of a
+// block is copied into the next.
+type Decoder struct {
+	reader  io.Reader
+	version int
+	numbers [itemNumbers]uint64
+	// rest is what was read and is in no item yet; up to its capacity goes the room for more
+	rest []byte
+	// readErr is what the reader returned with the last bytes
+	readErr error
+}
+
+// NewDecoder returns a decoder of the stream of a version that comes from a reader, which it reads in blocks. Of an
+// unknown version, Next returns ErrUnknown.
+func NewDecoder(reader io.Reader, version int) *Decoder {
+	return &Decoder{reader: reader, version: version}
+}
+
+// Next returns the next item, and reads only if no whole one is there. At the end of the stream the error is io.EOF, or
+// io.ErrUnexpectedEOF if the last item is not whole. An error of the reader is returned as it is, after all items
+// before it.
+//
+// An error loses nothing: the next call goes on where the stream ended, so that a reader may have more by then.
+func (d *Decoder) Next() (Item, error) {
+	for {
+		item, missing, err := d.take()
+		if item != nil || err != nil {
+			return item, err
+		}
+		if err := d.read(missing); err == io.EOF && len(d.rest) > 0 {
+			return nil, io.ErrUnexpectedEOF
+		} else if err != nil {
+			return nil, err
+		}
+	}
+}
+
+// Rest returns the number of bytes that were read and are in no item that Next returned.
+func (d *Decoder) Rest() int {
+	return len(d.rest)
+}
+
+// take returns the item that the rest begins with, if it is whole, and otherwise how many bytes are missing at least.
+func (d *Decoder) take() (Item, int64, error) {
+	version, err := unsigned("Decoder.Next", "version", d.version)
+	if err != nil {
+		return nil, 0, err
+	}
+	missing := journalNext(version, d.rest, d.numbers[:])
+	if missing < 0 {
+		return nil, 0, &Error{"Decoder.Next", named("version", d.version), errorOf(missing)}
+	}
+	if missing > 0 {
+		return nil, missing, nil
+	}
+	size := d.numbers[itemSize]
+	item, err := itemOf(d.version, d.numbers[:], d.rest[:size:size])
+	if err != nil {
+		return nil, 0, &Error{"Decoder.Next", named("version", d.version), err}
+	}
+	d.rest = d.rest[size:]
+	return item, 0, nil
+}
+
+// read reads at least so many more bytes, but for an error of the reader.
+func (d *Decoder) read(missing int64) error {
+	for empty := 0; missing > 0; {
+		if err := d.readErr; err != nil {
+			d.readErr = nil
+			return err
+		}
+		if empty == mostEmptyReads {
+			return io.ErrNoProgress
+		}
+		count, err := d.readOnce()
+		missing -= int64(count)
+		d.readErr = err
+		if count > 0 {
+			empty = 0
+		} else {
+			empty++
+		}
+	}
+	return nil
+}
+
+// readOnce appends to the rest what the reader returns at once. A new block is at most some more than twice as long as
+// what came, so that a header that promises 4 GiB does not allocate them.
+func (d *Decoder) readOnce() (int, error) {
+	if d.reader == nil {
+		return 0, ErrNilReader
+	}
+	held := len(d.rest)
+	if cap(d.rest)-held < bytes.MinRead {
+		block := make([]byte, held, 2*held+blockSize)
+		copy(block, d.rest)
+		d.rest = block
+	}
+	room := d.rest[held:cap(d.rest)]
+	count, err := d.reader.Read(room)
+	if count < 0 || count > len(room) {
+		return 0, ErrBadReadCount
+	}
+	d.rest = d.rest[:held+count]
+	return count, err
+}

@@ -1,0 +1,308 @@
+package pendratsoa
+
+import (
+	"bytes"
+	"errors"
+	"io"
+	"math"
+	"reflect"
+	"runtime"
+	"testing"
+	"testing/iotest"
+)
+
+// all returns the items of a decoder up to its first error, and that error.
+func all(decoder *Decoder) ([]Item, error) {
+	var items []Item
+	for {
+		item, err := decoder.Next()
+		if err != nil {
+			return items, err
+		}
+		items = append(items, item)
+	}
+}
+
+// steps is a reader that makes one of these reads at a time, and is at its end after them.
+type steps []func(room []byte) (int, error)
+
+func (s *steps) Read(room []byte) (int, error) {
+	if len(*s) == 0 {
+		return 0, io.EOF
+	}
+	step := (*s)[0]
+	*s = (*s)[1:]
+	return step(room)
+}
+
+// gives is a read that returns bytes, and an error with them.
+func gives(data []byte, err error) func([]byte) (int, error) {
+	return func(room []byte) (int, error) { return copy(room, data), err }
+}
+
+// returns is a read that says a count, whatever it read.
+func returns(count int, err error) func([]byte) (int, error) {
+	return func([]byte) (int, error) { return count, err }
+}
+
+func TestItemsHoweverTheyAreRead(t *testing.T) {
+	stream := unhex(t, input+"0008000000000000"+"00058000000000050801720178"+"0400000000000014"+"0a")
+	want := []Item{
+		Message{8, CodeInputCommand, unhex(t, "72070a05696e707574"), false},
+		UnknownCode{8, 8, 8 << 48},
+		Message{8, CodeProposeRunCompletion, unhex(t, "0801720178"), true},
+	}
+	readers := map[string]func(io.Reader) io.Reader{
+		"whole":            func(reader io.Reader) io.Reader { return reader },
+		"byte by byte":     iotest.OneByteReader,
+		"half":             iotest.HalfReader,
+		"end with data":    iotest.DataErrReader,
+		"byte with no end": func(reader io.Reader) io.Reader { return iotest.DataErrReader(iotest.OneByteReader(reader)) },
+	}
+	for name, reader := range readers {
+		decoder := NewDecoder(reader(bytes.NewReader(stream)), 8)
+		items, err := all(decoder)
+		if err != io.ErrUnexpectedEOF {
+			t.Errorf("%s: the error is %v", name, err)
+		}
+		if !reflect.DeepEqual(items, want) {
+			t.Errorf("%s: the items are %v", name, items)
+		}
+		if decoder.Rest() != 9 {
+			t.Errorf("%s: the rest is %d", name, decoder.Rest())
+		}
+	}
+}
+
+func TestVersion9SkipsPayloads(t *testing.T) {
+	decoder := NewDecoder(bytes.NewReader(unhex(t, "00080000000000020003"+"000300000000")), 9)
+	items, err := all(decoder)
+	want := []Item{Skipped{9, 8, 8<<48 | 2, unhex(t, "0003")}}
+	if !reflect.DeepEqual(items, want) || err != io.ErrUnexpectedEOF || decoder.Rest() != 6 {
+		t.Errorf("%v, %v, %d", items, err, decoder.Rest())
+	}
+}
+
+func TestEndOfStream(t *testing.T) {
+	for digits, want := range map[string]error{"": io.EOF, input: io.EOF, input[:2]: io.ErrUnexpectedEOF} {
+		decoder := NewDecoder(bytes.NewReader(unhex(t, digits)), 8)
+		for attempt := 0; attempt < 3; attempt++ {
+			if _, err := all(decoder); err != want {
+				t.Errorf("'%s' ends with %v", digits, err)
+			}
+		}
+	}
+}
+
+func TestStreamGoesOnAfterItsEnd(t *testing.T) {
+	var stream bytes.Buffer
+	decoder := NewDecoder(&stream, 8)
+	data := unhex(t, input)
+	for _, split := range []int{1, 8, len(data) - 1} {
+		stream.Write(data[:split])
+		if items, err := all(decoder); len(items) != 0 || err != io.ErrUnexpectedEOF || decoder.Rest() != split {
+			t.Errorf("%d bytes: %v, %v, %d", split, items, err, decoder.Rest())
+		}
+		stream.Write(data[split:])
+		if items, err := all(decoder); len(items) != 1 || err != io.EOF || decoder.Rest() != 0 {
+			t.Errorf("%d bytes and the others: %v, %v, %d", split, items, err, decoder.Rest())
+		}
+	}
+}
+
+func TestErrorOfReaderComesAfterItsBytes(t *testing.T) {
+	data, broken := unhex(t, input), errors.New("broken")
+	for _, err := range []error{broken, io.ErrUnexpectedEOF, iotest.ErrTimeout} {
+		decoder := NewDecoder(&steps{gives(data, nil), gives(data[:3], err), gives(data[3:], nil)}, 8)
+		if items, found := all(decoder); len(items) != 1 || found != err || decoder.Rest() != 3 {
+			t.Errorf("%v: %v, %v, %d", err, items, found, decoder.Rest())
+		}
+		// the next call reads on
+		if items, found := all(decoder); len(items) != 1 || found != io.EOF {
+			t.Errorf("%v: %v, %v", err, items, found)
+		}
+	}
+}
+
+func TestReadersThatAreNone(t *testing.T) {
+	nothing := make(steps, 150)
+	for index := range nothing {
+		nothing[index] = returns(0, nil)
+	}
+	for name, test := range map[string]struct {
+		reader io.Reader
+		want   error
+	}{
+		"nil":           {nil, ErrNilReader},
+		"nothing":       {&nothing, io.ErrNoProgress},
+		"negative":      {&steps{returns(-1, nil)}, ErrBadReadCount},
+		"least":         {&steps{returns(math.MinInt, io.EOF)}, ErrBadReadCount},
+		"more than all": {&steps{func(room []byte) (int, error) { return len(room) + 1, nil }}, ErrBadReadCount},
+		"greatest":      {&steps{returns(math.MaxInt, nil)}, ErrBadReadCount},
+	} {
+		decoder := NewDecoder(test.reader, 8)
+		if item, err := decoder.Next(); item != nil || err != test.want || decoder.Rest() != 0 {
+			t.Errorf("%s: %v, %v, %d", name, item, err, decoder.Rest())
+		}
+	}
+	// a reader may return nothing now and then
+	data := unhex(t, input)
+	some := steps{returns(0, nil), gives(data[:9], nil), returns(0, nil), gives(data[9:], nil)}
+	if items, err := all(NewDecoder(&some, 8)); len(items) != 1 || err != io.EOF {
+		t.Errorf("%v, %v", items, err)
+	}
+}
+
+func TestUnknownVersions(t *testing.T) {
+	var zero Decoder
+	_, err := zero.Next()
+	wantError(t, err, ErrUnknown,
+		"pendratsoa: Decoder.Next: version 0: unknown, or not of the kind that the call is for")
+	for _, version := range []int{4, 10, -1, 1<<32 + 8, 8 - 1<<32, math.MinInt, math.MaxInt} {
+		if _, err := NewDecoder(bytes.NewReader(nil), version).Next(); !errors.Is(err, ErrUnknown) {
+			t.Errorf("version %d: %v", version, err)
+		}
+	}
+}
+
+func TestPayloadsAreKept(t *testing.T) {
+	var stream, want []byte
+	for index := 0; index < 20_000; index++ {
+		payload := []byte{byte(index), byte(index >> 8), 3}
+		stream = append(stream, unhex(t, "fc01000000000003")...)
+		stream = append(stream, payload...)
+		want = append(want, payload...)
+	}
+	items, err := all(NewDecoder(bytes.NewReader(stream), 8))
+	if err != io.EOF {
+		t.Fatal(err)
+	}
+	var found []byte
+	for _, item := range items {
+		payload := item.(Message).Payload
+		found = append(found, payload...)
+		// what is appended to a payload is not in the next
+		_ = append(payload, "............"...)
+	}
+	if !bytes.Equal(found, want) {
+		t.Error("the payloads are others")
+	}
+}
+
+func TestPayloadOfManyBlocks(t *testing.T) {
+	payload := bytes.Repeat([]byte("0123456789"), 100_000)
+	stream := append(must(Header(8, 0xfc01, len(payload)))(t), payload...)
+	stream = append(stream, unhex(t, input)...)
+	for name, reader := range map[string]io.Reader{
+		"whole": bytes.NewReader(stream),
+		"half":  iotest.HalfReader(bytes.NewReader(stream)),
+	} {
+		items, err := all(NewDecoder(reader, 8))
+		if len(items) != 2 || err != io.EOF || !bytes.Equal(items[0].(Message).Payload, payload) {
+			t.Errorf("%s: %d items, %v", name, len(items), err)
+		}
+	}
+}
+
+func TestPromisedBytesAreNotAllocated(t *testing.T) {
+	stream := unhex(t, "fc010000ffffffff"+"00")
+	var before, after runtime.MemStats
+	runtime.ReadMemStats(&before)
+	_, err := NewDecoder(bytes.NewReader(stream), 8).Next()
+	runtime.ReadMemStats(&after)
+	if allocated := after.TotalAlloc - before.TotalAlloc; err != io.ErrUnexpectedEOF || allocated > 1<<20 {
+		t.Errorf("%v, and %d bytes allocated", err, allocated)
+	}
+}
+
+func TestItemOfLaterLibrary(t *testing.T) {
+	numbers := make([]uint64, itemNumbers)
+	numbers[itemKind] = itemSkipped + 1
+	if item, err := itemOf(8, numbers, nil); item != nil || !errors.Is(err, ErrUnexpected) {
+		t.Errorf("%v, %v", item, err)
+	}
+}
+
+func TestMessage(t *testing.T) {
+	items, err := all(NewDecoder(bytes.NewReader(readFile(t, "examples/streams/recorded")), 8))
+	if len(items) != 5 || err != io.EOF {
+		t.Fatal(items, err)
+	}
+	call := items[2].(Message)
+	if call.Type() != "CallCommand" || !call.IsCommand() || call.IsNotification() {
+		t.Errorf("%s, %v, %v", call.Type(), call.IsCommand(), call.IsNotification())
+	}
+	if schema := must(call.Schema())(t); schema != SchemaCallCommandMessage {
+		t.Errorf("the schema is %d", schema)
+	}
+	if json := must(call.JSON())(t); !bytes.Contains(json, []byte(`"serviceName":"Greeter","handlerName":"greet"`)) {
+		t.Errorf("the JSON is %s", json)
+	}
+	if canonical := must(call.Canonical())(t); !bytes.Equal(canonical, call.Payload) {
+		t.Errorf("the canonical payload is %x", canonical)
+	}
+	frame := append(must(Header(8, call.Code, len(call.Payload)))(t), call.Payload...)
+	if found := must(call.Frame(8))(t); !bytes.Equal(found, frame) {
+		t.Errorf("the frame is %x", found)
+	}
+	_, err = call.Notification()
+	wantError(t, err, ErrUnknown,
+		"pendratsoa: ReadNotification: code 0x040d: unknown, or not of the kind that the call is for")
+}
+
+func TestMessageOfItsVersion(t *testing.T) {
+	for version, schema := range map[int]int{
+		5: SchemaSuspensionMessageV6, 6: SchemaSuspensionMessageV6,
+		7: SchemaSuspensionMessage, 8: SchemaSuspensionMessage, 9: SchemaSuspensionMessage,
+	} {
+		if found := must(Message{Version: version, Code: CodeSuspension}.Schema())(t); found != schema {
+			t.Errorf("at version %d the schema is %d", version, found)
+		}
+	}
+	proposal := Message{6, CodeProposeRunCompletion, unhex(t, "0801720178"), false}
+	for version, frame := range map[int]string{6: "00050000000000050801720178", 7: "00058000000000050801720178"} {
+		if found := must(proposal.Frame(version))(t); !bytes.Equal(found, unhex(t, frame)) {
+			t.Errorf("at version %d the frame is %x", version, found)
+		}
+	}
+}
+
+func TestNewMessage(t *testing.T) {
+	payload := unhex(t, "0801720178")
+	for version, requiresAck := range map[int]bool{6: false, 7: true} {
+		want := Message{version, CodeProposeRunCompletion, payload, requiresAck}
+		if found := must(NewMessage(version, CodeProposeRunCompletion, payload))(t); !reflect.DeepEqual(found, want) {
+			t.Errorf("%+v", found)
+		}
+	}
+	if message, err := NewMessage(8, 8, nil); !errors.Is(err, ErrUnknown) || !reflect.DeepEqual(message, Message{}) {
+		t.Errorf("%+v, %v", message, err)
+	}
+}
+
+func TestMessageWithoutSchemaOrType(t *testing.T) {
+	entry := Message{Version: 8, Code: 0xfc01, Payload: []byte{0xff}}
+	if entry.Type() != "CustomEntry(64513)" || entry.IsCommand() || entry.IsNotification() {
+		t.Errorf("%s, %v, %v", entry.Type(), entry.IsCommand(), entry.IsNotification())
+	}
+	text := "pendratsoa: Schema: code 0xfc01: unknown, or not of the kind that the call is for"
+	_, err := entry.JSON()
+	wantError(t, err, ErrUnknown, text)
+	_, err = entry.Canonical()
+	wantError(t, err, ErrUnknown, text)
+	if name := (Message{Version: 8, Code: 8}).Type(); name != "" {
+		t.Errorf("the type is %q", name)
+	}
+}
+
+func TestKindsOfMessages(t *testing.T) {
+	for code, want := range map[uint16][2]bool{
+		0x0000: {false, false}, 0x03ff: {false, false}, 0x0400: {true, false}, 0x7fff: {true, false},
+		0x8000: {false, true}, 0xfbff: {false, true}, 0xfc00: {false, false}, 0xffff: {false, false},
+	} {
+		message := Message{Version: 8, Code: code}
+		if message.IsCommand() != want[0] || message.IsNotification() != want[1] {
+			t.Errorf("code %#04x", code)
+		}
+	}
+}

@@ -1,0 +1,103 @@
+package pendratsoa
+
+import (
+	"errors"
+	"fmt"
+	"math"
+)
+
+// The errors that an Error wraps, for errors.Is.
+var (
+	// ErrMalformed: a payload is not well-formed for its schema.
+	ErrMalformed = errors.New("not well-formed for its schema")
+	// ErrOutOfMemory: an allocation of the library failed. The call can be repeated.
+	ErrOutOfMemory = errors.New("an allocation failed")
+	// ErrNoRoom: a slice for numbers was too short, which this package never passes.
+	ErrNoRoom = errors.New("no room for the numbers")
+	// ErrTooLong: a payload has, or would have, more than 4,294,967,295 bytes.
+	ErrTooLong = errors.New("more than 4,294,967,295 bytes")
+	// ErrUnknown: a version, a schema, a code or a name does not exist, or is not of the kind that the call is for.
+	ErrUnknown = errors.New("unknown, or not of the kind that the call is for")
+	// ErrNoID: a notification has no id.
+	ErrNoID = errors.New("has no id")
+	// ErrNoResult: a notification has an id and no result.
+	ErrNoResult = errors.New("has no result")
+	// ErrNegative: a length is negative.
+	ErrNegative = errors.New("negative")
+	// ErrUnexpected: the library returned the number of an error or of a kind that this package does not know, as a
+	// later library may.
+	ErrUnexpected = errors.New("a number that this package does not know")
+)
+
+// An Error says of which function, and of which of its arguments, an error is.
+type Error struct {
+	// Call is the name of the function, as "Canonical".
+	Call string
+	// Argument is the argument and its value, as "schema 53" or "payload of 12 bytes".
+	Argument string
+	// Err is what is wrong with it: one of the variables such as ErrUnknown, or wraps it.
+	Err error
+}
+
+// Error returns a text as "pendratsoa: Canonical: schema 53: unknown, or not of the kind that the call is for".
+func (e *Error) Error() string {
+	return fmt.Sprintf("pendratsoa: %s: %s: %v", e.Call, e.Argument, e.Err)
+}
+
+// Unwrap returns Err.
+func (e *Error) Unwrap() error {
+	return e.Err
+}
+
+// errorOf returns the error that the negative number is which the library returned.
+func errorOf(number int64) error {
+	switch number {
+	case malformed:
+		return ErrMalformed
+	case outOfMemory:
+		return ErrOutOfMemory
+	case noRoom:
+		return ErrNoRoom
+	case tooLong:
+		return ErrTooLong
+	case unknown:
+		return ErrUnknown
+	case noID:
+		return ErrNoID
+	case noResult:
+		return ErrNoResult
+	}
+	return unexpected("error", number)
+}
+
+// unexpected returns the error of a number that only a later library returns.
+func unexpected[Number int64 | uint64](what string, number Number) error {
+	return fmt.Errorf("the library returned the %s %d: %w", what, number, ErrUnexpected)
+}
+
+// unsigned returns a version or a schema as the library takes it, or that it is unknown. A conversion alone would cut
+// it.
+func unsigned(call, name string, number int) (uint32, error) {
+	if number < 0 || uint64(number) > math.MaxUint32 {
+		return 0, &Error{call, named(name, number), ErrUnknown}
+	}
+	return uint32(number), nil
+}
+
+// named returns an argument with its value, as "schema 53".
+func named(name string, number int) string {
+	return fmt.Sprintf("%s %d", name, number)
+}
+
+// codeText returns the code of a type as an argument with its value, as "code 0x040d".
+func codeText(code uint16) string {
+	return fmt.Sprintf("code %#04x", code)
+}
+
+// bytesText returns bytes as an argument with its value, as "payload of 12 bytes".
+func bytesText(name string, bytes []byte) string {
+	if len(bytes) == 1 {
+		return name + " of 1 byte"
+	}
+	return fmt.Sprintf("%s of %d bytes", name, len(bytes))
+}

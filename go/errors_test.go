@@ -1,0 +1,74 @@
+package pendratsoa
+
+import (
+	"errors"
+	"fmt"
+	"regexp"
+	"strconv"
+	"strings"
+	"testing"
+)
+
+// defined returns the numbers that the header for C defines by a pattern of their lines.
+func defined(t *testing.T, pattern string) map[string]int64 {
+	found := map[string]int64{}
+	header := string(readFile(t, "include/pendratsoa.h"))
+	for _, match := range regexp.MustCompile(pattern).FindAllStringSubmatch(header, -1) {
+		found[match[1]] = must(strconv.ParseInt(match[2], 10, 64))(t)
+	}
+	return found
+}
+
+func TestErrorsAreThoseOfTheHeader(t *testing.T) {
+	names := map[error]string{
+		ErrMalformed: "MALFORMED", ErrOutOfMemory: "OUT_OF_MEMORY", ErrNoRoom: "NO_ROOM", ErrTooLong: "TOO_LONG",
+		ErrUnknown: "UNKNOWN", ErrNoID: "NO_ID", ErrNoResult: "NO_RESULT",
+	}
+	numbers := defined(t, `(?m)^#define JOURNAL_(\w+) \((-\d+)\)$`)
+	for name, number := range numbers {
+		if err := errorOf(number); names[err] != name {
+			t.Errorf("%s is %v", name, err)
+		}
+	}
+	if len(numbers) != len(names) {
+		t.Errorf("the header has %d errors", len(numbers))
+	}
+}
+
+func TestErrorOfLaterLibrary(t *testing.T) {
+	for _, number := range []int64{-8, -12, -1 << 63} {
+		err := errorOf(number)
+		text := fmt.Sprintf("the library returned the error %d: a number that this package does not know", number)
+		if !errors.Is(err, ErrUnexpected) || err.Error() != text {
+			t.Error(err)
+		}
+	}
+}
+
+func TestKindsAreThoseOfTheHeader(t *testing.T) {
+	kinds := map[string]int64{}
+	for kind := CompletionID; kind <= SignalName; kind++ {
+		kinds[strings.ToUpper(kind.String())] = int64(kind)
+	}
+	for kind := ResultVoid; kind <= ResultStateKeys; kind++ {
+		kinds[strings.ToUpper(strings.TrimPrefix(kind.String(), "Result"))] = int64(kind)
+	}
+	for kind := VerdictSame; kind <= VerdictBadReplayed; kind++ {
+		kinds[strings.ToUpper(strings.TrimPrefix(kind.String(), "Verdict"))] = int64(kind)
+	}
+	numbers := map[string]int64{}
+	for name, number := range defined(t, `(?m)^#define JOURNAL_(\w+) (\d+)\b`) {
+		numbers[strings.ReplaceAll(name, "_", "")] = number
+	}
+	for name, kind := range kinds {
+		if number, isThere := numbers[name]; !isThere || number != kind {
+			t.Errorf("%s is %d, and in the header %d", name, kind, number)
+		}
+	}
+	if len(kinds) != 15 {
+		t.Errorf("there are %d kinds", len(kinds))
+	}
+	if text := fmt.Sprint(VerdictKind(7), ResultKind(-1), IDKind(99)); text != "VerdictKind(7) ResultKind(-1) IDKind(99)" {
+		t.Error(text)
+	}
+}

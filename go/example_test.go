@@ -1,0 +1,114 @@
+package pendratsoa_test
+
+import (
+	"bytes"
+	"errors"
+	"fmt"
+	"io"
+	"log"
+	"os"
+
+	"pendratsoa.dev/pendratsoa"
+)
+
+func Example() {
+	stream, err := os.Open("../examples/streams/replay")
+	if err != nil {
+		log.Fatal(err)
+	}
+	defer stream.Close()
+	decoder := pendratsoa.NewDecoder(stream, 8)
+	for {
+		item, err := decoder.Next()
+		if err == io.EOF {
+			break
+		} else if err != nil {
+			log.Fatal(err)
+		}
+		switch item := item.(type) {
+		case pendratsoa.Message:
+			json, err := item.JSON()
+			fmt.Println(item.Type(), string(json), err)
+		case pendratsoa.UnknownCode:
+			fmt.Printf("unknown code %#x\n", item.Code)
+		case pendratsoa.Skipped:
+			fmt.Printf("skipped code %#x, %d bytes\n", item.Code, len(item.Payload))
+		}
+	}
+	// Output:
+	// Start {"id":"a2V5","debugId":"key","knownEntries":1,"partialState":true,"key":"key"} <nil>
+	// InputCommand {"value":{"content":"aW5wdXQ="}} <nil>
+	// GetLazyStateCompletionNotification {"completionId":1,"void":{}} <nil>
+}
+
+// A stream that comes in chunks is written to a buffer; an error at its end loses nothing.
+func ExampleDecoder_chunks() {
+	var stream bytes.Buffer
+	decoder := pendratsoa.NewDecoder(&stream, 8)
+	for _, chunk := range []string{"\x04\x00\x00\x00\x00", "\x00\x00\x09r\x07\n\x05in", "put"} {
+		stream.WriteString(chunk)
+		item, err := decoder.Next()
+		if errors.Is(err, io.ErrUnexpectedEOF) {
+			fmt.Println("rest", decoder.Rest())
+		} else if err == nil {
+			fmt.Println(item.(pendratsoa.Message).Type(), "rest", decoder.Rest())
+		}
+	}
+	// Output:
+	// rest 5
+	// rest 14
+	// InputCommand rest 0
+}
+
+func ExampleFrame() {
+	frame, err := pendratsoa.Frame(8, pendratsoa.CodeInputCommand, []byte("r\x07\n\x05input"))
+	fmt.Printf("%x %v\n", frame, err)
+	// Output: 040000000000000972070a05696e707574 <nil>
+}
+
+func ExampleCanonical() {
+	// a list of numbers, partly one by one, is one list in the canonical payload
+	payload := []byte{0x08, 0x01, 0x0a, 0x02, 0x02, 0x03, 0x08, 0x04}
+	canonical, err := pendratsoa.Canonical(pendratsoa.SchemaSuspensionMessageV6, payload)
+	fmt.Printf("%x %v\n", canonical, err)
+	_, err = pendratsoa.Canonical(pendratsoa.SchemaSuspensionMessageV6, payload[:3])
+	fmt.Println(errors.Is(err, pendratsoa.ErrMalformed), err)
+	// Output:
+	// 0a0401020304 <nil>
+	// true pendratsoa: Canonical: payload of 3 bytes: not well-formed for its schema
+}
+
+func ExampleReadNotification() {
+	payload := []byte("\x1a\x04stop\x22\x00")
+	notification, err := pendratsoa.ReadNotification(pendratsoa.CodeSignalNotification, payload)
+	fmt.Println(notification.IDKind, notification.Name, notification.ResultKind, err)
+	// Output: SignalName stop ResultVoid <nil>
+}
+
+func ExampleDifference() {
+	first, second := []byte("\x0a\x01a\x1a\x03\x0a\x011"), []byte("\x0a\x01a\x1a\x03\x0a\x012")
+	difference, err := pendratsoa.Difference(pendratsoa.CodeSetStateCommand, first, second)
+	fmt.Printf("- Difference:%s\n%v\n", difference, err)
+	// Output:
+	// - Difference:
+	//    value: '1' != '2'
+	// <nil>
+}
+
+func ExampleCompareJournals() {
+	recorded, err := os.ReadFile("../examples/streams/recorded")
+	if err != nil {
+		log.Fatal(err)
+	}
+	replayed, err := os.ReadFile("../examples/streams/replayed_other_payload")
+	if err != nil {
+		log.Fatal(err)
+	}
+	for _, ignorePayloads := range []bool{false, true} {
+		verdict, err := pendratsoa.CompareJournals(8, recorded, replayed, ignorePayloads)
+		fmt.Println(verdict.Kind, verdict.Index, err)
+	}
+	// Output:
+	// VerdictHeaderMismatch 1 <nil>
+	// VerdictSame 4 <nil>
+}

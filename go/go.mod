@@ -1,0 +1,3 @@
+module pendratsoa.dev/pendratsoa
+
+go 1.19

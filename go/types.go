@@ -1,0 +1,134 @@
+package pendratsoa
+
+import "fmt"
+
+// LibraryVersion returns the version of the library, as "0.1.0".
+func LibraryVersion() (string, error) {
+	version, number := written(nameRoom, journalLibraryVersion)
+	if number < 0 {
+		return "", &Error{"LibraryVersion", "the version", errorOf(number)}
+	}
+	return string(version), nil
+}
+
+// Schema returns the number of the schema that payloads of a type have at a version. A custom entry has none:
+// ErrUnknown.
+func Schema(version int, code uint16) (int, error) {
+	number, err := unsigned("Schema", "version", version)
+	if err != nil {
+		return 0, err
+	}
+	schema := journalSchema(number, code)
+	if schema < 0 {
+		return 0, &Error{"Schema", versionOrCode(number, code), errorOf(schema)}
+	}
+	return int(schema), nil
+}
+
+// SchemaNamed returns the number of the schema that has a name, as "SleepCommandMessage". ErrUnknown if none has.
+func SchemaNamed(name string) (int, error) {
+	for number, known := range schemaNames {
+		if name == known {
+			return number, nil
+		}
+	}
+	return 0, &Error{"SchemaNamed", nameText(name), ErrUnknown}
+}
+
+// TypeName returns the name of the type that has a code, as "SleepCommand", or "CustomEntry(64513)" of a custom entry.
+// ErrUnknown if no type has it.
+func TypeName(code uint16) (string, error) {
+	name, number := written(nameRoom, func(out []byte) int64 { return journalTypeName(code, out) })
+	if number < 0 {
+		return "", &Error{"TypeName", codeText(code), errorOf(number)}
+	}
+	return string(name), nil
+}
+
+// TypeCode returns the code of the type that has a name, as "SleepCommand". ErrUnknown if none has; a custom entry has
+// no name.
+func TypeCode(name string) (uint16, error) {
+	code := journalTypeCode([]byte(name))
+	if code < 0 {
+		return 0, &Error{"TypeCode", nameText(name), errorOf(code)}
+	}
+	return uint16(code), nil
+}
+
+// headerSize is how many bytes a header has.
+const headerSize = 8
+
+// Header returns the eight bytes that come before a payload of so many bytes. ErrUnknown for an unknown version and for
+// a code that is no type's; ErrTooLong for a length of more than 4,294,967,295 bytes, ErrNegative for one below 0.
+func Header(version int, code uint16, payloadLength int) ([]byte, error) {
+	number, err := unsigned("Header", "version", version)
+	if err != nil {
+		return nil, err
+	}
+	if payloadLength < 0 {
+		return nil, &Error{"Header", named("length", payloadLength), ErrNegative}
+	}
+	length, err := unsigned("Header", "length", payloadLength)
+	if err != nil {
+		return nil, &Error{"Header", named("length", payloadLength), ErrTooLong}
+	}
+	header, result := written(headerSize, func(out []byte) int64 { return journalHeader(number, code, length, out) })
+	if result < 0 {
+		return nil, &Error{"Header", versionOrCode(number, code), errorOf(result)}
+	}
+	return header, nil
+}
+
+// Frame returns the message that a payload holds as a frame of a version: its header, and the canonical payload after
+// it. A suspension is read by its schema from version 7 on, and written by that of the version. ErrMalformed,
+// ErrTooLong, ErrOutOfMemory; ErrUnknown for an unknown version and for a code that is no named type's.
+func Frame(version int, code uint16, payload []byte) ([]byte, error) {
+	number, err := unsigned("Frame", "version", version)
+	if err != nil {
+		return nil, err
+	}
+	frame, result := written(headerSize+len(payload), func(out []byte) int64 {
+		return journalFrame(number, code, payload, out)
+	})
+	switch {
+	case result == unknown:
+		return nil, &Error{"Frame", versionOrCode(number, code), ErrUnknown}
+	case result < 0:
+		return nil, &Error{"Frame", bytesText("payload", payload), errorOf(result)}
+	}
+	return frame, nil
+}
+
+// versionOrCode returns which of the two arguments is unknown: the code, if the version is known.
+func versionOrCode(version uint32, code uint16) string {
+	if journalNext(version, nil, make([]uint64, itemNumbers)) < 0 {
+		return named("version", int(version))
+	}
+	return codeText(code)
+}
+
+// nameText returns a name as an argument with its value.
+func nameText(name string) string {
+	return fmt.Sprintf("name %.80q", name)
+}
+
+// Room in bytes that is enough for each name of a type, and for most texts.
+const (
+	nameRoom = 64
+	textRoom = 256
+)
+
+// written returns what a call writes, or the number of its error. The call is made again if it needs more room than the
+// first, which is what is expected.
+func written(room int, call func(out []byte) int64) ([]byte, int64) {
+	out := make([]byte, room)
+	length := call(out)
+	if length > int64(len(out)) {
+		out = make([]byte, length)
+		length = call(out)
+	}
+	if length < 0 {
+		return nil, length
+	}
+	return out[:length:length], 0
+}
