@@ -1,12 +1,13 @@
 #!/bin/sh
 # Installs the programs and the library for C below a folder, or removes what it installed:
 #
-#   scripts/install.sh [--library] [--libdir DIR] PREFIX
+#   scripts/install.sh [--library] [--target TRIPLE] [--libdir DIR] PREFIX
 #   scripts/install.sh --uninstall [--libdir DIR] PREFIX
 #
 #   PREFIX       a folder, as /usr/local; it gets the programs in bin, the header in include, the static and the shared
 #                library and a file for pkg-config in lib, and man pages and completion for bash and zsh in share
 #   --library    the library alone, its man pages with it: no program is proved or built for that
+#   --target     the library alone, for aarch64-unknown-linux-gnu, by Debian's gcc-aarch64-linux-gnu
 #   --libdir     where the libraries are, below PREFIX, instead of lib
 #   --uninstall  removes exactly these files
 #
@@ -17,7 +18,7 @@
 set -eu
 
 usage() {
-  echo 'usage: install.sh [--library] [--libdir DIR] PREFIX, or install.sh --uninstall [--libdir DIR] PREFIX' >&2
+  echo 'usage: install.sh [--library] [--target TRIPLE] [--libdir DIR] PREFIX; or install.sh --uninstall ..' >&2
   exit 2
 }
 
@@ -31,10 +32,12 @@ top=$(cd "$(dirname "$0")/.." && pwd)
 header=$top/include/pendratsoa.h
 programs='journal_list journal_diff journal_dump'
 action=install
+machine=x86_64-unknown-linux-gnu
 libdir=lib
 while [ $# -gt 1 ]; do
   case $1 in
     --library) programs= ;;
+    --target) machine=$2; programs=; shift ;;
     --libdir) libdir=$2; shift ;;
     --uninstall) action=uninstall ;;
     *) usage ;;
@@ -42,8 +45,13 @@ while [ $# -gt 1 ]; do
   shift
 done
 case ${1-} in
-  --help) sed -n '2,17s/^# \{0,1\}//p' "$0"; exit 0 ;;
+  --help) sed -n '2,18s/^# \{0,1\}//p' "$0"; exit 0 ;;
   '' | -*) usage ;;
+esac
+case $machine in
+  x86_64-unknown-linux-gnu) tools= ;;
+  aarch64-unknown-linux-gnu) tools=aarch64-linux-gnu- ;;
+  *) not_installed "there is no library for $machine" ;;
 esac
 prefix=$1
 target=${DESTDIR-}$prefix
@@ -74,28 +82,35 @@ if [ "$action" = uninstall ]; then
   exit 0
 fi
 
-compiler=${CC:-cc}
-for tool in "$compiler" ld objcopy ar; do
+compiler=${CC:-${tools:+${tools}g}cc}
+for tool in "$compiler" "${tools}ld" "${tools}objcopy" "${tools}ar"; do
   command -v "$tool" > /dev/null || not_installed "there is no $tool, and it needs a C compiler and binutils"
 done
 command -v rt > /dev/null || not_installed 'there is no rt, the command of the Rattle toolchain'
 
-sh "$top/scripts/static_library.sh" journal_ffi
-archive=$top/crates/journal_ffi/out/libjournal_ffi.a
-heap=$(dirname "$(rt doc)")/c/liblibc_c.a
+sh "$top/scripts/static_library.sh" --target "$machine" journal_ffi
 for program in $programs; do
   sh "$top/scripts/program.sh" "$program" > /dev/null || not_installed "$program is not proved"
 done
 work=$(mktemp -d)
 trap 'rm -rf "$work"' EXIT
 
+# What the library allocates by is the toolchain's, which has it for x86-64 alone.
+archive=$top/crates/journal_ffi/out/${tools:+$machine/}libjournal_ffi.a
+if [ -z "$tools" ]; then
+  heap=$(dirname "$(rt doc)")/c/liblibc_c.a
+else
+  heap=$work/heap.o
+  "$compiler" -std=c99 -O2 -Wall -Wextra -fPIC -ffunction-sections -c "$top/scripts/heap.c" -o "$heap"
+fi
+
 # One object of the calls and what they need, in which no other name is seen. The header has the names.
 echo "$calls" > "$work/calls"
 # shellcheck disable=SC2046 # the names are words
-ld -r --gc-sections $(sed 's/^/--require-defined=/' "$work/calls") -o "$work/all.o" "$archive" "$heap"
-objcopy --keep-global-symbols="$work/calls" --strip-unneeded --remove-section=.llvm_addrsig \
+"${tools}ld" -r --gc-sections $(sed 's/^/--require-defined=/' "$work/calls") -o "$work/all.o" "$archive" "$heap"
+"${tools}objcopy" --keep-global-symbols="$work/calls" --strip-unneeded --remove-section=.llvm_addrsig \
   "$work/all.o" "$work/pendratsoa.o"
-ar rcsD "$work/libpendratsoa.a" "$work/pendratsoa.o"
+"${tools}ar" rcsD "$work/libpendratsoa.a" "$work/pendratsoa.o"
 {
   echo '{ global:'
   sed 's/$/;/' "$work/calls"

@@ -8,8 +8,11 @@
 set -u
 cd "$(dirname "$0")/../.." || exit 1
 . scripts/checks/lib.sh
+. scripts/checks/c_library.sh
 
 static_library
+tools=
+emulator=
 
 # Installed beside a file of another's, below a folder whose name is not plain.
 prefix="$work/a prefix"
@@ -30,19 +33,7 @@ case_of 'install.sh --library again' sh scripts/install.sh --library "$prefix"
 [ "$failed" -eq 0 ] || finish
 library=$prefix/lib/libpendratsoa.so
 
-# What the libraries show and need.
-awk '/^int64_t journal_/ { sub(/^int64_t /, ""); sub(/\(.*/, ""); print }' include/pendratsoa.h | sort > "$work/calls"
-nm -D --defined-only "$library" | awk '{ print $3 }' | sort > "$work/names"
-same 'the names of the shared library' "$work/calls" "$work/names"
-nm -g --defined-only "$prefix/lib/libpendratsoa.a" | awk 'NF == 3 { print $3 }' | sort > "$work/names"
-same 'the names of the static library' "$work/calls" "$work/names"
-nm -g --undefined-only "$prefix/lib/libpendratsoa.a" | awk 'NF == 2 { print $2 }' > "$work/names"
-grep -vxE 'malloc|realloc|free|mem(cpy|move|set|cmp)|bcmp|strlen' "$work/names" > "$work/err"
-[ ! -s "$work/err" ]
-outcome 'the static library needs the C library alone' $?
-readelf -d "$library" | sed -n 's/.*(\(NEEDED\|SONAME\)).*\[\(.*\)\]$/\1 \2/p' | sort > "$work/names"
-printf '%s\n' 'NEEDED libc.so.6' 'SONAME libpendratsoa.so.0' > "$work/wanted"
-same 'what the shared library needs and is called' "$work/wanted" "$work/names"
+exported_names
 
 # The program of the page, by pkg-config where it is there; the page has every call's refusals.
 awk '/^```c$/ { is_code = 1; next } /^```$/ { is_code = 0 } is_code' docs/C.md > "$work/page.c"
@@ -52,27 +43,31 @@ if command -v pkg-config > /dev/null; then
   plain=$work/plain
   ln -s "$prefix" "$plain"
   # shellcheck disable=SC2046 # the flags are split
-  case_of 'the program of docs/C.md' cc -std=c99 -Wall -Wextra -Werror "$work/page.c" \
+  case_of 'the program of docs/C.md' cc -std=c99 -Wall -Wextra -Wpedantic -Wconversion -Werror "$work/page.c" \
     $(PKG_CONFIG_PATH=$plain/lib/pkgconfig pkg-config --cflags --libs pendratsoa) -o "$work/page"
   LD_LIBRARY_PATH=$prefix/lib "$work/page" > "$work/out" 2> "$work/err"
   same 'what it prints' "$work/wanted" "$work/out"
 else
   without 'the program of docs/C.md' pkg-config
 fi
+if command -v pkg-config > /dev/null && command -v cmake > /dev/null; then
+  mkdir "$work/cmake"
+  cp "$work/page.c" "$work/cmake/frame.c"
+  awk '/^```cmake$/ { is_code = 1; next } /^```$/ { is_code = 0 } is_code' docs/C.md > "$work/cmake/CMakeLists.txt"
+  case_of 'cmake with docs/C.md' env PKG_CONFIG_PATH="$plain/lib/pkgconfig" \
+    cmake -S "$work/cmake" -B "$work/cmake/build"
+  case_of 'cmake --build' cmake --build "$work/cmake/build"
+  "$work/cmake/build/frame" > "$out" 2> "$err"
+  same 'what the program by cmake prints' "$work/wanted" "$out"
+else
+  without 'cmake with docs/C.md' 'cmake or pkg-config'
+fi
 sed -n 's/^#define \(JOURNAL_[A-Z_]*\) (\(-[0-9]\)).*/\2 \1/p' include/pendratsoa.h > "$work/wanted"
 sed -n 's/^| \(-[0-9]\) | `\(JOURNAL_[A-Z_]*\)` .*/\1 \2/p' docs/C.md > "$work/out"
 same 'the refusals of docs/C.md' "$work/wanted" "$work/out"
 
-# Each constant of the header beside the library's answers, and none of them left out.
-wrapped=-Wl,--wrap=malloc,--wrap=realloc
-# shellcheck disable=SC2086 # the flags are split
-case_of 'constants.c' cc -std=c99 -Wall -Wextra -Wpedantic -Werror -I "$prefix/include" tests/c/constants.c \
-  "$prefix/lib/libpendratsoa.a" $wrapped -o "$work/constants"
-"$work/constants" > "$work/out" 2> "$work/err"
-outcome 'the constants of the header' $?
-sort -u "$work/out" > "$work/names"
-sed -n 's/^#define \(JOURNAL_[A-Z_]*\) .*/\1/p' include/pendratsoa.h | sort > "$work/wanted"
-same 'the constants that tests/c/constants.c reads' "$work/wanted" "$work/names"
+constants
+test_vectors
 
 # The example in C, without a warning of any compiler that is there, and with each library.
 example=examples/c/listing.c
@@ -176,9 +171,7 @@ fails 'an input that is a folder' 1 listing 'input failed'
 status=
 
 # Calls from an adversary.
-# shellcheck disable=SC2086 # the flags are split
-case_of 'hostile_calls.c' cc -std=gnu99 -O2 -Wall -Wextra -Werror -I "$prefix/include" tests/c/hostile_calls.c \
-  "$prefix/lib/libpendratsoa.a" $wrapped,--wrap=free -pthread -o "$work/hostile"
+compile_hostile_calls
 case_of 'a million hostile calls' "$work/hostile" 1 1000000
 cat "$work/log"
 case_of 'hostile calls in four threads' "$work/hostile" 2 100000 4

@@ -74,7 +74,8 @@ for command in list diff dump; do
   outcome "run.sh $command --help shows the program's section" $?
   run_sh $command --version
   shown "run.sh $command --version"
-  sed -n "s/^#define JOURNAL_LIBRARY_VERSION \"\(.*\)\"$/journal_$command \1/p" "$top/include/pendratsoa.h" > "$work/wanted"
+  sed -n "s/^#define JOURNAL_LIBRARY_VERSION \"\(.*\)\"$/journal_$command \1/p" "$top/include/pendratsoa.h" \
+    > "$work/wanted"
   same "run.sh $command --version has the version of the library" "$work/wanted" "$out"
 done
 run_sh --help

@@ -73,12 +73,13 @@ def as_it_is(text):
 
 def example(text):
     """Code, as it is and further to the right."""
-    return f".RS 4\n{as_it_is(text)}.RE\n"
+    return f".PP\n.RS 4\n{as_it_is(text)}.RE\n"
 
 
 def blocks(text):
     """The paragraphs, items, tables and code of a section: its kind and its text."""
-    for block in re.split(r"\n\n(?!    )", text.strip("\n")):
+    for block in re.findall(r"^(?:```(?:.|\n)*?^```|(?:.+(?:\n|\Z)(?:\n+(?=    ))?)+)", text, re.M):
+        block = block.rstrip("\n")
         if block.startswith("```"):
             yield "code", block.strip("`").partition("\n")[2].rstrip("\n")
         elif block.startswith("    "):

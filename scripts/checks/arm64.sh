@@ -1,0 +1,49 @@
+#!/bin/sh
+# The library for C on arm64: its constants, an example, the test vectors and adversarial calls, under qemu.
+#
+# scripts/install.sh --target builds it over the libraries that rt ci or rt lib has proved; of the proof of journal_ffi
+# it takes what scripts/static_library.sh has kept for x86-64.
+set -u
+cd "$(dirname "$0")/../.." || exit 1
+. scripts/checks/lib.sh
+. scripts/checks/c_library.sh
+. scripts/up_to_date.sh
+
+target=aarch64-unknown-linux-gnu
+tools=aarch64-linux-gnu-
+emulator='qemu-aarch64 -L /usr/aarch64-linux-gnu'
+prefix=$work/prefix
+
+command -v rt > /dev/null || not_run 'there is no rt'
+needs ${tools}gcc gcc-aarch64-linux-gnu
+needs qemu-aarch64 qemu-user
+[ -e /usr/aarch64-linux-gnu/include/stdlib.h ] ||
+  not_run 'there is no C library for arm64; the Debian package libc6-dev-arm64-cross has it'
+for name in $(below journal_ffi); do
+  is_newer "crates/$name/out/rlib/$name.rlib" "$name" ||
+    not_run "crates/$name/out/rlib is not there or older than a source; sh scripts/install.sh proves it"
+done
+
+case_of 'install.sh --target' sh scripts/install.sh --target $target "$prefix"
+[ "$failed" -eq 0 ] || finish
+exported_names
+constants
+test_vectors
+compile_hostile_calls
+# shellcheck disable=SC2086 # the words are split
+case_of 'adversarial calls' $emulator "$work/hostile" 1 20000
+# shellcheck disable=SC2086 # the words are split
+case_of 'adversarial calls in two threads' $emulator "$work/hostile" 2 5000 2
+
+# The example, with each library
+compiled 'the listing with the static library' -std=c99 examples/c/listing.c "$prefix/lib/libpendratsoa.a" \
+  -o "$work/static"
+compiled 'the listing with the shared library' -std=c99 examples/c/listing.c "$prefix/lib/libpendratsoa.so" \
+  -o "$work/shared"
+for listing in static shared; do
+  # shellcheck disable=SC2086 # the words are split
+  $emulator -E LD_LIBRARY_PATH="$prefix/lib" "$work/$listing" < examples/streams/replay > "$out" 2> "$err"
+  same "what the listing with the $listing library prints" examples/streams/replay.stdout "$out"
+done
+
+finish

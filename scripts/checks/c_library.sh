@@ -1,0 +1,55 @@
+# What scripts/checks/c.sh and scripts/checks/arm64.sh test alike of the library for C, which is installed below
+# $prefix. $tools is how the names of the processor's tools begin, and $emulator runs its programs; both are empty for
+# the processor that this is.
+
+# compiled NAME FLAG..: a case that compiles C for the processor
+compiled() {
+  name=$1
+  shift
+  case_of "$name" "${tools:+${tools}g}cc" -O2 -Wall -Wextra -Werror -I "$prefix/include" "$@"
+}
+
+# exported_names: both libraries export the calls of include/pendratsoa.h alone, and need the C library alone
+exported_names() {
+  library=$prefix/lib/libpendratsoa.so
+  awk '/^int64_t journal_/ { sub(/^int64_t /, ""); sub(/\(.*/, ""); print }' include/pendratsoa.h | sort > "$work/calls"
+  "${tools}nm" -D --defined-only "$library" | awk '{ print $3 }' | sort > "$work/names"
+  same 'the names of the shared library' "$work/calls" "$work/names"
+  "${tools}nm" -g --defined-only "$prefix/lib/libpendratsoa.a" | awk 'NF == 3 { print $3 }' | sort > "$work/names"
+  same 'the names of the static library' "$work/calls" "$work/names"
+  "${tools}nm" -g --undefined-only "$prefix/lib/libpendratsoa.a" | awk 'NF == 2 { print $2 }' > "$work/names"
+  grep -vxE 'malloc|realloc|free|mem(cpy|move|set|cmp)|bcmp|strlen' "$work/names" > "$err"
+  [ ! -s "$err" ]
+  outcome 'the static library needs the C library alone' $?
+  "${tools}readelf" -d "$library" | sed -n 's/.*(\(NEEDED\|SONAME\)).*\[\(.*\)\]$/\1 \2/p' | sort > "$work/names"
+  printf '%s\n' 'NEEDED libc.so.6' 'SONAME libpendratsoa.so.0' > "$work/wanted"
+  same 'what the shared library needs and is called' "$work/wanted" "$work/names"
+}
+
+# constants: each constant of the header beside what the library returns, and none of them left out
+constants() {
+  compiled 'constants.c' -std=c99 -Wpedantic tests/c/constants.c "$prefix/lib/libpendratsoa.a" \
+    -Wl,--wrap=malloc,--wrap=realloc -o "$work/constants"
+  # shellcheck disable=SC2086 # the words are split
+  $emulator "$work/constants" > "$out" 2> "$err"
+  outcome 'the constants of the header' $?
+  sort -u "$out" > "$work/names"
+  sed -n 's/^#define \(JOURNAL_[A-Z_]*\) .*/\1/p' include/pendratsoa.h | sort > "$work/wanted"
+  same 'the constants that tests/c/constants.c reads' "$work/wanted" "$work/names"
+}
+
+# test_vectors: all of them, by the calls for C
+test_vectors() {
+  compiled 'test_vectors.c' -std=c99 -Wpedantic -Wconversion tests/c/test_vectors.c "$prefix/lib/libpendratsoa.a" \
+    -o "$work/test_vectors"
+  sed -n '/^## Numbers of schemas/,$p' docs/C.md | tr , '\n' | sed -n 's/^ *[0-9]* `\(.*\)`.*/\1/p' > "$work/schemas"
+  cat conformance/*.txt conformance/json/*.txt > "$work/lines"
+  # shellcheck disable=SC2086 # the words are split
+  counted 'the test vectors' $emulator "$work/test_vectors" "$work/schemas" < "$work/lines"
+}
+
+# compile_hostile_calls: tests/c/hostile_calls.c as $work/hostile
+compile_hostile_calls() {
+  compiled 'hostile_calls.c' -std=gnu99 tests/c/hostile_calls.c "$prefix/lib/libpendratsoa.a" \
+    -Wl,--wrap=malloc,--wrap=realloc,--wrap=free -pthread -o "$work/hostile"
+}

@@ -1,0 +1,355 @@
+/*
+ * Checks the test vectors on the standard input by the calls of pendratsoa.h: test_vectors SCHEMAS < LINES
+ *
+ * SCHEMAS is a file with the names of the schemas, one a line, in the order of their numbers. conformance/README.md
+ * says what a line is; a line of the kind `record` has no call. Each stream is also read byte by byte. The last line
+ * is 'N passed, M failed'.
+ */
+#define _POSIX_C_SOURCE 200809L
+#include <pendratsoa.h>
+
+#include <inttypes.h>
+#include <stdio.h>
+#include <stdlib.h>
+#include <string.h>
+
+/* Bytes that grow. */
+struct buffer {
+    uint8_t *bytes;
+    size_t length, room;
+};
+
+static char *schema_names[JOURNAL_SCHEMAS];
+/* What the line's input gives, as the line's expected result is written. */
+static struct buffer found;
+/* What the last call wrote. */
+static struct buffer written;
+
+static void fail(const char *why) {
+    fprintf(stderr, "test_vectors: %s\n", why);
+    exit(2);
+}
+
+static void reserve(struct buffer *buffer, size_t room) {
+    if (room > buffer->room) {
+        buffer->room = 2 * room;
+        buffer->bytes = realloc(buffer->bytes, buffer->room);
+        if (buffer->bytes == NULL) {
+            fail("out of memory");
+        }
+    }
+}
+
+static void append(struct buffer *buffer, const void *bytes, size_t length) {
+    reserve(buffer, buffer->length + length + 1);
+    if (length > 0) {
+        memcpy(buffer->bytes + buffer->length, bytes, length);
+    }
+    buffer->length += length;
+}
+
+static void append_text(struct buffer *buffer, const char *text) {
+    append(buffer, text, strlen(text));
+}
+
+/* Bytes as hex digits, and none as a dash. */
+static void append_hex(struct buffer *buffer, const uint8_t *bytes, size_t length) {
+    char digits[3];
+
+    if (length == 0) {
+        append_text(buffer, "-");
+    }
+    for (size_t i = 0; i < length; i++) {
+        snprintf(digits, sizeof digits, "%02x", bytes[i]);
+        append(buffer, digits, 2);
+    }
+}
+
+/* Appends the bytes that a word of a line means. */
+static void append_word(struct buffer *buffer, const char *word) {
+    unsigned byte;
+    uint8_t value;
+
+    if (strcmp(word, "-") == 0) {
+        return;
+    }
+    for (; sscanf(word, "%2x", &byte) == 1; word += 2) {
+        value = (uint8_t)byte;
+        append(buffer, &value, 1);
+    }
+}
+
+/* The bytes of the line's next word. */
+static struct buffer next_bytes(void) {
+    struct buffer buffer = {NULL, 0, 0};
+    const char *word = strtok(NULL, " ");
+
+    if (word == NULL) {
+        fail("a line has too few words");
+    }
+    append(&buffer, NULL, 0);
+    append_word(&buffer, word);
+    return buffer;
+}
+
+static const char *next_word(void) {
+    const char *word = strtok(NULL, " ");
+
+    if (word == NULL) {
+        fail("a line has too few words");
+    }
+    return word;
+}
+
+static uint32_t next_schema(void) {
+    const char *name = next_word();
+
+    for (uint32_t schema = 0; schema < JOURNAL_SCHEMAS; schema++) {
+        if (strcmp(name, schema_names[schema]) == 0) {
+            return schema;
+        }
+    }
+    fail("a line names no schema");
+    return 0;
+}
+
+static uint16_t next_type(void) {
+    const char *name = next_word();
+    int64_t code = journal_type_code((const uint8_t *)name, strlen(name));
+
+    if (code < 0) {
+        fail("a line names no type");
+    }
+    return (uint16_t)code;
+}
+
+static uint32_t next_version(void) {
+    return (uint32_t)strtoul(next_word(), NULL, 10);
+}
+
+/* Makes a call that writes into `written`, and again if there was too little room. Its value is the call's result. */
+#define WRITTEN(call) (is_whole(call) ? last_result : (call))
+
+static int64_t last_result;
+
+/* Whether a call with this result is an error or had room for what it wrote. Otherwise there is room for it now. */
+static int is_whole(int64_t result) {
+    size_t had = written.room;
+
+    last_result = result;
+    written.length = result < 0 ? 0 : (size_t)result;
+    reserve(&written, written.length);
+    return written.length <= had;
+}
+
+/* What was written, as hex digits, or the error. */
+static void say_written(int64_t length) {
+    if (length == JOURNAL_MALFORMED) {
+        append_text(&found, "malformed");
+    } else if (length < 0) {
+        append_text(&found, "refused");
+    } else {
+        append_hex(&found, written.bytes, written.length);
+    }
+}
+
+static void payload(void) {
+    uint32_t schema = next_schema();
+    struct buffer data = next_bytes();
+    int64_t length = WRITTEN(journal_canonical(schema, data.bytes, data.length, written.bytes, written.room));
+
+    if (journal_is_well_formed(schema, data.bytes, data.length) != (length >= 0)) {
+        append_text(&found, "well-formed and refused, or neither: ");
+    }
+    say_written(length);
+    free(data.bytes);
+}
+
+static void merge(void) {
+    uint32_t schema = next_schema();
+    struct buffer merged = next_bytes(), more = {NULL, 0, 0};
+    int64_t length = WRITTEN(journal_canonical(schema, merged.bytes, merged.length, written.bytes, written.room));
+
+    for (const char *word; length >= 0 && (word = strtok(NULL, " ")) != NULL;) {
+        merged.length = 0;
+        append(&merged, written.bytes, written.length);
+        more.length = 0;
+        append_word(&more, word);
+        length = WRITTEN(journal_merge(schema, merged.bytes, merged.length, more.bytes, more.length, written.bytes,
+                                       written.room));
+    }
+    say_written(length);
+    free(merged.bytes);
+    free(more.bytes);
+}
+
+static void frame(void) {
+    uint16_t code = next_type();
+    uint32_t version = next_version();
+    struct buffer data = next_bytes();
+
+    say_written(WRITTEN(journal_frame(version, code, data.bytes, data.length, written.bytes, written.room)));
+    free(data.bytes);
+}
+
+/* Appends an item to a listing. */
+static void list_item(struct buffer *listing, const uint64_t *item) {
+    char text[64];
+    int64_t length;
+
+    if (item[JOURNAL_ITEM_KIND] == JOURNAL_UNKNOWN_CODE) {
+        snprintf(text, sizeof text, "unknown %#" PRIx64 ", ", item[JOURNAL_ITEM_CODE]);
+    } else if (item[JOURNAL_ITEM_KIND] == JOURNAL_SKIPPED) {
+        snprintf(text, sizeof text, "skipped %#" PRIx64 " %" PRIu64 ", ", item[JOURNAL_ITEM_CODE],
+                 item[JOURNAL_ITEM_SIZE] - item[JOURNAL_ITEM_PAYLOAD]);
+    } else {
+        length = WRITTEN(journal_type_name((uint16_t)item[JOURNAL_ITEM_CODE], written.bytes, written.room));
+        append(listing, written.bytes, length < 0 ? 0 : (size_t)length);
+        snprintf(text, sizeof text, " %" PRIu64 "%s, ", item[JOURNAL_ITEM_SIZE] - item[JOURNAL_ITEM_PAYLOAD],
+                 item[JOURNAL_ITEM_ACK] ? " ack" : "");
+    }
+    append_text(listing, text);
+}
+
+/* Appends the listing of the whole items at the beginning of a stream, and drops them. */
+static void list_items(struct buffer *listing, uint32_t version, struct buffer *stream) {
+    uint64_t item[JOURNAL_ITEM_NUMBERS];
+    size_t begin = 0;
+
+    while (journal_next(version, stream->bytes + begin, stream->length - begin, item, JOURNAL_ITEM_NUMBERS) == 0) {
+        list_item(listing, item);
+        begin += (size_t)item[JOURNAL_ITEM_SIZE];
+    }
+    stream->length -= begin;
+    memmove(stream->bytes, stream->bytes + begin, stream->length);
+}
+
+static void list_rest(struct buffer *listing, const struct buffer *stream) {
+    char text[32];
+
+    snprintf(text, sizeof text, "rest %zu", stream->length);
+    append_text(listing, text);
+}
+
+static void stream(void) {
+    uint32_t version = next_version();
+    struct buffer chunks = {NULL, 0, 0}, bytes = {NULL, 0, 0}, chunk = {NULL, 0, 0}, listing = {NULL, 0, 0};
+
+    append(&chunks, NULL, 0);
+    append(&bytes, NULL, 0);
+    for (const char *word; (word = strtok(NULL, " ")) != NULL;) {
+        chunk.length = 0;
+        append_word(&chunk, word);
+        append(&chunks, chunk.bytes, chunk.length);
+        list_items(&found, version, &chunks);
+        for (size_t i = 0; i < chunk.length; i++) {
+            append(&bytes, chunk.bytes + i, 1);
+            list_items(&listing, version, &bytes);
+        }
+    }
+    list_rest(&found, &chunks);
+    list_rest(&listing, &bytes);
+    if (found.length != listing.length || memcmp(found.bytes, listing.bytes, found.length) != 0) {
+        append_text(&found, ", and other items byte by byte");
+    }
+    free(chunks.bytes);
+    free(bytes.bytes);
+    free(chunk.bytes);
+    free(listing.bytes);
+}
+
+static void compare(void) {
+    uint16_t code = next_type();
+    struct buffer first = next_bytes(), second = next_bytes();
+
+    for (uint32_t ignored = 0; ignored < 2; ignored++) {
+        int64_t same = journal_header_eq(code, first.bytes, first.length, second.bytes, second.length, ignored);
+
+        append_text(&found, same == 1 ? "same " : same == 0 ? "other " : "refused ");
+    }
+    if (journal_header_eq(code, first.bytes, first.length, second.bytes, second.length, 0) == JOURNAL_MALFORMED) {
+        found.length = 0;
+    }
+    say_written(WRITTEN(journal_difference(code, first.bytes, first.length, second.bytes, second.length, written.bytes,
+                                           written.room)));
+    free(first.bytes);
+    free(second.bytes);
+}
+
+static void json(void) {
+    uint32_t schema = next_schema();
+    struct buffer data = next_bytes();
+    int64_t length = WRITTEN(journal_json(schema, data.bytes, data.length, written.bytes, written.room));
+
+    append(&found, written.bytes, length < 0 ? 0 : (size_t)length);
+    free(data.bytes);
+}
+
+static const struct {
+    const char *kind;
+    void (*check)(void);
+} checks[] = {{"payload", payload}, {"merge", merge},     {"frame", frame},
+              {"stream", stream},   {"compare", compare}, {"json", json}};
+
+/* Checks a line: 1 if it passed, 0 if it failed, and -1 if it is not checked. */
+static int check_line(char *line) {
+    char *expected = strstr(line, " = ");
+    const char *kind;
+
+    if (line[0] == '#' || expected == NULL) {
+        return -1;
+    }
+    *expected = '\0';
+    expected += strlen(" = ");
+    kind = strtok(line, " ");
+    for (size_t i = 0; i < sizeof checks / sizeof *checks; i++) {
+        if (strcmp(kind, checks[i].kind) == 0) {
+            found.length = 0;
+            checks[i].check();
+            return found.length == strlen(expected) && memcmp(found.bytes, expected, found.length) == 0;
+        }
+    }
+    return -1;
+}
+
+static void read_schemas(const char *path) {
+    FILE *file = fopen(path, "r");
+    size_t room;
+
+    if (file == NULL) {
+        fail("the names of the schemas cannot be read");
+    }
+    for (uint32_t schema = 0; schema < JOURNAL_SCHEMAS; schema++) {
+        room = 0;
+        if (getline(&schema_names[schema], &room, file) < 0) {
+            fail("there are too few names of schemas");
+        }
+        schema_names[schema][strcspn(schema_names[schema], "\n")] = '\0';
+    }
+    fclose(file);
+}
+
+int main(int count, char **arguments) {
+    long passed = 0, failed = 0;
+    char *line = NULL;
+    size_t room = 0;
+
+    if (count != 2) {
+        fail("usage: test_vectors SCHEMAS");
+    }
+    read_schemas(arguments[1]);
+    while (getline(&line, &room, stdin) >= 0) {
+        line[strcspn(line, "\n")] = '\0';
+        switch (check_line(line)) {
+        case 1:
+            passed++;
+            break;
+        case 0:
+            failed++;
+            printf("failed: %.300s: %.*s\n", line, (int)(found.length < 300 ? found.length : 300), (char *)found.bytes);
+            break;
+        }
+    }
+    printf("%ld passed, %ld failed\n", passed, failed);
+    return failed > 0;
+}
