@@ -59,6 +59,7 @@ FOLDERS = (
     "python/pendratsoa",
     "share",
     "go",
+    "ruby/lib",
     "crates/*/src",
     "crates/*/specs",
     "crates/*/proofs",

@@ -10,7 +10,8 @@ cd "$(dirname "$0")/../.." || exit 1
 
 # The last version: that of the library, those that callers from C, the programs and the test vectors can ask for, and what pages and comments say.
 last=$(sed -n '/fn maximum_supported_version/,/^    }$/s/^        Version::V\([0-9]*\)$/\1/p' crates/shared_core_base/src/version.rt)
-for place in include/pendratsoa.h python/pendratsoa/_request.py tools/generators/record_vectors.py crates/test_vectors/src/cases.rt crates/journal_c_api/src/answer.rt \
+for place in include/pendratsoa.h python/pendratsoa/_request.py ruby/lib/pendratsoa/functions.rb \
+  tools/generators/record_vectors.py crates/test_vectors/src/cases.rt crates/journal_c_api/src/answer.rt \
   crates/journal_c_api/specs/Answers.antt crates/journal_diff/src/options.rt crates/journal_dump/src/command_line.rt; do
   echo "$place $last" >> "$work/last"
   echo "$place $(grep -oE 'Version::V[0-9]+|Some V[0-9]+|LAST_VERSION (= )?[0-9]+' "$place" | grep -oE '[0-9]+$' | sort -n | tail -n 1)" >> "$work/asked"
@@ -61,6 +62,14 @@ same "the calls and the parameters in python/pendratsoa/_library.py" "$work/valu
 sed 's/ .*//' "$work/calls" > "$work/values"
 grep -oh '\blibrary\.journal_[a-z_]*' python/pendratsoa/*.py | sed 's/.*\.//' | sort -u > "$work/lines"
 same "the calls and the functions of python/pendratsoa" "$work/values" "$work/lines"
+
+# The gem for Ruby has each with its parameters, and with a function that makes it.
+sed 's/const //g; s/uint[0-9]*_t \*[a-z_]* size_t/SLICE/g; s/uint\([0-9]*\)_t [a-z_]*/U\1/g' "$work/calls" > "$work/parameters"
+sed -n '/^ *journal_[a-z_]*: / { s/[,+:]/ /g; s/  */ /g; s/^ //; s/ $//; p; }' ruby/lib/pendratsoa/library.rb \
+  | sort > "$work/lines"
+same "the calls and the parameters in ruby/lib/pendratsoa/library.rb" "$work/parameters" "$work/lines"
+grep -oh '(:journal_[a-z_]*' ruby/lib/pendratsoa/*.rb | sed 's/.*://' | sort -u > "$work/lines"
+same "the calls and the functions of ruby/lib/pendratsoa" "$work/values" "$work/lines"
 
 # The package for Go makes each.
 grep -o 'C\.journal_[a-z_]*' go/library.go | sed 's/.*\.//' | sort -u > "$work/lines"

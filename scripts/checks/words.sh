@@ -38,7 +38,7 @@ stands? as it (was|stood)|is unchanged
 stands? in one another|are nested
 END
 
-git ls-files -- '*.md' '*.rt' '*.antt' '*.proto' '*.py' '*.sh' '*.awk' '*.c' '*.h' '*.rs' '*.go' > "$work/files"
+git ls-files -- '*.md' '*.rt' '*.antt' '*.proto' '*.py' '*.sh' '*.awk' '*.c' '*.h' '*.rs' '*.go' '*.rb' > "$work/files"
 # shellcheck disable=SC2046 # the names are split; none has a blank
 awk -v patterns="$work/patterns" -v self=scripts/checks/words.sh '
   BEGIN {
@@ -58,7 +58,7 @@ awk -v patterns="$work/patterns" -v self=scripts/checks/words.sh '
     marks = ""
     if (FILENAME ~ /\.(rt|proto|rs|go)$/) marks = "//[/!]?"
     if (FILENAME ~ /\.antt$/) marks = "--+"
-    if (FILENAME ~ /\.(py|sh|awk)$/) marks = "#+"
+    if (FILENAME ~ /\.(py|sh|awk|rb)$/) marks = "#+"
     if (FILENAME ~ /\.(c|h)$/) marks = "(/[*]|[*]|//)"
     page = FILENAME ~ /\.md$/
     files++

@@ -46,5 +46,17 @@ def go_constants(values):
     return "const (\n" + "".join(f"\t{name:{width}} = {value}\n" for name, value in values.items()) + ")\n"
 
 
+def ruby():
+    """The file of the gem for Ruby."""
+    names = "".join(f"    {message.name}\n" for message in schemas())
+    return (
+        "# frozen_string_literal: true\n\nmodule Pendratsoa\n"
+        f"  # The name of each schema, at its number.\n  SCHEMA_NAMES = %w[\n{names}  ].freeze\n\n"
+        "  # The codes of commands and of notifications, those of custom entries among them.\n"
+        f"  COMMAND_CODES = (0x{COMMANDS.start:04x}...0x{COMMANDS.stop:04x})\n"
+        f"  NOTIFICATION_CODES = (0x{NOTIFICATIONS.start:04x}...0x{NOTIFICATIONS.stop:04x})\nend\n"
+    )
+
+
 def files():
-    return {"python/pendratsoa/_protocol.py": python(), "go/protocol.go": go()}
+    return {"python/pendratsoa/_protocol.py": python(), "go/protocol.go": go(), "ruby/lib/pendratsoa/protocol.rb": ruby()}

@@ -1,0 +1,28 @@
+# frozen_string_literal: true
+
+require_relative "pendratsoa/version"
+require_relative "pendratsoa/protocol"
+require_relative "pendratsoa/errors"
+require_relative "pendratsoa/library"
+require_relative "pendratsoa/shown"
+require_relative "pendratsoa/call"
+require_relative "pendratsoa/functions"
+require_relative "pendratsoa/items"
+require_relative "pendratsoa/stream"
+
+# The journal protocol of the Restate SDKs, by the calls of Pendratsoa's shared library.
+#
+#   stream = Pendratsoa::Stream.new(version: 8)
+#   File.open("journal", "rb") do |file|
+#     stream.read(file) { |item| puts item.type, item.json if item.is_a?(Pendratsoa::Message) }
+#   end
+#
+# What a call refuses is an exception below Pendratsoa::Error, whose text names the argument and its value; what is no
+# String or no Integer is a TypeError. A schema is given by its number or by the name of its record, as
+# "SleepCommandMessage". Bytes are Strings of any encoding; those that are returned are binary, and texts are UTF-8. All
+# may be called from any thread.
+#
+# The library is the file that PENDRATSOA_LIBRARY names, or else that which is copied into this gem, or else what the
+# system finds as libpendratsoa.so.0.
+module Pendratsoa
+end

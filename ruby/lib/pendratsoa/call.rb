@@ -1,0 +1,166 @@
+# frozen_string_literal: true
+
+module Pendratsoa
+  # One call by its name in this gem, with its arguments by their names. A method that takes the name of an argument
+  # checks it, and returns what the library takes in its place.
+  class Call
+    # How many numbers an item has.
+    ITEM_NUMBERS = 6
+
+    # What is wrong with a payload, or with the call.
+    TEXTS = {
+      Malformed => "is not well-formed",
+      NoId => "has no id",
+      NoResult => "has an id, and no result",
+      OutOfMemory => "an allocation failed",
+      TooLong => "the result would have more than 4,294,967,295 bytes"
+    }.freeze
+
+    def initialize(name, **arguments)
+      @name = name
+      @arguments = arguments
+      # of which kind the code has to be
+      @kind = "a type"
+      # how many bytes are passed
+      @size = 0
+    end
+
+    # The number of a version.
+    def version
+      unsigned(:version, 32)
+    end
+
+    # The code of a type of this kind, as "a command".
+    def code(kind)
+      @kind = kind
+      unsigned(:code, 16)
+    end
+
+    # The number of a schema, which may be given by the name of its record.
+    def schema
+      name = @arguments.fetch(:schema)
+      return unsigned(:schema, 32) unless name.is_a?(String)
+
+      SCHEMA_NAMES.index(name) || raise(unknown(:schema))
+    end
+
+    # The length of a payload in bytes.
+    def length(argument)
+      number = integer(argument)
+      raise ArgumentError, "#{@name}: #{argument} #{number} is negative" if number.negative?
+      raise error(TooLong, "#{argument} #{number} is more than 4,294,967,295", argument) if number >= 1 << 32
+
+      number
+    end
+
+    # Bytes and their number. They are a frozen copy, which shares what is long: no thread can change it.
+    def data(argument)
+      value = @arguments.fetch(argument)
+      raise TypeError, "#{@name}: #{argument} must be a String, not #{value.class}" unless value.is_a?(String)
+
+      bytes = String.new(value).force_encoding(Encoding::BINARY).freeze
+      @size += bytes.bytesize
+      [bytes, bytes.bytesize]
+    end
+
+    # What a function returns, if that is no error.
+    def returned(function, *parameters)
+      number = Library.call(function, *parameters)
+      raise refused(number) if number.negative?
+
+      number
+    end
+
+    # The bytes that a function writes.
+    def written(function, *parameters)
+      # which is enough for most results, so that they are made once
+      room = 256 + (@size * 3 / 2)
+      loop do
+        Fiddle::Pointer.malloc(room, Fiddle::RUBY_FREE) do |out|
+          needed = returned(function, *parameters, out, room)
+          return out[0, needed] if needed <= room
+
+          room = needed
+        end
+      end
+    end
+
+    # The text that a function writes.
+    def text(function, *parameters)
+      written(function, *parameters).force_encoding(Encoding::UTF_8)
+    end
+
+    # The kind of a number among these. A later library may have further ones.
+    def kind(kinds, number, what)
+      raise unexpected("#{what} of the kind #{number}") unless number < kinds.length
+
+      kinds[number]
+    end
+
+    private
+
+    def error(kind, text, argument = nil)
+      value = argument && @arguments.fetch(argument)
+      kind.new("#{@name}: #{text}", call: @name, argument: argument, value: value)
+    end
+
+    def unexpected(what)
+      error(Error, "the library returned #{what}, which this gem does not know")
+    end
+
+    def integer(argument)
+      value = @arguments.fetch(argument)
+      raise TypeError, "#{@name}: #{argument} must be an Integer, not #{value.class}" unless value.is_a?(Integer)
+
+      value
+    end
+
+    # A number that fits its parameter; Fiddle would cut another.
+    def unsigned(argument, bits)
+      number = integer(argument)
+      raise unknown(argument) unless (0...(1 << bits)).cover?(number)
+
+      number
+    end
+
+    # The error of a negative number. A later library may have further ones.
+    def refused(number)
+      kind = ERRORS[number]
+      return unknown(unknown_argument) if kind == Unknown
+      return unexpected(number) unless TEXTS.key?(kind)
+      return error(kind, TEXTS.fetch(kind)) if [OutOfMemory, TooLong].include?(kind)
+
+      argument = kind == Malformed ? malformed_argument : :payload
+      error(kind, "#{argument} #{Shown.bytes(@arguments.fetch(argument))} #{TEXTS.fetch(kind)}", argument)
+    end
+
+    def unknown(argument)
+      value = Shown.value(@arguments.fetch(argument))
+      return error(Unknown, "code #{value} is not that of #{@kind}", argument) if argument == :code
+
+      error(Unknown, "there is no #{argument == :name ? "type with the name" : argument} #{value}", argument)
+    end
+
+    # Which argument the library does not know.
+    def unknown_argument
+      return :version if @arguments.key?(:version) && !version?(version)
+
+      %i[code schema name version].find { |argument| @arguments.key?(argument) }
+    end
+
+    def version?(number)
+      Library.numbers(ITEM_NUMBERS) do |room|
+        return !Library.call(:journal_next, number, nil, 0, room, ITEM_NUMBERS).negative?
+      end
+    end
+
+    # Which payload is malformed.
+    def malformed_argument
+      return :payload if @arguments.key?(:payload)
+
+      schema = @arguments.key?(:schema) ? self.schema : Library.call(:journal_schema, LAST_VERSION, code(@kind))
+      Library.call(:journal_is_well_formed, schema, *data(:first)).zero? ? :first : :second
+    end
+  end
+  private_constant :Call
+end

@@ -1,0 +1,50 @@
+# frozen_string_literal: true
+
+module Pendratsoa
+  # A call failed, or the library returned what this gem does not know.
+  class Error < StandardError
+    # The name of the function, the name of the argument that is at fault, and its value; the argument is nil if none is
+    # at fault.
+    attr_reader :call, :argument, :value
+
+    def initialize(message = nil, call: nil, argument: nil, value: nil)
+      super(message)
+      @call = call
+      @argument = argument
+      @value = value
+    end
+  end
+
+  # A payload is not well-formed for its schema.
+  class Malformed < Error; end
+
+  # An allocation of the library failed. The call can be repeated.
+  class OutOfMemory < Error; end
+
+  # A slice for numbers was too short. This gem never passes such a slice.
+  class NoRoom < Error; end
+
+  # A payload has, or would have, more than 4,294,967,295 bytes, which no header can say.
+  class TooLong < Error; end
+
+  # A version, a schema, a code or a name does not exist, or is not of the kind that the call is for.
+  class Unknown < Error; end
+
+  # A notification has no id.
+  class NoId < Error; end
+
+  # A notification has an id, and no result.
+  class NoResult < Error; end
+
+  # The error of each negative number that the library returns.
+  ERRORS = {
+    -1 => Malformed,
+    -2 => OutOfMemory,
+    -3 => NoRoom,
+    -4 => TooLong,
+    -5 => Unknown,
+    -6 => NoId,
+    -7 => NoResult
+  }.freeze
+  private_constant :ERRORS
+end

@@ -1,0 +1,113 @@
+# frozen_string_literal: true
+
+require "json"
+
+module Pendratsoa
+  # A message of a stream of a version: the code of its type, its payload, and whether its header requests an
+  # acknowledgement. It is frozen, and so is its payload.
+  Message = Struct.new(:version, :code, :payload, :requires_ack) do
+    alias_method :requires_ack?, :requires_ack
+
+    def initialize(version, code, payload, requires_ack = false)
+      bytes, = Call.new("Message.new", payload: payload).data(:payload)
+      super(version, code, bytes, requires_ack ? true : false)
+      freeze
+    end
+
+    # The message of a type, which is given by its code or by its name as "SleepCommand", with a payload. It requests an
+    # acknowledgement if the header of its type does at this version. The payload is taken as it is: `frame` refuses one
+    # that is malformed. Unknown if there is no such version or type.
+    def self.of(type, payload = "", version: 8)
+      code = type.is_a?(String) ? Pendratsoa.type_code(type) : type
+      bytes, length = Call.new("Message.of", payload: payload).data(:payload)
+      # the flag is the high bit of the third byte
+      new(version, code, bytes, Pendratsoa.header(version, code, length).getbyte(2) >= 0x80)
+    end
+
+    # The name of its type, as "SleepCommand", or "CustomEntry(64513)". Unknown if no type has its code.
+    def type
+      Pendratsoa.type_name(code)
+    end
+
+    # The number of its payload's schema. A custom entry has none: Unknown.
+    def schema
+      Pendratsoa.schema(version, code)
+    end
+
+    # Whether its code is that of a command, which those of custom entries may be.
+    def command?
+      COMMAND_CODES.cover?(code)
+    end
+
+    # Whether its code is that of a notification, which those of custom entries may be.
+    def notification?
+      NOTIFICATION_CODES.cover?(code)
+    end
+
+    # What its payload means, as protobuf's JSON has it: hashes, arrays, texts and numbers.
+    def json
+      JSON.parse(Pendratsoa.to_json(schema, payload), max_nesting: false)
+    end
+
+    # The canonical encoding of its payload.
+    def canonical
+      Pendratsoa.canonical(schema, payload)
+    end
+
+    # Its frame at a version, or at its own: the header, and after it the canonical payload. Whether the header requests
+    # an acknowledgement depends on the type and the version, and not on `requires_ack`.
+    def frame(version = self.version)
+      Pendratsoa.frame(version, code, payload)
+    end
+
+    # Its id and its result, if it is a notification.
+    def notification
+      Pendratsoa.notification(code, payload)
+    end
+
+    # The name of its type and the length of its payload in bytes.
+    def to_s
+      "#{type} #{payload.bytesize}#{" ack" if requires_ack}"
+    rescue Error
+      "code #{Shown.code(code)} #{payload.bytesize}"
+    end
+
+    def inspect
+      "#<#{self.class} #{self}, version #{version}, payload #{Shown.bytes(payload)}>"
+    end
+  end
+
+  # Eight bytes whose code is no type's, before version 9; `word` is all eight as one big-endian number. It is frozen.
+  UnknownCode = Struct.new(:version, :code, :word) do
+    def initialize(*)
+      super
+      freeze
+    end
+
+    def to_s
+      "unknown 0x#{code.to_s(16)}"
+    end
+
+    def inspect
+      "#<#{self.class} #{self}, version #{version}>"
+    end
+  end
+
+  # A message of an unknown type, which is skipped with its payload from version 9 on; `word` is its header's eight
+  # bytes as one big-endian number. It is frozen, and so is its payload.
+  Skipped = Struct.new(:version, :code, :word, :payload) do
+    def initialize(*)
+      super
+      payload.freeze
+      freeze
+    end
+
+    def to_s
+      "skipped 0x#{code.to_s(16)} #{payload.bytesize}"
+    end
+
+    def inspect
+      "#<#{self.class} #{self}, version #{version}, payload #{Shown.bytes(payload)}>"
+    end
+  end
+end

@@ -1,0 +1,72 @@
+# frozen_string_literal: true
+
+require "fiddle"
+
+module Pendratsoa
+  # The shared library: where it is found, and its functions.
+  module Library
+    # The library that is copied into this gem, and the name by which the system finds another.
+    BUNDLED = File.join(__dir__, "libpendratsoa.so")
+    SONAME = "libpendratsoa.so.0"
+
+    U16 = [-Fiddle::TYPE_SHORT].freeze
+    U32 = [-Fiddle::TYPE_INT].freeze
+    SLICE = [Fiddle::TYPE_VOIDP, Fiddle::TYPE_SIZE_T].freeze
+
+    # The functions with their parameters.
+    PARAMETERS = {
+      journal_library_version: SLICE,
+      journal_schema: U32 + U16,
+      journal_type_name: U16 + SLICE,
+      journal_type_code: SLICE,
+      journal_next: U32 + SLICE + SLICE,
+      journal_header: U32 + U16 + U32 + SLICE,
+      journal_frame: U32 + U16 + SLICE + SLICE,
+      journal_is_well_formed: U32 + SLICE,
+      journal_canonical: U32 + SLICE + SLICE,
+      journal_merge: U32 + SLICE + SLICE + SLICE,
+      journal_json: U32 + SLICE + SLICE,
+      journal_notification: U16 + SLICE + SLICE + SLICE,
+      journal_header_eq: U16 + SLICE + SLICE + U32,
+      journal_difference: U16 + SLICE + SLICE + SLICE,
+      journal_verdict: U32 + SLICE + SLICE + U32 + SLICE + SLICE
+    }.freeze
+
+    # The file that PENDRATSOA_LIBRARY names, or else that of this gem, or else the name that the system knows.
+    def self.find
+      named = ENV.fetch("PENDRATSOA_LIBRARY", "")
+      return named unless named.empty?
+
+      File.exist?(BUNDLED) ? BUNDLED : SONAME
+    end
+
+    # The functions of the library of a name. A LoadError if it is not there, or lacks a function.
+    #
+    # A call holds the interpreter's lock, so that no other thread changes the bytes that it reads.
+    def self.load(name)
+      handle = Fiddle.dlopen(name)
+      PARAMETERS.to_h do |function, parameters|
+        [function, Fiddle::Function.new(handle[function.to_s], parameters, Fiddle::TYPE_LONG_LONG, need_gvl: true)]
+      end.freeze
+    rescue Fiddle::DLError => error
+      raise LoadError, "pendratsoa: the library #{name} cannot be used: #{error.message}; " \
+                       "PENDRATSOA_LIBRARY may name its file"
+    end
+
+    FUNCTIONS = load(find)
+
+    # What a function returns. Bytes are passed as a String or a pointer, and their number.
+    def self.call(function, *parameters)
+      FUNCTIONS.fetch(function).call(*parameters)
+    end
+
+    # Numbers of 64 bits that a function writes: yields the room for so many, and returns them.
+    def self.numbers(count)
+      Fiddle::Pointer.malloc(8 * count, Fiddle::RUBY_FREE) do |room|
+        yield room
+        room[0, 8 * count].unpack("Q*")
+      end
+    end
+  end
+  private_constant :Library
+end

@@ -1,0 +1,26 @@
+# frozen_string_literal: true
+
+module Pendratsoa
+  # Values as texts show them: of what is long, its beginning.
+  module Shown
+    # A value as `inspect` has it.
+    def self.value(value)
+      text = value.inspect
+      text.length <= 80 ? text : "#{text[0, 77]}..."
+    end
+
+    # The bytes of a String as `inspect` has them; of more than 32 the first 16, and how many there are.
+    def self.bytes(string)
+      bytes = string.b
+      return bytes.inspect if bytes.bytesize <= 32
+
+      "#{bytes.byteslice(0, 16).inspect}... (#{bytes.bytesize} bytes)"
+    end
+
+    # The code of a type in hexadecimal digits.
+    def self.code(code)
+      format("0x%04x", code)
+    end
+  end
+  private_constant :Shown
+end

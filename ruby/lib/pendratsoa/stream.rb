@@ -1,0 +1,137 @@
+# frozen_string_literal: true
+
+module Pendratsoa
+  # A stream of a version from 5 to 9, which comes in chunks of any size.
+  #
+  #   stream = Pendratsoa::Stream.new(version: 8)
+  #   stream.feed(chunk)
+  #   stream.each { |item| puts item }
+  #
+  # Each loop over it continues where the one before stopped, and ends when no whole item is left. More may be fed at
+  # any time, within the loop too. Several threads may use one stream; each item then comes to one of them.
+  class Stream
+    include Enumerable
+
+    # How many bytes are read at a time.
+    CHUNK = 1 << 16
+
+    attr_reader :version
+
+    # Yields the items that come from what is open for reading. Without a block it returns an Enumerator.
+    def self.read(input, version: 8, size: CHUNK, &block)
+      new(version: version).read(input, size: size, &block)
+    end
+
+    # Unknown if there is no such version.
+    def initialize(version: 8)
+      @call = Call.new("Stream", version: version)
+      @version = @call.version
+      @lock = Mutex.new
+      # what came, where that which is in no item yet begins in it, and how many bytes of that the next item has at least
+      @bytes = String.new
+      @begin = 0
+      @needed = 0
+      look
+    end
+
+    # Appends the bytes of a String, and returns the stream.
+    def feed(data)
+      bytes, = Call.new("feed", data: data).data(:data)
+      @lock.synchronize do
+        # used bytes are dropped once they are the greater part
+        drop_used if @begin > @bytes.bytesize / 2
+        @bytes << bytes
+      end
+      self
+    end
+
+    # The number of bytes that are in no item yet.
+    def rest
+      @lock.synchronize { @bytes.bytesize - @begin }
+    end
+
+    # Yields the items that are whole. Without a block it returns an Enumerator.
+    def each
+      return enum_for unless block_given?
+
+      while (item = take)
+        yield item
+      end
+      self
+    end
+
+    # Feeds what an IO or the like has, at most `size` bytes at a time, and yields the items as they come. It ends where
+    # the input ends; the bytes in no item are then in `rest`. Without a block it returns an Enumerator.
+    def read(input, size: CHUNK, &block)
+      raise ArgumentError, "read: size #{size} is less than 1" if size < 1
+      return enum_for(:read, input, size: size) unless block
+
+      each(&block)
+      while (data = chunk(input, size))
+        feed(data).each(&block)
+      end
+      self
+    end
+
+    def inspect
+      "#<#{self.class} of version #{version}, #{rest} bytes in no item yet>"
+    end
+
+    private
+
+    # A copy goes on by itself.
+    def initialize_copy(original)
+      super
+      @lock = Mutex.new
+      @bytes = @bytes.dup
+    end
+
+    # The next bytes of an input, and nil at its end.
+    def chunk(input, size)
+      data = input.respond_to?(:readpartial) ? input.readpartial(size) : input.read(size)
+      data unless data.nil? || data.empty?
+    rescue EOFError
+      nil
+    end
+
+    # Takes the next item from the bytes, or nil if not all of it came.
+    def take
+      @lock.synchronize do
+        next if @bytes.bytesize - @begin < @needed
+
+        missing, numbers = look
+        @needed = missing.zero? ? 0 : @bytes.bytesize - @begin + missing
+        cut(*numbers) if missing.zero?
+      end
+    end
+
+    # Looks for an item: returns how many bytes are missing at least, and the numbers of an item that is whole.
+    def look
+      missing = nil
+      whole = Fiddle::Pointer[@bytes]
+      numbers = Library.numbers(Call::ITEM_NUMBERS) do |room|
+        rest = whole + @begin, whole.size - @begin
+        missing = @call.returned(:journal_next, @version, *rest, room, Call::ITEM_NUMBERS)
+      end
+      [missing, numbers]
+    end
+
+    def drop_used
+      @bytes = @bytes.byteslice(@begin..)
+      @begin = 0
+    end
+
+    # Cuts the item of these numbers from the bytes.
+    def cut(kind, word, code, ack, size, payload_begin)
+      kind = @call.kind(%i[message unknown_code skipped], kind, "an item")
+      # a copy; a slice could keep all the bytes in memory
+      payload = @bytes.unpack1("@#{@begin + payload_begin}a#{size - payload_begin}")
+      @begin += size
+      case kind
+      when :message then Message.new(@version, code, payload, ack == 1)
+      when :unknown_code then UnknownCode.new(@version, code, word)
+      else Skipped.new(@version, code, word, payload)
+      end
+    end
+  end
+end

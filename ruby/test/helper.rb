@@ -1,0 +1,44 @@
+# frozen_string_literal: true
+
+require "minitest/autorun"
+require "pendratsoa"
+
+# What the tests share.
+module Helper
+  TOP = File.expand_path("../..", __dir__)
+
+  # A message with the value "input".
+  INPUT = ["040000000000000972070a05696e707574"].pack("H*").freeze
+
+  CODES = {
+    suspension: 0x0001,
+    error: 0x0002,
+    propose_run_completion: 0x0005,
+    input: 0x0400,
+    set_state: 0x0403,
+    call: 0x040d,
+    call_completion: 0x800d,
+    signal: 0xfbff,
+    custom_entry: 0xfc01
+  }.freeze
+
+  # The bytes of hexadecimal digits.
+  def unhex(digits)
+    [digits].pack("H*")
+  end
+
+  # A file of this repository.
+  def read(path)
+    File.binread(File.join(TOP, path))
+  end
+
+  # The error of a block, which has to be exactly of this class and say this.
+  def assert_error(kind, text)
+    error = assert_raises(kind) { yield }
+    assert_instance_of kind, error
+    assert_equal text, error.message
+    error
+  end
+end
+
+Minitest::Test.include(Helper)

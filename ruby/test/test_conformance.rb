@@ -1,0 +1,84 @@
+# frozen_string_literal: true
+
+require_relative "helper"
+
+# The test vectors of conformance/, by the calls that answer them; none prints a record.
+class TestConformance < Minitest::Test
+  FILES = Dir[File.join(Helper::TOP, "conformance/**/*.txt")].freeze
+
+  def test_conformance
+    passed = failed = 0
+    FILES.flat_map { |file| File.readlines(file, chomp: true, encoding: "UTF-8") }.grep_v(/\A(#|record |\z)/).each do |line|
+      question, expected = line.split(" = ", 2)
+      found = result(*question.split)
+      next passed += 1 if found == expected
+
+      failed += 1
+      puts "failed: #{line[0, 300]}\n  returned: #{found[0, 300]}"
+    end
+    puts "#{passed} passed, #{failed} failed"
+    assert_operator passed, :>, 13_000
+    assert_equal 0, failed
+  end
+
+  private
+
+  # What the library returns for the words of a test vector.
+  def result(kind, *words)
+    names, data = words.partition.with_index { |_, index| index < (kind == "frame" ? 2 : 1) }
+    send("#{kind}_result", *names, *data.map { |digits| unhex(digits.delete_prefix("-")) })
+  rescue Pendratsoa::Malformed
+    "malformed"
+  rescue Pendratsoa::Error, Minitest::Assertion => error
+    error.message
+  end
+
+  def digits(bytes)
+    bytes.empty? ? "-" : bytes.unpack1("H*")
+  end
+
+  def payload_result(schema, payload)
+    is_well_formed = Pendratsoa.well_formed?(schema, payload)
+    canonical = Pendratsoa.canonical(schema, payload)
+    assert is_well_formed
+    assert_equal canonical, Pendratsoa.canonical(schema, canonical)
+    assert_equal Pendratsoa.to_json(schema, payload), Pendratsoa.to_json(schema, canonical)
+    digits(canonical)
+  end
+
+  def merge_result(schema, first, *others)
+    digits(others.reduce(Pendratsoa.canonical(schema, first)) { |merged, more| Pendratsoa.merge(schema, merged, more) })
+  end
+
+  def frame_result(type, version, payload)
+    code = Pendratsoa.type_code(type)
+    frame = Pendratsoa.frame(Integer(version), code, payload)
+    assert frame.start_with?(Pendratsoa.header(Integer(version), code, frame.bytesize - 8))
+    digits(frame)
+  end
+
+  def stream_result(version, *chunks)
+    listing = listing(Integer(version), chunks)
+    assert_equal listing, listing(Integer(version), chunks.join.each_char)
+    listing
+  end
+
+  def listing(version, chunks)
+    stream = Pendratsoa::Stream.new(version: version)
+    items = chunks.flat_map { |chunk| stream.feed(chunk).map(&:to_s) }
+    [*items, "rest #{stream.rest}"].join(", ")
+  end
+
+  def compare_result(type, first, second)
+    code = Pendratsoa.type_code(type)
+    words = [false, true].map do |ignore|
+      Pendratsoa.header_eq?(code, first, second, ignore_payloads: ignore) ? "same" : "other"
+    end
+    [first, second].each { |command| assert_equal "", Pendratsoa.difference(code, command, command) }
+    [*words, digits(Pendratsoa.difference(code, first, second))].join(" ")
+  end
+
+  def json_result(schema, payload)
+    Pendratsoa.to_json(schema, payload)
+  end
+end

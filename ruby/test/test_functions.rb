@@ -1,0 +1,214 @@
+# frozen_string_literal: true
+
+require_relative "helper"
+
+class TestConstants < Minitest::Test
+  HEADER = File.read(File.join(Helper::TOP, "include/pendratsoa.h"), encoding: "UTF-8")
+
+  def defined_numbers
+    HEADER.scan(/^#define JOURNAL_(\w+) \(?(-?\d+)\)?/).to_h { |name, number| [name, Integer(number)] }
+  end
+
+  def test_errors_are_those_of_the_header
+    errors = Pendratsoa.send(:const_get, :ERRORS)
+    names = errors.transform_values { |kind| kind.name.delete_prefix("Pendratsoa::").upcase }.invert
+    assert_equal defined_numbers.select { |_, number| number.negative? }.transform_keys { |name| name.delete("_") }, names
+  end
+
+  def test_kinds_are_those_of_the_header
+    [Pendratsoa::ID_KINDS, Pendratsoa::RESULT_KINDS, Pendratsoa::VERDICT_KINDS].each do |kinds|
+      kinds.each_with_index { |kind, number| assert_equal number, defined_numbers[kind.to_s.upcase], kind }
+    end
+    assert_equal [3, 5, 7],
+                 [Pendratsoa::ID_KINDS, Pendratsoa::RESULT_KINDS, Pendratsoa::VERDICT_KINDS].map(&:length)
+  end
+
+  def test_numbers_are_those_of_the_header
+    %w[FIRST_VERSION LAST_VERSION SCHEMAS].each do |name|
+      assert_equal defined_numbers[name], Pendratsoa.const_get(name)
+    end
+  end
+
+  def test_functions_are_those_of_the_header
+    library = Pendratsoa.send(:const_get, :Library)
+    assert_equal HEADER.scan(/^int64_t (journal_\w+)\(/).flatten.map(&:to_sym), library::PARAMETERS.keys
+  end
+
+  def test_version_of_the_library
+    assert_equal Pendratsoa::VERSION, Pendratsoa.library_version
+    assert_equal Encoding::UTF_8, Pendratsoa.library_version.encoding
+  end
+end
+
+class TestNames < Minitest::Test
+  def test_types_have_their_codes
+    rows = read("proto/types.txt").lines.grep_v(/^#/).map(&:split)
+    assert_operator rows.length, :>, 40
+    rows.each do |digits, name|
+      assert_equal name, Pendratsoa.type_name(digits.hex)
+      assert_equal digits.hex, Pendratsoa.type_code(name)
+      assert_equal "#{name}Message", Pendratsoa::SCHEMA_NAMES[Pendratsoa.schema(9, digits.hex)]
+    end
+  end
+
+  def test_a_schema_by_its_name
+    assert_equal Pendratsoa.to_json(13, "\x08\x01"), Pendratsoa.to_json("ErrorMessage", "\x08\x01")
+    error = assert_error(Pendratsoa::Unknown, 'canonical: there is no schema "Error"') do
+      Pendratsoa.canonical("Error", "")
+    end
+    assert_equal ["canonical", :schema, "Error"], [error.call, error.argument, error.value]
+  end
+
+  def test_what_does_not_exist
+    {
+      "type_name: code 8 is not that of a type" => -> { Pendratsoa.type_name(8) },
+      "type_name: code 65536 is not that of a type" => -> { Pendratsoa.type_name(1 << 16) },
+      'type_code: there is no type with the name "Sleep"' => -> { Pendratsoa.type_code("Sleep") },
+      "schema: there is no version 4" => -> { Pendratsoa.schema(4, 8) },
+      "schema: code 64513 is not that of a named type" => -> { Pendratsoa.schema(8, 64_513) },
+      "header: code 8 is not that of a type" => -> { Pendratsoa.header(8, 8, 0) },
+      "frame: there is no version 10" => -> { Pendratsoa.frame(10, 0, "") },
+      "frame: code 64513 is not that of a named type" => -> { Pendratsoa.frame(8, 64_513, "") },
+      "canonical: there is no schema 53" => -> { Pendratsoa.canonical(53, "") },
+      "notification: code 1037 is not that of a notification" => -> { Pendratsoa.notification(1037, "") },
+      "header_eq?: code 0 is not that of a command" => -> { Pendratsoa.header_eq?(0, "", "") },
+      "difference: code 0 is not that of a command" => -> { Pendratsoa.difference(0, "", "") },
+      "compare_journals: there is no version 4" => -> { Pendratsoa.compare_journals(4, "", "") }
+    }.each { |text, call| assert_error(Pendratsoa::Unknown, text, &call) }
+  end
+
+  def test_names_that_are_none
+    ["", "CustomEntry(64513)", "Sleep\0Command", "\xff", "x" * 1_000_000].each do |name|
+      error = assert_raises(Pendratsoa::Unknown) { Pendratsoa.type_code(name) }
+      assert_operator error.message.length, :<, 200
+    end
+    assert_raises(Pendratsoa::Unknown) { Pendratsoa.type_code("SleepCommand".encode("UTF-16LE")) }
+  end
+end
+
+class TestPayloads < Minitest::Test
+  def test_payloads
+    payload = unhex("08010a0202030804")
+    canonical = Pendratsoa.canonical("SuspensionMessageV6", payload)
+    assert_equal unhex("0a0401020304"), canonical
+    assert_equal Encoding::BINARY, canonical.encoding
+    refute canonical.frozen?
+    assert_equal unhex("0a03010203"), Pendratsoa.merge(12, "\x08\x01", "\x0a\x02\x02\x03")
+    assert Pendratsoa.well_formed?(14, "")
+    refute Pendratsoa.well_formed?(14, "\x0e\x00")
+  end
+
+  def test_json_is_utf8
+    json = Pendratsoa.to_json("ErrorMessage", "\x12\x02\u00e9")
+    assert_equal "{\"message\":\"\u00e9\"}", json
+    assert_equal Encoding::UTF_8, json.encoding
+  end
+
+  def test_no_bytes
+    Pendratsoa::SCHEMAS.times do |schema|
+      assert_equal "", Pendratsoa.canonical(schema, "")
+      assert_equal "", Pendratsoa.merge(schema, "", "")
+      assert_equal "{}", Pendratsoa.to_json(schema, "")
+    end
+  end
+
+  def test_more_than_the_first_room
+    payload = "\x12\xe8\x07#{"\x01" * 1000}"
+    assert_equal payload.b, Pendratsoa.canonical("ErrorMessage", payload)
+    assert_equal "{\"message\":\"#{'\u0001' * 1000}\"}", Pendratsoa.to_json("ErrorMessage", payload)
+  end
+
+  def test_frames
+    payload = unhex("22120a010122080a010222030a010122030a0103")
+    assert_equal unhex("00010000000000060a0401020103"), Pendratsoa.frame(6, CODES[:suspension], payload)
+    assert_equal unhex("0001000000000014") + payload, Pendratsoa.frame(7, CODES[:suspension], payload)
+  end
+
+  def test_lengths_of_a_header
+    assert_equal unhex("040d0000ffffffff"), Pendratsoa.header(8, CODES[:call], (1 << 32) - 1)
+    assert_error(Pendratsoa::TooLong, "header: payload_length 4294967296 is more than 4,294,967,295") do
+      Pendratsoa.header(8, CODES[:call], 1 << 32)
+    end
+    assert_error(ArgumentError, "header: payload_length -1 is negative") { Pendratsoa.header(8, CODES[:call], -1) }
+    assert_raises(Pendratsoa::TooLong) { Pendratsoa.header(8, CODES[:call], 1 << 100) }
+  end
+
+  def test_malformed
+    error = assert_error(Pendratsoa::Malformed, 'canonical: payload "\x12" is not well-formed') do
+      Pendratsoa.canonical("ErrorMessage", "\x12")
+    end
+    assert_equal ["canonical", :payload, "\x12"], [error.call, error.argument, error.value]
+    text = 'to_json: payload "\x0E\x0E\x0E\x0E\x0E\x0E\x0E\x0E\x0E\x0E\x0E\x0E\x0E\x0E\x0E\x0E"... (33 bytes) ' \
+           "is not well-formed"
+    assert_error(Pendratsoa::Malformed, text) { Pendratsoa.to_json(13, "\x0e" * 33) }
+    assert_error(Pendratsoa::Malformed, 'merge: first "\x12" is not well-formed') { Pendratsoa.merge(13, "\x12", "") }
+    assert_error(Pendratsoa::Malformed, 'merge: second "\x12" is not well-formed') { Pendratsoa.merge(13, "", "\x12") }
+    assert_error(Pendratsoa::Malformed, 'difference: second "\n" is not well-formed') do
+      Pendratsoa.difference(CODES[:set_state], "", "\n")
+    end
+  end
+end
+
+class TestNotifications < Minitest::Test
+  def test_each_id_and_result
+    ids = {
+      "0802" => [:completion_id, 2], "1011" => [:signal_id, 17], "1a00" => [:signal_name, ""],
+      "1a0361c3a9" => [:signal_name, "a\u00e9"], "0800" => [:completion_id, 0]
+    }
+    results = {
+      "2200" => [:void, ""], "2a030a0178" => [:value, "\n\x01x"], "3203088500" => [:failure, "\b\x05"],
+      "82010469c3a976" => [:invocation_id, "i\u00e9v"], "8a01030a0161" => [:state_keys, "\n\x01a"]
+    }
+    ids.to_a.product(results.to_a).each do |(id_digits, id), (result_digits, result)|
+      found = Pendratsoa.notification(CODES[:signal], unhex(id_digits + result_digits))
+      assert_equal Pendratsoa::Notification.new(*id, *result), found
+      assert_equal found.result_kind == :invocation_id ? Encoding::UTF_8 : Encoding::BINARY, found.result.encoding
+      assert Ractor.shareable?(found)
+    end
+  end
+
+  def test_of_a_message
+    message = Pendratsoa::Message.new(8, CODES[:call_completion], unhex("08022a040a026869"))
+    assert_predicate message, :notification?
+    assert_equal [:completion_id, 2, :value, "\n\x02hi"], message.notification.to_a
+  end
+
+  def test_without_id_or_result
+    assert_error(Pendratsoa::NoId, 'notification: payload "\"\x00" has no id') do
+      Pendratsoa.notification(CODES[:signal], "\x22\x00")
+    end
+    assert_error(Pendratsoa::NoResult, 'notification: payload "\x10\x11" has an id, and no result') do
+      Pendratsoa.notification(CODES[:signal], "\x10\x11")
+    end
+  end
+end
+
+class TestComparisons < Minitest::Test
+  FIRST, SECOND = %w[0a01611a030a0131 0a01611a030a0132].map { |digits| [digits].pack("H*") }
+
+  def test_commands
+    assert Pendratsoa.header_eq?(CODES[:set_state], FIRST, FIRST)
+    refute Pendratsoa.header_eq?(CODES[:set_state], FIRST, SECOND)
+    assert Pendratsoa.header_eq?(CODES[:set_state], FIRST, SECOND, ignore_payloads: true)
+    refute Pendratsoa.header_eq?(CODES[:set_state], FIRST, SECOND, ignore_payloads: nil)
+    assert_equal "\n   value: '1' != '2'", Pendratsoa.difference(CODES[:set_state], FIRST, SECOND)
+    assert_equal "", Pendratsoa.difference(CODES[:set_state], FIRST, FIRST)
+  end
+
+  def test_a_difference_is_utf8
+    text = Pendratsoa.difference(CODES[:set_state], "\n\x02\u00e9", "")
+    assert_equal "\n   key: '\u00e9' != ''", text
+    assert_equal [Encoding::UTF_8, true], [text.encoding, text.valid_encoding?]
+  end
+
+  def test_journals
+    recorded, replayed = %w[recorded replayed_other_payload].map { |name| read("examples/streams/#{name}") }
+    verdict = Pendratsoa.compare_journals(8, recorded, replayed)
+    assert_equal [:header_mismatch, 1], [verdict.kind, verdict.index]
+    assert verdict.text.end_with?("\n   value: '1' != '2'")
+    assert_equal Pendratsoa::Verdict.new(:same, 4, ""),
+                 Pendratsoa.compare_journals(8, recorded, replayed, ignore_payloads: true)
+    assert_equal [:recorded_ended, 0, ""], Pendratsoa.compare_journals(8, "", recorded).to_a
+    assert_equal [:replayed_ended, 0, ""], Pendratsoa.compare_journals(8, recorded, "").to_a
+  end
+end

@@ -1,0 +1,218 @@
+# frozen_string_literal: true
+
+require_relative "helper"
+require "minitest/mock"
+require "objspace"
+require "rbconfig"
+require "open3"
+
+class TestArguments < Minitest::Test
+  # Each function with arguments that are right, and what kind each of them is.
+  CALLS = {
+    schema: [[:version, 8], [:code, 0]],
+    type_name: [[:code, 0]],
+    type_code: [[:bytes, "Start"]],
+    header: [[:version, 8], [:code, 0], [:length, 0]],
+    frame: [[:version, 8], [:code, 0], [:bytes, ""]],
+    well_formed?: [[:schema, 13], [:bytes, ""]],
+    canonical: [[:schema, 13], [:bytes, ""]],
+    merge: [[:schema, 13], [:bytes, ""], [:bytes, ""]],
+    to_json: [[:schema, 13], [:bytes, ""]],
+    notification: [[:code, Helper::CODES[:signal]], [:bytes, "\x10\x11\x22\x00"]],
+    header_eq?: [[:code, Helper::CODES[:call]], [:bytes, ""], [:bytes, ""]],
+    difference: [[:code, Helper::CODES[:call]], [:bytes, ""], [:bytes, ""]],
+    compare_journals: [[:version, 8], [:bytes, ""], [:bytes, ""]]
+  }.freeze
+
+  # Yields each call with one argument after the other replaced: the function, the arguments, and the kind of the one.
+  def each_replaced(replacements)
+    CALLS.each do |function, arguments|
+      arguments.each_with_index do |(kind, _), index|
+        replacements.fetch(kind, []).each do |value|
+          yield -> { Pendratsoa.public_send(function, *arguments.map(&:last).tap { |all| all[index] = value }) }, kind
+        end
+      end
+    end
+  end
+
+  def test_the_calls_are_right
+    CALLS.each { |function, arguments| Pendratsoa.public_send(function, *arguments.map(&:last)) }
+  end
+
+  def test_values_of_another_kind
+    nothing = [nil, true, 1.0, 8r, 8i, [8], { 8 => 8 }, :"8", Object.new, 0..8, Float::NAN, Float::INFINITY, BasicObject]
+    numbers = nothing + ["8".b]
+    each_replaced(version: numbers, code: numbers, length: numbers, schema: nothing, bytes: nothing + [8]) do |call, _|
+      assert_raises(TypeError, &call)
+    end
+  end
+
+  def test_no_number_is_cut
+    unsigned = [-1, 1 << 16, (1 << 32) + 8, 8 - (1 << 32), 1 << 64, -(1 << 63), 1 << 1000]
+    each_replaced(version: unsigned, code: unsigned, schema: unsigned) do |call, kind|
+      error = assert_raises(Pendratsoa::Unknown, &call)
+      assert_equal kind, error.argument
+      assert_operator error.message.length, :<, 150
+    end
+    each_replaced(length: [1 << 32, (1 << 32) + 8, 1 << 64, 1 << 1000]) do |call, _|
+      assert_raises(Pendratsoa::TooLong, &call)
+    end
+    each_replaced(length: [-1, 8 - (1 << 32), -(1 << 1000)]) { |call, _| assert_raises(ArgumentError, &call) }
+  end
+
+  def test_strings_of_every_kind
+    payload = "\x12\x04text"
+    subclass = Class.new(String) { def bytesize = 1 << 40 }
+    [payload.dup, payload.b, payload.encode("UTF-8").freeze, payload.dup.force_encoding("UTF-16LE"),
+     payload.dup.force_encoding("UTF-7"), subclass.new(payload), "..#{payload}..".byteslice(2, 6)].each do |bytes|
+      assert_equal payload.b, Pendratsoa.canonical(13, bytes)
+      assert_equal payload.b, Pendratsoa.merge(13, "", bytes)
+    end
+    assert_raises(TypeError) { Pendratsoa.canonical(13, Struct.new(:to_str).new(payload)) }
+  end
+
+  def test_arguments_are_unchanged
+    payload = +"\x08\x05\x12\x04text"
+    before = [payload.dup, payload.encoding, payload.frozen?]
+    Pendratsoa.canonical(13, payload)
+    Pendratsoa::Stream.new.feed(payload)
+    assert_equal before, [payload, payload.encoding, payload.frozen?]
+  end
+
+  def test_random_bytes
+    random = Random.new(1)
+    5_000.times do
+      first, second = Array.new(2) { random.bytes(random.rand(32)).tr("\x80-\xff".b, "\x00-\x7f".b) }
+      CALLS.each do |function, arguments|
+        values = arguments.map { |kind, value| random_value(random, kind, value, [first, second]) }
+        Pendratsoa.public_send(function, *values)
+      rescue Pendratsoa::Error => error
+        refute_instance_of Pendratsoa::Error, error
+      end
+      stream = Pendratsoa::Stream.new(version: random.rand(5..9)).feed(first)
+      stream.feed(second).each(&:inspect)
+    end
+  end
+
+  private
+
+  def random_value(random, kind, value, bytes)
+    case kind
+    when :bytes then bytes.sample(random: random)
+    when :schema then random.rand(-1..53)
+    when :version then random.rand(4..10)
+    else random.rand(2).zero? ? value : random.rand(1 << 16)
+    end
+  end
+end
+
+class TestLaterLibrary < Minitest::Test
+  LIBRARY = Pendratsoa.send(:const_get, :Library)
+
+  # Runs a block in which the library returns this number, and writes these.
+  def returning(number, numbers = nil)
+    later = lambda do |_function, *parameters|
+      if numbers
+        room, = parameters.each_cons(2).find { |place, count| place.is_a?(Fiddle::Pointer) && count == numbers.length }
+        room[0, 8 * numbers.length] = numbers.pack("Q*")
+      end
+      number
+    end
+    LIBRARY.stub(:call, later) { yield }
+  end
+
+  def test_another_error
+    returning(-12) do
+      assert_error(Pendratsoa::Error, "canonical: the library returned -12, which this gem does not know") do
+        Pendratsoa.canonical(13, "")
+      end
+      assert_raises(Pendratsoa::Error) { Pendratsoa::Stream.new }
+    end
+  end
+
+  def test_errors_of_the_whole_call
+    { -2 => [Pendratsoa::OutOfMemory, "merge: an allocation failed"],
+      -4 => [Pendratsoa::TooLong, "merge: the result would have more than 4,294,967,295 bytes"] }.each do |number, error|
+      returning(number) { assert_error(*error) { Pendratsoa.merge(13, "", "") } }
+    end
+  end
+
+  def test_another_kind
+    stream = Pendratsoa::Stream.new.feed("12345678")
+    returning(0, [3, 0, 0, 0, 8, 8]) do
+      text = "Stream: the library returned an item of the kind 3, which this gem does not know"
+      2.times { assert_error(Pendratsoa::Error, text) { stream.first } }
+    end
+    assert_equal 8, stream.rest
+    returning(0, [3, 0, 0, 0]) { assert_raises(Pendratsoa::Error) { Pendratsoa.notification(0x8000, "") } }
+    returning(0, [0, 0, 0, 5]) { assert_raises(Pendratsoa::Error) { Pendratsoa.notification(0x8000, "") } }
+    returning(0, [7, 0]) { assert_raises(Pendratsoa::Error) { Pendratsoa.compare_journals(8, "", "") } }
+    returning(0, [1 << 63, 0]) { assert_raises(Pendratsoa::Error) { Pendratsoa.compare_journals(8, "", "") } }
+  end
+end
+
+class TestThreadsAndMemory < Minitest::Test
+  STREAM = Helper::INPUT * 50
+
+  # What several calls return.
+  def work
+    items = Pendratsoa::Stream.new.feed(STREAM).to_a
+    [items.map(&:json), items.map(&:frame), Pendratsoa.compare_journals(8, STREAM, STREAM).to_a]
+  end
+
+  def test_threads
+    expected = work
+    Array.new(8) { Thread.new { Array.new(10) { work } } }.each { |thread| assert_equal [expected] * 10, thread.value }
+  end
+
+  def test_bytes_that_another_thread_changes
+    bytes = "\x12\xe8\x07#{"x" * 1000}".b
+    changing = Thread.new { 20_000.times { bytes.replace(bytes.reverse) && bytes << "x" && bytes.chop! } }
+    Pendratsoa.well_formed?(13, bytes) while changing.alive?
+    assert_equal "", Pendratsoa.canonical(13, "")
+  end
+
+  # How many bytes of memory the process holds.
+  def resident
+    GC.start
+    Integer(File.read("/proc/self/statm").split[1]) * 4096
+  end
+
+  def test_memory_does_not_grow
+    skip "not run: there is no /proc" unless File.exist?("/proc/self/statm")
+    20.times { work }
+    before = resident
+    200.times { work }
+    assert_operator resident - before, :<, 16 << 20
+  end
+
+  def test_moved_objects
+    skip "not run: objects are not moved here" unless GC.respond_to?(:compact)
+    expected = work
+    GC.compact
+    assert_equal expected, work
+  end
+end
+
+class TestLibrary < Minitest::Test
+  # What Ruby prints where PENDRATSOA_LIBRARY is this.
+  def load_with(library)
+    lib = File.expand_path("../lib", __dir__)
+    Open3.capture2e({ "PENDRATSOA_LIBRARY" => library }, RbConfig.ruby, "-w", "-I", lib, "-r", "pendratsoa", "-e",
+                    "puts Pendratsoa.library_version")
+  end
+
+  def test_a_library_that_is_none
+    ["/nowhere/libpendratsoa.so", "libc.so.6", __FILE__].each do |library|
+      output, status = load_with(library)
+      refute_predicate status, :success?
+      assert_match(/pendratsoa: the library #{library} cannot be used: .*PENDRATSOA_LIBRARY.*\(LoadError\)/, output)
+    end
+  end
+
+  def test_no_warnings
+    output, status = load_with(ENV.fetch("PENDRATSOA_LIBRARY", ""))
+    assert_predicate status, :success?
+    assert_equal "#{Pendratsoa::VERSION}\n", output
+  end
+end

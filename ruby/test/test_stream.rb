@@ -1,0 +1,169 @@
+# frozen_string_literal: true
+
+require_relative "helper"
+require "socket"
+require "stringio"
+
+class TestStream < Minitest::Test
+  STREAM = "#{Helper::INPUT}#{["000800000000000000058000000000050801720178040000000000001401"].pack("H*")}"
+           .b.freeze
+  ITEMS = [
+    Pendratsoa::Message.new(8, 0x0400, "r\x07\n\x05input"),
+    Pendratsoa::UnknownCode.new(8, 8, 8 << 48),
+    Pendratsoa::Message.new(8, 0x0005, "\x08\x01r\x01x", true)
+  ].freeze
+
+  def test_items_are_the_same_however_the_stream_is_split
+    (1..STREAM.bytesize).each do |size|
+      stream = Pendratsoa::Stream.new(version: 8)
+      items = STREAM.scan(/.{1,#{size}}/mn).flat_map { |chunk| stream.feed(chunk).to_a }
+      assert_equal ITEMS, items
+      assert_equal 9, stream.rest
+    end
+  end
+
+  def test_items_of_inputs
+    reader, writer = Socket.pair(:UNIX, :STREAM)
+    writer.write(STREAM)
+    writer.close
+    only_read = Object.new
+    whole = StringIO.new(STREAM)
+    only_read.define_singleton_method(:read) { |size| whole.read(size) }
+    [StringIO.new(STREAM), reader, only_read].each do |input|
+      stream = Pendratsoa::Stream.new(version: 8)
+      assert_equal ITEMS, stream.read(input, size: 5).to_a
+      assert_equal 9, stream.rest
+    end
+    assert_equal ITEMS, Pendratsoa::Stream.read(StringIO.new(STREAM)).to_a
+    found = []
+    Pendratsoa::Stream.read(StringIO.new(STREAM), version: 8, size: 1) { |item| found << item }
+    assert_equal ITEMS, found
+  end
+
+  def test_an_input_is_read_as_items_are_taken
+    reader, writer = IO.pipe
+    items = Pendratsoa::Stream.read(reader, version: 8)
+    writer.write(STREAM.byteslice(0, 20))
+    assert_equal ITEMS[0], items.next
+    writer.write(STREAM.byteslice(20..))
+    assert_equal ITEMS[1], items.next
+    writer.close
+    assert_equal ITEMS[2], items.next
+    assert_raises(StopIteration) { items.next }
+  end
+
+  def test_inputs_that_fail
+    stream = Pendratsoa::Stream.new
+    broken = Object.new
+    def broken.readpartial(_size) = raise(IOError, "broken")
+    assert_raises(IOError) { stream.read(broken) { flunk } }
+    assert_raises(NoMethodError) { stream.read(nil) { flunk } }
+    other = Object.new
+    def other.read(_size) = [1]
+    assert_raises(TypeError) { stream.read(other) { flunk } }
+    assert_raises(ArgumentError) { stream.read(StringIO.new, size: 0) }
+    assert_raises(ArgumentError) { stream.read(StringIO.new, size: -1) { flunk } }
+    assert_equal ITEMS, stream.read(StringIO.new(STREAM)).to_a
+  end
+
+  def test_loops_go_on_where_they_stopped
+    stream = Pendratsoa::Stream.new.feed(STREAM)
+    assert_equal ITEMS[0], stream.first
+    stream.each { |item| break assert_equal(ITEMS[1], item) }
+    assert_equal [ITEMS[2]], stream.to_a
+    assert_empty stream.to_a
+  end
+
+  def test_a_loop_that_feeds
+    stream = Pendratsoa::Stream.new.feed(Helper::INPUT)
+    count = 0
+    stream.each { stream.feed(Helper::INPUT) if (count += 1) < 100 }
+    assert_equal 100, count
+  end
+
+  def test_a_copy_goes_on_by_itself
+    stream = Pendratsoa::Stream.new.feed(Helper::INPUT).feed(Helper::INPUT.byteslice(0, 3))
+    copy = stream.dup
+    assert_equal 1, stream.count
+    stream.feed("\xff")
+    assert_equal [ITEMS[0], ITEMS[0]], copy.feed(Helper::INPUT.byteslice(3..)).to_a
+    assert_equal [4, 0], [stream.rest, copy.rest]
+  end
+
+  def test_version_9_skips_a_message_with_its_payload
+    stream = Pendratsoa::Stream.new(version: 9).feed(unhex("00080000000000020003000300000000"))
+    assert_equal [Pendratsoa::Skipped.new(9, 8, (8 << 48) | 2, "\x00\x03")], stream.to_a
+    assert_equal 6, stream.rest
+  end
+
+  def test_bytes_of_every_encoding_and_size
+    payload = "\u00e9" * 100_000
+    stream = Pendratsoa::Stream.new
+    stream.feed(Pendratsoa.header(8, Helper::CODES[:custom_entry], payload.bytesize))
+    payload.each_char.each_slice(777) { |characters| stream.feed(characters.join) }
+    stream.feed(Helper::INPUT.dup.force_encoding(Encoding::UTF_16LE))
+    items = stream.to_a
+    assert_equal [payload.b, ITEMS[0].payload], items.map(&:payload)
+    assert_equal [Encoding::BINARY], items.map { |item| item.payload.encoding }.uniq
+  end
+
+  def test_what_is_fed_may_change_later
+    data = Helper::INPUT.dup
+    stream = Pendratsoa::Stream.new.feed(data)
+    data.replace("x" * data.bytesize)
+    assert_equal [ITEMS[0]], stream.to_a
+  end
+
+  def test_what_is_no_stream
+    [4, 10, -1, (1 << 32) + 8, 8 - (1 << 32), 1 << 64].each do |version|
+      error = assert_error(Pendratsoa::Unknown, "Stream: there is no version #{version}") do
+        Pendratsoa::Stream.new(version: version)
+      end
+      assert_equal ["Stream", :version, version], [error.call, error.argument, error.value]
+    end
+    [nil, "8", 8.0, 8r, :v8, Object.new].each do |version|
+      assert_raises(TypeError) { Pendratsoa::Stream.new(version: version) }
+    end
+    [nil, 5, :data, [1, 2], Object.new, 1..2].each do |data|
+      stream = Pendratsoa::Stream.new
+      assert_raises(TypeError) { stream.feed(data) }
+      assert_equal 0, stream.rest
+    end
+  end
+
+  def test_bytes_that_were_taken_are_dropped
+    chunk = Helper::INPUT * 1000
+    stream = Pendratsoa::Stream.new
+    items = (1..20).flat_map { stream.feed(chunk).to_a }
+    assert_equal 20_000, items.length
+    # each payload has its own few bytes
+    assert_equal(0, items.count { |item| ObjectSpace.memsize_of(item.payload) > 100 }) if load_objspace
+  end
+
+  def test_several_threads_share_a_stream
+    stream = Pendratsoa::Stream.new
+    feeding = Array.new(2) { Thread.new { 500.times { stream.feed(Helper::INPUT) } } }
+    taking = Array.new(4) { Thread.new { Array.new(300) { stream.to_a }.flatten } }
+    found = (feeding + taking).map(&:value).drop(2).flatten + stream.to_a
+    assert_equal [ITEMS[0]] * 1000, found
+  end
+
+  def test_texts
+    stream = Pendratsoa::Stream.new.feed(STREAM)
+    assert_equal "#<Pendratsoa::Stream of version 8, 47 bytes in no item yet>", stream.inspect
+    assert_equal ["InputCommand 9", "unknown 0x8", "ProposeRunCompletion 5 ack"], stream.map(&:to_s)
+    assert_equal '#<Pendratsoa::Message InputCommand 9, version 8, payload "r\a\n\x05input">', ITEMS[0].inspect
+    assert_equal "#<Pendratsoa::UnknownCode unknown 0x8, version 8>", ITEMS[1].inspect
+    skipped = Pendratsoa::Skipped.new(9, 255, 0, "x" * 100)
+    assert_equal "#<Pendratsoa::Skipped skipped 0xff 100, version 9, payload \"xxxxxxxxxxxxxxxx\"... (100 bytes)>",
+                 skipped.inspect
+  end
+
+  private
+
+  def load_objspace
+    require "objspace"
+  rescue LoadError
+    false
+  end
+end
