@@ -1,5 +1,5 @@
 # A front for the scripts, which say more with --help: no rule of it does anything else.
-.PHONY: help quick test check generate view install uninstall python go ruby bench
+.PHONY: help quick test check generate view install uninstall python go ruby rust bench
 
 help:
 	@echo 'make quick                  what can be known in two minutes, without a proof (sh scripts/test.sh --quick)'
@@ -12,6 +12,7 @@ help:
 	@echo 'make python                 builds the package for Python, with the library in it (sh scripts/python.sh)'
 	@echo 'make go                     builds and vets the package for Go over the library that pkg-config finds'
 	@echo 'make ruby [PREFIX=..]       builds the gem for Ruby, with the library that is installed there'
+	@echo 'make rust                   builds the crate for Rust over the library that is installed (rust/README.md)'
 	@echo 'make bench [NAME=speed]     lists what is measured, or measures it (sh scripts/bench.sh)'
 
 quick:
@@ -44,6 +45,9 @@ go:
 ruby:
 	[ -z '$(PREFIX)' ] || cp -L '$(PREFIX)/lib/libpendratsoa.so' ruby/lib/pendratsoa/
 	cd ruby && gem build pendratsoa.gemspec
+
+rust:
+	cd rust && cargo build --release --offline
 
 bench:
 	sh scripts/bench.sh $(NAME)

@@ -2,26 +2,27 @@
 # The last version and the calls for C are the same wherever they are listed.
 #
 # The last version is the same in the library, in the programs, in the tools and on pages. A call for C is the same in
-# journal_ffi, the header and the package for Python, and has tests, adversarial calls and a promise. Each crate has a
-# sentence in crates/README.md. It reads the code as it stands. What differs is shown above the last line.
+# journal_ffi, the header, the package for Python and the crate for Rust, and has tests, adversarial calls and a
+# promise. Each crate has a sentence in crates/README.md. It reads the code as it stands. What differs is shown above the
+# last line.
 set -u
 cd "$(dirname "$0")/../.." || exit 1
 . scripts/checks/lib.sh
 
 # The last version: that of the library, those that callers from C, the programs and the test vectors can ask for, and what pages and comments say.
 last=$(sed -n '/fn maximum_supported_version/,/^    }$/s/^        Version::V\([0-9]*\)$/\1/p' crates/shared_core_base/src/version.rt)
-for place in include/pendratsoa.h python/pendratsoa/_request.py ruby/lib/pendratsoa/functions.rb \
+for place in include/pendratsoa.h python/pendratsoa/_request.py rust/src/lib.rs ruby/lib/pendratsoa/functions.rb \
   tools/generators/record_vectors.py crates/test_vectors/src/cases.rt crates/journal_c_api/src/answer.rt \
   crates/journal_c_api/specs/Answers.antt crates/journal_diff/src/options.rt crates/journal_dump/src/command_line.rt; do
   echo "$place $last" >> "$work/last"
-  echo "$place $(grep -oE 'Version::V[0-9]+|Some V[0-9]+|LAST_VERSION (= )?[0-9]+' "$place" | grep -oE '[0-9]+$' | sort -n | tail -n 1)" >> "$work/asked"
+  echo "$place $(grep -oE 'Version::V[0-9]+|Some V[0-9]+|LAST_VERSION(: u32)? (= )?[0-9]+' "$place" | grep -oE '[0-9]+$' | sort -n | tail -n 1)" >> "$work/asked"
 done
 for place in crates/journal_diff/src/options.rt crates/journal_dump/src/command_line.rt; do
   echo "$place, by its words $last" >> "$work/last"
   echo "$place, by its words $(sed -n 's/^const VERSIONS.*"\([0-9]*\)"\];$/\1/p' "$place")" >> "$work/asked"
 done
 same "the last version of shared_core_base and those that can be asked for" "$work/last" "$work/asked"
-find README.md conformance bench/README.md bench/src docs include examples python crates/*/src crates/*/specs -name '*.[a-z]*' | sort \
+find README.md conformance bench/README.md bench/src docs include examples python rust/src crates/*/src crates/*/specs -name '*.[a-z]*' | sort \
   | xargs grep -noE '\bversion (is )?from 5 to [0-9]+' > "$work/values"
 grep " to $last\$" "$work/values" > "$work/lines"
 same "the last version of shared_core_base, and pages and comments" "$work/values" "$work/lines"
@@ -74,6 +75,30 @@ same "the calls and the functions of ruby/lib/pendratsoa" "$work/values" "$work/
 # The package for Go makes each.
 grep -o 'C\.journal_[a-z_]*' go/library.go | sed 's/.*\.//' | sort -u > "$work/lines"
 same "the calls and go/library.go" "$work/values" "$work/lines"
+
+# Each is in the crate for Rust, with its parameters as in the header, and is made there.
+awk '
+  /^ *pub fn journal_/ { text = ""; inside = 1 }
+  inside { text = text $0 }
+  inside && / -> i64;/ {
+    inside = 0
+    line = text; sub(/^ *pub fn /, "", line); sub(/\(.*/, "", line)
+    sub(/^[^(]*\( */, "", text); sub(/,? *\) -> .*/, "", text)
+    count = split(text, taken, /, */)
+    for (i = 1; i <= count; i++) {
+      split(taken[i], parts, ": *")
+      name = parts[1]; type = parts[2]
+      if (type == "usize") { line = line " size_t"; continue }
+      if (sub(/^\*const /, "const ", type) || sub(/^\*mut /, "", type)) name = "*" name
+      sub(/u/, "uint", type)
+      line = line " " type "_t " name
+    }
+    print line
+  }
+' rust/src/ffi.rs | sort > "$work/lines"
+same "the calls and rust/src/ffi.rs" "$work/calls" "$work/lines"
+grep -o 'c::journal_[a-z_]*' rust/src/ffi.rs | sed 's/.*:://' | sort -u > "$work/lines"
+same "the calls and those that rust/src/ffi.rs makes" "$work/values" "$work/lines"
 
 # It has tests, is called by nobody who means well, and stands in the table of promises.
 grep -oh 'journal_[a-z_]*(' crates/journal_ffi/src/tests/*.rt | sed 's/(//' | sort -u > "$work/lines"

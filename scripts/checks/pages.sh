@@ -8,7 +8,7 @@ set -u
 cd "$(dirname "$0")/../.." || exit 1
 . scripts/checks/lib.sh
 
-folders='bench|conformance|crates|docs|examples|go|include|proto|python|ruby|scripts|share|tests|tools|view'
+folders='bench|conformance|crates|docs|examples|go|include|proto|python|rust|ruby|scripts|share|tests|tools|view'
 pages=$(find . -name '*.md' -not -path '*/out/*' -not -path '*/target/*' | sed 's|^\./||' | sort)
 
 # missing PAGE WHAT
@@ -196,6 +196,8 @@ include/pendratsoa.h|the version of the library, as "
 python/pendratsoa/_calls.py|The version of the library, as "
 python/README.md|pendratsoa-
 python/pyproject.toml|^version = "
+rust/Cargo.toml|^version = "
+rust/src/calls.rs|The version of the library, as `
 ruby/README.md|pendratsoa-
 ruby/lib/pendratsoa/functions.rb|The version of the library, as "
 ruby/lib/pendratsoa/version.rb|VERSION = "

@@ -24,6 +24,7 @@ GENERATORS = (
     "random_vectors",
     "dumps",
     "peer",
+    "rust",
     "page_fields",
     "man_pages",
     "completions",

@@ -1,0 +1,80 @@
+//! Finds the library for C, and has it linked.
+//!
+//! PENDRATSOA_PREFIX names the folder that it was installed below; otherwise the program pkg-config says where it is.
+//! The shared library is linked, and where PENDRATSOA_STATIC is set to anything but 0 the static one.
+
+use std::env;
+use std::ffi::OsString;
+use std::path::{Path, PathBuf};
+use std::process::{exit, Command};
+
+const VARIABLES: [&str; 6] = [
+    "PENDRATSOA_PREFIX",
+    "PENDRATSOA_STATIC",
+    "PKG_CONFIG",
+    "PKG_CONFIG_LIBDIR",
+    "PKG_CONFIG_PATH",
+    "PKG_CONFIG_SYSROOT_DIR",
+];
+
+const INSTALL: &str =
+    "the repository of Pendratsoa installs the library by `sh scripts/install.sh --library PREFIX`";
+
+fn main() {
+    println!("cargo:rerun-if-changed=build.rs");
+    for variable in VARIABLES {
+        println!("cargo:rerun-if-env-changed={variable}");
+    }
+    if let Err(reason) = link() {
+        eprintln!("pendratsoa: {reason}");
+        exit(1);
+    }
+}
+
+/// Says to cargo what to link, or why there is nothing to link.
+fn link() -> Result<(), String> {
+    let (kind, file) = if is_static() {
+        ("static", "libpendratsoa.a")
+    } else {
+        ("dylib", "libpendratsoa.so")
+    };
+    let folder = match env::var_os("PENDRATSOA_PREFIX") {
+        Some(prefix) => Path::new(&prefix).join("lib"),
+        None => folder_of_pkg_config()?,
+    };
+    let library = folder.join(file);
+    if !library.is_file() {
+        return Err(format!("there is no {}; {INSTALL}", library.display()));
+    }
+    println!("cargo:rerun-if-changed={}", library.display());
+    println!("cargo:rustc-link-search=native={}", folder.display());
+    println!("cargo:rustc-link-lib={kind}=pendratsoa");
+    Ok(())
+}
+
+fn is_static() -> bool {
+    env::var_os("PENDRATSOA_STATIC").map_or(false, |value| !value.is_empty() && value != "0")
+}
+
+/// The folder of the library, by pkg-config: at least the version of this crate, since an older one may lack a call.
+fn folder_of_pkg_config() -> Result<PathBuf, String> {
+    let program = env::var_os("PKG_CONFIG").unwrap_or_else(|| OsString::from("pkg-config"));
+    let wanted = concat!("pendratsoa >= ", env!("CARGO_PKG_VERSION"));
+    let output = Command::new(&program)
+        .args(["--print-errors", "--variable=libdir", wanted])
+        .output()
+        .map_err(|error| {
+            let program = program.to_string_lossy();
+            format!("PENDRATSOA_PREFIX is not set, and {program} cannot be run: {error}; {INSTALL}")
+        })?;
+    if !output.status.success() {
+        let said = String::from_utf8_lossy(&output.stderr);
+        let said = said.trim();
+        return Err(format!(
+            "PENDRATSOA_PREFIX is not set, and pkg-config does not know the library; {INSTALL}. It says: {said}"
+        ));
+    }
+    Ok(PathBuf::from(
+        String::from_utf8_lossy(&output.stdout).trim(),
+    ))
+}

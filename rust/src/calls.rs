@@ -1,0 +1,267 @@
+//! The calls that take numbers, names and payloads.
+
+use crate::error::{Argument, Error};
+use crate::ffi::{self, Refusal};
+use crate::item::next_item;
+use crate::LAST_VERSION;
+
+/// The version of the library, as `0.1.0`.
+///
+/// ```
+/// assert!(pendratsoa::library_version()?.starts_with("0."));
+/// # Ok::<(), pendratsoa::Error>(())
+/// ```
+pub fn library_version() -> Result<String, Error> {
+    // it takes nothing that could be unknown or malformed
+    let version = ffi::library_version()
+        .map_err(|refusal| Error::of(refusal, || Argument::Payload(0), || Argument::Payload(0)))?;
+    text(version)
+}
+
+/// The number of the schema that payloads of a type have at a version.
+///
+/// A suspension has another schema before version 7 than later. `Error::Unknown` if the number is no version's or the
+/// code no named type's; a custom entry has no schema.
+///
+/// ```
+/// use pendratsoa::{schema, MessageType, Schema};
+///
+/// assert_eq!(schema(8, MessageType::SleepCommand.code())?, Schema::SleepCommandMessage.number());
+/// # Ok::<(), pendratsoa::Error>(())
+/// ```
+pub fn schema(version: u32, code: u16) -> Result<u32, Error> {
+    let number =
+        ffi::schema(version, code).map_err(|refusal| of_type(refusal, version, code, 0))?;
+    u32::try_from(number).map_err(|_| Error::unexpected("the schema", number))
+}
+
+/// The name of the type that has the code, as `SleepCommand`, or `CustomEntry(64513)` of a custom entry.
+///
+/// It asks the library, which may be later than this crate; [`MessageType`](crate::MessageType) does not.
+/// `Error::Unknown` if no type has the code.
+///
+/// ```
+/// assert_eq!(pendratsoa::type_name(0x040C)?, "SleepCommand");
+/// # Ok::<(), pendratsoa::Error>(())
+/// ```
+pub fn type_name(code: u16) -> Result<String, Error> {
+    let name = ffi::type_name(code)
+        .map_err(|refusal| Error::of(refusal, || Argument::Code(code), || Argument::Code(code)))?;
+    text(name)
+}
+
+/// The code of the named type that has the name, as `SleepCommand`. `Error::Unknown` if none has.
+///
+/// ```
+/// assert_eq!(pendratsoa::type_code("SleepCommand")?, 0x040C);
+/// # Ok::<(), pendratsoa::Error>(())
+/// ```
+pub fn type_code(name: &str) -> Result<u16, Error> {
+    let argument = || Argument::Name(name.to_owned());
+    let code = ffi::type_code(name.as_bytes())
+        .map_err(|refusal| Error::of(refusal, argument, argument))?;
+    u16::try_from(code).map_err(|_| Error::unexpected("the code", code))
+}
+
+/// The header that a message of a type has at a version, by the length of its payload in bytes.
+///
+/// `Error::Unknown` if the number is no version's or the code no type's; a custom entry has a header. `Error::TooLong`
+/// if the payload has more than 4,294,967,295 bytes.
+///
+/// ```
+/// assert_eq!(pendratsoa::header(8, 0x0400, 9)?, [0x04, 0, 0, 0, 0, 0, 0, 9]);
+/// # Ok::<(), pendratsoa::Error>(())
+/// ```
+pub fn header(version: u32, code: u16, payload_length: usize) -> Result<[u8; 8], Error> {
+    let too_long = |_| Error::TooLong(Argument::PayloadLength(payload_length));
+    let length = u32::try_from(payload_length).map_err(too_long)?;
+    let mut header = [0; 8];
+    match ffi::header(version, code, length, &mut header) {
+        Ok(8) => Ok(header),
+        Ok(length) => Err(Error::unexpected("a header's length", length)),
+        Err(refusal) => Err(of_type(refusal, version, code, payload_length)),
+    }
+}
+
+/// The frame, at a version, of the message of a named type that a payload holds: a header, and the canonical payload
+/// after it.
+///
+/// A suspension is decoded by its schema from version 7 on, and written by that of the version. `Error::Malformed`,
+/// `Error::TooLong`, `Error::OutOfMemory`; `Error::Unknown` if the number is no version's or the code no named type's.
+///
+/// ```
+/// assert_eq!(pendratsoa::frame(8, 0x0003, &[])?, [0, 3, 0, 0, 0, 0, 0, 0]);
+/// # Ok::<(), pendratsoa::Error>(())
+/// ```
+pub fn frame(version: u32, code: u16, payload: &[u8]) -> Result<Vec<u8>, Error> {
+    ffi::frame(version, code, payload)
+        .map_err(|refusal| of_type(refusal, version, code, payload.len()))
+}
+
+/// Whether a payload is well-formed for the schema that has the number.
+///
+/// `Error::Unknown` if no schema has it; `Error::OutOfMemory`.
+///
+/// ```
+/// use pendratsoa::{is_well_formed, Schema};
+///
+/// assert!(is_well_formed(Schema::Value.number(), &[0x0A, 1, b'x'])?);
+/// assert!(!is_well_formed(Schema::Value.number(), &[0x0A, 2, b'x'])?);
+/// # Ok::<(), pendratsoa::Error>(())
+/// ```
+pub fn is_well_formed(schema: u32, payload: &[u8]) -> Result<bool, Error> {
+    truth(
+        ffi::is_well_formed(schema, payload)
+            .map_err(|refusal| of_payload(refusal, schema, payload))?,
+    )
+}
+
+/// The canonical payload of what a payload means, for the schema that has the number.
+///
+/// `Error::Malformed`, `Error::TooLong`, `Error::OutOfMemory`; `Error::Unknown` if no schema has the number.
+///
+/// ```
+/// use pendratsoa::{canonical, Schema};
+///
+/// assert_eq!(canonical(Schema::Value.number(), &[0x0A, 0x81, 0, b'x'])?, [0x0A, 1, b'x']);
+/// # Ok::<(), pendratsoa::Error>(())
+/// ```
+pub fn canonical(schema: u32, payload: &[u8]) -> Result<Vec<u8>, Error> {
+    ffi::canonical(schema, payload).map_err(|refusal| of_payload(refusal, schema, payload))
+}
+
+/// The canonical payload of the result of merging the second payload into the first, as protobuf merges messages.
+///
+/// `Error::Malformed` if one of the two is not well-formed by itself, `Error::TooLong`, `Error::OutOfMemory`;
+/// `Error::Unknown` if no schema has the number.
+///
+/// ```
+/// use pendratsoa::{merge, Schema};
+///
+/// let keys = Schema::StateKeys.number();
+/// assert_eq!(merge(keys, &[0x0A, 1, b'a'], &[0x0A, 1, b'b'])?, [0x0A, 1, b'a', 0x0A, 1, b'b']);
+/// # Ok::<(), pendratsoa::Error>(())
+/// ```
+pub fn merge(schema: u32, first: &[u8], second: &[u8]) -> Result<Vec<u8>, Error> {
+    ffi::merge(schema, first, second).map_err(|refusal| {
+        Error::of(
+            refusal,
+            || Argument::Schema(schema),
+            || malformed(schema, first, second),
+        )
+    })
+}
+
+/// The JSON of what a payload means, in protobuf's own form, for the schema that has the number.
+///
+/// `Error::Malformed`, `Error::TooLong`, `Error::OutOfMemory`; `Error::Unknown` if no schema has the number.
+///
+/// ```
+/// use pendratsoa::{to_json, Schema};
+///
+/// assert_eq!(to_json(Schema::Value.number(), &[0x0A, 1, b'x'])?, r#"{"content":"eA=="}"#);
+/// # Ok::<(), pendratsoa::Error>(())
+/// ```
+pub fn to_json(schema: u32, payload: &[u8]) -> Result<String, Error> {
+    text(ffi::json(schema, payload).map_err(|refusal| of_payload(refusal, schema, payload))?)
+}
+
+/// Whether two commands of the type that has the code are the same for a replay.
+///
+/// If `ignore_payloads`, the content of user data is not compared; that there is a value, and no failure or nothing,
+/// still is. `Error::Unknown` if the code is that of no command, `Error::Malformed` if one of the payloads is not
+/// well-formed, `Error::OutOfMemory`.
+///
+/// ```
+/// use pendratsoa::{header_eq, MessageType};
+///
+/// let code = MessageType::SetStateCommand.code();
+/// let first = [0x0A, 1, b'a', 0x1A, 3, 0x0A, 1, b'1'];
+/// let second = [0x0A, 1, b'a', 0x1A, 3, 0x0A, 1, b'2'];
+/// assert!(!header_eq(code, &first, &second, false)?);
+/// assert!(header_eq(code, &first, &second, true)?);
+/// # Ok::<(), pendratsoa::Error>(())
+/// ```
+pub fn header_eq(
+    code: u16,
+    first: &[u8],
+    second: &[u8],
+    ignore_payloads: bool,
+) -> Result<bool, Error> {
+    truth(
+        ffi::header_eq(code, first, second, ignore_payloads)
+            .map_err(|refusal| of_commands(refusal, code, first, second))?,
+    )
+}
+
+/// A line for each printed field in which two commands of the type that has the code differ, each after a line feed; it
+/// is empty if they differ in none.
+///
+/// What is printed is not what is compared: see `journal_difference` in `pendratsoa.h`. The errors are those of
+/// [`header_eq`].
+///
+/// ```
+/// use pendratsoa::{difference, MessageType};
+///
+/// let code = MessageType::SetStateCommand.code();
+/// let first = [0x0A, 1, b'a', 0x1A, 3, 0x0A, 1, b'1'];
+/// let second = [0x0A, 1, b'a', 0x1A, 3, 0x0A, 1, b'2'];
+/// assert_eq!(difference(code, &first, &second)?, "\n   value: '1' != '2'");
+/// # Ok::<(), pendratsoa::Error>(())
+/// ```
+pub fn difference(code: u16, first: &[u8], second: &[u8]) -> Result<String, Error> {
+    text(
+        ffi::difference(code, first, second)
+            .map_err(|refusal| of_commands(refusal, code, first, second))?,
+    )
+}
+
+/// A text of the library.
+pub(crate) fn text(bytes: Vec<u8>) -> Result<String, Error> {
+    String::from_utf8(bytes)
+        .map_err(|error| Error::unexpected("a text that is not UTF-8:", error.utf8_error()))
+}
+
+/// Whether something is so, by the number that the library returned.
+fn truth(number: usize) -> Result<bool, Error> {
+    match number {
+        0 => Ok(false),
+        1 => Ok(true),
+        _ => Err(Error::unexpected("a truth value", number)),
+    }
+}
+
+/// The error of a call that takes a version, a code and a payload of a length.
+fn of_type(refusal: Refusal, version: u32, code: u16, length: usize) -> Error {
+    let unknown = || match next_item(version, &[]) {
+        Err(Error::Unknown(argument)) => argument,
+        _ => Argument::Code(code),
+    };
+    Error::of(refusal, unknown, || Argument::Payload(length))
+}
+
+/// The error of a call that takes a schema and a payload.
+fn of_payload(refusal: Refusal, schema: u32, payload: &[u8]) -> Error {
+    Error::of(
+        refusal,
+        || Argument::Schema(schema),
+        || Argument::Payload(payload.len()),
+    )
+}
+
+/// The error of a call that takes a code and two commands.
+fn of_commands(refusal: Refusal, code: u16, first: &[u8], second: &[u8]) -> Error {
+    let malformed = || match schema(LAST_VERSION, code) {
+        Ok(schema) => malformed(schema, first, second),
+        Err(_) => Argument::First(first.len()),
+    };
+    Error::of(refusal, || Argument::Code(code), malformed)
+}
+
+/// The one of two payloads that is not well-formed, the first if both are not.
+fn malformed(schema: u32, first: &[u8], second: &[u8]) -> Argument {
+    match is_well_formed(schema, first) {
+        Ok(true) => Argument::Second(second.len()),
+        _ => Argument::First(first.len()),
+    }
+}

@@ -1,0 +1,295 @@
+//! The items of streams.
+
+use crate::calls::{canonical, frame, header, schema, to_json, type_name};
+use crate::error::{narrowed, Argument, Error};
+use crate::ffi;
+use crate::message_type::MessageType;
+use crate::notification::{notification, Notification};
+
+const MESSAGE: u64 = 0;
+const UNKNOWN_CODE: u64 = 1;
+const SKIPPED: u64 = 2;
+
+/// An item of a stream. It borrows the bytes of the stream, and copies none.
+#[derive(Clone, Copy, Debug, PartialEq, Eq, Hash)]
+pub enum Item<'a> {
+    /// A message of a named type, or a custom entry.
+    Message(Message<'a>),
+    /// Eight bytes whose code is no type's, before version 9.
+    UnknownCode(UnknownCode),
+    /// A message of an unknown type, which is skipped with its payload, from version 9 on.
+    Skipped(Skipped<'a>),
+}
+
+/// A message of a stream of a version.
+#[derive(Clone, Copy, Debug, PartialEq, Eq, Hash)]
+#[non_exhaustive]
+pub struct Message<'a> {
+    /// The version of the stream.
+    pub version: u32,
+    /// The code of the type.
+    pub code: u16,
+    /// The header, as a big-endian number.
+    pub word: u64,
+    /// Whether the header requests an acknowledgement.
+    pub requires_ack: bool,
+    /// The payload as it came, which need not be well-formed.
+    pub payload: &'a [u8],
+}
+
+/// Eight bytes of a stream whose code is no type's.
+#[derive(Clone, Copy, Debug, PartialEq, Eq, Hash)]
+#[non_exhaustive]
+pub struct UnknownCode {
+    /// The version of the stream.
+    pub version: u32,
+    /// The code that no type has.
+    pub code: u16,
+    /// The eight bytes, as a big-endian number.
+    pub word: u64,
+}
+
+/// A message of an unknown type.
+#[derive(Clone, Copy, Debug, PartialEq, Eq, Hash)]
+#[non_exhaustive]
+pub struct Skipped<'a> {
+    /// The version of the stream.
+    pub version: u32,
+    /// The code that no type has.
+    pub code: u16,
+    /// The header, as a big-endian number.
+    pub word: u64,
+    /// The payload that is skipped.
+    pub payload: &'a [u8],
+}
+
+impl<'a> Message<'a> {
+    /// The message of a type with a payload, as it would come in a stream of the version.
+    ///
+    /// The payload need not be well-formed. `Error::Unknown` if the number is no version's or the code no type's;
+    /// `Error::TooLong` if the payload has more than 4,294,967,295 bytes.
+    ///
+    /// ```
+    /// use pendratsoa::{Message, MessageType};
+    ///
+    /// let message = Message::new(8, MessageType::InputCommand.code(), &[])?;
+    /// assert_eq!(message.frame()?, [0x04, 0, 0, 0, 0, 0, 0, 0]);
+    /// # Ok::<(), pendratsoa::Error>(())
+    /// ```
+    pub fn new(version: u32, code: u16, payload: &'a [u8]) -> Result<Message<'a>, Error> {
+        let word = u64::from_be_bytes(header(version, code, payload.len())?);
+        // a header of no payload is a whole item, of which the library says what it requests
+        let header = header(version, code, 0)?;
+        let requires_ack = match next_item(version, &header)? {
+            Next::Item {
+                item: Item::Message(message),
+                ..
+            } => message.requires_ack,
+            _ => return Err(Error::unexpected("the header", word)),
+        };
+        Ok(Message {
+            version,
+            code,
+            word,
+            requires_ack,
+            payload,
+        })
+    }
+
+    /// The type, or `None` if this crate knows none of the code, as of a type that a later library has.
+    pub fn message_type(&self) -> Option<MessageType> {
+        MessageType::from_code(self.code)
+    }
+
+    /// The name of the type, as [`type_name`] has it.
+    pub fn type_name(&self) -> Result<String, Error> {
+        type_name(self.code)
+    }
+
+    /// Whether it is a command, by its code.
+    pub fn is_command(&self) -> bool {
+        self.message_type().map_or(false, MessageType::is_command)
+    }
+
+    /// Whether it is a notification, by its code.
+    pub fn is_notification(&self) -> bool {
+        self.message_type()
+            .map_or(false, MessageType::is_notification)
+    }
+
+    /// The number of the payload's schema. A custom entry has none: `Error::Unknown`.
+    pub fn schema(&self) -> Result<u32, Error> {
+        schema(self.version, self.code)
+    }
+
+    /// The JSON of what the payload means, as [`to_json`] writes it.
+    pub fn json(&self) -> Result<String, Error> {
+        to_json(self.schema()?, self.payload)
+    }
+
+    /// The canonical encoding of the payload.
+    pub fn canonical(&self) -> Result<Vec<u8>, Error> {
+        canonical(self.schema()?, self.payload)
+    }
+
+    /// The frame of the message at its own version: a header, and the canonical payload after it.
+    ///
+    /// Whether it requests an acknowledgement is decided by the type and the version, whatever the message does.
+    pub fn frame(&self) -> Result<Vec<u8>, Error> {
+        self.frame_at(self.version)
+    }
+
+    /// The frame of the message at a version, as [`Message::frame`].
+    pub fn frame_at(&self, version: u32) -> Result<Vec<u8>, Error> {
+        frame(version, self.code, self.payload)
+    }
+
+    /// The id and the result, if it is a notification.
+    pub fn notification(&self) -> Result<Notification, Error> {
+        notification(self.code, self.payload)
+    }
+}
+
+/// What bytes of a stream begin with.
+#[derive(Clone, Copy, Debug, PartialEq, Eq, Hash)]
+pub enum Next<'a> {
+    /// A whole item.
+    Item {
+        /// The item.
+        item: Item<'a>,
+        /// Its size in bytes, header and payload.
+        size: usize,
+    },
+    /// No whole item: at least so many bytes are missing, one or more.
+    Missing(usize),
+}
+
+/// Finds the item that bytes begin with, at a version from 5 to 9. It copies nothing and does not allocate.
+///
+/// For streams that come in chunks, a [`Decoder`](crate::Decoder) keeps the bytes that are in no item yet.
+///
+/// ```
+/// use pendratsoa::{next_item, Item, Next};
+///
+/// let mut bytes: &[u8] = &[0, 3, 0, 0, 0, 0, 0, 0, 0, 3];
+/// while let Next::Item { item, size } = next_item(8, bytes)? {
+///     assert!(matches!(item, Item::Message(message) if message.code == 3));
+///     bytes = &bytes[size..];
+/// }
+/// assert_eq!(next_item(8, bytes)?, Next::Missing(6));
+/// # Ok::<(), pendratsoa::Error>(())
+/// ```
+pub fn next_item(version: u32, bytes: &[u8]) -> Result<Next<'_>, Error> {
+    let mut numbers = [0; 6];
+    let missing = ffi::next(version, bytes, &mut numbers).map_err(|refusal| {
+        let unknown = || Argument::Version(version);
+        Error::of(refusal, unknown, || Argument::Payload(bytes.len()))
+    })?;
+    if missing > 0 {
+        return Ok(Next::Missing(missing));
+    }
+    item_of(version, bytes, numbers)
+}
+
+/// The item of these numbers, which the bytes begin with.
+fn item_of(version: u32, bytes: &[u8], numbers: [u64; 6]) -> Result<Next<'_>, Error> {
+    let [kind, word, code, ack, size, begin] = numbers;
+    let code = narrowed("the code", code)?;
+    let size = narrowed("the size", size)?;
+    let begin: usize = narrowed("the payload's index", begin)?;
+    let payload = bytes
+        .get(begin..size)
+        .ok_or_else(|| Error::unexpected("the size", size))?;
+    let item = match kind {
+        MESSAGE => Item::Message(Message {
+            version,
+            code,
+            word,
+            requires_ack: ack == 1,
+            payload,
+        }),
+        UNKNOWN_CODE => Item::UnknownCode(UnknownCode {
+            version,
+            code,
+            word,
+        }),
+        SKIPPED => Item::Skipped(Skipped {
+            version,
+            code,
+            word,
+            payload,
+        }),
+        kind => return Err(Error::unexpected("the kind of item", kind)),
+    };
+    Ok(Next::Item { item, size })
+}
+
+#[cfg(test)]
+mod tests {
+    use super::*;
+
+    const BYTES: [u8; 10] = [0xFC, 1, 0, 0, 0, 0, 0, 2, 7, 8];
+
+    fn kind(kind: u64) -> Result<Next<'static>, Error> {
+        item_of(8, &BYTES, [kind, 5, 0xFC01, 1, 10, 8])
+    }
+
+    #[test]
+    fn each_kind_is_an_item() {
+        let (version, code, word, payload) = (8, 0xFC01, 5, &BYTES[8..]);
+        let requires_ack = true;
+        for (number, item) in [
+            (
+                0,
+                Item::Message(Message {
+                    version,
+                    code,
+                    word,
+                    requires_ack,
+                    payload,
+                }),
+            ),
+            (
+                1,
+                Item::UnknownCode(UnknownCode {
+                    version,
+                    code,
+                    word,
+                }),
+            ),
+            (
+                2,
+                Item::Skipped(Skipped {
+                    version,
+                    code,
+                    word,
+                    payload,
+                }),
+            ),
+        ] {
+            assert_eq!(kind(number), Ok(Next::Item { item, size: 10 }));
+        }
+    }
+
+    #[test]
+    fn numbers_of_a_later_library_are_errors() {
+        let unexpected = |text: &str| Err(Error::Unexpected(text.to_owned()));
+        assert_eq!(kind(3), unexpected("the kind of item 3"));
+        assert_eq!(
+            kind(u64::MAX),
+            unexpected("the kind of item 18446744073709551615")
+        );
+        assert_eq!(
+            item_of(8, &BYTES, [0, 0, 0x1_0000, 0, 10, 8]),
+            unexpected("the code 65536")
+        );
+        assert_eq!(
+            item_of(8, &BYTES, [0, 0, 0, 0, 11, 8]),
+            unexpected("the size 11")
+        );
+        assert_eq!(
+            item_of(8, &BYTES, [0, 0, 0, 0, 10, 11]),
+            unexpected("the size 10")
+        );
+    }
+}

@@ -1,0 +1,59 @@
+//! The journal protocol of the Restate SDKs, by the calls of Pendratsoa's library for C.
+//!
+//! ```
+//! use pendratsoa::{Decoder, Item};
+//!
+//! let mut decoder = Decoder::new(8)?;
+//! decoder.feed(&[0x04, 0, 0, 0, 0, 0, 0, 9, 0x72, 7, 0x0A, 5, b'i', b'n', b'p', b'u', b't'])?;
+//! for item in decoder.items() {
+//!     if let Item::Message(message) = item? {
+//!         assert_eq!(message.type_name()?, "InputCommand");
+//!         assert_eq!(message.json()?, r#"{"value":{"content":"aW5wdXQ="}}"#);
+//!     }
+//! }
+//! # Ok::<(), pendratsoa::Error>(())
+//! ```
+//!
+//! The library decides everything about the protocol; this crate turns its numbers into types. Each call of
+//! `pendratsoa.h` is a function here, of the same name without `journal_`, but for three: `journal_next` is
+//! [`next_item`] and, over chunks, [`Decoder`]; `journal_json` is [`to_json`]; `journal_verdict` is
+//! [`compare_journals`].
+//!
+//! - Items borrow the bytes of their stream, and are copied nowhere.
+//! - What fails says so by an [`Error`]; a failed allocation is one, too.
+//! - Functions may be called from any thread at once, and every type here is [`Send`] and [`Sync`].
+//! - The deepest payloads take 32 KiB of stack, and 160 KiB in [`to_json`].
+#![deny(unsafe_code, unsafe_op_in_unsafe_fn)]
+#![warn(missing_docs)]
+
+#[cfg(doctest)]
+#[doc = include_str!("../README.md")]
+struct Readme;
+
+mod calls;
+mod decoder;
+mod error;
+mod ffi;
+mod item;
+mod journals;
+mod message_type;
+mod notification;
+mod schema;
+
+pub use calls::{
+    canonical, difference, frame, header, header_eq, is_well_formed, library_version, merge,
+    schema, to_json, type_code, type_name,
+};
+pub use decoder::{Decoder, Items};
+pub use error::{Argument, Error};
+pub use item::{next_item, Item, Message, Next, Skipped, UnknownCode};
+pub use journals::{compare_journals, Verdict, VerdictKind};
+pub use message_type::MessageType;
+pub use notification::{notification, Notification, NotificationId, NotificationResult};
+pub use schema::Schema;
+
+/// The first protocol version.
+pub const FIRST_VERSION: u32 = 5;
+
+/// The last protocol version. A later library may have further ones.
+pub const LAST_VERSION: u32 = 9;

@@ -1,0 +1,350 @@
+//! Arguments that nobody means: each gives the error or the items that are promised, and nothing panics.
+
+use pendratsoa::{
+    canonical, compare_journals, difference, frame, header, header_eq, is_well_formed, merge,
+    next_item, notification, schema, to_json, type_code, type_name, Argument, Decoder, Error, Item,
+    MessageType, Next, Schema, VerdictKind, FIRST_VERSION, LAST_VERSION,
+};
+
+/// A generator of numbers that are the same in every run (splitmix64).
+struct Random(u64);
+
+impl Random {
+    fn next(&mut self) -> u64 {
+        self.0 = self.0.wrapping_add(0x9E37_79B9_7F4A_7C15);
+        let mixed = (self.0 ^ (self.0 >> 30)).wrapping_mul(0xBF58_476D_1CE4_E5B9);
+        let mixed = (mixed ^ (mixed >> 27)).wrapping_mul(0x94D0_49BB_1331_11EB);
+        mixed ^ (mixed >> 31)
+    }
+
+    fn below(&mut self, bound: usize) -> usize {
+        (self.next() % bound as u64) as usize
+    }
+
+    fn bytes(&mut self, most: usize) -> Vec<u8> {
+        let length = self.below(most + 1);
+        (0..length).map(|_| self.next() as u8).collect()
+    }
+}
+
+fn version(number: u32) -> Error {
+    Error::Unknown(Argument::Version(number))
+}
+
+fn code(number: u16) -> Error {
+    Error::Unknown(Argument::Code(number))
+}
+
+#[test]
+fn versions_that_do_not_exist() {
+    let end = MessageType::End.code();
+    for number in [
+        0,
+        FIRST_VERSION - 1,
+        LAST_VERSION + 1,
+        1 << 16,
+        (1 << 16) + 8,
+        u32::MAX,
+    ] {
+        assert_eq!(Decoder::new(number).err(), Some(version(number)));
+        assert_eq!(next_item(number, &[]), Err(version(number)));
+        assert_eq!(next_item(number, &[0; 64]), Err(version(number)));
+        assert_eq!(schema(number, end), Err(version(number)));
+        assert_eq!(header(number, end, 0), Err(version(number)));
+        assert_eq!(frame(number, end, &[]), Err(version(number)));
+        assert_eq!(
+            compare_journals(number, &[], &[], false),
+            Err(version(number))
+        );
+    }
+    for number in FIRST_VERSION..=LAST_VERSION {
+        assert_eq!(
+            Decoder::new(number).map(|decoder| decoder.version()),
+            Ok(number)
+        );
+    }
+}
+
+#[test]
+fn every_code() {
+    for number in 0..=u16::MAX {
+        let known = MessageType::from_code(number);
+        assert_eq!(known.map(MessageType::code), known.map(|_| number));
+        assert_eq!(
+            type_name(number),
+            known
+                .map(|known| known.to_string())
+                .ok_or_else(|| code(number))
+        );
+        assert_eq!(header(8, number, 0).is_ok(), known.is_some());
+        let named = known.filter(|known| !matches!(known, MessageType::CustomEntry(_)));
+        assert_eq!(schema(8, number).is_ok(), named.is_some());
+        assert_eq!(frame(8, number, &[]).is_ok(), named.is_some());
+        let is_command = named.map_or(false, MessageType::is_command);
+        assert_eq!(header_eq(number, &[], &[], false).is_ok(), is_command);
+        assert_eq!(difference(number, &[], &[]).is_ok(), is_command);
+        let found = notification(number, &[]);
+        if known.map_or(false, MessageType::is_notification) {
+            assert_eq!(found, Err(Error::NoId(Argument::Payload(0))));
+        } else {
+            assert_eq!(found, Err(code(number)));
+        }
+    }
+}
+
+#[test]
+fn types_and_schemas_are_those_of_the_library() {
+    for named in MessageType::NAMED {
+        assert_eq!(type_code(named.name()), Ok(named.code()));
+        assert_eq!(MessageType::from_name(named.name()), Some(named));
+        assert_eq!(MessageType::try_from(u16::from(named)), Ok(named));
+        let number = schema(LAST_VERSION, named.code()).unwrap();
+        let name = Schema::try_from(number).unwrap().name();
+        assert_eq!(name.strip_suffix("Message"), Some(named.name()));
+    }
+    for (number, schema) in (0..).zip(Schema::ALL) {
+        assert_eq!((schema.number(), u32::from(schema)), (number, number));
+        assert_eq!(Schema::from_name(schema.name()), Some(schema));
+        assert_eq!(is_well_formed(number, &[]), Ok(true));
+    }
+    assert_eq!(MessageType::try_from(4), Err(code(4)));
+    assert_eq!(MessageType::from_name("CustomEntry"), None);
+}
+
+#[test]
+fn schemas_that_do_not_exist() {
+    for number in [Schema::ALL.len() as u32, 1 << 16, 1 << 31, u32::MAX] {
+        let unknown = Error::Unknown(Argument::Schema(number));
+        assert_eq!(Schema::try_from(number), Err(unknown.clone()));
+        for payload in [&[][..], &[0xFF; 9]] {
+            assert_eq!(is_well_formed(number, payload), Err(unknown.clone()));
+            assert_eq!(canonical(number, payload), Err(unknown.clone()));
+            assert_eq!(merge(number, payload, payload), Err(unknown.clone()));
+            assert_eq!(to_json(number, payload), Err(unknown.clone()));
+        }
+    }
+}
+
+#[test]
+fn names_that_do_not_exist() {
+    let long = "a".repeat(1 << 20);
+    for name in [
+        "",
+        "\0",
+        "sleepCommand",
+        "SleepCommand\0",
+        "CustomEntry(64513)",
+        "\u{1F600}",
+        &long,
+    ] {
+        let unknown = Error::Unknown(Argument::Name(name.to_owned()));
+        assert_eq!(type_code(name), Err(unknown));
+        assert_eq!(Schema::from_name(name), None);
+    }
+}
+
+#[test]
+fn lengths_that_no_header_holds() {
+    assert_eq!(
+        header(8, 0x0400, 0xFFFF_FFFF),
+        Ok([4, 0, 0, 0, 0xFF, 0xFF, 0xFF, 0xFF])
+    );
+    for length in [1 << 32, (1 << 32) + 5, usize::MAX] {
+        let too_long = Error::TooLong(Argument::PayloadLength(length));
+        assert_eq!(header(8, 0x0400, length), Err(too_long));
+    }
+}
+
+#[test]
+fn malformed_payloads_are_named() {
+    let (good, bad): (&[u8], &[u8]) = (&[0x0A, 1, b'x'], &[0x0A, 9, b'x', 0]);
+    let value = Schema::Value.number();
+    assert_eq!(
+        canonical(value, bad),
+        Err(Error::Malformed(Argument::Payload(4)))
+    );
+    assert_eq!(
+        to_json(value, bad),
+        Err(Error::Malformed(Argument::Payload(4)))
+    );
+    let clear = MessageType::ClearStateCommand.code();
+    assert_eq!(
+        frame(8, clear, bad),
+        Err(Error::Malformed(Argument::Payload(4)))
+    );
+    for (first, second, malformed) in [
+        (good, bad, Argument::Second(4)),
+        (bad, good, Argument::First(4)),
+        (bad, bad, Argument::First(4)),
+    ] {
+        let malformed = Error::Malformed(malformed);
+        assert_eq!(merge(value, first, second), Err(malformed.clone()));
+        assert_eq!(
+            header_eq(clear, first, second, true),
+            Err(malformed.clone())
+        );
+        assert_eq!(difference(clear, first, second), Err(malformed));
+    }
+    let signal = MessageType::SignalNotification.code();
+    assert_eq!(
+        notification(signal, bad),
+        Err(Error::Malformed(Argument::Payload(4)))
+    );
+    assert_eq!(
+        notification(signal, &[0x22, 0]),
+        Err(Error::NoId(Argument::Payload(2)))
+    );
+    assert_eq!(
+        notification(signal, &[0x10, 1]),
+        Err(Error::NoResult(Argument::Payload(2)))
+    );
+}
+
+#[test]
+fn streams_of_noise() {
+    let mut random = Random(1);
+    for round in 0..2000 {
+        let version = FIRST_VERSION + round % (LAST_VERSION - FIRST_VERSION + 1);
+        let mut stream = Vec::new();
+        for _ in 0..random.below(8) {
+            // headers that promise short payloads, of known and unknown types
+            let kinds = [0, 0x0004, 0x0400, 0x040D, 0x8002, 0xFC01, 0xFFFF];
+            let code = kinds[random.below(kinds.len())] as u64;
+            let flags = random.next() & 0xFFFF_0000_0000;
+            let word = (code << 48) | flags | (random.next() % 24);
+            stream.extend_from_slice(&word.to_be_bytes());
+            stream.extend(random.bytes(24));
+        }
+        let mut decoder = Decoder::new(version).unwrap();
+        let mut size = 0;
+        let mut rest = &stream[..];
+        while !rest.is_empty() {
+            let (chunk, others) = rest.split_at(1 + random.below(rest.len()));
+            decoder.feed(chunk).unwrap();
+            rest = others;
+            for item in decoder.items() {
+                let item = item.unwrap();
+                assert_eq!(
+                    next_item(version, &stream[size..]),
+                    Ok(Next::Item {
+                        item,
+                        size: size_of(&item)
+                    })
+                );
+                size += size_of(&item);
+                called(&item);
+            }
+            assert_eq!(size + decoder.rest() + rest.len(), stream.len());
+        }
+        assert!(matches!(
+            next_item(version, &stream[size..]),
+            Ok(Next::Missing(1..))
+        ));
+    }
+}
+
+/// The size of an item in bytes.
+fn size_of(item: &Item<'_>) -> usize {
+    match item {
+        Item::Message(message) => 8 + message.payload.len(),
+        Item::UnknownCode(_) => 8,
+        Item::Skipped(skipped) => 8 + skipped.payload.len(),
+    }
+}
+
+/// Makes each call of a message, which succeeds or fails as is promised of its payload.
+fn called(item: &Item<'_>) {
+    let message = match item {
+        Item::Message(message) => message,
+        Item::UnknownCode(_) | Item::Skipped(_) => return,
+    };
+    let schema = message.schema();
+    match message.message_type().unwrap() {
+        MessageType::CustomEntry(number) => {
+            assert_eq!(schema, Err(code(number)));
+            assert_eq!(message.json(), Err(code(number)));
+            assert_eq!(message.canonical(), Err(code(number)));
+            assert_eq!(message.frame(), Err(code(number)));
+        }
+        named => {
+            assert_eq!(message.is_command(), named.is_command());
+            let is_well_formed = is_well_formed(schema.unwrap(), message.payload).unwrap();
+            assert_eq!(message.json().is_ok(), is_well_formed);
+            assert_eq!(message.canonical().is_ok(), is_well_formed);
+            for version in FIRST_VERSION..=LAST_VERSION {
+                // a suspension is read by its schema from version 7 on
+                if message.version >= 7 || named != MessageType::Suspension {
+                    assert_eq!(message.frame_at(version).is_ok(), is_well_formed);
+                }
+            }
+            if !message.is_notification() {
+                assert_eq!(message.notification(), Err(code(message.code)));
+            }
+        }
+    }
+}
+
+#[test]
+fn payloads_of_noise() {
+    let mut random = Random(2);
+    for round in 0..5000 {
+        let schema = round % Schema::ALL.len() as u32;
+        let (first, second) = (random.bytes(12), random.bytes(12));
+        let well_formed = [&first, &second].map(|payload| is_well_formed(schema, payload).unwrap());
+        assert_eq!(canonical(schema, &first).is_ok(), well_formed[0]);
+        assert_eq!(to_json(schema, &first).is_ok(), well_formed[0]);
+        let merged = merge(schema, &first, &second);
+        match well_formed {
+            [true, true] => assert_eq!(is_well_formed(schema, &merged.unwrap()), Ok(true)),
+            [true, false] => {
+                assert_eq!(
+                    merged,
+                    Err(Error::Malformed(Argument::Second(second.len())))
+                );
+            }
+            [false, _] => assert_eq!(merged, Err(Error::Malformed(Argument::First(first.len())))),
+        }
+    }
+}
+
+#[test]
+fn journals_of_noise() {
+    let mut random = Random(3);
+    for _ in 0..500 {
+        let (recorded, replayed) = (random.bytes(64), random.bytes(64));
+        for ignore_payloads in [false, true] {
+            assert!(compare_journals(8, &recorded, &replayed, ignore_payloads).is_ok());
+            let same = compare_journals(8, &recorded, &recorded, ignore_payloads).unwrap();
+            assert_eq!((same.kind, same.text.as_str()), (VerdictKind::Same, ""));
+        }
+    }
+}
+
+/// A record of a payload: a field that holds so many bytes, fewer than 2^14.
+fn field(key: u8, bytes: &[u8]) -> Vec<u8> {
+    let length = bytes.len();
+    let head = [key, (length & 0x7F) as u8 | 0x80, (length >> 7) as u8];
+    [&head, bytes].concat()
+}
+
+#[test]
+fn results_longer_than_the_first_guess() {
+    let error = field(0x12, &[1; 1000]);
+    let escaped = "\\u0001".repeat(1000);
+    let json = to_json(Schema::ErrorMessage.number(), &error);
+    assert_eq!(json, Ok(format!(r#"{{"message":"{escaped}"}}"#)));
+
+    let code = MessageType::ClearStateCommand.code();
+    let [first, second] = [b'a', b'b'].map(|byte| field(0x0A, &[byte; 5000]));
+    let text = difference(code, &first, &second).unwrap();
+    let [a, b] = ["a", "b"].map(|letter| letter.repeat(5000));
+    assert_eq!(text, format!("\n   key: '{a}' != '{b}'"));
+
+    let [first, second] = [first, second].map(|payload| frame(8, code, &payload).unwrap());
+    let verdict = compare_journals(8, &first, &second, false).unwrap();
+    assert_eq!(
+        (verdict.kind, verdict.index),
+        (VerdictKind::HeaderMismatch, 0)
+    );
+    assert!(verdict.text.contains(&text));
+}

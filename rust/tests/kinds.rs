@@ -1,0 +1,230 @@
+//! What the library returns, as types: its version, and each kind of item, of a notification's id and result, and of a
+//! verdict.
+
+use pendratsoa::{
+    compare_journals, header, library_version, next_item, notification, Argument, Error, Item,
+    Message, MessageType, Next, NotificationId, NotificationResult, Verdict, VerdictKind,
+    FIRST_VERSION, LAST_VERSION,
+};
+
+/// A frame at version 8 with any payload.
+fn frame(message_type: MessageType, payload: &[u8]) -> Vec<u8> {
+    let header = header(8, message_type.code(), payload.len()).unwrap();
+    [&header, payload].concat()
+}
+
+fn item(version: u32, bytes: &[u8]) -> Item<'_> {
+    match next_item(version, bytes).unwrap() {
+        Next::Item { item, size } => {
+            assert_eq!(size, bytes.len());
+            item
+        }
+        Next::Missing(missing) => panic!("{missing} bytes are missing"),
+    }
+}
+
+#[test]
+fn version() {
+    assert_eq!(library_version().unwrap(), env!("CARGO_PKG_VERSION"));
+}
+
+#[test]
+fn items() {
+    // a proposed result of a run, with the bit that requests an acknowledgement
+    let bytes = [0, 5, 0x80, 0, 0, 0, 0, 2, 0x08, 1];
+    match item(8, &bytes) {
+        Item::Message(message) => {
+            assert_eq!((message.version, message.code), (8, 5));
+            assert_eq!(message.word, 0x0005_8000_0000_0002);
+            assert_eq!(message.payload, &bytes[8..]);
+            assert!(message.requires_ack);
+            assert_eq!(
+                message.message_type(),
+                Some(MessageType::ProposeRunCompletion)
+            );
+            assert!(!message.is_command() && !message.is_notification());
+            assert_eq!(message.canonical().unwrap(), [0x08, 1]);
+            assert_eq!(message.json().unwrap(), r#"{"resultCompletionId":1}"#);
+            assert_eq!(message.frame().unwrap()[8..], bytes[8..]);
+        }
+        other => panic!("{other:?}"),
+    }
+    // no type has the code 4: before version 9 its header alone is an item
+    let bytes = [0, 4, 1, 2, 3, 4, 0, 2, 0x08, 1];
+    match item(8, &bytes[..8]) {
+        Item::UnknownCode(unknown) => {
+            assert_eq!((unknown.version, unknown.code), (8, 4));
+            assert_eq!(unknown.word, 0x0004_0102_0304_0002);
+        }
+        other => panic!("{other:?}"),
+    }
+    let bytes = [0, 4, 1, 2, 0, 0, 0, 2, 0x08, 1];
+    match item(9, &bytes) {
+        Item::Skipped(skipped) => {
+            assert_eq!((skipped.version, skipped.code), (9, 4));
+            assert_eq!(skipped.word, 0x0004_0102_0000_0002);
+            assert_eq!(skipped.payload, &bytes[8..]);
+        }
+        other => panic!("{other:?}"),
+    }
+}
+
+#[test]
+fn messages_that_are_made() {
+    let payload = [0x08, 1];
+    for version in FIRST_VERSION..=LAST_VERSION {
+        for named in MessageType::NAMED
+            .into_iter()
+            .chain([MessageType::CustomEntry(0xFC01)])
+        {
+            let made = Message::new(version, named.code(), &payload).unwrap();
+            let header = header(version, named.code(), payload.len()).unwrap();
+            let bytes = [&header[..], &payload].concat();
+            assert_eq!(item(version, &bytes), Item::Message(made));
+        }
+    }
+    assert_eq!(
+        Message::new(8, 4, &payload),
+        Err(Error::Unknown(Argument::Code(4)))
+    );
+    assert_eq!(
+        Message::new(4, 3, &payload),
+        Err(Error::Unknown(Argument::Version(4)))
+    );
+}
+
+#[test]
+fn ids_of_notifications() {
+    for (payload, id) in [
+        (&[0x08, 0, 0x22, 0][..], NotificationId::Completion(0)),
+        (&[0x08, 0xAC, 2, 0x22, 0], NotificationId::Completion(300)),
+        (&[0x10, 17, 0x22, 0], NotificationId::Signal(17)),
+        (
+            &[0x1A, 0, 0x22, 0],
+            NotificationId::SignalName(String::new()),
+        ),
+        (
+            &[0x1A, 3, b'a', 0xC3, 0xA9, 0x22, 0],
+            NotificationId::SignalName("a\u{E9}".to_owned()),
+        ),
+    ] {
+        let found = notification(MessageType::SignalNotification.code(), payload).unwrap();
+        assert_eq!((found.id, found.result), (id, NotificationResult::Void));
+    }
+}
+
+#[test]
+fn results_of_notifications() {
+    for (result, expected) in [
+        (&[0x22, 0][..], NotificationResult::Void),
+        (
+            &[0x2A, 3, 0x0A, 1, b'x'],
+            NotificationResult::Value(vec![0x0A, 1, b'x']),
+        ),
+        (
+            &[0x32, 3, 0x08, 0x85, 0],
+            NotificationResult::Failure(vec![0x08, 5]),
+        ),
+        (
+            &[0x82, 1, 3, b'i', b'n', b'v'],
+            NotificationResult::InvocationId("inv".to_owned()),
+        ),
+        (
+            &[0x8A, 1, 3, 0x0A, 1, b'a'],
+            NotificationResult::StateKeys(vec![0x0A, 1, b'a']),
+        ),
+    ] {
+        for name in ["", "stop"] {
+            let payload = [&[0x1A, name.len() as u8], name.as_bytes(), result].concat();
+            let bytes = frame(MessageType::SignalNotification, &payload);
+            let found = match item(8, &bytes) {
+                Item::Message(message) if message.is_notification() => message.notification(),
+                other => panic!("{other:?}"),
+            };
+            let found = found.unwrap();
+            assert_eq!(found.id, NotificationId::SignalName(name.to_owned()));
+            assert_eq!(found.result, expected);
+        }
+    }
+}
+
+#[test]
+fn verdicts() {
+    let input = frame(MessageType::InputCommand, &[]);
+    let clear = |key| frame(MessageType::ClearStateCommand, &[0x0A, 1, key]);
+    let clear_all = frame(MessageType::ClearAllStateCommand, &[]);
+    let malformed = frame(MessageType::ClearStateCommand, &[0x0A]);
+    let journal = |second: &[u8]| [&input, second].concat();
+    for (recorded, replayed, kind, index) in [
+        (
+            journal(&clear(b'a')),
+            journal(&clear(b'a')),
+            VerdictKind::Same,
+            2,
+        ),
+        (
+            journal(&[]),
+            journal(&clear_all),
+            VerdictKind::RecordedEnded,
+            1,
+        ),
+        (
+            journal(&clear_all),
+            journal(&[]),
+            VerdictKind::ReplayedEnded,
+            1,
+        ),
+        (
+            journal(&clear_all),
+            journal(&clear(b'a')),
+            VerdictKind::TypeMismatch,
+            1,
+        ),
+        (
+            journal(&clear(b'a')),
+            journal(&clear(b'b')),
+            VerdictKind::HeaderMismatch,
+            1,
+        ),
+        (
+            journal(&malformed),
+            journal(&malformed),
+            VerdictKind::BadRecorded,
+            1,
+        ),
+        (
+            journal(&clear(b'a')),
+            journal(&malformed),
+            VerdictKind::BadReplayed,
+            1,
+        ),
+    ] {
+        let Verdict {
+            kind: found,
+            index: at,
+            text,
+            ..
+        } = compare_journals(8, &recorded, &replayed, false).unwrap();
+        assert_eq!((found, at), (kind, index));
+        let has_text = matches!(
+            kind,
+            VerdictKind::TypeMismatch | VerdictKind::HeaderMismatch
+        );
+        assert_eq!(!text.is_empty(), has_text, "{kind:?}: {text}");
+    }
+}
+
+#[test]
+fn ignored_payloads() {
+    let set = |value| {
+        let payload = [0x0A, 1, b'k', 0x1A, 3, 0x0A, 1, value];
+        frame(MessageType::SetStateCommand, &payload)
+    };
+    for (ignore_payloads, kind, index) in [
+        (false, VerdictKind::HeaderMismatch, 0),
+        (true, VerdictKind::Same, 1),
+    ] {
+        let found = compare_journals(8, &set(b'1'), &set(b'2'), ignore_payloads).unwrap();
+        assert_eq!((found.kind, found.index), (kind, index));
+    }
+}

@@ -1,0 +1,37 @@
+//! Memory does not grow with the number of calls. It is a program of its own, since others would take memory beside it.
+
+use std::fs;
+
+use pendratsoa::{Decoder, Item};
+
+const INPUT: [u8; 17] = *b"\x04\0\0\0\0\0\0\x09\x72\x07\x0A\x05input";
+
+/// The resident memory of the process in bytes, where Linux says so.
+fn resident() -> Option<usize> {
+    let pages = fs::read_to_string("/proc/self/statm").ok()?;
+    Some(pages.split(' ').nth(1)?.parse::<usize>().ok()? * 4096)
+}
+
+#[test]
+fn memory_does_not_grow() {
+    let mut decoder = Decoder::new(8).unwrap();
+    let mut decode = |rounds| {
+        for _ in 0..rounds {
+            decoder.feed(&INPUT).unwrap();
+            for item in decoder.items() {
+                match item.unwrap() {
+                    Item::Message(message) => assert!(message.json().unwrap().len() > 20),
+                    other => panic!("{other:?}"),
+                }
+            }
+            assert_eq!(decoder.rest(), 0);
+        }
+    };
+    decode(10_000);
+    let before = resident();
+    decode(100_000);
+    // the least allocation of malloc has 32 bytes, which are 3 MB if each round leaves one
+    if let (Some(before), Some(after)) = (before, resident()) {
+        assert!(after < before + (1 << 20), "{before} bytes, then {after}");
+    }
+}

@@ -1,0 +1,98 @@
+//! Calls from several threads at once, and types that go from one to another.
+
+use std::fmt::Debug;
+use std::hash::Hash;
+use std::thread;
+
+use pendratsoa::{
+    canonical, to_json, Argument, Decoder, Error, Item, Items, Message, MessageType, Next,
+    Notification, NotificationId, NotificationResult, Schema, Skipped, UnknownCode, Verdict,
+    VerdictKind,
+};
+
+const INPUT: [u8; 17] = *b"\x04\0\0\0\0\0\0\x09\x72\x07\x0A\x05input";
+
+fn shared<T: Send + Sync + Debug>() {}
+
+fn plain<T: Send + Sync + Debug + Clone + Eq + Hash + 'static>() {}
+
+#[test]
+fn every_type_may_be_sent_and_shared() {
+    shared::<Decoder>();
+    shared::<Items<'_>>();
+    shared::<Item<'_>>();
+    shared::<Next<'_>>();
+    shared::<Message<'_>>();
+    shared::<Skipped<'_>>();
+    plain::<UnknownCode>();
+    plain::<MessageType>();
+    plain::<Schema>();
+    plain::<Notification>();
+    plain::<NotificationId>();
+    plain::<NotificationResult>();
+    plain::<Verdict>();
+    plain::<VerdictKind>();
+    plain::<Argument>();
+    plain::<Error>();
+}
+
+#[test]
+fn calls_at_once() {
+    thread::scope(|scope| {
+        for number in 0..4_u8 {
+            scope.spawn(move || {
+                let payload = [0x0A, 1, b'a' + number];
+                for _ in 0..2000 {
+                    let schema = Schema::Value.number();
+                    assert_eq!(canonical(schema, &payload).unwrap(), payload);
+                    let json = format!(
+                        r#"{{"content":"{}"}}"#,
+                        ["YQ==", "Yg==", "Yw==", "ZA=="][number as usize]
+                    );
+                    assert_eq!(to_json(schema, &payload).unwrap(), json);
+                }
+            });
+        }
+    });
+}
+
+#[test]
+fn a_decoder_and_its_items_in_other_threads() {
+    let mut decoder = Decoder::new(8).unwrap();
+    decoder.feed(&INPUT[..9]).unwrap();
+    let mut decoder = thread::spawn(move || {
+        decoder.feed(&INPUT[9..]).unwrap();
+        decoder
+    })
+    .join()
+    .unwrap();
+    let item = decoder.items().next().unwrap().unwrap();
+    thread::scope(|scope| {
+        for _ in 0..2 {
+            scope.spawn(move || match item {
+                Item::Message(message) => assert_eq!(message.payload, &INPUT[8..]),
+                other => panic!("{other:?}"),
+            });
+        }
+    });
+}
+
+#[test]
+fn deepest_payloads_in_a_small_stack() {
+    // futures that are nested to the hundredth level
+    let mut future = Vec::new();
+    for _ in 0..98 {
+        let mut length = future.len();
+        let mut outer = vec![0x22];
+        while length >= 0x80 {
+            outer.push(length as u8 | 0x80);
+            length >>= 7;
+        }
+        outer.push(length as u8);
+        outer.append(&mut future);
+        future = outer;
+    }
+    let call = move || to_json(Schema::Future.number(), &future).unwrap().len();
+    let thread = thread::Builder::new().stack_size(256 << 10).spawn(call);
+    assert!(thread.unwrap().join().unwrap() > 98);
+}

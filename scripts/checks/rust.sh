@@ -1,0 +1,121 @@
+#!/bin/sh
+# The crate for Rust: its tests and examples over both libraries, the test vectors by its calls, layout and lints.
+#
+# It takes the proved static library, as scripts/checks/c.sh does, and builds a copy of rust/ without a network. It uses
+# the cargo on the path, and that of Debian too if it is another; rustfmt and clippy where they are installed.
+set -u
+cd "$(dirname "$0")/../.." || exit 1
+. scripts/checks/lib.sh
+
+needs cargo cargo
+needs rustc rustc
+cargo --version > "$out" 2> "$err" || not_run 'cargo does not run'
+rustc --version > "$out" 2> "$err" || not_run 'rustc does not run'
+needs pkg-config pkg-config
+installed_library
+
+unset CARGO_BUILD_TARGET PENDRATSOA_PREFIX PENDRATSOA_STATIC
+CARGO_HOME=$work/cargo
+CARGO_NET_OFFLINE=true
+RUSTFLAGS='-D warnings'
+RUSTDOCFLAGS='-D warnings'
+export CARGO_HOME CARGO_NET_OFFLINE CARGO_TARGET_DIR RUSTFLAGS RUSTDOCFLAGS
+top=$PWD
+mkdir "$work/rust"
+for part in Cargo.toml build.rs README.md src tests examples; do
+  cp -R "rust/$part" "$work/rust/"
+done
+ln -s "$top/conformance" "$work/conformance"
+cd "$work/rust" || exit 1
+
+# links FILE: whether a program links the shared library
+links() {
+  readelf -d "$1" | grep -q 'NEEDED.*libpendratsoa\.so\.0'
+}
+
+# listed NAME STREAM VERSION: the example lists a stream as list_stream.awk does
+listed() {
+  "$CARGO_TARGET_DIR/debug/examples/listing" "$3" < "$top/$2" > "$out" 2> "$err"
+  outcome "$1: the listing of $2" $?
+  od -An -v -t u1 "$top/$2" |
+    awk -v version="$3" -f "$top/scripts/checks/list_stream.awk" "$top/proto/types.txt" - > "$work/listing"
+  same "$1: the listing of $2 beside that of awk" "$work/listing" "$out"
+}
+
+# tested NAME: the tests, the test vectors and the example, by the cargo and the rustc on the path
+tested() {
+  CARGO_TARGET_DIR=$work/target-$1
+  case_of "$1: the tests" cargo test --quiet --lib --tests
+  case_of "$1: the examples of the comments" cargo test --quiet --doc
+  counted "$1: the test vectors" cargo test --quiet --test conformance
+  case_of "$1: the example" cargo build --quiet --example listing
+  listed "$1" examples/streams/replay 8
+  listed "$1" examples/streams/unknown_type 9
+  links "$CARGO_TARGET_DIR/debug/examples/listing"
+  outcome "$1: the shared library is linked" $?
+}
+
+tested "$(rustc --version | sed 's/^rustc \([0-9.]*\).*/\1/')"
+debian=/usr/bin
+if [ -x $debian/cargo ] && [ -x $debian/rustc ] && [ "$(command -v rustc)" != $debian/rustc ]; then
+  path=$PATH
+  PATH=$debian:$PATH
+  tested "Debian's"
+  PATH=$path
+elif [ ! -x $debian/rustc ]; then
+  left_out "Debian's compiler" "there is no $debian/rustc; the Debian packages cargo and rustc have it"
+fi
+
+# the static library, named by the folder that it was installed below
+CARGO_TARGET_DIR=$work/target-static
+PENDRATSOA_PREFIX=$prefix
+PENDRATSOA_STATIC=1
+export PENDRATSOA_PREFIX PENDRATSOA_STATIC
+counted 'the test vectors with the static library' cargo test --quiet --test conformance
+case_of 'the example with the static library' cargo build --quiet --example listing
+listed static examples/streams/replay 8
+! links "$CARGO_TARGET_DIR/debug/examples/listing"
+outcome 'the shared library is not linked' $?
+
+# refused NAME WORDS: a build fails, and says so in these words
+refused() {
+  cargo build --quiet > "$out" 2> "$err"
+  [ $? -ne 0 ] && grep -qF "$2" "$err"
+  outcome "$1" $?
+}
+
+PENDRATSOA_PREFIX=$work/nowhere
+refused 'no library below PENDRATSOA_PREFIX' "pendratsoa: there is no $work/nowhere/lib/libpendratsoa.a; "
+unset PENDRATSOA_PREFIX
+(
+  PKG_CONFIG_PATH=$work/nowhere
+  PKG_CONFIG_LIBDIR=$work/nowhere
+  export PKG_CONFIG_PATH PKG_CONFIG_LIBDIR
+  refused 'no library by pkg-config' \
+    'pendratsoa: PENDRATSOA_PREFIX is not set, and pkg-config does not know the library; '
+  echo "$passed $failed" > "$work/tally"
+)
+read -r passed failed < "$work/tally"
+PKG_CONFIG=$work/nowhere/pkg-config
+export PKG_CONFIG
+refused 'no pkg-config' "pendratsoa: PENDRATSOA_PREFIX is not set, and $PKG_CONFIG cannot be run: "
+unset PKG_CONFIG PENDRATSOA_STATIC
+
+# layout, lints and pages; unsafe code is in src/ffi.rs alone
+CARGO_TARGET_DIR=$work/target-lints
+case_of 'the pages of cargo doc' cargo doc --quiet --no-deps
+if cargo fmt --version > "$out" 2> "$err"; then
+  case_of 'the layout' cargo fmt --check
+else
+  left_out 'the layout' 'there is no rustfmt; the Debian package rustfmt has it'
+fi
+if cargo clippy --version > "$out" 2> "$err"; then
+  case_of 'the lints' cargo clippy --quiet --all-targets -- -D warnings
+else
+  left_out 'the lints' 'there is no clippy; the Debian package rust-clippy has it'
+fi
+grep -rl 'allow(unsafe_code)' src build.rs examples tests > "$work/allowed"
+echo src/ffi.rs > "$work/wanted"
+same 'the file with unsafe code' "$work/wanted" "$work/allowed"
+
+finish
