@@ -28,6 +28,7 @@ NAMES = (
     "dispatch",
     "commands",
     "json_names",
+    "json_rows",
     "comparisons",
     "record_vectors",
     "long_vectors",

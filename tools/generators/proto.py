@@ -39,16 +39,17 @@ class Options:
 
 
 class Field(Options):
-    """A field: its name, its kind (u32, u64, bool, enum, text, bytes or message), for a message its type's name, its number, its
-    presence (plain, optional, repeated or message), the comment above it, and its options."""
+    """A field: its name, its kind (u32, u64, bool, enum, text, bytes or message), for a message or an enum its type's name, its number,
+    its presence (plain, optional, repeated or message), the comment above it, and its options."""
 
     OPTIONS = ("not_compared", "payload", "printed")
 
-    def __init__(self, name, kind, message, number, presence, comment):
+    def __init__(self, name, kind, type_name, number, presence, comment):
         super().__init__()
         self.name = name
         self.kind = kind
-        self.message = message
+        self.message = type_name if kind == "message" else None
+        self.enum = type_name if kind == "enum" else None
         self.number = number
         self.presence = presence
         self.comment = comment
@@ -146,7 +147,7 @@ def messages(text=None):
             label, type_name, name, number, options = match.groups()
             kind = SCALARS.get(type_name, "enum" if type_name in enums else "message")
             presence = label.strip() if label else "message" if kind == "message" else "plain"
-            field = Field(name, kind, type_name if kind == "message" else None, int(number), presence, comment)
+            field = Field(name, kind, type_name, int(number), presence, comment)
             for option, value in re.findall(r"\((\w+)\) = ([^,]+)", options or ""):
                 field.set(option, value_of(value))
             (oneof.members if oneof else message.rows).append(field)
@@ -159,6 +160,12 @@ def messages(text=None):
                 row.members.sort(key=lambda member: member.number)
         message.rows.sort(key=lambda row: min(numbers(row)))
     return found
+
+
+def enums():
+    """The values of each enum, names with their numbers, by its name."""
+    found = re.findall(r"^enum (\w+) \{\n(.*?)^\}", PROTO.read_text(), re.M | re.S)
+    return {name: [(value, int(number)) for value, number in re.findall(r"(\w+) = (\d+);", body)] for name, body in found}
 
 
 def schemas():

@@ -1,0 +1,47 @@
+use Rattle.std.proofs.Common.{◌≡◌, ◌+◌, ◌*◌, drop, map, false}
+use Rattle.json.specs.Value.{items_view, members_view}
+use Rattle.shared_core_json_reader.specs.Rows.{field_view, row_view}
+use Rattle.shared_core_json_reader.specs.Appended.{items_bytes, oneof_bytes, rows_bytes, message_bytes, after}
+use Rattle.shared_core_json_reader.proofs.payload.+message.Given as goal
+
+abbrev pub decreases-append_message : goal.decreases-append_message
+decreases-append_message l = 7 * l.levels
+
+abbrev pub decreases-append_object : goal.decreases-append_object
+decreases-append_object l = 7 * l.left + 6
+
+abbrev pub decreases-append_members : goal.decreases-append_members
+decreases-append_members l = 7 * l.left + 5
+
+abbrev pub decreases-append_row : goal.decreases-append_row
+decreases-append_row l = 7 * l.left + 4
+
+abbrev pub decreases-append_given : goal.decreases-append_given
+decreases-append_given l = 7 * l.left + 3
+
+abbrev pub decreases-append_oneof : goal.decreases-append_oneof
+decreases-append_oneof l = 7 * l.left + 3
+
+abbrev pub decreases-append_list : goal.decreases-append_list
+decreases-append_list l = 7 * l.left + 3
+
+abbrev pub decreases-append_items : goal.decreases-append_items
+decreases-append_items l = 7 * l.left + 2
+
+abbrev pub decreases-append_value : goal.decreases-append_value
+decreases-append_value l = 7 * l.left + 1
+
+abbrev pub invariant-append_members-loop-row : goal.invariant-append_members-loop-row
+invariant-append_members-loop-row l =
+    after l.out.items (rows_bytes (message_bytes l.left) (members_view l.members.items) (map row_view (drop l.row-index l.rows)))
+    ≡ after l.initial.out.items (rows_bytes (message_bytes l.left) (members_view l.members.items) (map row_view l.rows))
+
+abbrev pub invariant-append_oneof-loop-field : goal.invariant-append_oneof-loop-field
+invariant-append_oneof-loop-field l =
+    after l.out.items (oneof_bytes (message_bytes l.left) (members_view l.members.items) l.held (map field_view (drop l.field-index l.fields)))
+    ≡ after l.initial.out.items (oneof_bytes (message_bytes l.left) (members_view l.members.items) false (map field_view l.fields))
+
+abbrev pub invariant-append_items-loop-index : goal.invariant-append_items-loop-index
+invariant-append_items-loop-index l =
+    after l.out.items (items_bytes (message_bytes l.left) (field_view l.field) (items_view (drop l.index l.item-items)))
+    ≡ after l.initial.out.items (items_bytes (message_bytes l.left) (field_view l.field) (items_view l.item-items))

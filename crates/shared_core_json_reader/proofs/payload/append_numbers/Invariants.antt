@@ -1,0 +1,7 @@
+use Rattle.std.proofs.Common.{◌≡◌, drop}
+use Rattle.json.specs.Value.{items_view}
+use Rattle.shared_core_json_reader.specs.Appended.{run_bytes, after}
+use Rattle.shared_core_json_reader.proofs.payload.append_numbers.Given as goal
+
+abbrev pub invariant-loop-index : goal.invariant-loop-index
+invariant-loop-index l = after l.run.items (run_bytes (items_view (drop l.index l.item-items))) ≡ after l.initial.run.items (run_bytes (items_view l.item-items))

@@ -1,0 +1,18 @@
+//! JSON read as payloads: the canonical payload that a text of proto3's JSON form means, by the names of
+//! proto/journal.proto.
+//!
+//! A text is parsed as a tree of JSON, and the tree is gone over once, by one table of rows for all messages: what each
+//! row is given is appended as records, in the order of the schema (`payload`).
+#![tactic(auto)]
+
+mod error;
+mod members;
+mod payload;
+mod read;
+mod records;
+mod rows;
+mod scalars;
+mod schemas;
+
+pub use error::{JsonReadError, Reason};
+pub use read::payload_of;

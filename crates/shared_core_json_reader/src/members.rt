@@ -1,0 +1,132 @@
+//! The members of an object, by the names of fields.
+
+ghost use Rattle.std.specs.Prelude.{◌≡◌, ◌&&◌, ◌||◌, Some, None, option_map, MatchResult, map};
+ghost use Rattle.std.specs.Option.{is_none};
+ghost use Rattle.std.specs.Str.{bytes_eq};
+ghost use Rattle.json.specs.Value.{value_view as json_view, members_view};
+ghost use Rattle.shared_core_json_reader.specs.Rows.{field_view, row_view};
+ghost use Rattle.shared_core_json_reader.specs.Original.{after_byte, after_original};
+ghost use Rattle.shared_core_json_reader.specs.Reading.{original_name, is_named, names_field, row_names, names_row, are_known, given};
+
+use crate::error::Reason;
+use crate::rows::{Field, Row};
+use json::Value;
+
+/// What comes after a byte, if the text begins with it.
+fn after_byte(text: &[u8], byte: u8) -> Option<&[u8]>
+    ensures { option_map (λ rest. rest.now) result ≡ after_byte byte text.now }
+{
+    if !text.is_empty() && text[0] == byte {
+        Some(&text[1..])
+    } else {
+        None
+    }
+}
+
+/// What comes after a byte of a name in lower camel case as the original name has it, if the text begins with that.
+fn after_original(text: &[u8], byte: u8) -> Option<&[u8]>
+    ensures { option_map (λ rest. rest.now) result ≡ after_original byte text.now }
+{
+    if b'A' <= byte && byte <= b'Z' {
+        return after_byte(after_byte(text, b'_')?, byte + 32);
+    }
+    after_byte(text, byte)
+}
+
+/// Whether a key is the original name of the field that has this name in lower camel case.
+fn is_original(key: &[u8], name: &[u8]) -> bool
+    ensures { result ≡ bytes_eq key.now (original_name name.now) }
+{
+    let mut rest = key;
+    for byte in name {
+        let Some(after) = after_original(rest, *byte) else {
+            return false;
+        };
+        rest = after;
+    }
+    rest.is_empty()
+}
+
+/// Whether a key is one of a field's two names.
+fn is_named(field: &Field, key: &str) -> bool
+    ensures { result ≡ is_named (field_view field.now) key.now }
+{
+    key == field.1 || is_original(key.as_bytes(), field.1.as_bytes())
+}
+
+/// Whether a key is a name of one of some fields.
+fn names_field(fields: &[Field], key: &str) -> bool
+    ensures { result ≡ names_field (map field_view fields.now) key.now }
+{
+    for field in fields {
+        if is_named(field, key) {
+            return true;
+        }
+    }
+    false
+}
+
+/// Whether a key is a name of a field of a row.
+fn row_names(row: &Row, key: &str) -> bool
+    ensures { result ≡ row_names (row_view row.now) key.now }
+{
+    match row {
+        Row::Plain(field) => is_named(field, key),
+        Row::Optional(field) => is_named(field, key),
+        Row::Repeated(field) => is_named(field, key),
+        Row::OneOf(fields) => names_field(fields, key),
+    }
+}
+
+/// Whether a key is a name of a field of some rows.
+fn names_row(rows: &[Row], key: &str) -> bool
+    ensures { result ≡ names_row (map row_view rows.now) key.now }
+{
+    for row in rows {
+        if row_names(row, key) {
+            return true;
+        }
+    }
+    false
+}
+
+/// The first key that is no name of a field of the rows.
+pub fn find_unknown<'a>(rows: &[Row], members: &Vec<(&'a str, Value<'a>)>) -> Option<&'a str>
+    ensures { is_none result ≡ are_known (map row_view rows.now) (members_view members.now.items) }
+{
+    for member in members {
+        if !names_row(rows, member.0) {
+            return Some(member.0);
+        }
+    }
+    None
+}
+
+/// The value that an object gives a field, if it is there and not null. An error if it comes twice.
+pub fn given<'v, 'a>(
+    field: &Field,
+    members: &'v Vec<(&'a str, Value<'a>)>,
+) -> Result<Option<&'v Value<'a>>, Reason>
+    ensures { MatchResult result
+        (λ found. given (field_view field.now) (members_view members.now.items)
+        ≡ Some (option_map (λ v. json_view v.now) found))
+        (λ _. given (field_view field.now) (members_view members.now.items) ≡ None) }
+{
+    let mut found: Option<&'v Value<'a>> = None;
+    for member in members {
+        if is_named(field, member.0) {
+            if found.is_some() {
+                return Err(Reason::RepeatedMember);
+            }
+            found = Some(&member.1);
+        }
+    }
+    let Some(value) = found else {
+        return Ok(None);
+    };
+    if value.is_null() {
+        Ok(None)
+    } else {
+        Ok(Some(value))
+    }
+}

@@ -1,0 +1,329 @@
+//! The canonical payload of a JSON value, appended row by row in the order of the schema.
+//!
+//! Each function appends the records of what it is given. After an error, part of them may be there, and the path leads
+//! to what was not taken.
+
+ghost use Rattle.std.specs.Prelude.{◌≡◌, ◌≢◌, Some, None, true, false, map, option_map, IfErr, MatchResult};
+ghost use Rattle.shared_core_wire.specs.Schema.{Enumeration};
+ghost use Rattle.shared_core_wire.specs.Canonical.{written_number};
+ghost use Rattle.json.specs.Value.{value_view as json_view, items_view, members_view};
+ghost use Rattle.shared_core_json_reader.specs.Rows.{field_view, row_view};
+ghost use Rattle.shared_core_json_reader.specs.Reading.{given};
+ghost use Rattle.shared_core_json_reader.specs.Appended.{length_record, field_bytes, items_bytes, run_bytes, list_bytes, given_bytes, oneof_bytes, row_bytes, members_bytes, object_bytes, message_bytes, Appends};
+
+use crate::error::Reason;
+use crate::members::{find_unknown, given};
+use crate::records::{append_bytes, append_number, append_varint};
+use crate::rows::{Field, Kind, Row, rows_of};
+use crate::scalars::{read_boolean, read_bytes, read_enumeration, read_text, read_u32, read_u64};
+use json::Value;
+use std::alloc::Global;
+
+/// The members of an object.
+type Members<'a> = Vec<(&'a str, Value<'a>)>;
+
+/// A step of the way to a value: a member by its name, or an element by its index.
+#[derive(Clone, Copy, Drop)]
+pub enum Step<'a> {
+    Member(&'a str),
+    Element(usize),
+}
+
+/// Where a payload is appended, and the way to the value that is read.
+#[derive(Drop)]
+pub struct Walk<'a> {
+    pub alloc: Global,
+    pub path: Vec<Step<'a>>,
+}
+
+impl<'a> Walk<'a> {
+    /// Goes one step further.
+    fn enter(&mut self, step: Step<'a>) -> Result<(), Reason>
+        ensures { IfErr result (λ reason. reason ≡ Reason.OutOfMemory) }
+    {
+        match self.path.push(step) {
+            Ok(()) => Ok(()),
+            Err(_) => Err(Reason::OutOfMemory),
+        }
+    }
+
+    /// Goes one step back.
+    fn leave(&mut self) {
+        self.path.pop();
+    }
+}
+
+/// Appends the payload of a message that may be nested this deep, itself included.
+#[cycle(message)]
+pub fn append_message<'a>(
+    walk: &mut Walk<'a>,
+    out: &mut Vec<u8>,
+    schema: u32,
+    value: &Value<'a>,
+    levels: u32,
+) -> Result<(), Reason>
+    ensures { Appends result (message_bytes levels schema (json_view value.now)) out.old.items out.new.items }
+{
+    if levels == 0 {
+        return Err(Reason::TooDeep);
+    }
+    append_object(walk, out, rows_of(schema), value, levels - 1)
+}
+
+/// Appends the records of an object.
+#[cycle(message)]
+fn append_object<'a>(
+    walk: &mut Walk<'a>,
+    out: &mut Vec<u8>,
+    rows: &'static [Row],
+    value: &Value<'a>,
+    left: u32,
+) -> Result<(), Reason>
+    ensures { Appends result (object_bytes (message_bytes left) (map row_view rows.now) (json_view value.now))
+        out.old.items out.new.items }
+{
+    let Value::Object(members) = value else {
+        return Err(Reason::WrongKind);
+    };
+    append_members(walk, out, rows, members, left)
+}
+
+/// Appends the records of the members of an object.
+#[cycle(message)]
+fn append_members<'a>(
+    walk: &mut Walk<'a>,
+    out: &mut Vec<u8>,
+    rows: &'static [Row],
+    members: &Members<'a>,
+    left: u32,
+) -> Result<(), Reason>
+    ensures { Appends result (members_bytes (message_bytes left) (map row_view rows.now)
+        (members_view members.now.items)) out.old.items out.new.items }
+{
+    if let Some(key) = find_unknown(rows, members) {
+        walk.enter(Step::Member(key))?;
+        return Err(Reason::UnknownMember);
+    }
+    for row in rows {
+        append_row(walk, out, row, members, left)?;
+    }
+    Ok(())
+}
+
+/// Appends the records of a row.
+#[cycle(message)]
+fn append_row<'a>(
+    walk: &mut Walk<'a>,
+    out: &mut Vec<u8>,
+    row: &'static Row,
+    members: &Members<'a>,
+    left: u32,
+) -> Result<(), Reason>
+    ensures { Appends result (row_bytes (message_bytes left) (members_view members.now.items) (row_view row.now))
+        out.old.items out.new.items }
+{
+    match row {
+        Row::Plain(field) => append_given(walk, out, true, field, members, left),
+        Row::Optional(field) => append_given(walk, out, false, field, members, left),
+        Row::Repeated(field) => append_list(walk, out, field, members, left),
+        Row::OneOf(fields) => append_oneof(walk, out, fields, members, left),
+    }
+}
+
+/// The value that an object gives a field, to which the path leads then.
+fn enter_given<'v, 'a>(
+    walk: &mut Walk<'a>,
+    field: &'static Field,
+    members: &'v Members<'a>,
+) -> Result<Option<&'v Value<'a>>, Reason>
+    ensures { MatchResult result
+        (λ found. given (field_view field.now) (members_view members.now.items)
+        ≡ Some (option_map (λ v. json_view v.now) found))
+        (λ reason. reason ≢ Reason.OutOfMemory → given (field_view field.now) (members_view members.now.items) ≡ None) }
+{
+    let found = given(field, members);
+    if let Ok(None) = found {
+        return Ok(None);
+    }
+    walk.enter(Step::Member(field.1))?;
+    found
+}
+
+/// Appends the record of a field that is not repeated; a default is left out if the field is plain.
+#[cycle(message)]
+fn append_given<'a>(
+    walk: &mut Walk<'a>,
+    out: &mut Vec<u8>,
+    plain: bool,
+    field: &'static Field,
+    members: &Members<'a>,
+    left: u32,
+) -> Result<(), Reason>
+    ensures { Appends result (given_bytes (field_bytes (message_bytes left) plain (field_view field.now))
+        (given (field_view field.now) (members_view members.now.items)))
+        out.old.items out.new.items }
+{
+    let Some(value) = enter_given(walk, field, members)? else {
+        return Ok(());
+    };
+    append_value(walk, out, plain, field, value, left)?;
+    walk.leave();
+    Ok(())
+}
+
+/// Appends the record of a oneof.
+#[cycle(message)]
+fn append_oneof<'a>(
+    walk: &mut Walk<'a>,
+    out: &mut Vec<u8>,
+    fields: &'static [Field],
+    members: &Members<'a>,
+    left: u32,
+) -> Result<(), Reason>
+    ensures { Appends result (oneof_bytes (message_bytes left) (members_view members.now.items) false
+        (map field_view fields.now)) out.old.items out.new.items }
+{
+    let mut held = false;
+    for field in fields {
+        let Some(value) = enter_given(walk, field, members)? else {
+            continue;
+        };
+        if held {
+            return Err(Reason::SeveralMembers);
+        }
+        append_value(walk, out, false, field, value, left)?;
+        walk.leave();
+        held = true;
+    }
+    Ok(())
+}
+
+/// Appends the records of a repeated field.
+#[cycle(message)]
+fn append_list<'a>(
+    walk: &mut Walk<'a>,
+    out: &mut Vec<u8>,
+    field: &'static Field,
+    members: &Members<'a>,
+    left: u32,
+) -> Result<(), Reason>
+    ensures { Appends result (given_bytes (list_bytes (message_bytes left) (field_view field.now))
+        (given (field_view field.now) (members_view members.now.items)))
+        out.old.items out.new.items }
+{
+    let Some(value) = enter_given(walk, field, members)? else {
+        return Ok(());
+    };
+    let Value::Array(items) = value else {
+        return Err(Reason::WrongKind);
+    };
+    if let Kind::U32 = field.2 {
+        append_run(walk, out, field.0, items)?;
+    } else {
+        append_items(walk, out, field, items, left)?;
+    }
+    walk.leave();
+    Ok(())
+}
+
+/// Appends the records of the elements of an array.
+#[cycle(message)]
+fn append_items<'a>(
+    walk: &mut Walk<'a>,
+    out: &mut Vec<u8>,
+    field: &'static Field,
+    items: &Vec<Value<'a>>,
+    left: u32,
+) -> Result<(), Reason>
+    ensures { Appends result (items_bytes (message_bytes left) (field_view field.now) (items_view items.now.items))
+        out.old.items out.new.items }
+{
+    for (index, item) in items.iter().enumerate() {
+        walk.enter(Step::Element(index))?;
+        append_value(walk, out, false, field, item, left)?;
+        walk.leave();
+    }
+    Ok(())
+}
+
+/// Appends the numbers of an array, packed into one record.
+fn append_run<'a>(
+    walk: &mut Walk<'a>,
+    out: &mut Vec<u8>,
+    number: u32,
+    items: &Vec<Value<'a>>,
+) -> Result<(), Reason>
+    ensures { Appends result (option_map (length_record true number) (run_bytes (items_view items.now.items)))
+        out.old.items out.new.items }
+{
+    let mut run = Vec::new(walk.alloc);
+    append_numbers(walk, &mut run, items)?;
+    append_bytes(out, true, number, run.as_slice())?;
+    Ok(())
+}
+
+/// Appends the varints of the numbers of an array.
+fn append_numbers<'a>(
+    walk: &mut Walk<'a>,
+    run: &mut Vec<u8>,
+    items: &Vec<Value<'a>>,
+) -> Result<(), Reason>
+    ensures { Appends result (run_bytes (items_view items.now.items)) run.old.items run.new.items }
+{
+    for (index, item) in items.iter().enumerate() {
+        walk.enter(Step::Element(index))?;
+        append_varint(run, u64::from(read_u32(item)?))?;
+        walk.leave();
+    }
+    Ok(())
+}
+
+/// Appends the record of a single value of a field; a default is left out if it is of a plain field.
+#[cycle(message)]
+fn append_value<'a>(
+    walk: &mut Walk<'a>,
+    out: &mut Vec<u8>,
+    plain: bool,
+    field: &'static Field,
+    value: &Value<'a>,
+    left: u32,
+) -> Result<(), Reason>
+    ensures { Appends result (field_bytes (message_bytes left) plain (field_view field.now) (json_view value.now))
+        out.old.items out.new.items }
+{
+    match field.2 {
+        Kind::U32 => append_number(out, plain, field.0, u64::from(read_u32(value)?))?,
+        Kind::U64 => append_number(out, plain, field.0, read_u64(value)?)?,
+        Kind::Boolean => append_number(out, plain, field.0, read_boolean(value)?)?,
+        Kind::Enumeration(values) => append_number(
+            out,
+            plain,
+            field.0,
+            extended(read_enumeration(values, value)?),
+        )?,
+        Kind::Text => append_bytes(out, plain, field.0, read_text(value)?)?,
+        Kind::ByteString => append_bytes(
+            out,
+            plain,
+            field.0,
+            read_bytes(walk.alloc, value)?.as_slice(),
+        )?,
+        Kind::Message(schema) => {
+            let mut content = Vec::new(walk.alloc);
+            append_message(walk, &mut content, schema, value, left)?;
+            append_bytes(out, false, field.0, content.as_slice())?;
+        }
+    }
+    Ok(())
+}
+
+/// The number that is written for the low 32 bits of an enum: a negative one is sign-extended to 64 bits.
+fn extended(bits: u32) -> u64
+    ensures { result ≡ written_number Enumeration bits }
+{
+    if bits < 2_147_483_648 {
+        u64::from(bits)
+    } else {
+        u64::from(bits) + 18_446_744_069_414_584_320
+    }
+}

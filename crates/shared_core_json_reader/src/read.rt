@@ -1,0 +1,116 @@
+//! Reading a text: it is parsed as a tree of JSON, and the payload is appended by the tree.
+
+ghost use Rattle.std.specs.Prelude.{◌≡◌, ◌≢◌, Some, None, IfOk, IfErr, MatchResult};
+ghost use Rattle.json.specs.Value.{value_view as json_view};
+ghost use Rattle.shared_core_codec.specs.Payloads.{IsAccepted, payload_meaning};
+ghost use Rattle.shared_core_json_reader.specs.Reading.{only_value, text_meaning, text_payload};
+
+use crate::error::{JsonReadError, Reason};
+use crate::payload::{Step, Walk, append_message};
+use json::{Reader, Scratch, Value};
+use std::alloc::{AllocError, Global};
+
+/// How deep messages may be nested, the outermost included: a payload has depths 0 to 100.
+const LEVELS: u32 = 101;
+
+/// How deep arrays and objects may be nested in a text; a message one hundred levels deep needs 202 at most.
+const MAX_DEPTH: usize = 1000;
+
+/// The one value of a text.
+fn parse<'a>(alloc: Global, reader: &mut Reader<'a>) -> Result<Value<'a>, Reason>
+    ensures { MatchResult result (λ value. only_value reader.old ≡ Some (json_view value))
+        (λ reason. reason ≢ Reason.OutOfMemory → only_value reader.old ≡ None) }
+{
+    let value = match Value::read(alloc, reader, MAX_DEPTH) {
+        Ok(value) => value,
+        Err(json::Error::Invalid) => return Err(Reason::NotJson),
+        // its other errors do not come here
+        Err(_) => return Err(Reason::OutOfMemory),
+    };
+    match reader.next() {
+        Some(_) => Err(Reason::NotJson),
+        None => Ok(value),
+    }
+}
+
+/// The text of a path, as `headers[2].key`.
+fn path_text(alloc: Global, path: &Vec<Step<'_>>) -> Result<String, AllocError> {
+    let mut text = String::new(alloc);
+    for step in path {
+        match step {
+            Step::Member(name) => {
+                if !text.is_empty() {
+                    text.push('.')?;
+                }
+                text.push_str(name)?;
+            }
+            Step::Element(index) => write!(text, "[{index}]")?,
+        }
+    }
+    Ok(text)
+}
+
+/// The error for a reason, at an offset if the text is not JSON.
+fn error_at(alloc: Global, reason: Reason, offset: usize) -> JsonReadError
+    ensures { result.reason ≡ reason }
+{
+    JsonReadError {
+        reason,
+        offset: if reason == Reason::NotJson {
+            Some(offset)
+        } else {
+            None
+        },
+        path: String::new(alloc),
+    }
+}
+
+/// The error for what a path leads to.
+fn error_on(alloc: Global, reason: Reason, path: &Vec<Step<'_>>) -> JsonReadError
+    ensures { result.reason ≢ Reason.OutOfMemory → result.reason ≡ reason }
+{
+    match path_text(alloc, path) {
+        Ok(path) => JsonReadError {
+            reason,
+            offset: None,
+            path,
+        },
+        Err(_) => error_at(alloc, Reason::OutOfMemory, 0),
+    }
+}
+
+/// Returns the canonical payload of what a JSON text means for the schema at this index of the table.
+///
+/// The text is proto3's JSON form of the message: an object with the members of its fields in any order, by their names
+/// in lower camel case or by their original ones. A number is a number or a string of one, also with a point or an
+/// exponent if it is whole; a value of an enum is its number or its name; bytes are base64, in the standard alphabet or
+/// that of URLs, with padding or without; `null` is absent. The errors are those of `Reason`.
+pub fn payload_of(alloc: Global, schema: u32, text: &[u8]) -> Result<Vec<u8>, JsonReadError>
+    ensures ok { IfOk result (λ payload. text_payload schema text.now ≡ Some payload.items) }
+    // the payload is accepted, and means what the text means
+    ensures means { IfOk result (λ payload. IsAccepted schema payload.items
+        × (text_meaning schema text.now ≡ Some (payload_meaning schema payload.items))) }
+    ensures refused { IfErr result (λ error. error.reason ≢ Reason.OutOfMemory → text_payload schema text.now ≡ None) }
+{
+    let text = match std::str::from_utf8(text) {
+        Ok(text) => text,
+        Err(error) => return Err(error_at(alloc, Reason::NotJson, error.valid_up_to())),
+    };
+    let mut scratch = Scratch::new(alloc);
+    let Ok(mut reader) = Reader::new(text, &mut scratch) else {
+        return Err(error_at(alloc, Reason::OutOfMemory, 0));
+    };
+    let value = match parse(alloc, &mut reader) {
+        Ok(value) => value,
+        Err(reason) => return Err(error_at(alloc, reason, reader.offset())),
+    };
+    let mut walk = Walk {
+        alloc,
+        path: Vec::new(alloc),
+    };
+    let mut payload = Vec::new(alloc);
+    match append_message(&mut walk, &mut payload, schema, &value, LEVELS) {
+        Ok(()) => Ok(payload),
+        Err(reason) => Err(error_on(alloc, reason, &walk.path)),
+    }
+}
