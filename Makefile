@@ -1,5 +1,5 @@
 # A front for the scripts, which say more with --help: no rule of it does anything else.
-.PHONY: help quick test check generate view install uninstall python go ruby rust bench
+.PHONY: help quick test check generate view install uninstall python go ruby rust node bench
 
 help:
 	@echo 'make quick                  what can be known in two minutes, without a proof (sh scripts/test.sh --quick)'
@@ -13,6 +13,7 @@ help:
 	@echo 'make go                     builds and vets the package for Go over the library that pkg-config finds'
 	@echo 'make ruby [PREFIX=..]       builds the gem for Ruby, with the library that is installed there'
 	@echo 'make rust                   builds the crate for Rust over the library that is installed (rust/README.md)'
+	@echo 'make node [PREFIX=..]       builds the addon for Node over the library in that folder (sh node/build.sh)'
 	@echo 'make bench [NAME=speed]     lists what is measured, or measures it (sh scripts/bench.sh)'
 
 quick:
@@ -48,6 +49,9 @@ ruby:
 
 rust:
 	cd rust && cargo build --release --offline
+
+node:
+	sh node/build.sh $(if $(PREFIX),'$(PREFIX)')
 
 bench:
 	sh scripts/bench.sh $(NAME)

@@ -10,9 +10,11 @@ cd "$(dirname "$0")/.." || exit 0
 seconds=600
 wanted=$(sed 's/ *#.*//' scripts/packages.txt)
 
-# missing: the packages that are not installed, on one line
+# missing: the packages that are not installed, on one line, but for those whose file is there without them
 missing() {
-  for package in $wanted; do
+  echo "$wanted" | while read -r package file; do
+    [ -n "$package" ] || continue
+    [ -z "$file" ] || [ ! -e "$file" ] || continue
     case $(dpkg-query -W -f '${db:Status-Status}' "$package" 2> /dev/null) in
       installed) ;;
       *) printf ' %s' "$package" ;;

@@ -100,6 +100,10 @@ same "the calls and rust/src/ffi.rs" "$work/calls" "$work/lines"
 grep -o 'c::journal_[a-z_]*' rust/src/ffi.rs | sed 's/.*:://' | sort -u > "$work/lines"
 same "the calls and those that rust/src/ffi.rs makes" "$work/values" "$work/lines"
 
+# The addon for Node makes each of them.
+grep -o 'journal_[a-z_]*(' node/src/addon.c | tr -d '(' | sort > "$work/lines"
+same "the calls and the functions of node/src/addon.c" "$work/values" "$work/lines"
+
 # It has tests, is called by nobody who means well, and stands in the table of promises.
 grep -oh 'journal_[a-z_]*(' crates/journal_ffi/src/tests/*.rt | sed 's/(//' | sort -u > "$work/lines"
 same "the calls and the tests of journal_ffi" "$work/values" "$work/lines"

@@ -8,7 +8,7 @@ set -u
 cd "$(dirname "$0")/../.." || exit 1
 . scripts/checks/lib.sh
 
-folders='bench|conformance|crates|docs|examples|go|include|proto|python|rust|ruby|scripts|share|tests|tools|view'
+folders='bench|conformance|crates|docs|examples|go|include|node|proto|python|ruby|rust|scripts|share|tests|tools|view'
 pages=$(find . -name '*.md' -not -path '*/out/*' -not -path '*/target/*' | sed 's|^\./||' | sort)
 
 # missing PAGE WHAT
@@ -193,6 +193,8 @@ go/README.md|pendratsoa@v
 go/types.go|the version of the library, as "
 include/pendratsoa.h|JOURNAL_LIBRARY_VERSION "
 include/pendratsoa.h|the version of the library, as "
+node/index.d.ts|The version of the library, as `'
+node/package.json|^  "version": "
 python/pendratsoa/_calls.py|The version of the library, as "
 python/README.md|pendratsoa-
 python/pyproject.toml|^version = "

@@ -38,7 +38,7 @@ stands? as it (was|stood)|is unchanged
 stands? in one another|are nested
 END
 
-git ls-files -- '*.md' '*.rt' '*.antt' '*.proto' '*.py' '*.sh' '*.awk' '*.c' '*.h' '*.rs' '*.go' '*.rb' > "$work/files"
+git ls-files -- '*.md' '*.rt' '*.antt' '*.proto' '*.py' '*.sh' '*.awk' '*.c' '*.h' '*.rs' '*.go' '*.rb' '*.js' '*.ts' '*.mts' > "$work/files"
 # shellcheck disable=SC2046 # the names are split; none has a blank
 awk -v patterns="$work/patterns" -v self=scripts/checks/words.sh '
   BEGIN {
@@ -59,7 +59,7 @@ awk -v patterns="$work/patterns" -v self=scripts/checks/words.sh '
     if (FILENAME ~ /\.(rt|proto|rs|go)$/) marks = "//[/!]?"
     if (FILENAME ~ /\.antt$/) marks = "--+"
     if (FILENAME ~ /\.(py|sh|awk|rb)$/) marks = "#+"
-    if (FILENAME ~ /\.(c|h)$/) marks = "(/[*]|[*]|//)"
+    if (FILENAME ~ /\.(c|h|js|ts|mts)$/) marks = "(/[*]+|[*]|//)"
     page = FILENAME ~ /\.md$/
     files++
   }

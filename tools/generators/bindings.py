@@ -58,5 +58,37 @@ def ruby():
     )
 
 
+def node():
+    """The module of the package for Node."""
+    names = "".join(f"  '{message.name}',\n" for message in schemas())
+    kinds = "".join(
+        f"\n/** Whether a code is that of a {kind}; custom entries count by their codes too. */\n"
+        f"export function is{kind.capitalize()}Code(code) {{\n"
+        f"  return code >= 0x{codes.start:04x} && code < 0x{codes.stop:04x};\n}}\n"
+        for kind, codes in (("command", COMMANDS), ("notification", NOTIFICATIONS))
+    )
+    return (
+        "// The names of the schemas, and the codes of commands and of notifications.\n\n"
+        f"/** The name of each schema, at its number. */\nexport const SCHEMA_NAMES = [\n{names}];\n{kinds}"
+    )
+
+
+def node_types():
+    """The types of names for TypeScript."""
+    schema_names = "".join(f"\n  | '{message.name}'" for message in schemas())
+    type_names = "".join(f"\n  | '{message.type_name()}'" for message in typed())
+    return (
+        "// The names of the schemas and of the types.\n\n"
+        f"/** The name of a schema. */\nexport type SchemaName ={schema_names};\n\n"
+        f"/** The name of a named type. */\nexport type NamedType ={type_names};\n"
+    )
+
+
 def files():
-    return {"python/pendratsoa/_protocol.py": python(), "go/protocol.go": go(), "ruby/lib/pendratsoa/protocol.rb": ruby()}
+    return {
+        "python/pendratsoa/_protocol.py": python(),
+        "go/protocol.go": go(),
+        "ruby/lib/pendratsoa/protocol.rb": ruby(),
+        "node/lib/protocol.js": node(),
+        "node/names.d.ts": node_types(),
+    }

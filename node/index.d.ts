@@ -1,0 +1,402 @@
+/**
+ * The journal wire protocol of the Restate SDKs: the items of a stream, frames, payloads and their JSON, notifications,
+ * and commands and journals compared.
+ *
+ * Bytes are a `Uint8Array` (a `Buffer` is one). One over a `SharedArrayBuffer`, which another thread may change
+ * meanwhile, or whose buffer is detached, is a `TypeError`, as is any value of another kind than is declared here. What
+ * is returned is the caller's, in memory of its own.
+ */
+
+import type { NamedType, SchemaName } from './names.js';
+
+export type { NamedType, SchemaName };
+
+/** The first protocol version that is spoken. */
+export const FIRST_VERSION: number;
+
+/** The last protocol version that is spoken. */
+export const LAST_VERSION: number;
+
+/** The names of the schemas, each at its number. */
+export const schemaNames: readonly SchemaName[];
+
+/** A schema, by its number or its name. */
+export type Schema = number | SchemaName;
+
+/** The name of a type, as `'SleepCommand'`, or `'CustomEntry(64513)'` of a custom entry. */
+export type TypeName = NamedType | `CustomEntry(${number})`;
+
+/** A value of JSON. */
+export type JsonValue = null | boolean | number | string | JsonValue[] | JsonObject;
+
+/** An object of JSON. */
+export interface JsonObject {
+  [name: string]: JsonValue;
+}
+
+// Streams.
+
+/** An item of a stream; `kind` says which one. */
+export type Item = Message | UnknownCode | Skipped;
+
+/** A message of a stream. */
+export class Message {
+  constructor(version: number, code: number, payload: Uint8Array, requiresAck?: boolean);
+
+  readonly kind: 'message';
+
+  /** The protocol version of its stream. */
+  readonly version: number;
+
+  /** The code of its type. */
+  readonly code: number;
+
+  /** Its payload, in any encoding, as it came. */
+  readonly payload: Uint8Array;
+
+  /** Whether its header requests an acknowledgement. */
+  readonly requiresAck: boolean;
+
+  /** The name of its type. */
+  get type(): TypeName;
+
+  /**
+   * The number of the schema of its payload.
+   * @throws {Unknown} a custom entry has none
+   */
+  get schema(): number;
+
+  /** Whether it is a command, by its code. Custom entries count by their codes too. */
+  get isCommand(): boolean;
+
+  /** Whether it is a notification, by its code. Custom entries count by their codes too. */
+  get isNotification(): boolean;
+
+  /**
+   * What its payload means, as the object that protobuf's JSON form of it is: 64-bit numbers are texts, bytes are
+   * base64.
+   * @throws {Malformed}
+   * @throws {Unknown} a custom entry has no schema
+   */
+  json(): JsonObject;
+
+  /**
+   * The canonical encoding of its payload.
+   * @throws {Malformed}
+   * @throws {Unknown} a custom entry has no schema
+   */
+  canonical(): Uint8Array;
+
+  /**
+   * Its frame at a version, by default its own: a header, and after it the canonical payload.
+   * @throws {Malformed}
+   * @throws {Unknown} a custom entry has no schema
+   */
+  frame(version?: number): Uint8Array;
+
+  /**
+   * Its id and its result.
+   * @throws {Unknown} it is no notification
+   * @throws {Malformed}
+   * @throws {NoId}
+   * @throws {NoResult}
+   */
+  notification(): Notification;
+}
+
+/** A header whose code is no type's, before version 9: eight bytes, which are skipped. */
+export class UnknownCode {
+  constructor(version: number, code: number, word: bigint);
+
+  readonly kind: 'unknownCode';
+
+  /** The protocol version of its stream. */
+  readonly version: number;
+
+  /** The unknown code. */
+  readonly code: number;
+
+  /** The eight bytes as one big-endian number. */
+  readonly word: bigint;
+}
+
+/** A message of an unknown type, which is skipped with its payload from version 9 on. */
+export class Skipped {
+  constructor(version: number, code: number, word: bigint, payload: Uint8Array);
+
+  readonly kind: 'skipped';
+
+  /** The protocol version of its stream. */
+  readonly version: number;
+
+  /** The unknown code. */
+  readonly code: number;
+
+  /** The eight bytes of its header as one big-endian number. */
+  readonly word: bigint;
+
+  /** Its payload, as it came. */
+  readonly payload: Uint8Array;
+}
+
+/**
+ * A stream that comes in chunks of any size. It iterates over the items that are there as a whole: each loop continues
+ * where the one before stopped, and ends when no whole item is left; a chunk may be fed meanwhile.
+ *
+ * A chunk is copied as it is fed, and a payload as it is taken, so that neither changes with the other, and either may
+ * be transferred to a worker. The memory of a stream is proportional to the bytes that are in no item yet.
+ */
+export class Stream implements Iterable<Item> {
+  /**
+   * @param version the protocol version, by default 8
+   * @throws {Unknown} it is no protocol version
+   */
+  constructor(version?: number);
+
+  /** The protocol version. */
+  get version(): number;
+
+  /** The number of bytes that came and are in no item that was taken. */
+  get rest(): number;
+
+  /**
+   * Appends a chunk to what came. If there is no memory for it, the stream is unchanged.
+   * @throws {RangeError} there is no memory for it
+   */
+  feed(chunk: Uint8Array): void;
+
+  [Symbol.iterator](): Generator<Item, void, undefined>;
+}
+
+/**
+ * Decodes chunks into items. The transformed stream fails with `Incomplete` if it ends within an item.
+ * @param version the protocol version, by default 8
+ * @throws {Unknown} it is no protocol version
+ */
+export function decode(version?: number): TransformStream<Uint8Array, Item>;
+
+/**
+ * The items of the chunks of a source: a readable stream of Node or of the web, or anything else that can be iterated.
+ * It throws `Incomplete` if the source ends within an item, and whatever the source throws. A loop that ends early
+ * closes the source.
+ * @param version the protocol version, by default 8
+ * @throws {Unknown} it is no protocol version
+ */
+export function items(
+  source: AsyncIterable<Uint8Array> | Iterable<Uint8Array>,
+  version?: number,
+): AsyncGenerator<Item, void, undefined>;
+
+// Names and numbers.
+
+/** The version of the library, as `'0.1.0'`. */
+export function libraryVersion(): string;
+
+/**
+ * The number of the schema that payloads of a type have at a version. A suspension has another one before version 7
+ * than later.
+ * @throws {Unknown} the version is none, or no named type has the code
+ */
+export function schema(version: number, code: number): number;
+
+/**
+ * The name of the type that has a code.
+ * @throws {Unknown} no type has it
+ */
+export function typeName(code: number): TypeName;
+
+/**
+ * The code of the named type that has a name.
+ * @throws {Unknown} none has it
+ */
+export function typeCode(name: string): number;
+
+/**
+ * The eight bytes before the payload of a message, by the length of the payload in bytes.
+ * @throws {Unknown} the version is none, or no type has the code; a custom entry has a header
+ * @throws {TooLong} the length is above 4,294,967,295
+ * @throws {RangeError} the length is negative, or not whole
+ */
+export function header(version: number, code: number, payloadLength: number): Uint8Array;
+
+/**
+ * The frame of a message of a named type at a version: its header, and the canonical payload of what `payload` means. A
+ * suspension is read by its schema from version 7 on, and written by that of the version.
+ * @throws {Unknown} the version is none, or no named type has the code
+ * @throws {Malformed}
+ * @throws {TooLong}
+ */
+export function frame(version: number, code: number, payload: Uint8Array): Uint8Array;
+
+// Payloads, by their schemas. All throw `Unknown` if there is no such schema.
+
+/** Whether a payload is well-formed for a schema. */
+export function isWellFormed(schema: Schema, payload: Uint8Array): boolean;
+
+/**
+ * The canonical payload of what a payload means.
+ * @throws {Malformed}
+ * @throws {TooLong}
+ */
+export function canonical(schema: Schema, payload: Uint8Array): Uint8Array;
+
+/**
+ * The canonical payload of the result of merging the second payload into the first, as protobuf merges messages.
+ * @throws {Malformed} one of the two is not well-formed by itself
+ * @throws {TooLong}
+ */
+export function merge(schema: Schema, first: Uint8Array, second: Uint8Array): Uint8Array;
+
+/**
+ * What a payload means, as a text in protobuf's JSON form.
+ * @throws {Malformed}
+ * @throws {TooLong}
+ */
+export function toJson(schema: Schema, payload: Uint8Array): string;
+
+// Notifications.
+
+/** The id and the result of a notification. */
+export type Notification = NotificationId & NotificationResult;
+
+/** What a notification is about: a completion or a signal by its number, or a signal by its name. */
+export type NotificationId =
+  | { readonly idKind: 'completionId' | 'signalId'; readonly id: number }
+  | { readonly idKind: 'signalName'; readonly id: string };
+
+/** The result of a notification. */
+export interface NotificationResult {
+  readonly resultKind: 'void' | 'value' | 'failure' | 'invocationId' | 'stateKeys';
+
+  /**
+   * The canonical payload of a `Value`, a `Failure` or `StateKeys`, the text of an invocation id in UTF-8, or of a void
+   * nothing.
+   */
+  readonly result: Uint8Array;
+}
+
+/**
+ * The id and the result of a notification of any type.
+ * @throws {Unknown} no notification has the code
+ * @throws {Malformed}
+ * @throws {NoId}
+ * @throws {NoResult}
+ */
+export function notification(code: number, payload: Uint8Array): Notification;
+
+// Commands and journals compared.
+
+/** How commands and journals are compared. */
+export interface CompareOptions {
+  /** Whether the content of user data (values, parameters) is not compared; by default it is. */
+  readonly ignorePayloads?: boolean;
+}
+
+/**
+ * Whether two commands of a type are the same for a replay.
+ * @throws {Unknown} no command has the code
+ * @throws {Malformed}
+ */
+export function headerEq(code: number, first: Uint8Array, second: Uint8Array, options?: CompareOptions): boolean;
+
+/**
+ * A line for each printed field in which two commands of a type differ, each after a line feed and three spaces; an
+ * empty text if they differ in none.
+ * @throws {Unknown} no command has the code
+ * @throws {Malformed}
+ */
+export function difference(code: number, first: Uint8Array, second: Uint8Array): string;
+
+/** How two journals compare. */
+export interface Verdict {
+  /**
+   * - `same`: each command is the same as the other's at its index
+   * - `recordedEnded`, `replayedEnded`: the other journal has a command more, at the index
+   * - `typeMismatch`, `headerMismatch`: the commands at the index are of two types, or of one type and differ
+   * - `badRecorded`, `badReplayed`: the command at the index is malformed
+   */
+  readonly kind:
+    | 'same'
+    | 'recordedEnded'
+    | 'replayedEnded'
+    | 'typeMismatch'
+    | 'headerMismatch'
+    | 'badRecorded'
+    | 'badReplayed';
+
+  /** The index of that command among the commands of its journal, or the number of commands if all are the same. */
+  readonly index: number;
+
+  /** The text of a mismatch, for a reader; otherwise empty. */
+  readonly text: string;
+}
+
+/**
+ * Compares a recorded journal with a replayed one, command by command. Other items, and bytes after the last whole
+ * item, are skipped.
+ * @throws {Unknown} the version is none
+ */
+export function compareJournals(
+  version: number,
+  recorded: Uint8Array,
+  replayed: Uint8Array,
+  options?: CompareOptions,
+): Verdict;
+
+// Errors.
+
+/**
+ * A call failed. The message names the argument that it failed for, and its value. Of this class itself is the error
+ * that the library returned a number which this module does not know, as a later one may.
+ */
+export class JournalError extends Error {
+  /** What is wrong: one text for each class. */
+  readonly code: string;
+
+  /** The name of the argument, if the error is about one. */
+  readonly argument?: string;
+
+  /** The value of that argument. */
+  readonly value?: unknown;
+}
+
+/** A payload is not well-formed for its schema. */
+export class Malformed extends JournalError {
+  readonly code: 'JOURNAL_MALFORMED';
+}
+
+/** An allocation of the library failed; the call can be repeated. */
+export class OutOfMemory extends JournalError {
+  readonly code: 'JOURNAL_OUT_OF_MEMORY';
+}
+
+/** An array for numbers was too short, which this module never passes. */
+export class NoRoom extends JournalError {
+  readonly code: 'JOURNAL_NO_ROOM';
+}
+
+/** A payload would have more than 4,294,967,295 bytes. */
+export class TooLong extends JournalError {
+  readonly code: 'JOURNAL_TOO_LONG';
+}
+
+/** A number or a name does not exist, or is not of the kind that the call is for. */
+export class Unknown extends JournalError {
+  readonly code: 'JOURNAL_UNKNOWN';
+}
+
+/** A notification has no id. */
+export class NoId extends JournalError {
+  readonly code: 'JOURNAL_NO_ID';
+}
+
+/** A notification has an id, and no result. */
+export class NoResult extends JournalError {
+  readonly code: 'JOURNAL_NO_RESULT';
+}
+
+/** A source ended within an item; `value` is the number of bytes of it that came. */
+export class Incomplete extends JournalError {
+  readonly code: 'JOURNAL_INCOMPLETE';
+  readonly value: number;
+}

@@ -1,0 +1,34 @@
+// The journal protocol of the Restate SDKs. index.d.ts says what each name is.
+
+export {
+  FIRST_VERSION,
+  LAST_VERSION,
+  canonical,
+  compareJournals,
+  difference,
+  frame,
+  header,
+  headerEq,
+  isWellFormed,
+  libraryVersion,
+  merge,
+  notification,
+  schema,
+  toJson,
+  typeCode,
+  typeName,
+} from './lib/calls.js';
+export {
+  Incomplete,
+  JournalError,
+  Malformed,
+  NoId,
+  NoResult,
+  NoRoom,
+  OutOfMemory,
+  TooLong,
+  Unknown,
+} from './lib/errors.js';
+export { Message, Skipped, UnknownCode } from './lib/items.js';
+export { schemaNames } from './lib/schemas.js';
+export { Stream, decode, items } from './lib/stream.js';

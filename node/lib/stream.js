@@ -1,0 +1,134 @@
+// Streams that come in chunks.
+
+import { addon } from './addon.js';
+import { checked } from './calls.js';
+import { incomplete, notKnown } from './errors.js';
+import { Message, Skipped, UnknownCode } from './items.js';
+
+const NOTHING = new Uint8Array(0);
+
+// The numbers of an item, and their indices. No JavaScript runs between a call and the reading of it.
+const numbers = new BigUint64Array(6);
+const KIND = 0;
+const WORD = 1;
+const CODE = 2;
+const ACK = 3;
+const SIZE = 4;
+const PAYLOAD = 5;
+
+/** A stream that comes in chunks. */
+export class Stream {
+  #version;
+  // what came and is in no item yet is from #begin up to #end; the rest is room
+  #bytes = NOTHING;
+  #begin = 0;
+  #end = 0;
+
+  constructor(version = 8) {
+    checked(addon.next(version, NOTHING, numbers), { version });
+    this.#version = version;
+  }
+
+  get version() {
+    return this.#version;
+  }
+
+  get rest() {
+    return this.#end - this.#begin;
+  }
+
+  feed(chunk) {
+    const length = addon.chunkLength(chunk);
+    if (length > this.#bytes.length - this.#end) {
+      this.#makeRoom(length);
+    }
+    this.#bytes.set(chunk, this.#end);
+    this.#end += length;
+  }
+
+  *[Symbol.iterator]() {
+    let item = this.#take();
+    while (item !== undefined) {
+      yield item;
+      item = this.#take();
+    }
+  }
+
+  /** Moves what is in no item yet to the beginning of new memory, with room for so many bytes more. */
+  #makeRoom(length) {
+    const rest = this.#bytes.subarray(this.#begin, this.#end);
+    // at least as much room as is moved, so that all moving takes linear time, however small the chunks are
+    const bytes = new Uint8Array(rest.length + Math.max(rest.length, length));
+    bytes.set(rest);
+    this.#bytes = bytes;
+    this.#begin = 0;
+    this.#end = rest.length;
+  }
+
+  /** Takes the item that the rest begins with, if it is whole. An error takes nothing. */
+  #take() {
+    const rest = this.#bytes.subarray(this.#begin, this.#end);
+    if (checked(addon.next(this.#version, rest, numbers), { version: this.#version }) > 0) {
+      return undefined;
+    }
+    const item = itemOf(this.#version, rest);
+    this.#begin += Number(numbers[SIZE]);
+    if (this.#begin === this.#end) {
+      this.#bytes = NOTHING;
+      this.#begin = 0;
+      this.#end = 0;
+    }
+    return item;
+  }
+}
+
+/** The item whose numbers were written, with a payload in memory of its own. */
+function itemOf(version, bytes) {
+  const code = Number(numbers[CODE]);
+  const payload = () => bytes.slice(Number(numbers[PAYLOAD]), Number(numbers[SIZE]));
+  switch (numbers[KIND]) {
+    case 0n:
+      return new Message(version, code, payload(), numbers[ACK] === 1n);
+    case 1n:
+      return new UnknownCode(version, code, numbers[WORD]);
+    case 2n:
+      return new Skipped(version, code, numbers[WORD], payload());
+    default:
+      throw notKnown('kind of item', numbers[KIND]);
+  }
+}
+
+/** Decodes chunks into items. */
+export function decode(version = 8) {
+  const stream = new Stream(version);
+  return new TransformStream({
+    transform(chunk, controller) {
+      stream.feed(chunk);
+      for (const item of stream) {
+        controller.enqueue(item);
+      }
+    },
+    flush() {
+      atEnd(stream);
+    },
+  });
+}
+
+/** The items of the chunks of a source. */
+export function items(source, version = 8) {
+  return itemsOf(new Stream(version), source);
+}
+
+async function* itemsOf(stream, source) {
+  for await (const chunk of source) {
+    stream.feed(chunk);
+    yield* stream;
+  }
+  atEnd(stream);
+}
+
+function atEnd(stream) {
+  if (stream.rest > 0) {
+    throw incomplete(stream.rest);
+  }
+}

@@ -1,0 +1,173 @@
+/*
+ * The calls of pendratsoa.h as functions of JavaScript, with the same parameters in the same order: numbers, a
+ * Uint8Array for a slice of bytes, a BigUint64Array for one of numbers, a boolean for a flag. Each returns what the
+ * call returns. What is friendlier is in the folder lib.
+ */
+#include <pendratsoa.h>
+
+#include "arguments.h"
+
+/* A function: its name, what makes the call, and its parameters. */
+struct function {
+    const char *name;
+    int64_t (*call)(const struct arguments *arguments);
+    enum parameter parameters[MOST_PARAMETERS];
+};
+
+static int64_t library_version(const struct arguments *arguments) {
+    return journal_library_version(arguments->out.bytes, arguments->out.length);
+}
+
+static int64_t schema(const struct arguments *arguments) {
+    return journal_schema(arguments->version, arguments->code);
+}
+
+static int64_t type_name(const struct arguments *arguments) {
+    return journal_type_name(arguments->code, arguments->out.bytes, arguments->out.length);
+}
+
+static int64_t type_code(const struct arguments *arguments) {
+    return journal_type_code(arguments->first.bytes, arguments->first.length);
+}
+
+static int64_t next(const struct arguments *arguments) {
+    return journal_next(arguments->version, arguments->first.bytes, arguments->first.length, arguments->numbers,
+                        arguments->numbers_room);
+}
+
+static int64_t header(const struct arguments *arguments) {
+    return journal_header(arguments->version, arguments->code, arguments->payload_length, arguments->out.bytes,
+                          arguments->out.length);
+}
+
+static int64_t frame(const struct arguments *arguments) {
+    return journal_frame(arguments->version, arguments->code, arguments->first.bytes, arguments->first.length,
+                         arguments->out.bytes, arguments->out.length);
+}
+
+static int64_t is_well_formed(const struct arguments *arguments) {
+    return journal_is_well_formed(arguments->schema, arguments->first.bytes, arguments->first.length);
+}
+
+static int64_t canonical(const struct arguments *arguments) {
+    return journal_canonical(arguments->schema, arguments->first.bytes, arguments->first.length, arguments->out.bytes,
+                             arguments->out.length);
+}
+
+static int64_t merge(const struct arguments *arguments) {
+    return journal_merge(arguments->schema, arguments->first.bytes, arguments->first.length, arguments->second.bytes,
+                         arguments->second.length, arguments->out.bytes, arguments->out.length);
+}
+
+static int64_t json(const struct arguments *arguments) {
+    return journal_json(arguments->schema, arguments->first.bytes, arguments->first.length, arguments->out.bytes,
+                        arguments->out.length);
+}
+
+static int64_t notification(const struct arguments *arguments) {
+    return journal_notification(arguments->code, arguments->first.bytes, arguments->first.length, arguments->numbers,
+                                arguments->numbers_room, arguments->out.bytes, arguments->out.length);
+}
+
+static int64_t header_eq(const struct arguments *arguments) {
+    return journal_header_eq(arguments->code, arguments->first.bytes, arguments->first.length,
+                             arguments->second.bytes, arguments->second.length, arguments->ignore_payloads);
+}
+
+static int64_t difference(const struct arguments *arguments) {
+    return journal_difference(arguments->code, arguments->first.bytes, arguments->first.length,
+                              arguments->second.bytes, arguments->second.length, arguments->out.bytes,
+                              arguments->out.length);
+}
+
+static int64_t verdict(const struct arguments *arguments) {
+    return journal_verdict(arguments->version, arguments->first.bytes, arguments->first.length,
+                           arguments->second.bytes, arguments->second.length, arguments->ignore_payloads,
+                           arguments->numbers, arguments->numbers_room, arguments->out.bytes, arguments->out.length);
+}
+
+/* The length of a chunk, by which its kind is checked before it is copied. */
+static int64_t chunk_length(const struct arguments *arguments) {
+    return (int64_t)arguments->first.length;
+}
+
+/* All functions. Node-API takes a pointer to each as its data, and nothing writes to them. */
+static const struct function FUNCTIONS[] = {
+    {"libraryVersion", library_version, {OUT}},
+    {"schema", schema, {VERSION, CODE}},
+    {"typeName", type_name, {CODE, OUT}},
+    {"typeCode", type_code, {NAME}},
+    {"chunkLength", chunk_length, {CHUNK}},
+    {"next", next, {VERSION, CHUNK, NUMBERS}},
+    {"header", header, {VERSION, CODE, PAYLOAD_LENGTH, OUT}},
+    {"frame", frame, {VERSION, CODE, PAYLOAD, OUT}},
+    {"isWellFormed", is_well_formed, {SCHEMA, PAYLOAD}},
+    {"canonical", canonical, {SCHEMA, PAYLOAD, OUT}},
+    {"merge", merge, {SCHEMA, FIRST, SECOND, OUT}},
+    {"json", json, {SCHEMA, PAYLOAD, OUT}},
+    {"notification", notification, {CODE, PAYLOAD, NUMBERS, OUT}},
+    {"headerEq", header_eq, {CODE, FIRST, SECOND, IGNORE_PAYLOADS}},
+    {"difference", difference, {CODE, FIRST, SECOND, OUT}},
+    {"verdict", verdict, {VERSION, RECORDED, REPLAYED, IGNORE_PAYLOADS, NUMBERS, OUT}},
+};
+
+/* The constants of the header that the folder lib takes. */
+static const struct {
+    const char *name;
+    int64_t value;
+} CONSTANTS[] = {
+    {"FIRST_VERSION", JOURNAL_FIRST_VERSION},
+    {"LAST_VERSION", JOURNAL_LAST_VERSION},
+};
+
+/* Runs the function that `info` has as its data. */
+static napi_value run(napi_env env, napi_callback_info info) {
+    napi_value values[MOST_PARAMETERS];
+    size_t count = MOST_PARAMETERS;
+    void *data = NULL;
+    const struct function *function = NULL;
+    struct arguments arguments = {0};
+    int64_t returned = 0;
+    napi_value result = NULL;
+
+    /* values that are not given are undefined */
+    if (!succeeded(env, napi_get_cb_info(env, info, &count, values, NULL, &data))) {
+        return NULL;
+    }
+    function = data;
+    switch (read_arguments(env, values, function->parameters, &arguments)) {
+    case READ:
+        returned = function->call(&arguments);
+        break;
+    case THROWN:
+        return NULL;
+    case UNKNOWN_NUMBER:
+        returned = JOURNAL_UNKNOWN;
+        break;
+    case LENGTH_TOO_LONG:
+        returned = JOURNAL_TOO_LONG;
+        break;
+    }
+    return succeeded(env, napi_create_int64(env, returned, &result)) ? result : NULL;
+}
+
+NAPI_MODULE_INIT() {
+    for (size_t i = 0; i < sizeof FUNCTIONS / sizeof FUNCTIONS[0]; i++) {
+        napi_value function = NULL;
+
+        if (!succeeded(env, napi_create_function(env, FUNCTIONS[i].name, NAPI_AUTO_LENGTH, run,
+                                                 (void *)(uintptr_t)&FUNCTIONS[i], &function)) ||
+            !succeeded(env, napi_set_named_property(env, exports, FUNCTIONS[i].name, function))) {
+            return NULL;
+        }
+    }
+    for (size_t i = 0; i < sizeof CONSTANTS / sizeof CONSTANTS[0]; i++) {
+        napi_value value = NULL;
+
+        if (!succeeded(env, napi_create_int64(env, CONSTANTS[i].value, &value)) ||
+            !succeeded(env, napi_set_named_property(env, exports, CONSTANTS[i].name, value))) {
+            return NULL;
+        }
+    }
+    return exports;
+}

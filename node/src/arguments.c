@@ -1,0 +1,244 @@
+#include "arguments.h"
+
+#include <stdio.h>
+
+/* The names of the parameters, as index.d.ts has them. */
+static const char *const NAMES[] = {
+    [VERSION] = "version",
+    [CODE] = "code",
+    [SCHEMA] = "schema",
+    [PAYLOAD_LENGTH] = "payloadLength",
+    [NAME] = "name",
+    [CHUNK] = "chunk",
+    [PAYLOAD] = "payload",
+    [FIRST] = "first",
+    [SECOND] = "second",
+    [RECORDED] = "recorded",
+    [REPLAYED] = "replayed",
+    [IGNORE_PAYLOADS] = "ignorePayloads",
+    [NUMBERS] = "numbers",
+    [OUT] = "out",
+};
+
+/* What a value is, in words, by its napi_valuetype. */
+static const char *const KINDS[] = {
+    [napi_undefined] = "undefined",
+    [napi_null] = "null",
+    [napi_boolean] = "a boolean",
+    [napi_number] = "a number",
+    [napi_string] = "a string",
+    [napi_symbol] = "a symbol",
+    [napi_object] = "an object",
+    [napi_function] = "a function",
+    [napi_external] = "an external value",
+    [napi_bigint] = "a bigint",
+};
+
+bool succeeded(napi_env env, napi_status status) {
+    const napi_extended_error_info *error = NULL;
+    const char *message = "a call of Node-API failed";
+    bool is_pending = false;
+
+    if (status == napi_ok) {
+        return true;
+    }
+    /* the information is that of the call before, so it is read first */
+    if (napi_get_last_error_info(env, &error) == napi_ok && error != NULL && error->error_message != NULL) {
+        message = error->error_message;
+    }
+    if (napi_is_exception_pending(env, &is_pending) == napi_ok && !is_pending) {
+        /* if this fails as well there is nothing left to do */
+        (void)napi_throw_error(env, NULL, message);
+    }
+    return false;
+}
+
+/* Throws a TypeError that says what an argument is and what it has to be. */
+static enum reading wrong_kind(napi_env env, enum parameter parameter, const char *is, const char *has_to_be) {
+    char text[128];
+
+    (void)snprintf(text, sizeof text, "%s is %s, and has to be %s", NAMES[parameter], is, has_to_be);
+    (void)succeeded(env, napi_throw_type_error(env, "ERR_INVALID_ARG_TYPE", text));
+    return THROWN;
+}
+
+/* The same by the kind that the value has. */
+static enum reading wrong_value(napi_env env, enum parameter parameter, napi_value value, const char *has_to_be) {
+    napi_valuetype type = napi_undefined;
+
+    if (!succeeded(env, napi_typeof(env, value, &type))) {
+        return THROWN;
+    }
+    return wrong_kind(env, parameter, KINDS[type], has_to_be);
+}
+
+static enum reading read_number(napi_env env, enum parameter parameter, napi_value value, double *number) {
+    napi_status status = napi_get_value_double(env, value, number);
+
+    if (status == napi_number_expected) {
+        return wrong_value(env, parameter, value, "a number");
+    }
+    return succeeded(env, status) ? READ : THROWN;
+}
+
+/* Reads the number of a version, a schema or a code. What is no whole number up to the greatest is that of none. */
+static enum reading read_identifier(napi_env env, enum parameter parameter, napi_value value, uint32_t greatest,
+                                    uint32_t *identifier) {
+    double number = 0;
+    enum reading reading = read_number(env, parameter, value, &number);
+
+    if (reading != READ) {
+        return reading;
+    }
+    /* the comparisons are false for NaN */
+    if (!(number >= 0 && number <= greatest)) {
+        return UNKNOWN_NUMBER;
+    }
+    *identifier = (uint32_t)number;
+    return *identifier == number ? READ : UNKNOWN_NUMBER;
+}
+
+static enum reading read_length(napi_env env, enum parameter parameter, napi_value value, uint32_t *length) {
+    double number = 0;
+    enum reading reading = read_number(env, parameter, value, &number);
+
+    if (reading != READ) {
+        return reading;
+    }
+    if (number > UINT32_MAX) {
+        return LENGTH_TOO_LONG;
+    }
+    if (number >= 0) {
+        *length = (uint32_t)number;
+        if (*length == number) {
+            return READ;
+        }
+    }
+    (void)succeeded(env, napi_throw_range_error(env, "ERR_OUT_OF_RANGE",
+                                                "payloadLength is negative, or no whole number of bytes"));
+    return THROWN;
+}
+
+static enum reading read_flag(napi_env env, enum parameter parameter, napi_value value, uint32_t *flag) {
+    bool is_set = false;
+    napi_status status = napi_get_value_bool(env, value, &is_set);
+
+    if (status == napi_boolean_expected) {
+        return wrong_value(env, parameter, value, "a boolean");
+    }
+    if (!succeeded(env, status)) {
+        return THROWN;
+    }
+    *flag = is_set ? 1 : 0;
+    return READ;
+}
+
+/*
+ * Reads a typed array of a type. One over shared memory is not taken, since another thread may change it while a call
+ * reads it, nor one whose buffer is detached, since it would seem to be empty.
+ */
+static enum reading read_array(napi_env env, enum parameter parameter, napi_value value, napi_typedarray_type wanted,
+                               const char *has_to_be, void **elements, size_t *length) {
+    bool is_array = false;
+    bool is_own = false;
+    bool is_detached = false;
+    napi_typedarray_type type = wanted;
+    napi_value buffer = NULL;
+
+    if (!succeeded(env, napi_is_typedarray(env, value, &is_array))) {
+        return THROWN;
+    }
+    if (!is_array) {
+        return wrong_value(env, parameter, value, has_to_be);
+    }
+    if (!succeeded(env, napi_get_typedarray_info(env, value, &type, length, elements, &buffer, NULL))) {
+        return THROWN;
+    }
+    if (type != wanted) {
+        return wrong_kind(env, parameter, "another typed array", has_to_be);
+    }
+    if (!succeeded(env, napi_is_arraybuffer(env, buffer, &is_own))) {
+        return THROWN;
+    }
+    if (!is_own) {
+        return wrong_kind(env, parameter, "a view on shared memory", "a copy of it");
+    }
+    if (!succeeded(env, napi_is_detached_arraybuffer(env, buffer, &is_detached))) {
+        return THROWN;
+    }
+    return is_detached ? wrong_kind(env, parameter, "a view on a detached buffer", has_to_be) : READ;
+}
+
+static enum reading read_bytes(napi_env env, enum parameter parameter, napi_value value, struct slice *slice) {
+    void *bytes = NULL;
+    enum reading reading =
+        read_array(env, parameter, value, napi_uint8_array, "a Uint8Array", &bytes, &slice->length);
+
+    slice->bytes = bytes;
+    return reading;
+}
+
+static enum reading read_numbers(napi_env env, enum parameter parameter, napi_value value,
+                                 struct arguments *arguments) {
+    void *numbers = NULL;
+    enum reading reading = read_array(env, parameter, value, napi_biguint64_array, "a BigUint64Array", &numbers,
+                                      &arguments->numbers_room);
+
+    arguments->numbers = numbers;
+    return reading;
+}
+
+static enum reading read_argument(napi_env env, enum parameter parameter, napi_value value,
+                                  struct arguments *arguments) {
+    uint32_t code = 0;
+    enum reading reading = READ;
+
+    switch (parameter) {
+    case VERSION:
+        return read_identifier(env, parameter, value, UINT32_MAX, &arguments->version);
+    case SCHEMA:
+        return read_identifier(env, parameter, value, UINT32_MAX, &arguments->schema);
+    case CODE:
+        reading = read_identifier(env, parameter, value, UINT16_MAX, &code);
+        arguments->code = (uint16_t)code;
+        return reading;
+    case PAYLOAD_LENGTH:
+        return read_length(env, parameter, value, &arguments->payload_length);
+    case NAME:
+    case CHUNK:
+    case PAYLOAD:
+    case FIRST:
+    case RECORDED:
+        return read_bytes(env, parameter, value, &arguments->first);
+    case SECOND:
+    case REPLAYED:
+        return read_bytes(env, parameter, value, &arguments->second);
+    case IGNORE_PAYLOADS:
+        return read_flag(env, parameter, value, &arguments->ignore_payloads);
+    case NUMBERS:
+        return read_numbers(env, parameter, value, arguments);
+    case OUT:
+        return read_bytes(env, parameter, value, &arguments->out);
+    case NO_PARAMETER:
+        break;
+    }
+    return READ;
+}
+
+enum reading read_arguments(napi_env env, const napi_value *values, const enum parameter *parameters,
+                            struct arguments *arguments) {
+    enum reading result = READ;
+
+    for (size_t i = 0; parameters[i] != NO_PARAMETER; i++) {
+        enum reading reading = read_argument(env, parameters[i], values[i], arguments);
+
+        if (reading == THROWN) {
+            return THROWN;
+        }
+        /* a wrong kind in a later argument is said before a number that does not fit */
+        if (result == READ) {
+            result = reading;
+        }
+    }
+    return result;
+}

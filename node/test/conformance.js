@@ -1,0 +1,141 @@
+// The test vectors of ../../conformance by the calls of the package: node conformance.js
+//
+// Lines of the kind `record` have no call. Besides, a stream is the same byte by byte, a canonical payload is its own
+// result and has the same JSON, a frame is a header and the canonical payload, and a command is the same as itself. The
+// last line is 'N passed, M failed'.
+
+import assert from 'node:assert/strict';
+import { readdirSync } from 'node:fs';
+import { pathToFileURL } from 'node:url';
+
+import {
+  Malformed,
+  Stream,
+  canonical,
+  difference,
+  frame,
+  header,
+  headerEq,
+  isWellFormed,
+  merge,
+  schema,
+  toJson,
+  typeCode,
+} from 'pendratsoa';
+
+import { chunksOf, digits, hex, listed, textOf } from './support.js';
+
+// By its kind, what a line has as its result, and how many of its words are no bytes.
+const KINDS = {
+  payload: [1, payloadResult],
+  merge: [1, mergeResult],
+  frame: [2, frameResult],
+  stream: [1, streamResult],
+  compare: [1, compareResult],
+  json: [1, toJson],
+};
+
+function payloadResult(name, payload) {
+  const result = canonical(name, payload);
+  assert.equal(isWellFormed(name, payload), true);
+  assert.deepEqual(canonical(name, result), result);
+  assert.equal(toJson(name, payload), toJson(name, result));
+  return digits(result);
+}
+
+function mergeResult(name, first, ...others) {
+  return digits(others.reduce((merged, payload) => merge(name, merged, payload), canonical(name, first)));
+}
+
+function frameResult(type, versionWord, payload) {
+  const version = Number(versionWord);
+  const code = typeCode(type);
+  const result = frame(version, code, payload);
+  assert.deepEqual(result.subarray(0, 8), header(version, code, result.length - 8));
+  assert.deepEqual(canonical(schema(version, code), result.subarray(8)), result.subarray(8));
+  return digits(result);
+}
+
+function streamResult(versionWord, ...chunks) {
+  const listing = listingOf(Number(versionWord), chunks);
+  assert.equal(listingOf(Number(versionWord), chunks.flatMap((chunk) => chunksOf(chunk, 1))), listing);
+  return listing;
+}
+
+function listingOf(version, chunks) {
+  const stream = new Stream(version);
+  const lines = chunks.flatMap((chunk) => {
+    stream.feed(chunk);
+    return listed(stream);
+  });
+  return [...lines, `rest ${stream.rest}`].join(', ');
+}
+
+function compareResult(type, first, second) {
+  const code = typeCode(type);
+  for (const command of [first, second]) {
+    assert.equal(headerEq(code, command, command), true);
+    assert.equal(difference(code, command, command), '');
+  }
+  const compared = [false, true].map((ignorePayloads) => headerEq(code, first, second, { ignorePayloads }));
+  const words = compared.map((isSame) => (isSame ? 'same' : 'other'));
+  return [...words, digits(Buffer.from(difference(code, first, second))) || '-'].join(' ');
+}
+
+/** The result of the library for what a line has before ` = `; none for a kind that has no call. */
+export function resultOf(question) {
+  const [kind, ...words] = question.split(' ');
+  if (!Object.hasOwn(KINDS, kind)) {
+    return undefined;
+  }
+  const [named, result] = KINDS[kind];
+  const slices = words.slice(named).map((word) => (word === '-' ? new Uint8Array(0) : hex(word)));
+  try {
+    return result(...words.slice(0, named), ...slices) || '-';
+  } catch (error) {
+    if (error instanceof Malformed) {
+      return 'malformed';
+    }
+    throw error;
+  }
+}
+
+/** The test vectors of a folder, each its question and the expected result. */
+export function vectorsOf(folder) {
+  return readdirSync(new URL(`../../${folder}`, import.meta.url))
+    .filter((name) => name.endsWith('.txt'))
+    .sort()
+    .flatMap((name) => textOf(`${folder}/${name}`).split('\n'))
+    .filter((line) => line !== '' && !line.startsWith('#'))
+    .map((line) => {
+      const end = line.indexOf(' = ');
+      return [line.slice(0, end), line.slice(end + 3)];
+    });
+}
+
+/** Checks test vectors, shows those that failed, and returns how many passed and failed. */
+export function check(vectors) {
+  let passed = 0;
+  let failed = 0;
+  for (const [question, expected] of vectors) {
+    let found;
+    try {
+      found = resultOf(question);
+    } catch (error) {
+      found = String(error);
+    }
+    if (found === expected) {
+      passed += 1;
+    } else if (found !== undefined) {
+      failed += 1;
+      console.log(`failed: ${question.slice(0, 200)} = ${expected.slice(0, 200)}\n  returned: ${found.slice(0, 200)}`);
+    }
+  }
+  return { passed, failed };
+}
+
+if (import.meta.url === pathToFileURL(process.argv[1]).href) {
+  const { passed, failed } = check([...vectorsOf('conformance'), ...vectorsOf('conformance/json')]);
+  console.log(`${passed} passed, ${failed} failed`);
+  process.exitCode = failed > 0 ? 1 : 0;
+}

@@ -1,0 +1,168 @@
+/*
+ * A library in place of the proved one: a later one, which returns what this package does not know, and one that fails
+ * as the proved one hardly ever does. test/later_library.js is run over an addon that is built with it.
+ */
+#include <pendratsoa.h>
+
+#include <string.h>
+
+/* How many bytes `journal_merge` returns, whatever room it has. */
+#define MERGED 100000
+
+int64_t journal_library_version(uint8_t *out, size_t room) {
+    if (room >= 5) {
+        memcpy(out, "0.9.0", 5);
+    }
+    return 5;
+}
+
+/* The error whose number is the code with a minus sign. */
+int64_t journal_schema(uint32_t version, uint16_t code) {
+    (void)version;
+    return -(int64_t)code;
+}
+
+/* A text of two to the power of the code bytes, of which nothing is written. */
+int64_t journal_type_name(uint16_t code, uint8_t *out, size_t room) {
+    (void)out;
+    (void)room;
+    return (int64_t)1 << code;
+}
+
+int64_t journal_type_code(const uint8_t *name, size_t name_length) {
+    (void)name;
+    (void)name_length;
+    return JOURNAL_OUT_OF_MEMORY;
+}
+
+/* Eight bytes are an item of the kind that the first of them is. */
+int64_t journal_next(uint32_t version, const uint8_t *bytes, size_t length, uint64_t *item, size_t item_room) {
+    (void)version;
+    if (item_room < JOURNAL_ITEM_NUMBERS) {
+        return JOURNAL_NO_ROOM;
+    }
+    if (length < 8) {
+        return 8 - (int64_t)length;
+    }
+    memset(item, 0, JOURNAL_ITEM_NUMBERS * sizeof *item);
+    item[JOURNAL_ITEM_KIND] = bytes[0];
+    item[JOURNAL_ITEM_SIZE] = 8;
+    item[JOURNAL_ITEM_PAYLOAD] = 8;
+    return 0;
+}
+
+int64_t journal_header(uint32_t version, uint16_t code, uint32_t payload_length, uint8_t *out, size_t room) {
+    (void)version;
+    (void)code;
+    (void)payload_length;
+    (void)out;
+    (void)room;
+    return JOURNAL_NO_ROOM;
+}
+
+int64_t journal_frame(uint32_t version, uint16_t code, const uint8_t *payload, size_t payload_length, uint8_t *out,
+                      size_t room) {
+    (void)version;
+    (void)code;
+    (void)payload;
+    (void)payload_length;
+    (void)out;
+    (void)room;
+    return JOURNAL_TOO_LONG;
+}
+
+int64_t journal_is_well_formed(uint32_t schema, const uint8_t *payload, size_t payload_length) {
+    (void)schema;
+    (void)payload;
+    (void)payload_length;
+    return JOURNAL_OUT_OF_MEMORY;
+}
+
+/* More than there is memory for. */
+int64_t journal_canonical(uint32_t schema, const uint8_t *payload, size_t payload_length, uint8_t *out, size_t room) {
+    (void)schema;
+    (void)payload;
+    (void)payload_length;
+    (void)out;
+    (void)room;
+    return INT64_MAX;
+}
+
+/* First it seems to have 70000 bytes, and then it has more. */
+int64_t journal_merge(uint32_t schema, const uint8_t *first, size_t first_length, const uint8_t *second,
+                      size_t second_length, uint8_t *out, size_t room) {
+    (void)schema;
+    (void)first;
+    (void)first_length;
+    (void)second;
+    (void)second_length;
+    if (room < 70000) {
+        return 70000;
+    }
+    if (room >= MERGED) {
+        memset(out, 7, MERGED);
+    }
+    return MERGED;
+}
+
+int64_t journal_json(uint32_t schema, const uint8_t *payload, size_t payload_length, uint8_t *out, size_t room) {
+    (void)schema;
+    (void)payload;
+    (void)payload_length;
+    (void)out;
+    (void)room;
+    return JOURNAL_OUT_OF_MEMORY;
+}
+
+/* The four numbers are the first bytes of the payload. */
+int64_t journal_notification(uint16_t code, const uint8_t *payload, size_t payload_length, uint64_t *numbers,
+                             size_t numbers_room, uint8_t *out, size_t room) {
+    (void)code;
+    (void)out;
+    (void)room;
+    for (size_t i = 0; i < numbers_room && i < payload_length; i++) {
+        numbers[i] = payload[i];
+    }
+    return 0;
+}
+
+int64_t journal_header_eq(uint16_t code, const uint8_t *first, size_t first_length, const uint8_t *second,
+                          size_t second_length, uint32_t ignore_payloads) {
+    (void)code;
+    (void)first;
+    (void)first_length;
+    (void)second;
+    (void)second_length;
+    (void)ignore_payloads;
+    return JOURNAL_OUT_OF_MEMORY;
+}
+
+int64_t journal_difference(uint16_t code, const uint8_t *first, size_t first_length, const uint8_t *second,
+                           size_t second_length, uint8_t *out, size_t room) {
+    (void)code;
+    (void)first;
+    (void)first_length;
+    (void)second;
+    (void)second_length;
+    (void)out;
+    (void)room;
+    return JOURNAL_OUT_OF_MEMORY;
+}
+
+/* A verdict of the kind that the recorded journal has as its first byte. */
+int64_t journal_verdict(uint32_t version, const uint8_t *recorded, size_t recorded_length, const uint8_t *replayed,
+                        size_t replayed_length, uint32_t ignore_payloads, uint64_t *numbers, size_t numbers_room,
+                        uint8_t *out, size_t room) {
+    (void)version;
+    (void)replayed;
+    (void)replayed_length;
+    (void)ignore_payloads;
+    (void)out;
+    (void)room;
+    if (numbers_room < JOURNAL_VERDICT_NUMBERS) {
+        return JOURNAL_NO_ROOM;
+    }
+    numbers[JOURNAL_VERDICT_KIND] = recorded_length > 0 ? recorded[0] : JOURNAL_SAME;
+    numbers[JOURNAL_VERDICT_INDEX] = 0;
+    return 0;
+}

@@ -1,0 +1,89 @@
+// A loop of calls keeps no memory.
+
+import assert from 'node:assert/strict';
+import test from 'node:test';
+import { setFlagsFromString } from 'node:v8';
+import { runInNewContext } from 'node:vm';
+
+import { JournalError, Stream, canonical, compareJournals, frame, notification, toJson, typeCode } from 'pendratsoa';
+
+import { bytesOf, hex, joined } from './support.js';
+
+setFlagsFromString('--expose-gc');
+const collectGarbage = runInNewContext('gc');
+
+// As many rounds as PENDRATSOA_ROUNDS says; each makes some twenty calls and fails in four.
+const ROUNDS = Number(process.env.PENDRATSOA_ROUNDS ?? 5000);
+const GROWTH = 16 * 2 ** 20;
+
+const RECORDED = bytesOf('examples/streams/recorded');
+const LONG = joined(hex('12808008'), new Uint8Array(2 ** 17).fill(0x61));
+const ERROR_MESSAGE = 13;
+
+function round(index) {
+  const stream = new Stream();
+  stream.feed(RECORDED);
+  for (const message of stream) {
+    message.json();
+    message.frame();
+  }
+  compareJournals(8, RECORDED, RECORDED);
+  notification(0xfbff, hex('1a0473746f702a030a0178'));
+  frame(8, 1, hex('22120a010122080a010222030a010122030a0103'));
+  for (const call of [
+    () => canonical(ERROR_MESSAGE, hex('12')),
+    () => canonical(ERROR_MESSAGE, 'text'),
+    () => typeCode('none'),
+    () => new Stream().feed(undefined),
+  ]) {
+    assert.throws(call, (error) => error instanceof JournalError || error instanceof TypeError);
+  }
+  // longer than the room that the calls have at first
+  if (index % 50 === 0) {
+    canonical(ERROR_MESSAGE, LONG);
+    toJson(ERROR_MESSAGE, LONG);
+  }
+}
+
+/** What the process holds after a collection of garbage. */
+async function held() {
+  // array buffers are freed after the collection that finds them
+  for (let i = 0; i < 3; i += 1) {
+    collectGarbage();
+    await new Promise(setImmediate);
+  }
+  const { heapUsed, external, arrayBuffers, rss } = process.memoryUsage();
+  return { heapUsed, external, arrayBuffers, rss };
+}
+
+test(`${ROUNDS} rounds of calls keep no memory`, async () => {
+  for (let i = 0; i < 500; i += 1) {
+    round(i);
+  }
+  const before = await held();
+  for (let i = 0; i < ROUNDS; i += 1) {
+    round(i);
+  }
+  const after = await held();
+  assert.ok(after.heapUsed - before.heapUsed < GROWTH / 4, `heap: ${before.heapUsed} to ${after.heapUsed}`);
+  assert.ok(after.external - before.external < GROWTH / 4, `external: ${before.external} to ${after.external}`);
+  assert.ok(after.arrayBuffers - before.arrayBuffers < GROWTH / 4);
+  assert.ok(after.rss - before.rss < 4 * GROWTH, `resident: ${before.rss} to ${after.rss}`);
+});
+
+test('a stream holds what is in no item, and no more', async () => {
+  const before = await held();
+  const message = new Uint8Array(2 ** 20);
+  message.set(hex('fc01000000 0ffff8'));
+  const stream = new Stream();
+  for (let i = 0; i < 64; i += 1) {
+    stream.feed(message.subarray(0, 2 ** 19));
+    assert.deepEqual([...stream], []);
+    stream.feed(message.subarray(2 ** 19));
+    const [item] = stream;
+    assert.equal(item.payload.length, 2 ** 20 - 8);
+    assert.equal(stream.rest, 0);
+  }
+  const after = await held();
+  assert.ok(after.arrayBuffers - before.arrayBuffers < 3 * 2 ** 20);
+});

@@ -1,0 +1,326 @@
+// Streams, in chunks of any size and from any source.
+
+import assert from 'node:assert/strict';
+import { Readable } from 'node:stream';
+import test from 'node:test';
+import { MessageChannel } from 'node:worker_threads';
+
+import { Incomplete, Message, Skipped, Stream, UnknownCode, decode, items } from 'pendratsoa';
+
+import { bytesOf, chunksOf, hex, joined, listed, textOf } from './support.js';
+
+// An input with the value "input", eight bytes of code 8, and a message of 20 bytes that is not all there.
+const INPUT = hex('0400000000000009 72070a05696e707574');
+const WORD = '0008000000000002';
+const STREAM = joined(INPUT, hex(WORD), hex('0400000000000014'));
+const ITEMS = [new Message(8, 0x0400, INPUT.slice(8)), new UnknownCode(8, 8, BigInt(`0x${WORD}`))];
+
+// Whole items only.
+const REPLAY = bytesOf('examples/streams/replay');
+
+/** A source of chunks, which records whether it was closed. */
+class Source {
+  isClosed = false;
+
+  constructor(...chunks) {
+    this.chunks = chunks;
+  }
+
+  async *[Symbol.asyncIterator]() {
+    try {
+      for (const chunk of this.chunks) {
+        if (chunk instanceof Error) {
+          throw chunk;
+        }
+        yield chunk;
+      }
+    } finally {
+      this.isClosed = true;
+    }
+  }
+}
+
+async function collect(source) {
+  const found = [];
+  for await (const item of source) {
+    found.push(item);
+  }
+  return found;
+}
+
+/** The items of a whole stream. */
+function itemsAtOnce(bytes, version = 8) {
+  const stream = new Stream(version);
+  stream.feed(bytes);
+  return [...stream];
+}
+
+/** Takes the memory of bytes away, as a transfer to another thread does. */
+function detach(bytes) {
+  const { port1, port2 } = new MessageChannel();
+  port1.postMessage(bytes, [bytes.buffer]);
+  port1.close();
+  port2.close();
+  assert.equal(bytes.length, 0);
+}
+
+test('items are the same however the stream is split', () => {
+  for (let size = 1; size <= STREAM.length; size += 1) {
+    const stream = new Stream();
+    const found = [];
+    for (const chunk of chunksOf(STREAM, size)) {
+      stream.feed(chunk);
+      found.push(...stream);
+    }
+    assert.deepEqual(found, ITEMS);
+    assert.equal(stream.rest, 8);
+  }
+});
+
+test('chunks that are all fed before the first item is taken', () => {
+  const stream = new Stream();
+  chunksOf(STREAM, 3).forEach((chunk) => stream.feed(chunk));
+  assert.equal(stream.rest, STREAM.length);
+  assert.deepEqual([...stream], ITEMS);
+  assert.equal(stream.rest, 8);
+});
+
+test('empty chunks change nothing', () => {
+  const stream = new Stream(8);
+  stream.feed(new Uint8Array(0));
+  assert.deepEqual([...stream], []);
+  stream.feed(STREAM);
+  stream.feed(new Uint8Array(0));
+  assert.deepEqual([...stream], ITEMS);
+  stream.feed(new Uint8Array(0));
+  assert.deepEqual([[...stream], stream.rest], [[], 8]);
+});
+
+test('the version', () => {
+  assert.equal(new Stream().version, 8);
+  assert.equal(new Stream(9).version, 9);
+  assert.throws(() => {
+    new Stream(9).version = 8;
+  }, TypeError);
+});
+
+test('version 9 skips a message with its payload', () => {
+  const bytes = hex('0008000000000002 0003 0003000000000000 00');
+  const stream = new Stream(9);
+  stream.feed(bytes);
+  const found = [...stream];
+  assert.deepEqual(found, [new Skipped(9, 8, 0x0008000000000002n, hex('0003')), new Message(9, 3, hex(''))]);
+  assert.deepEqual(found.map(({ kind }) => kind), ['skipped', 'message']);
+  assert.equal(stream.rest, 1);
+});
+
+test('the word of an item has all 64 bits', () => {
+  const [item] = itemsAtOnce(hex('03ffffffffffffff'));
+  assert.deepEqual(item, new UnknownCode(8, 0x03ff, 0x03ffffffffffffffn));
+});
+
+test('an acknowledgement', () => {
+  const found = itemsAtOnce(hex('0005800000000005 0801720178 0005000000000000'));
+  assert.deepEqual(found.map(({ requiresAck }) => requiresAck), [true, false]);
+});
+
+test('a loop continues where the one before ended', () => {
+  const stream = new Stream();
+  stream.feed(STREAM);
+  for (const item of stream) {
+    assert.deepEqual(item, ITEMS[0]);
+    break;
+  }
+  assert.equal(stream.rest, STREAM.length - INPUT.length);
+  assert.deepEqual([...stream], ITEMS.slice(1));
+});
+
+test('a chunk may be fed while the items are iterated', () => {
+  const stream = new Stream();
+  const found = [];
+  stream.feed(REPLAY);
+  for (const item of stream) {
+    found.push(item);
+    if (found.length === 1) {
+      chunksOf(REPLAY, 5).forEach((chunk) => stream.feed(chunk));
+    }
+  }
+  assert.deepEqual(found, [...itemsAtOnce(REPLAY), ...itemsAtOnce(REPLAY)]);
+});
+
+test('two loops at once take each item once', () => {
+  const stream = new Stream();
+  stream.feed(REPLAY);
+  const [first, second] = [stream[Symbol.iterator](), stream[Symbol.iterator]()];
+  const found = [];
+  for (let step = first.next(); !step.done; step = (found.length % 2 === 0 ? first : second).next()) {
+    found.push(step.value);
+  }
+  assert.deepEqual(found, itemsAtOnce(REPLAY));
+});
+
+test('a chunk that is changed or transferred after it was fed', () => {
+  const stream = new Stream();
+  const changed = STREAM.slice(0, 12);
+  const transferred = STREAM.slice(12);
+  stream.feed(changed);
+  changed.fill(0xff);
+  stream.feed(transferred);
+  detach(transferred);
+  assert.deepEqual([...stream], ITEMS);
+});
+
+test('a payload that is changed or transferred', () => {
+  const stream = new Stream();
+  stream.feed(joined(INPUT, INPUT, INPUT));
+  const [first, second, third] = stream;
+  assert.equal(first.payload.buffer.byteLength, 9);
+  first.payload.fill(0xff);
+  detach(second.payload);
+  assert.deepEqual(third, ITEMS[0]);
+  stream.feed(INPUT);
+  assert.deepEqual([...stream], [ITEMS[0]]);
+});
+
+test('a chunk that is not taken leaves the stream unchanged', () => {
+  const stream = new Stream();
+  stream.feed(STREAM.subarray(0, 10));
+  const detached = STREAM.slice(10);
+  detach(detached);
+  for (const chunk of [detached, new Uint8Array(new SharedArrayBuffer(8)), 'text', undefined]) {
+    assert.throws(() => stream.feed(chunk), { name: 'TypeError', code: 'ERR_INVALID_ARG_TYPE' });
+  }
+  assert.equal(stream.rest, 10);
+  stream.feed(STREAM.subarray(10));
+  assert.deepEqual([...stream], ITEMS);
+});
+
+test('a class below Uint8Array that lies about its length', () => {
+  class Lying extends Uint8Array {
+    get length() {
+      return 2 ** 32;
+    }
+
+    get byteLength() {
+      return 0;
+    }
+
+    get buffer() {
+      return new ArrayBuffer(3);
+    }
+  }
+  const stream = new Stream();
+  stream.feed(new Lying(STREAM));
+  assert.deepEqual([...stream], ITEMS);
+  assert.equal(stream.rest, 8);
+});
+
+test('a header that promises 4 GiB allocates only for what comes', () => {
+  const before = process.memoryUsage().arrayBuffers;
+  const stream = new Stream();
+  stream.feed(hex('04000000ffffffff'));
+  for (let i = 0; i < 64; i += 1) {
+    stream.feed(new Uint8Array(16_384));
+    assert.deepEqual([...stream], []);
+  }
+  assert.equal(stream.rest, 8 + 2 ** 20);
+  assert.ok(process.memoryUsage().arrayBuffers - before < 2 ** 26);
+});
+
+test('a payload that comes one byte at a time takes linear time', { timeout: 60_000 }, () => {
+  const payload = new Uint8Array(500_000).fill(1);
+  const bytes = joined(hex('fc0100000007a120'), payload);
+  const stream = new Stream();
+  let found = [];
+  for (let at = 0; at < bytes.length; at += 1) {
+    stream.feed(bytes.subarray(at, at + 1));
+    found = [...stream];
+  }
+  assert.deepEqual(found, [new Message(8, 0xfc01, payload)]);
+});
+
+test('the items of sources of every sort', async () => {
+  const expected = itemsAtOnce(REPLAY);
+  const chunks = chunksOf(REPLAY, 7);
+  for (const source of [
+    chunks,
+    new Source(...chunks),
+    Readable.from(chunks),
+    Readable.toWeb(Readable.from(chunks.map((chunk) => Buffer.from(chunk)))),
+    new Set(chunks),
+  ]) {
+    assert.deepEqual(await collect(items(source)), expected);
+  }
+  assert.deepEqual(await collect(items([], 9)), []);
+});
+
+test('a source that ends within an item', async () => {
+  const found = [];
+  await assert.rejects(
+    async () => {
+      for await (const item of items(new Source(STREAM))) {
+        found.push(item);
+      }
+    },
+    {
+      name: 'Incomplete',
+      code: 'JOURNAL_INCOMPLETE',
+      argument: 'source',
+      value: 8,
+      message: 'source ended within an item, after 8 bytes of it',
+    },
+  );
+  assert.deepEqual(found, ITEMS);
+});
+
+test('a source that fails, and one of wrong chunks', async () => {
+  const failure = new Error('the source failed');
+  const source = new Source(REPLAY, failure);
+  await assert.rejects(collect(items(source)), failure);
+  assert.ok(source.isClosed);
+  const wrong = new Source(REPLAY, 'text');
+  await assert.rejects(collect(items(wrong)), { name: 'TypeError', code: 'ERR_INVALID_ARG_TYPE' });
+  assert.ok(wrong.isClosed);
+  for (const nothing of [undefined, null, 5, {}]) {
+    await assert.rejects(collect(items(nothing)), TypeError);
+  }
+});
+
+test('a loop that ends early closes its source', async () => {
+  const source = new Source(REPLAY);
+  for await (const item of items(source)) {
+    assert.equal(item.kind, 'message');
+    break;
+  }
+  assert.ok(source.isClosed);
+});
+
+test('a transform stream', async () => {
+  const chunks = Readable.toWeb(Readable.from(chunksOf(REPLAY, 7)));
+  assert.deepEqual(await collect(chunks.pipeThrough(decode(8))), itemsAtOnce(REPLAY));
+});
+
+test('a transform stream that ends within an item', async () => {
+  const chunks = Readable.toWeb(Readable.from([STREAM]));
+  const reader = chunks.pipeThrough(decode()).getReader();
+  assert.deepEqual((await reader.read()).value, ITEMS[0]);
+  assert.deepEqual((await reader.read()).value, ITEMS[1]);
+  await assert.rejects(reader.read(), Incomplete);
+});
+
+test('a transform stream with a wrong chunk', async () => {
+  const { readable, writable } = decode(8);
+  const writer = writable.getWriter();
+  const writing = assert.rejects(writer.write('text'), { code: 'ERR_INVALID_ARG_TYPE' });
+  await assert.rejects(collect(readable), { code: 'ERR_INVALID_ARG_TYPE' });
+  await writing;
+});
+
+test('the examples are listed as their listings are', () => {
+  for (const name of ['cut_short', 'recorded', 'replay', 'three_unknown_types']) {
+    const stream = new Stream(8);
+    stream.feed(bytesOf(`examples/streams/${name}`));
+    const lines = [...listed(stream), `rest ${stream.rest}`];
+    assert.equal(lines.map((line) => `${line}\n`).join(''), textOf(`examples/streams/${name}.stdout`));
+  }
+});

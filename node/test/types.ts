@@ -1,0 +1,135 @@
+// What index.d.ts says, as tsc --strict reads it: nothing of this is run.
+
+import {
+  FIRST_VERSION,
+  Incomplete,
+  Item,
+  JournalError,
+  JsonValue,
+  LAST_VERSION,
+  Malformed,
+  Message,
+  Notification,
+  SchemaName,
+  Stream,
+  TypeName,
+  Unknown,
+  Verdict,
+  canonical,
+  compareJournals,
+  decode,
+  difference,
+  frame,
+  header,
+  headerEq,
+  isWellFormed,
+  items,
+  libraryVersion,
+  merge,
+  notification,
+  schema,
+  schemaNames,
+  toJson,
+  typeCode,
+  typeName,
+} from 'pendratsoa';
+
+/** Compiles where two types are the same. */
+type Same<A, B> = (<T>() => T extends A ? 1 : 2) extends <T>() => T extends B ? 1 : 2 ? true : never;
+
+const bytes = new Uint8Array(0);
+
+/** What an item is, by its kind; each has only what it has. */
+export function described(item: Item): string {
+  switch (item.kind) {
+    case 'message': {
+      const type: TypeName = item.type;
+      const json: JsonValue | undefined = item.json().value;
+      // @ts-expect-error a message has no word
+      item.word;
+      // @ts-expect-error it cannot be changed
+      item.payload = bytes;
+      return `${type} ${item.schema + item.payload.length} ${item.requiresAck} ${json} ${item.frame().length}`;
+    }
+    case 'unknownCode':
+      // @ts-expect-error it has no payload
+      item.payload;
+      return `${item.code} ${item.word + 1n}`;
+    case 'skipped':
+      return `${item.code} ${item.word + 1n} ${item.payload.length}`;
+  }
+}
+
+/** A notification's id is a number or a name, by its kind. */
+export function identified(found: Notification): number | string {
+  const same: Same<Notification['result'], Uint8Array> = true;
+  if (found.idKind === 'signalName') {
+    return found.id.toUpperCase() + same;
+  }
+  // @ts-expect-error there is no such kind
+  if (found.resultKind === 'nothing') {
+    return 0;
+  }
+  return found.id + 1;
+}
+
+export async function streams(): Promise<void> {
+  const stream = new Stream();
+  stream.feed(bytes);
+  for (const item of stream) {
+    described(item);
+  }
+  const rest: number = stream.rest + new Stream(FIRST_VERSION).version;
+  // @ts-expect-error a text is no chunk
+  stream.feed('text');
+  // @ts-expect-error the rest cannot be set
+  stream.rest = rest;
+  for await (const item of items([bytes], LAST_VERSION)) {
+    described(item);
+  }
+  const transform: TransformStream<Uint8Array, Item> = decode(8);
+  await transform.readable.getReader().read();
+}
+
+export function calls(): void {
+  const texts: string[] = [libraryVersion(), typeName(0), toJson(0, bytes), difference(0x0400, bytes, bytes)];
+  const numbers: number[] = [schema(8, 0), typeCode(texts[0] ?? '')];
+  const arrays: Uint8Array[] = [
+    header(8, 0, 0),
+    frame(8, 0, bytes),
+    canonical('Value', bytes),
+    merge(numbers[0] ?? 0, bytes, bytes),
+    new Message(8, 0, bytes).canonical(),
+  ];
+  const flags: boolean[] = [
+    isWellFormed('Void', arrays[0] ?? bytes),
+    headerEq(0x0400, bytes, bytes),
+    headerEq(0x0400, bytes, bytes, { ignorePayloads: true }),
+  ];
+  const verdict: Verdict = compareJournals(8, bytes, bytes, { ignorePayloads: flags[0] ?? false });
+  const index: Same<Verdict['index'], number> = true;
+  const name: SchemaName | undefined = schemaNames[verdict.index];
+  identified(notification(0xfbff, bytes));
+  // @ts-expect-error there is no such schema
+  canonical('Values', bytes);
+  // @ts-expect-error a version is a number
+  schema('8', index);
+  // @ts-expect-error the names are constant
+  schemaNames[0] = name;
+  // @ts-expect-error an option that there is not
+  headerEq(0x0400, bytes, bytes, { ignorePayload: true });
+}
+
+export function caught(error: unknown): string {
+  if (error instanceof Malformed) {
+    const code: 'JOURNAL_MALFORMED' = error.code;
+    return code;
+  }
+  if (error instanceof Incomplete) {
+    return error.value.toFixed();
+  }
+  if (error instanceof Unknown || error instanceof JournalError) {
+    return `${error.argument ?? ''} ${String(error.value)} ${error.message}`;
+  }
+  return '';
+}

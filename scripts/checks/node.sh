@@ -1,0 +1,138 @@
+#!/bin/sh
+# The package for Node: its addon, its tests and types, the test vectors by its calls, an example in TypeScript.
+#
+# It builds the addon in a copy of node/, over the proved static library, as scripts/checks/c.sh takes it, and over
+# another one in its place, which returns what this package does not know. It uses no network.
+set -u
+cd "$(dirname "$0")/../.." || exit 1
+. scripts/checks/lib.sh
+
+needs node nodejs
+is_recent='const [major, minor] = process.versions.node.split("."); process.exitCode = +(major * 1000 + +minor < 18015)'
+node -e "$is_recent" || not_run 'node is older than 18.15'
+installed_library
+
+# copy NAME: $tree is a copy of the package, beside what its tests read
+copy() {
+  tree=$work/$1
+  mkdir "$tree"
+  cp -R node "$tree/"
+  rm -rf "$tree/node/build"
+  for folder in conformance examples include proto; do
+    ln -s "$PWD/$folder" "$tree/$folder"
+  done
+}
+
+# tested NAME FILE..: the tests of files of $tree/node, by the lines in which node counts them
+tested() {
+  name=$1
+  shift
+  (cd "$tree/node" && node --test --test-reporter=tap "$@") > "$out" 2> "$err" < /dev/null
+  ended=$?
+  good=$(sed -n 's/^# pass //p' "$out")
+  bad=$(sed -n 's/^# fail //p; s/^# cancelled //p' "$out" | awk '{ sum += $1 } END { print sum + 0 }')
+  if [ "$bad" -ne 0 ] || [ "$ended" -ne 0 ] || [ "${good:-0}" -eq 0 ]; then
+    echo "failed: $name:"
+    grep -a -A 12 '^ *not ok' "$out" | cut -c1-300 | head -n 60
+    head -n 20 "$err"
+    [ "$bad" -ne 0 ] || bad=1
+  fi
+  passed=$((passed + ${good:-0}))
+  failed=$((failed + bad))
+}
+
+# refused NAME WORDS COMMAND..: a command that ends with the status 2, and says why in a line with these words
+refused() {
+  name=$1
+  words=$2
+  shift 2
+  "$@" > "$out" 2> "$err"
+  status=$?
+  [ "$status" -eq 2 ] && [ "$(wc -l < "$err")" -eq 1 ] && grep -qF "$words" "$err"
+  outcome "$name" $?
+  status=
+}
+
+# The addon, by the folder and by pkg-config.
+copy tree
+strict='-Werror'
+CFLAGS=$strict sh "$tree/node/build.sh" "$prefix" > "$out" 2> "$err"
+case $? in
+  0) passed=$((passed + 1)) ;;
+  *)
+    ! grep -q 'there is no node_api.h' "$err" || not_run "$(sed 's/.*since //' "$err")"
+    outcome 'build.sh' 1
+    finish
+    ;;
+esac
+if command -v pkg-config > /dev/null; then
+  case_of 'build.sh by pkg-config' sh "$tree/node/build.sh"
+  PKG_CONFIG_PATH=$work refused 'build.sh without the library' 'pkg-config finds no pendratsoa' sh "$tree/node/build.sh"
+else
+  without 'build.sh by pkg-config' pkg-config
+fi
+refused 'build.sh with a folder that is not there' 'there is no folder' sh "$tree/node/build.sh" "$work/none"
+refused 'build.sh with a folder of something else' 'pendratsoa.h' sh "$tree/node/build.sh" "$work"
+refused 'build.sh without a compiler' 'there is no no-compiler' env CC=no-compiler sh "$tree/node/build.sh" "$prefix"
+refused 'build.sh with two folders' 'usage: build.sh' sh "$tree/node/build.sh" "$prefix" "$prefix"
+addon=$tree/node/build/pendratsoa.node
+nm -D --defined-only "$addon" | awk '{ print $3 }' | grep -vx 'node_api_module_get_api_version_v1' > "$out"
+echo napi_register_module_v1 > "$work/wanted"
+same 'the names that the addon shows' "$work/wanted" "$out"
+readelf -d "$addon" | sed -n 's/.*(NEEDED).*\[\(.*\)\]$/\1/p' > "$out"
+echo libc.so.6 > "$work/wanted"
+same 'what the addon needs' "$work/wanted" "$out"
+
+# Its tests, and the test vectors.
+# shellcheck disable=SC2046 # the names are split
+tested 'the tests of the package' $(cd "$tree/node" && ls test/*.test.js)
+counted 'the test vectors' node "$tree/node/test/conformance.js"
+
+# The package as a user has it: the files that package.json lists, in node_modules.
+user=$work/user
+package=$user/node_modules/pendratsoa
+mkdir -p "$package/build"
+for file in package.json $(node -p "JSON.parse(require('fs').readFileSync('node/package.json')).files.join(' ')"); do
+  case_of "a copy of $file" cp -R "$tree/node/$file" "$package/$file"
+done
+cp examples/typescript/listing.mts "$user/"
+
+# The types, and the example, which lists as that in C does.
+if command -v tsc > /dev/null; then
+  case_of 'the types' tsc -p "$tree/node"
+  case_of 'the example in TypeScript' \
+    tsc --strict --noImplicitReturns --target es2022 --module node16 "$user/listing.mts"
+  case_of 'the example in C' cc -std=c99 -I "$prefix/include" examples/c/listing.c "$prefix/lib/libpendratsoa.a" \
+    -o "$work/listing"
+  for stream in replay:8 recorded:8 cut_short:8 three_unknown_types:8 unknown_type:9; do
+    "$work/listing" "${stream#*:}" < "examples/streams/${stream%:*}" > "$work/wanted"
+    node "$user/listing.mjs" "${stream#*:}" < "examples/streams/${stream%:*}" > "$out" 2> "$err"
+    same "the listing of $stream" "$work/wanted" "$out"
+  done
+  LC_ALL=C awk -v kind=mixed -v size=100000 -v seed=7 -f scripts/checks/write_stream.awk proto/types.txt > "$work/mixed"
+  "$work/listing" < "$work/mixed" > "$work/wanted"
+  node "$user/listing.mjs" < "$work/mixed" > "$out" 2> "$err"
+  same 'the listing of a mixed stream' "$work/wanted" "$out"
+  refused 'the listing with wrong words' 'usage: listing.mjs [5..9]' node "$user/listing.mjs" 10
+else
+  left_out 'the types and the example' 'there is no tsc; the Debian package node-typescript has it'
+fi
+
+# The page's program, with its types taken away.
+sed -n '/^```ts$/,/^```$/{/^```/d;p;}' node/README.md > "$user/page.mjs"
+(cd "$user" && ln -s "$OLDPWD/examples" examples && node page.mjs) > "$work/log" 2> "$err"
+sed -n 1p "$work/log" > "$out"
+sed -n 's/^It prints `\(.*\)` first\..*/\1/p' node/README.md > "$work/wanted"
+same 'the program of node/README.md' "$work/wanted" "$out"
+
+# Another library in place of the proved one.
+copy later
+mkdir -p "$work/other/include" "$work/other/lib"
+cp include/pendratsoa.h "$work/other/include/"
+case_of 'later_library.c' cc -std=c11 -O2 -fPIC -Wall -Wextra -Werror -I include -c node/test/later_library.c \
+  -o "$work/later.o"
+case_of 'its archive' ar rcsD "$work/other/lib/libpendratsoa.a" "$work/later.o"
+case_of 'build.sh with another library' sh "$tree/node/build.sh" "$work/other"
+tested 'what a later library returns' test/later_library.js
+
+finish
