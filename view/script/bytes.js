@@ -19,13 +19,13 @@ function textOf(bytes, isCut = false) {
 
 const hexOf = (bytes) => Array.from(bytes, (byte) => byte.toString(16).padStart(2, "0")).join(" ");
 
-/** Sixteen bytes a line: the place of the first, the bytes in hex, and those that are printable. */
+/** Eight bytes a line: the place of the first, the bytes in hex, and those that are printable. */
 function hexDump(bytes) {
   const lines = [];
-  for (let start = 0; start < bytes.length; start += 16) {
-    const row = bytes.subarray(start, start + 16);
+  for (let start = 0; start < bytes.length; start += 8) {
+    const row = bytes.subarray(start, start + 8);
     const printable = Array.from(row, (byte) => (byte >= 32 && byte < 127 ? String.fromCharCode(byte) : ".")).join("");
-    lines.push(`${start.toString(16).padStart(6, "0")}  ${hexOf(row).padEnd(47)}  ${printable}`);
+    lines.push(`${start.toString(16).padStart(6, "0")}  ${hexOf(row).padEnd(23)}  ${printable}`);
   }
   return lines.join("\n");
 }

@@ -8,7 +8,9 @@ const typeOf = ({ dump, direction }) =>
   dump.type ?? (direction === "rest" ? "rest" : `${direction} 0x${dump.code.toString(16).padStart(4, "0")}`);
 const groupOf = (item) => (about.types[item.dump.type] ? item.dump.type : DIRECTIONS[item.direction]);
 const schemaOf = (item) => about.types[item.dump.type]?.message;
-const isFuture = (item) => schemaOf(item) === "SuspensionMessageV6";
+
+/** Whether an item's message is a future by itself: before version 7 a suspension has the lists of one. */
+const awaitsInLists = (item) => schemaOf(item) === "SuspensionMessageV6";
 
 function directionOf(dump) {
   if ("rest" in dump) return "rest";
@@ -35,12 +37,13 @@ function* valuesOf(message, schema, path = "", compared = true) {
 }
 
 /** The values of an item: of its message, or the bytes that are none. */
-function itemValues({ dump, ...item }) {
-  if (dump.message === undefined) {
-    return dump.bytes === undefined ? [] : [{ path: "bytes", kind: "bytes", value: dump.bytes, compared: false }];
+function itemValues(item) {
+  const { message, bytes } = item.dump;
+  if (message === undefined) {
+    return bytes === undefined ? [] : [{ path: "bytes", kind: "bytes", value: bytes, compared: false }];
   }
-  if (isFuture({ dump })) return [{ path: "waiting", kind: "Future", value: dump.message, compared: false }];
-  return [...valuesOf(dump.message, schemaOf({ dump, ...item }), "", item.direction === "command")];
+  if (awaitsInLists(item)) return [{ path: "waiting", kind: "Future", value: message, compared: false }];
+  return [...valuesOf(message, schemaOf(item), "", item.direction === "command")];
 }
 
 /** The keys of what a future awaits by itself: c3 is completion 3, s17 is signal 17, n and a name is a named signal. */
@@ -65,7 +68,7 @@ function keyText(key) {
 
 /** The keys of all that the futures of an item await. */
 function awaitedKeys(item) {
-  if (isFuture(item)) return allAwaitedBy(item.dump.message);
+  if (awaitsInLists(item)) return allAwaitedBy(item.dump.message);
   const fields = fieldsOf(schemaOf(item));
   const futures = Object.entries(item.dump.message).filter(([name]) => fields[name]?.kind === "Future");
   return futures.flatMap(([, future]) => allAwaitedBy(future));
@@ -113,14 +116,14 @@ const emptyThread = () => ({ requests: [], proposes: [], acknowledges: [], compl
 function readJournal(side) {
   const lines = byId(`journal-${side}`).textContent.trim().split("\n");
   const threads = new Map();
-  let commands = 0;
+  const commands = [];
   const items = lines.map((line, place) => {
     const dump = JSON.parse(line);
     const item = { dump, line, side, number: place, direction: directionOf(dump), command: null };
     item.size = dump.rest ?? HEADER + (dump.length ?? 0);
     item.failure = failureOf(item);
     item.parts = partsOf(item);
-    if (item.direction === "command") item.command = commands++;
+    if (item.direction === "command") item.command = commands.push(item) - 1;
     for (const { key, role } of item.parts) {
       if (!threads.has(key)) threads.set(key, emptyThread());
       threads.get(key)[role].push(item);
@@ -138,8 +141,14 @@ const isOpen = (item) =>
 const isProblem = (item) =>
   item.failure !== null || item.dump.malformed || ["unknown", "rest"].includes(item.direction);
 
-/** Where one goes from an item: to the completion of a command, to the command of a completion, to what is awaited. */
+/** The command that an error belongs to, or undefined. */
+function relatedCommand({ dump, side }) {
+  return dump.type === "Error" ? journals[side].commands[dump.message?.relatedCommandIndex] : undefined;
+}
+
+/** Where one goes from an item: to the completion of a command, to the command of a completion or of an error. */
 function followed(item) {
+  if (relatedCommand(item)) return relatedCommand(item);
   for (const { key, role } of item.parts) {
     const thread = threadOf(item, key);
     const [first, second] = role === "requests" ? ["completes", "proposes"] : ["requests", "awaits"];

@@ -61,6 +61,15 @@ const COLUMNS = {
 };
 const PAIR_COLUMNS = { "side-0": "recorded", mark: "", "side-1": "replayed" };
 
+/** The widths of the columns that hold numbers, and of the lines beside the list. */
+function setWidths() {
+  const longest = (values) => Math.max(0, ...values).toLocaleString("en").length;
+  const style = document.querySelector("main").style;
+  style.setProperty("--first", `${longest(journals.map(({ items }) => items.length)) + 5}ch`);
+  style.setProperty("--last", `${Math.max(7, longest(about.journals.map(({ bytes }) => bytes)) + 3)}ch`);
+  style.setProperty("--gutter", `${lanes.length > 0 ? lanes.length * LANE_WIDTH + 4 : 0}px`);
+}
+
 function start() {
   drawTop();
   drawCounts();
@@ -68,7 +77,7 @@ function start() {
   for (const [name, text] of Object.entries(isPair ? PAIR_COLUMNS : COLUMNS)) {
     byId("columns").append(element("span", name, text));
   }
-  list.style.setProperty("--gutter", `${lanes.length > 0 ? lanes.length * LANE_WIDTH + 4 : 0}px`);
+  setWidths();
   measure();
   filter();
   let timer = 0;

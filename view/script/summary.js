@@ -15,7 +15,7 @@ function fieldPiece(name, value, kind) {
   if (kind === "Future") return { label: "awaits", text: awaitedText(value) };
   if (kind === "Value") return { label: name, text: preview(value.content ?? "") };
   if (kind === "Void") return { text: "void" };
-  if (Array.isArray(value)) return { text: counted(value.length, name.replace(/s$/, "")) };
+  if (Array.isArray(value)) return { label: name, text: number(value.length) };
   if (kind === "bytes") return { label: name, text: preview(value) };
   if (kind in about.messages) {
     const texts = Array.from(valuesOf(value, kind), (one) => (one.kind === "bytes" ? preview(one.value) : one.value));
@@ -38,7 +38,7 @@ function piecesOf(item) {
   const pieces = dump.malformed ? [{ failure: "the payload is not well-formed" }] : [];
   if (dump.bytes) pieces.push({ label: "bytes", text: preview(dump.bytes) });
   if (dump.message === undefined) return pieces;
-  if (isFuture(item)) return [{ label: "awaits", text: awaitedText(dump.message) }];
+  if (awaitsInLists(item)) return [{ label: "awaits", text: awaitedText(dump.message) }];
   if (dump.type === "Error") return [{ failure: failureText(dump.message) }];
   const { serviceName, handlerName, name: ownName, ...others } = dump.message;
   if (serviceName ?? handlerName) pieces.push({ text: `${serviceName ?? ""}/${handlerName ?? ""}` });

@@ -64,7 +64,7 @@ function factsNode(journal, side) {
     isPair ? [element("b", "", `${SIDES[side]}: `), ...visible(journal.name)] : null,
     fact(counted(journal.bytes, "byte")),
     fact(counted(journal.items, "item")),
-    fact(counted(commands, "command")),
+    fact(counted(commands.length, "command")),
     open > 0 ? fact(`${number(open)} open`) : null,
     failures > 0 ? fact(counted(failures, "failure"), "failure") : null);
 }

@@ -86,6 +86,9 @@ function valueNode({ path, kind, value }, item, layout) {
   }
   if (kind === "Future") return futureNode(value, item);
   if (typeof value === "object") return element("span", "form", kind === "Void" ? "void" : "present, without a field");
+  if (path === "relatedCommandIndex" && relatedCommand(item)) {
+    return element("span", "", `${value}: `, linkTo(relatedCommand(item)));
+  }
   if (TIMES.test(path)) return element("span", "", value, element("span", "form", ` ${timeText(Number(value))}`));
   return element("span", "", String(value));
 }

@@ -52,5 +52,5 @@ def tell():
     """Runs the tests of the program, and prints the last line of a check."""
     runner = unittest.TextTestRunner(stream=sys.stdout)
     result = unittest.main(module="__main__", exit=False, testRunner=runner).result
-    wrong = len(result.failures) + len(result.errors)
-    print(f"{result.testsRun - wrong} passed, {wrong} failed")
+    wrong = {getattr(test, "test_case", test) for test, _ in result.failures + result.errors}
+    print(f"{result.testsRun - len(wrong)} passed, {len(wrong)} failed")

@@ -138,9 +138,14 @@ class Pairs(PageTest):
         self.assertIn("handler_name: greet != greet_all", self.text("#printed"))
         self.assertIn("≠", self.selected())
         self.assertEqual(self.value("document.querySelectorAll('.row.difference').length"), 1)
-        self.assertEqual([self.text(f"#row-{row} .mark b") for row in range(2)], ["=", "="])
+        marks = "[...document.querySelectorAll('.mark b')].map((mark) => mark.textContent)"
+        self.assertEqual(self.value(marks), ["=", "=", "≠", "·"])
         self.assertIn("handlerName", self.text("tr.differs"))
         self.assertEqual(self.text("tr.differs td"), "greet")
+
+    def test_the_sentence_says_the_first_thing_that_differs(self):
+        self.open(STREAMS / "recorded", STREAMS / "replayed_other_payload")
+        self.assertEqual([self.text(f"#sentence .side-{side}") for side in (0, 1)], ["value 1", "value 2"])
 
     def test_it_opens_at_a_difference_that_is_far_down(self):
         same = frame("ClearStateCommand", key=b"key") * 5000
@@ -148,15 +153,15 @@ class Pairs(PageTest):
         self.open(written("far", recorded), written("other", same + frame("RunCommand", result_completion_id=1)))
         self.assertIn("part at command 5,000: recorded is SleepCommand", self.text("#sentence"))
         self.assertIn("SleepCommand", self.selected())
-        inside = """(() => { const row = document.querySelector('.row.difference').getBoundingClientRect();
+        centred = """(() => { const row = document.querySelector('.row.difference').getBoundingClientRect();
             const list = document.getElementById('list').getBoundingClientRect();
-            return row.top >= list.top && row.bottom <= list.bottom; })()"""
-        self.assertTrue(self.value(inside))
+            return Math.abs((row.top + row.bottom) - (list.top + list.bottom)) < row.height; })()"""
+        self.assertTrue(self.value(centred))
         browser.press("g")
         self.assertIn("ClearStateCommand", self.selected())
         browser.press("n")
         self.assertIn("SleepCommand", self.selected())
-        self.assertTrue(self.value(inside))
+        self.assertTrue(self.value(centred))
 
     def test_the_other_verdicts(self):
         recorded, payload = STREAMS / "recorded", STREAMS / "replayed_other_payload"
@@ -292,6 +297,16 @@ class Joins(PageTest):
         self.assertEqual([self.text(f"#row-{row} .link") for row in (0, 1)], ["open", "no command"])
         self.assertIn("not completed in this journal", self.text("#detail"))
 
+    def test_an_error_leads_to_its_command(self):
+        commands = frame("InputCommand") + frame("RunCommand", name="charge", result_completion_id=1)
+        error = frame("Error", code=571, message="it differs", related_command_index=1, stacktrace="at charge")
+        self.open(written("error", commands + error))
+        self.assertIn("571: it differs", self.text("#row-2 .failure"))
+        browser.press("n")
+        self.assertIn("1: #1 RunCommand", self.text("#detail"))
+        browser.press("Enter")
+        browser.wait("selected === 1")
+
     def test_failures_are_red_with_code_and_message(self):
         self.open_order()
         browser.press("n")
@@ -312,7 +327,7 @@ class Payloads(PageTest):
 
     def test_text_json_and_hex(self):
         self.assertEqual(self.shown("Grüße\n".encode()), ("text, 8 bytes", "Grüße\n"))
-        self.assertEqual(self.shown(b"\xff\x00AB"), ("hex, 4 bytes", f"000000  {'ff 00 41 42':47}  ..AB"))
+        self.assertEqual(self.shown(b"\xff\x00AB"), ("hex, 4 bytes", f"000000  {'ff 00 41 42':23}  ..AB"))
         self.assertEqual(self.shown(b'{"a":[1,{}],"b":"x, {y}"}'),
                          ("JSON, 25 bytes", '{\n  "a": [\n    1,\n    {}\n  ],\n  "b": "x, {y}"\n}'))
 
