@@ -1,6 +1,5 @@
 # A front for the scripts, which say more with --help: no rule of it does anything else.
-.PHONY: help quick test check generate view install uninstall python go ruby rust node bench
-.PHONY: help quick test check generate view install uninstall package python go ruby rust bench
+.PHONY: help quick test check generate view install uninstall package python go ruby rust node bench
 
 help:
 	@echo 'make quick                  what can be known in two minutes, without a proof (sh scripts/test.sh --quick)'
