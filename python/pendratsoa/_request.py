@@ -106,9 +106,7 @@ class Request:
         # and not a class below it, whose length could be another
         if type(data) is not bytes:
             try:
-                # a view that an error keeps would keep a bytearray from growing
-                with memoryview(data) as view:  # type: ignore[arg-type]
-                    data = view.tobytes()
+                data = memoryview(data).tobytes()  # type: ignore[arg-type]
             except TypeError:
                 raise TypeError(f"{self.call}: {argument} must be bytes-like, not {type(data).__name__}") from None
         self.size += len(data)

@@ -1,5 +1,6 @@
 """The constants of the package are those of the header, and its library is that of the header's version."""
 
+import ctypes
 import re
 import unittest
 
@@ -28,6 +29,8 @@ class TestConstants(unittest.TestCase):
 
     def test_calls(self):
         self.assertEqual(re.findall(r"^int64_t (journal_\w+)\(", HEADER, re.M), list(_library.PARAMETERS))
+        for name in _library.PARAMETERS:
+            self.assertIs(getattr(_library.library, name).restype, ctypes.c_int64)
 
     def test_version_of_the_library(self):
         self.assertIn(f'#define JOURNAL_LIBRARY_VERSION "{pendratsoa.library_version()}"\n', HEADER)

@@ -16,6 +16,13 @@ class TestErrors(unittest.TestCase):
         for call, kind, argument, value, text in (
             (lambda: pendratsoa.type_name(8), Unknown, "code", 8, "type_name: code 8 is not that of a type"),
             (lambda: pendratsoa.type_code("Sleep"), Unknown, "name", "Sleep", "type_code: there is no type with the name 'Sleep'"),
+            (
+                lambda: pendratsoa.type_code("\ud800"),
+                Unknown,
+                "name",
+                "\ud800",
+                "type_code: there is no type with the name '\\ud800'",
+            ),
             (lambda: pendratsoa.schema(4, 0), Unknown, "version", 4, "schema: there is no version 4"),
             (lambda: pendratsoa.schema(8, 8), Unknown, "code", 8, "schema: code 8 is not that of a named type"),
             (lambda: pendratsoa.header(4, 8, 0), Unknown, "version", 4, "header: there is no version 4"),
@@ -128,6 +135,13 @@ class TestErrors(unittest.TestCase):
             self.assertIs(type(error), kind)
             self.assertEqual((str(error), error.argument, error.value), (text, argument, value))
             self.assertEqual(error.call, text.partition(":")[0])
+
+    def test_a_number_that_python_does_not_write(self):
+        for number in (1 << 100_000, -1 << 100_000):
+            with self.assertRaises(Unknown) as raised:
+                pendratsoa.type_name(number)
+            self.assertLess(len(str(raised.exception)), 150)
+            self.assertEqual(raised.exception.value, number)
 
     def test_what_fails_without_an_argument(self):
         for number, kind, text in (

@@ -23,6 +23,7 @@ class TestMaking(unittest.TestCase):
     def test_payload_and_version(self):
         self.assertEqual(Message.of("InputCommand", INPUT[8:]).frame(), INPUT)
         self.assertEqual(Message.of("InputCommand", bytearray(INPUT[8:]), 9), Message(9, 0x0400, INPUT[8:], False))
+        self.assertIs(type(Message.of("InputCommand", bytearray(INPUT[8:])).payload), bytes)
         self.assertEqual(Message.of(CUSTOM_ENTRY, b"\xff").type, "CustomEntry(64513)")
 
     def test_the_flag_is_that_of_its_header(self):

@@ -4,9 +4,11 @@ import array
 import io
 import os
 import socket
+import sys
 import threading
 import tracemalloc
 import unittest
+from unittest import mock
 
 from pendratsoa import JournalError, Malformed, Message, Skipped, Stream, UnknownCode, canonical
 from support import CALL_COMMAND, INPUT, INPUT_COMMAND, RECORDED, STREAM, UNKNOWN_WORD, replaced, returning
@@ -71,12 +73,15 @@ class TestFeeding(unittest.TestCase):
         self.assertEqual(list(stream), [])
         chunk = bytes(1 << 10)
         tracemalloc.start()
-        for _ in range(length >> 10):
-            self.assertEqual(list(stream), [])
-            stream.feed(chunk)
-        (message,) = stream
+        with mock.patch.object(stream, "_look", wraps=stream._look) as look:
+            for _ in range(length >> 10):
+                self.assertEqual(list(stream), [])
+                stream.feed(chunk)
+            (message,) = stream
         _, peak = tracemalloc.get_traced_memory()
         tracemalloc.stop()
+        # for the message, and whether there is another
+        self.assertEqual(look.call_count, 2)
         self.assertEqual((len(message.payload), stream.rest), (length, 0))
         # the joined bytes and the payload, and the list of chunks
         self.assertLess(peak, 2 * length + (1 << 20))
@@ -181,6 +186,9 @@ class TestReading(unittest.TestCase):
         stream.feed(STREAM[:20])
         self.assertEqual(list(stream.read(io.BytesIO(STREAM[20:]))), EXPECTED)
         self.assertEqual(list(stream.read(io.BytesIO(b""))), [])
+        stream = Stream()
+        stream.feed(STREAM)
+        self.assertEqual(list(stream.read(io.BytesIO(b""))), EXPECTED)
 
     def test_items_come_before_the_end_of_a_pipe_and_of_a_socket(self):
         reading, writing = os.pipe()
@@ -242,6 +250,8 @@ class TestItems(unittest.TestCase):
         stream = Stream()
         found = []
         is_fed = threading.Event()
+        self.addCleanup(sys.setswitchinterval, sys.getswitchinterval())
+        sys.setswitchinterval(1e-6)
 
         def feed():
             for _ in range(1000):
