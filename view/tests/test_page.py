@@ -487,8 +487,7 @@ class Sizes(PageTest):
         pair = [frame("RunCommand", result_completion_id=number, name=f"step {number}")
                 + frame("RunCompletionNotification", completion_id=number, value={"content": b"%d" % number})
                 for number in range(1, 50_001)]
-        stream = written("large", b"".join(pair))
-        self.open(stream)
+        self.open(written("large", b"".join(pair)))
         self.assertEqual(self.rows(), 100_000)
         self.assertLess(self.value("document.querySelectorAll('.row').length"), 100)
         browser.press("G")
@@ -501,8 +500,10 @@ class Sizes(PageTest):
         self.value("list.scrollTop = list.scrollHeight / 2")
         browser.wait("document.getElementById('row-50000') !== null")
         self.assertLess(self.value("document.querySelectorAll('.row').length"), 100)
-        self.open(stream, "--items", "1000")
-        self.assertEqual(self.text("#notice"), "Of large the first 1,000 of 100,000 items are shown, and counted.")
+
+    def test_items_beyond_the_limit(self):
+        self.open(written("many", frame("End") * 5000), "--items", "1000")
+        self.assertEqual(self.text("#notice"), "Of many the first 1,000 of 5,000 items are shown, and counted.")
         self.assertEqual(self.rows(), 1000)
 
     def test_a_difference_beyond_the_limit(self):
