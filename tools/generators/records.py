@@ -3,6 +3,7 @@
 One file a message, in the crates below, laid out as `rt fmt` does. Future alone is written by hand, since it leads back to itself and so has a
 form of its own.
 """
+import re
 import shutil
 import textwrap
 
@@ -197,7 +198,7 @@ class Source:
         if self.shadowed:
             uses.add("std::result")
         code = "".join(self.body)
-        if "Bytes" in code.replace("ByteString", ""):
+        if re.search(r"\bBytes\b", code):
             uses.add("bytes::Bytes")
         return (
             f"//! {self.heading}\n\n"
@@ -426,7 +427,8 @@ def write_message(source, message):
     source.prelude.add("false")
     source.ghosts.add("Rattle.shared_core_message.specs.Frames.{plain_form}")
     source.uses |= {
-        "shared_core_message::frame::encode_frame_into",
+        "bytes::BytesMut",
+        "shared_core_message::frame::{encode_frame_into, encode_frame_into_bytes}",
         "shared_core_message::restate_message::{RestateEncodableMessage, RestateMessage}",
         "shared_core_base::version::Version",
         "shared_core_codec::error::EncodingError",
@@ -437,7 +439,9 @@ def write_message(source, message):
         f"    ghost wire_form = {{ λ message _. plain_form tables.{schema_name(name)} (⟦<{name} as WireRecord>⟧.parts message) }};\n\n"
         "    ghost is_rewritten = { λ _. false };\n\n"
         f"    fn encode_into(&self, _version: Version, out: &mut Vec<u8>) -> {result}<(), EncodingError> {{\n"
-        "        encode_frame_into(self, None, out)\n    }\n}\n"
+        "        encode_frame_into(self, None, out)\n    }\n\n"
+        f"    fn encode_into_bytes(&self, _version: Version, out: &mut BytesMut) -> {result}<(), EncodingError> {{\n"
+        "        encode_frame_into_bytes(self, None, out)\n    }\n}\n"
     )
 
 

@@ -6,7 +6,7 @@ use Rattle.shared_core_base.specs.declared.message_header.MessageHeader.{Message
 use Rattle.shared_core_base.specs.declared.version.Version.{Version}
 use Rattle.shared_core_base.specs.MessageHeader.{ack_bit, header_of}
 use Rattle.shared_core.specs.declared.encoding.item.Item.{Item}
-use Rattle.shared_core.specs.Items.{front_word, skips_unknown, body_length, item_of}
+use Rattle.shared_core.specs.Items.{front_word, skips_unknown_messages, body_length, item_of}
 use Rattle.shared_core.proofs.Items as items
 use Rattle.journal_c_api.specs.declared.items.Announced.{Announced}
 use Rattle.journal_c_api.specs.Answers.{written_over}
@@ -51,9 +51,9 @@ module _ (version : Version) (word : ℕ) where
     where
       by_header : (found : Option MessageHeader) → header_of word ≡ found → length (item_payload (item_of version word body)) ≡ length body
       by_header (Some header) typed = rw typed refl
-      by_header None untyped = by_version (skips_unknown version) refl
+      by_header None untyped = by_version (skips_unknown_messages version) refl
         where
-          by_version : (skips : Bool) → skips_unknown version ≡ skips → length (item_payload (item_of version word body)) ≡ length body
+          by_version : (skips : Bool) → skips_unknown_messages version ≡ skips → length (item_payload (item_of version word body)) ≡ length body
           by_version true skips = rw (untyped, skips) refl
           by_version false skips = let none = rw (untyped, skips) at long in rw (untyped, skips) (sym none)
 

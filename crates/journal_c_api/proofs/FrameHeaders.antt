@@ -12,9 +12,9 @@ use Rattle.shared_core_message.specs.Frames.{WireForm, header_of_payload, plain_
 use Rattle.shared_core_message.specs.Messages.{message_schema}
 use Rattle.shared_core_codec.specs.Table as tables
 use Rattle.shared_core_runtime.specs.Flattening.{flattened}
-use Rattle.shared_core_runtime.specs.Versions.{is_before_v7}
+use Rattle.shared_core_base.specs.Version.{has_flat_suspensions}
 use Rattle.shared_core.specs.Visiting.{written_form}
-use Rattle.journal_c_api.specs.Answers.{AtVersion, spoken_version}
+use Rattle.journal_c_api.specs.Answers.{AtVersion, supported_version}
 use Rattle.journal_c_api.specs.Headers.{AnswersHeader, flag_at, header_at, header_answer}
 use Rattle.journal_c_api.specs.Payloads.{AnswersFrame, AnswersFrameAt, AnswersFrameOf}
 
@@ -26,7 +26,7 @@ suspension_flag false suspension = refl
 -- the flag of what is written is that of the type's headers
 flag_written : (ty : MessageType) (s : ℕ) (version : Version) (v : Parts) → (written_form ty s version v).requested_ack ≡ flag_at version ty
 flag_written ty s version v = elim ty as (λ ty. (written_form ty s version v).requested_ack ≡ flag_at version ty) [
-  | Suspension ↦ suspension_flag (is_before_v7 version) v
+  | Suspension ↦ suspension_flag (has_flat_suspensions version) v
   | _ ↦ refl
 ]
 
@@ -65,4 +65,4 @@ at_version (Some version) found payload frame held = of_type found version paylo
 -- a frame of journal_frame begins with the header of journal_header
 pub begins_frame : (version code : ℕ) (payload frame : List ℕ) → AnswersFrame version code payload (Ok frame)
     → AnswersHeader version code (length frame - 8) (Ok (take 8 frame))
-begins_frame version code payload frame held = at_version (spoken_version version) (type_of code) payload frame held
+begins_frame version code payload frame held = at_version (supported_version version) (type_of code) payload frame held

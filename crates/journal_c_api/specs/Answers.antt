@@ -1,7 +1,7 @@
 -- The results of the calls, as C sees them.
 use Rattle.std.specs.Prelude.{◌≡◌, ℕ, ℤ, pos, negsuc, ◌^◌, nat_lt, nat_le, List, ◌++◌, drop, length, Vec, Option, Some, None, Result, Ok, Err, ◌==◌, if◌then◌else◌}
 use Rattle.shared_core_base.specs.declared.version.Version.{Version}
-use Rattle.shared_core_base.specs.declared.version.Version.TheVariants.{V5, V6, V7, V8, V9}
+pub use Rattle.shared_core_base.specs.Version.{supported_version}
 use Rattle.shared_core_wire.specs.declared.error.WireError.{WireError}
 use Rattle.shared_core_wire.specs.declared.error.WireError.TheVariants as wire
 use Rattle.shared_core_codec.specs.declared.error.EncodingError.{EncodingError}
@@ -46,20 +46,10 @@ json_refusal json.Malformed = Malformed
 json_refusal json.TooLong = TooLong
 json_refusal json.OutOfMemory = NoMemory
 
--- The version that a number denotes, if it is supported.
-abbrev pub spoken_version : ℕ → Option Version
-spoken_version number =
-    if number == 5 then Some V5
-    else (if number == 6 then Some V6
-    else (if number == 7 then Some V7
-    else (if number == 8 then Some V8
-    else (if number == 9 then Some V9
-    else None))))
-
 -- The result is the version that the number denotes, and Unknown where it denotes none.
 abbrev pub IsSpoken : ℕ → Result Version Refusal → Type 0
-IsSpoken number (Ok version) = spoken_version number ≡ Some version
-IsSpoken number (Err refusal) = (refusal ≡ Unknown) × (spoken_version number ≡ None)
+IsSpoken number (Ok version) = supported_version number ≡ Some version
+IsSpoken number (Err refusal) = (refusal ≡ Unknown) × (supported_version number ≡ None)
 
 -- What is in a slice whose front is to be these: they, and after them what was there; all that was there where it is
 -- too short.

@@ -7,14 +7,14 @@ use Rattle.shared_core_base.specs.declared.header.MessageType.TheVariants.{Propo
 use Rattle.shared_core_base.specs.declared.message_header.MessageHeader.{MessageHeader}
 use Rattle.shared_core_base.specs.MessageHeader.{word_of}
 use Rattle.shared_core_base.specs.MessageType.{type_of}
-use Rattle.shared_core_runtime.specs.Versions.{is_before_v7}
+use Rattle.shared_core_base.specs.Version.{requests_acknowledgement}
 use Rattle.journal_c_api.specs.declared.answer.Refusal.{Refusal}
 use Rattle.journal_c_api.specs.declared.answer.Refusal.TheVariants.{Unknown}
-use Rattle.journal_c_api.specs.Answers.{spoken_version}
+use Rattle.journal_c_api.specs.Answers.{supported_version}
 
 -- The flag of a type's headers at a version: the proposal of a run's result asks for an acknowledgement from V7 on, and no other header has a flag.
 abbrev pub flag_at : Version → MessageType → Option Bool
-flag_at version ProposeRunCompletion = if is_before_v7 version then None else Some true
+flag_at version ProposeRunCompletion = if requests_acknowledgement version then Some true else None
 flag_at version ty = None
 
 -- The header that a type's messages have at a version, by the length of the payload.
@@ -28,4 +28,4 @@ header_answer version ty payload_length = Err Unknown
 
 -- The result of journal_header.
 abbrev pub AnswersHeader : ℕ → ℕ → ℕ → Result (List ℕ) Refusal → Type 0
-AnswersHeader number code payload_length answer = answer ≡ header_answer (spoken_version number) (type_of code) payload_length
+AnswersHeader number code payload_length answer = answer ≡ header_answer (supported_version number) (type_of code) payload_length

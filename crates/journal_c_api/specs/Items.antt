@@ -10,7 +10,7 @@ use Rattle.shared_core.specs.Items.{front_word, body_length, item_of, IsItem, No
 use Rattle.journal_c_api.specs.declared.answer.Refusal.{Refusal}
 use Rattle.journal_c_api.specs.declared.answer.Refusal.TheVariants.{NoRoom, Unknown}
 use Rattle.journal_c_api.specs.declared.items.Announced.{Announced}
-use Rattle.journal_c_api.specs.Answers.{spoken_version, written_over}
+use Rattle.journal_c_api.specs.Answers.{supported_version, written_over}
 
 -- Which of the three kinds an item is.
 abbrev pub item_kind : Item → ℕ
@@ -71,8 +71,8 @@ pub record FindsItem (version : Version) (bytes old new : List ℕ) (missing : �
 -- where the slice has fewer than six numbers; either leaves the slice as it was.
 abbrev pub WritesNext : ℕ → List ℕ → List ℕ → List ℕ → Result ℕ Refusal → Type 0
 WritesNext number bytes old new (Ok missing) =
-    (version : Version) × (spoken_version number ≡ Some version) × (6 ≤ length old) × FindsItem version bytes old new missing
-WritesNext number bytes old new (Err Unknown) = (spoken_version number ≡ None) × (new ≡ old)
+    (version : Version) × (supported_version number ≡ Some version) × (6 ≤ length old) × FindsItem version bytes old new missing
+WritesNext number bytes old new (Err Unknown) = (supported_version number ≡ None) × (new ≡ old)
 WritesNext number bytes old new (Err NoRoom) =
-    (version : Version) × (spoken_version number ≡ Some version) × (length old < 6) × (new ≡ old)
+    (version : Version) × (supported_version number ≡ Some version) × (length old < 6) × (new ≡ old)
 WritesNext number bytes old new (Err refusal) = ⊥

@@ -8,7 +8,7 @@ use Rattle.replay_bench.specs.Verdicts.{HasAnswer}
 use Rattle.journal_c_api.specs.declared.answer.Refusal.{Refusal}
 use Rattle.journal_c_api.specs.declared.answer.Refusal.TheVariants.{OutOfMemory, NoRoom}
 use Rattle.journal_c_api.specs.declared.journals.Report.{Report}
-use Rattle.journal_c_api.specs.Answers.{AtVersion, spoken_version, written_over}
+use Rattle.journal_c_api.specs.Answers.{AtVersion, supported_version, written_over}
 
 -- The numbers of a result: its kind, and its index or how many commands both journals have.
 abbrev pub verdict_numbers : Answer → List ℕ
@@ -45,7 +45,7 @@ AnswersJournals version ignore recorded replayed (Err refusal) = refusal ≡ Out
 -- The result of journal_verdict: NoRoom where there is room for fewer than two numbers.
 abbrev pub AnswersVerdict : ℕ → ℕ → Bool → List ℕ → List ℕ → Result Answer Refusal → Type 0
 AnswersVerdict number room ignore recorded replayed answer =
-    AtVersion (spoken_version number) answer
+    AtVersion (supported_version number) answer
     (λ version. MatchBool (nat_lt room 2) (answer ≡ Err NoRoom) (AnswersJournals version ignore recorded replayed answer))
 
 -- The numbers and the text of a result of which this holds are written over two slices, and the count is that of the

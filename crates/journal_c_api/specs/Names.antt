@@ -8,7 +8,7 @@ use Rattle.shared_core_base.specs.MessageType.{IsNamed, code_of, debug_name_of, 
 use Rattle.shared_core.specs.Visiting.{schema_at}
 use Rattle.journal_c_api.specs.declared.answer.Refusal.{Refusal}
 use Rattle.journal_c_api.specs.declared.answer.Refusal.TheVariants.{Unknown}
-use Rattle.journal_c_api.specs.Answers.{spoken_version}
+use Rattle.journal_c_api.specs.Answers.{supported_version}
 
 -- The schema of a type's payloads at a version, where there is a version, a type, and a schema of it.
 abbrev pub schema_of : Option Version → Option MessageType → Option ℕ
@@ -17,7 +17,7 @@ schema_of version ty = None
 
 -- The result of journal_schema.
 abbrev pub AnswersSchema : ℕ → ℕ → Result ℕ Refusal → Type 0
-AnswersSchema number code answer = answer ≡ ok_or (schema_of (spoken_version number) (type_of code)) Unknown
+AnswersSchema number code answer = answer ≡ ok_or (schema_of (supported_version number) (type_of code)) Unknown
 
 -- The result of journal_type_name: the debug name of the type that the code denotes.
 abbrev pub AnswersTypeName : ℕ → Result (List ℕ) Refusal → Type 0
@@ -29,8 +29,3 @@ abbrev pub AnswersTypeCode : List ℕ → Result ℕ Refusal → Type 0
 AnswersTypeCode name (Ok code) = (ty : MessageType) × IsNamed ty × (variant_name_of ty ≡ name) × (code ≡ code_of ty)
 AnswersTypeCode name (Err Unknown) = (ty : MessageType) → IsNamed ty → variant_name_of ty ≢ name
 AnswersTypeCode name (Err refusal) = ⊥
-
--- The first type of a list that has the name.
-abbrev pub type_in : List MessageType → List ℕ → Option MessageType
-type_in [] name = None
-type_in (ty ∷ types) name = if bytes_eq (variant_name_of ty) name then Some ty else type_in types name

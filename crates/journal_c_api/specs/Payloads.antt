@@ -16,7 +16,7 @@ use Rattle.shared_core_json.specs.Form.{json_text}
 use Rattle.shared_core_json.specs.Payloads.{IsSpelling, IsTooLong}
 use Rattle.journal_c_api.specs.declared.answer.Refusal.{Refusal}
 use Rattle.journal_c_api.specs.declared.answer.Refusal.TheVariants.{Malformed, OutOfMemory, TooLong, Unknown}
-use Rattle.journal_c_api.specs.Answers.{AtVersion, spoken_version}
+use Rattle.journal_c_api.specs.Answers.{AtVersion, supported_version}
 
 -- A record has the parts that a payload means for the schema. Malformed where the payload is not well-formed. An
 -- allocation may fail.
@@ -102,4 +102,4 @@ AnswersFrameAt None version payload answer = answer ≡ Err Unknown
 -- The result of journal_frame.
 abbrev pub AnswersFrame : ℕ → ℕ → List ℕ → Result (List ℕ) Refusal → Type 0
 AnswersFrame number code payload answer =
-    AtVersion (spoken_version number) answer (λ version. AnswersFrameAt (type_of code) version payload answer)
+    AtVersion (supported_version number) answer (λ version. AnswersFrameAt (type_of code) version payload answer)

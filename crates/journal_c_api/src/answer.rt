@@ -1,7 +1,7 @@
 //! The results of the calls.
 
 ghost use Rattle.std.specs.Prelude.{◌≡◌, MatchOption};
-ghost use Rattle.journal_c_api.specs.Answers.{answer_number, bytes_of, spoken_version, written_over, IsSpoken, Writes};
+ghost use Rattle.journal_c_api.specs.Answers.{answer_number, bytes_of, supported_version, written_over, IsSpoken, Writes};
 
 use shared_core::header::UnknownMessageType;
 use shared_core::messages::EncodingError;
@@ -120,14 +120,7 @@ pub fn answer_of(answer: Result<usize, Refusal>) -> i64
 pub fn version_of(number: u32) -> Result<Version, Refusal>
     ensures { IsSpoken number result }
 {
-    match number {
-        5 => Ok(Version::V5),
-        6 => Ok(Version::V6),
-        7 => Ok(Version::V7),
-        8 => Ok(Version::V8),
-        9 => Ok(Version::V9),
-        _ => Err(Refusal::Unknown),
-    }
+    Version::from_number(number).ok_or(Refusal::Unknown)
 }
 
 /// Writes elements at the front of a slice that has room for all of them, and otherwise nothing.

@@ -25,7 +25,7 @@ pub fn write_header(
         Some(flag) => MessageHeader::new_with_requested_ack(ty, flag, payload_length),
         None => MessageHeader::new(ty, payload_length),
     };
-    let bytes = u64::from(header).to_be_bytes();
+    let bytes = header.to_bytes();
     write_over(&bytes, out);
     Ok(bytes.len())
 }
@@ -34,7 +34,7 @@ pub fn write_header(
 fn requested_ack(version: Version, ty: MessageType) -> Option<bool>
     ensures { result ≡ flag_at version ty }
 {
-    if ty.allows_ack() && version >= Version::V7 {
+    if ty.allows_ack() && version.requests_acknowledgement() {
         Some(true)
     } else {
         None

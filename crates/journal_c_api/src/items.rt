@@ -10,9 +10,6 @@ use shared_core::version::Version;
 /// The number of numbers of an item.
 const ITEM_NUMBERS: usize = 6;
 
-/// The number of bytes before a payload.
-const HEADER_SIZE: usize = 8;
-
 /// The kind of a message.
 const MESSAGE: u64 = 0;
 
@@ -57,7 +54,7 @@ fn write_item(version: Version, bytes: &[u8], item: &mut [u64]) -> usize
     ensures { FindsItem version bytes.now item.old item.new result }
 {
     let Some((head, body)) = bytes.split_first_chunk::<8>() else {
-        return HEADER_SIZE - bytes.len();
+        return MessageHeader::SIZE - bytes.len();
     };
     let word = u64::from_be_bytes(*head);
     let announced = announced_by(version, word);
@@ -70,8 +67,8 @@ fn write_item(version: Version, bytes: &[u8], item: &mut [u64]) -> usize
         word,
         u64::from(announced.code),
         u64::from(announced.asks_ack),
-        (HEADER_SIZE + length) as u64,
-        HEADER_SIZE as u64,
+        (MessageHeader::SIZE + length) as u64,
+        MessageHeader::SIZE as u64,
     ];
     write_over(&numbers, item);
     0
@@ -92,7 +89,7 @@ fn announced_by(version: Version, word: u64) -> Announced
         }
         Err(unknown) => unknown,
     };
-    if version >= Version::V9 {
+    if version.skips_unknown_messages() {
         return Announced {
             kind: SKIPPED,
             code: unknown.code(),

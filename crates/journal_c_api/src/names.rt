@@ -43,26 +43,13 @@ pub fn write_type_name(code: u16, out: &mut [u8]) -> Result<usize, Refusal>
 }
 
 /// The code of the named type that has a name.
-#[tactic(auto, using(crate::proofs::TypeNames::type_code_is))]
 pub fn type_code(name: &[u8]) -> Result<usize, Refusal>
     ensures { AnswersTypeCode name.now result }
 {
-    match type_named(name) {
+    match MessageType::from_name(name) {
         Some(ty) => Ok(usize::from(u16::from(ty))),
         None => Err(Refusal::Unknown),
     }
-}
-
-/// The named type that has a name.
-fn type_named(name: &[u8]) -> Option<MessageType>
-    ensures { result ≡ type_in named_types name.now }
-{
-    for ty in MessageType::named() {
-        if ty.variant_name().as_bytes() == name {
-            return Some(*ty);
-        }
-    }
-    None
 }
 
 /// The name of the custom entry that has a code.

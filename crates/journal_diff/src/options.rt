@@ -21,21 +21,11 @@ pub struct Options<'a> {
     pub ignore_payloads: bool,
 }
 
-/// The supported versions, as arguments.
-const VERSIONS: [&str; 5] = ["5", "6", "7", "8", "9"];
-
 /// The version of an argument, if it is a supported one.
 fn version_of(word: &str) -> Option<Version>
     ensures { IfSome result (λ version. 5 ≤ version_number version) }
 {
-    match word {
-        "5" => Some(Version::V5),
-        "6" => Some(Version::V6),
-        "7" => Some(Version::V7),
-        "8" => Some(Version::V8),
-        "9" => Some(Version::V9),
-        _ => None,
-    }
+    Version::from_number(word.parse().ok()?)
 }
 
 /// The clap definition of the command line.
@@ -51,7 +41,7 @@ fn command<'a>(alloc: Global) -> Result<Command<'a>, AllocError> {
     let protocol = Arg::new(alloc, "protocol")
         .long("protocol")
         .value_name("VERSION")
-        .value_parser(VERSIONS.as_slice())
+        .value_parser(Version::supported_numbers())
         .default_value("8")
         .help("The version of the protocol of both journals");
     let ignore_payloads = Arg::new(alloc, "ignore-payloads")

@@ -22,39 +22,20 @@ pub struct CommandLine<'a> {
     pub payloads: bool,
 }
 
-/// The supported versions, as arguments.
-const VERSIONS: [&str; 5] = ["5", "6", "7", "8", "9"];
-
 /// The version of an argument, if it is a supported one.
 fn version_of(word: &str) -> Option<Version>
     ensures { IfSome result (λ version. 5 ≤ version_number version) }
 {
-    match word {
-        "5" => Some(Version::V5),
-        "6" => Some(Version::V6),
-        "7" => Some(Version::V7),
-        "8" => Some(Version::V8),
-        "9" => Some(Version::V9),
-        _ => None,
-    }
+    Version::from_number(word.parse().ok()?)
 }
 
-/// The code of the type that has this name in a dump: that of a named type, or of a custom entry, as `CustomEntry(64513)`.
+/// The code of the type that has this name in a dump: that of a named type, or of a custom entry, as
+/// `CustomEntry(64513)`.
 fn code_of(alloc: Global, name: &str) -> Result<Option<u16>, AllocError> {
-    match type_named(name) {
+    match MessageType::from_name(name.as_bytes()) {
         Some(ty) => Ok(Some(u16::from(ty))),
         None => custom_code(alloc, name),
     }
-}
-
-/// The named type that has this name.
-fn type_named(name: &str) -> Option<MessageType> {
-    for ty in MessageType::named() {
-        if ty.variant_name() == name {
-            return Some(*ty);
-        }
-    }
-    None
 }
 
 /// The code of the custom entry that has this name.
@@ -82,7 +63,7 @@ fn command<'a>(alloc: Global) -> Result<Command<'a>, AllocError> {
     let protocol = Arg::new(alloc, "protocol")
         .long("protocol")
         .value_name("VERSION")
-        .value_parser(VERSIONS.as_slice())
+        .value_parser(Version::supported_numbers())
         .default_value("8")
         .help("The version of the protocol of the stream");
     let types = Arg::new(alloc, "type")

@@ -7,7 +7,7 @@ use Rattle.shared_core_base.specs.declared.header.MessageType.{MessageType}
 use Rattle.shared_core_base.specs.MessageHeader.{header_of}
 use Rattle.shared_core.specs.declared.encoding.item.Item.{Item}
 use Rattle.shared_core.specs.declared.encoding.item.Item.TheVariants.{Message, Unknown, Skipped}
-use Rattle.shared_core.specs.Items.{IsItem, TakesItem, IsItemsThen, body_length, front_word, item_of, skips_unknown}
+use Rattle.shared_core.specs.Items.{IsItem, TakesItem, IsItemsThen, body_length, front_word, item_of, skips_unknown_messages}
 use Rattle.shared_core.proofs.Items.{then_takes}
 use Rattle.journal_c_api.specs.declared.answer.Refusal.{Refusal}
 use Rattle.journal_c_api.specs.declared.answer.Refusal.TheVariants.{Malformed, OutOfMemory}
@@ -25,9 +25,9 @@ skipped_length version bytes payload code is = by_header (header_of (front_word 
   where
     by_header : (found : Option MessageHeader) → header_of (front_word bytes) ≡ found → length payload < 2 ^ 32
     by_header (Some header) typed = let means = rw typed at is.means in cc
-    by_header None untyped = by_version (skips_unknown version) refl
+    by_header None untyped = by_version (skips_unknown_messages version) refl
       where
-        by_version : (skips : Bool) → skips_unknown version ≡ skips → length payload < 2 ^ 32
+        by_version : (skips : Bool) → skips_unknown_messages version ≡ skips → length payload < 2 ^ 32
         by_version true skips =
             let means = rw (untyped, skips) at is.means in
             let whole = rw (untyped, skips) at is.whole in

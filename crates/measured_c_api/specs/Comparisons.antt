@@ -7,7 +7,7 @@ use Rattle.shared_core.specs.Items.{IsItemsThen, SplitsInto}
 use Rattle.shared_core.specs.Visiting.{command_schema}
 use Rattle.journal_c_api.specs.declared.answer.Refusal.{Refusal}
 use Rattle.journal_c_api.specs.declared.answer.Refusal.TheVariants.{Malformed, OutOfMemory, TooLong}
-use Rattle.journal_c_api.specs.Answers.{AtVersion, spoken_version}
+use Rattle.journal_c_api.specs.Answers.{AtVersion, supported_version}
 use Rattle.measured_c_api.specs.Streams.{AllDecode, HasMalformed, IsAcceptedFor, count_with, one_with}
 
 -- Of this many comparisons all hold if two are the same, otherwise none.
@@ -42,4 +42,4 @@ ComparesAll rounds version stream (Err refusal) = ⊥
 
 -- The result of measure_compare.
 abbrev pub AnswersComparisons : ℕ → List ℕ → ℕ → Result ℕ Refusal → Type 0
-AnswersComparisons number stream rounds answer = AtVersion (spoken_version number) answer (λ version. ComparesAll rounds version stream answer)
+AnswersComparisons number stream rounds answer = AtVersion (supported_version number) answer (λ version. ComparesAll rounds version stream answer)

@@ -9,7 +9,7 @@ use Rattle.shared_core.specs.declared.encoding.item.Item.TheVariants.{Message, U
 use Rattle.shared_core.specs.Items.{IsItemsThen, SplitsInto}
 use Rattle.journal_c_api.specs.declared.answer.Refusal.{Refusal}
 use Rattle.journal_c_api.specs.declared.answer.Refusal.TheVariants.{Malformed, OutOfMemory, NoRoom}
-use Rattle.journal_c_api.specs.Answers.{AtVersion, spoken_version}
+use Rattle.journal_c_api.specs.Answers.{AtVersion, supported_version}
 use Rattle.shared_core_message.specs.Messages.{message_schema}
 
 -- An item's number: a message's header, or an unknown code in bits 48 to 63, and in bits 0 to 31 the length of the
@@ -89,8 +89,8 @@ DecodesAll version stream (Err refusal) = ⊥
 
 -- The result of measure_items.
 abbrev pub AnswersItems : ℕ → List ℕ → List ℕ → Result ℕ Refusal → Type 0
-AnswersItems number stream words answer = AtVersion (spoken_version number) answer (λ version. WritesWords version stream words answer)
+AnswersItems number stream words answer = AtVersion (supported_version number) answer (λ version. WritesWords version stream words answer)
 
 -- The result of measure_messages.
 abbrev pub AnswersMessages : ℕ → List ℕ → Result ℕ Refusal → Type 0
-AnswersMessages number stream answer = AtVersion (spoken_version number) answer (λ version. DecodesAll version stream answer)
+AnswersMessages number stream answer = AtVersion (supported_version number) answer (λ version. DecodesAll version stream answer)

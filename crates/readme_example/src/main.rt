@@ -32,7 +32,7 @@ fn recorded(alloc: Global) -> Result<Vec<u8>> {
 /// Appends a message to `out`: every other one as it came, the command that sets a state with the value 2.
 fn copy_changed(alloc: Global, message: &RawMessage, index: i64, out: &mut Vec<u8>) -> Result<()> {
     if message.ty() != MessageType::SetStateCommand {
-        out.extend_from_slice(&u64::from(message.header()).to_be_bytes())?;
+        out.extend_from_slice(&message.header().to_bytes())?;
         out.extend_from_slice(message.payload().as_slice())?;
         return Ok(());
     }

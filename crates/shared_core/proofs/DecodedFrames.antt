@@ -14,7 +14,8 @@ use Rattle.shared_core_codec.specs.Payloads.{IsReadBack}
 use Rattle.shared_core_codec.proofs.PayloadLaws.{canonical_is_read_back}
 use Rattle.shared_core_message.specs.Frames.{WireFits, WireForm, plain_form, wire_frame, wire_payload, wire_size}
 use Rattle.shared_core_runtime.specs.Flattening.{flattened}
-use Rattle.shared_core_runtime.specs.Versions.{is_before_v7, proposal_form, suspension_form}
+use Rattle.shared_core_base.specs.Version.{has_flat_suspensions, requests_acknowledgement}
+use Rattle.shared_core_runtime.specs.Versions.{proposal_form, suspension_form}
 use Rattle.shared_core_runtime.proofs.FlattenedFits.{flattened_fits, flattened_levels}
 use Rattle.shared_core.specs.declared.encoding.error.DecodingError.{DecodingError}
 use Rattle.shared_core.specs.declared.encoding.error.DecodingError.TheVariants.{UnknownMessageType, SkippedMessage, OutOfMemory}
@@ -81,7 +82,7 @@ appended_is_frame_of (Ok x) version ty form named fits small = is_frame_of versi
 appended_is_frame_of (Err e) version ty form named fits small = small
 
 -- a suspension before V7 comes out as its three lists
-pub suspension_decodes : (version : Version) (suspension : Parts) → is_before_v7 version ≡ true → Fits table suspension (table tables.suspension) → wire_size (suspension_form suspension version) < 2 ^ 32
+pub suspension_decodes : (version : Version) (suspension : Parts) → has_flat_suspensions version ≡ true → Fits table suspension (table tables.suspension) → wire_size (suspension_form suspension version) < 2 ^ 32
     → FrameSpells version Suspension (suspension_form suspension version) (DecodesTo Suspension tables.suspension_v6 (flattened suspension))
 suspension_decodes version suspension before fits =
     let flat = flattened suspension in
@@ -90,16 +91,16 @@ suspension_decodes version suspension before fits =
     subst (λ (form : WireForm). wire_size form < 2 ^ 32 → FrameSpells version Suspension form (DecodesTo Suspension tables.suspension_v6 flat)) (sym form)
     (λ small. form_decodes version Suspension (plain_form tables.suspension_v6 flat) tt small (flattened_fits suspension fits) low)
 
-asked : (before : Bool) → Some (eqb (ack_bit (cond before None (Some true))) 1) ≡ Some (not before)
+asked : (requests : Bool) → Some (eqb (ack_bit (cond requests (Some true) None)) 1) ≡ Some requests
 asked true = refl
 asked false = refl
 
 -- a proposal asks for an acknowledgement from V7 on
 pub proposal_asks : (version : Version) (proposal : Parts) → wire_size (proposal_form proposal version) < 2 ^ 32
-    → FrameSpells version ProposeRunCompletion (proposal_form proposal version) (λ item. requested_ack_of item ≡ Some (not (is_before_v7 version)))
+    → FrameSpells version ProposeRunCompletion (proposal_form proposal version) (λ item. requested_ack_of item ≡ Some (requests_acknowledgement version))
 proposal_asks version proposal small =
     let form = proposal_form proposal version in
-    (frame_is_item version ProposeRunCompletion form (wire_frame ProposeRunCompletion form) tt small refl, asked (is_before_v7 version))
+    (frame_is_item version ProposeRunCompletion form (wire_frame ProposeRunCompletion form) tt small refl, asked (requests_acknowledgement version))
 
 no_flag : (ty : MessageType) → ty ≢ ProposeRunCompletion → allows_ack ty ≡ false
 no_flag ty = elim ty as (λ ty. ty ≢ ProposeRunCompletion → allows_ack ty ≡ false) [

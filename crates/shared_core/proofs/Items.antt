@@ -10,7 +10,7 @@ use Rattle.shared_core_base.specs.declared.version.Version.{Version}
 use Rattle.shared_core_base.specs.MessageHeader.{header_of, word_code, word_length}
 use Rattle.shared_core.specs.declared.encoding.item.Item.{Item}
 use Rattle.shared_core.specs.declared.encoding.item.Item.TheVariants.{Message, Unknown, Skipped}
-use Rattle.shared_core.specs.Items.{front_word, skips_unknown, body_length, item_of, IsItem, AreItems, TakesItem, NoItemBegins, IsItemsThen, SplitsInto, BeginsWithWritten}
+use Rattle.shared_core.specs.Items.{front_word, skips_unknown_messages, body_length, item_of, IsItem, AreItems, TakesItem, NoItemBegins, IsItemsThen, SplitsInto, BeginsWithWritten}
 
 take_exact : (n : ℕ) (front rest : List ℕ) → length front ≡ n → take n (front ++ rest) ≡ front
 take_exact n front rest e = subst (λ k. take k (front ++ rest) ≡ front) e (take-append_seam front rest)
@@ -60,36 +60,36 @@ module _ (version : Version) where
   unfolding body_length item_of
   announces_message word header size typed sized = record { length_is = rw typed sized; item_is = λ body. rw typed refl }
 
-  pub announces_unknown : (word code : ℕ) → header_of word ≡ None → code ≡ word_code word → skips_unknown version ≡ false → Announces word 0 (λ _. Unknown code)
+  pub announces_unknown : (word code : ℕ) → header_of word ≡ None → code ≡ word_code word → skips_unknown_messages version ≡ false → Announces word 0 (λ _. Unknown code)
   unfolding body_length item_of
   announces_unknown word code untyped is_code alone = record { length_is = rw (untyped, alone) refl; item_is = λ body. rw (untyped, alone, is_code) refl }
 
-  pub announces_skipped : (word code size : ℕ) → header_of word ≡ None → code ≡ word_code word → skips_unknown version ≡ true → size ≡ word_length word → Announces word size (Skipped code)
+  pub announces_skipped : (word code size : ℕ) → header_of word ≡ None → code ≡ word_code word → skips_unknown_messages version ≡ true → size ≡ word_length word → Announces word size (Skipped code)
   unfolding body_length item_of
   announces_skipped word code size untyped is_code skips sized = record { length_is = rw (untyped, skips) sized; item_is = λ body. rw (untyped, skips, is_code) refl }
 
   -- the version of an item of an untyped code
-  pub unknown_item_version : (bytes : List ℕ) (code : ℕ) → IsItem version bytes (Unknown code) → skips_unknown version ≡ false
+  pub unknown_item_version : (bytes : List ℕ) (code : ℕ) → IsItem version bytes (Unknown code) → skips_unknown_messages version ≡ false
   unfolding item_of
   unknown_item_version bytes code is = by_header (header_of (front_word bytes)) refl
     where
-      by_header : (found : Option MessageHeader) → header_of (front_word bytes) ≡ found → skips_unknown version ≡ false
+      by_header : (found : Option MessageHeader) → header_of (front_word bytes) ≡ found → skips_unknown_messages version ≡ false
       by_header (Some header) typed = let means = rw typed at is.means in cc
-      by_header None untyped = by_version (skips_unknown version) refl
+      by_header None untyped = by_version (skips_unknown_messages version) refl
         where
-          by_version : (skips : Bool) → skips_unknown version ≡ skips → skips ≡ false
+          by_version : (skips : Bool) → skips_unknown_messages version ≡ skips → skips ≡ false
           by_version true skips = let means = rw (untyped, skips) at is.means in cc
           by_version false skips = refl
 
-  pub skipped_item_version : (bytes payload : List ℕ) (code : ℕ) → IsItem version bytes (Skipped code payload) → skips_unknown version ≡ true
+  pub skipped_item_version : (bytes payload : List ℕ) (code : ℕ) → IsItem version bytes (Skipped code payload) → skips_unknown_messages version ≡ true
   unfolding item_of
   skipped_item_version bytes payload code is = by_header (header_of (front_word bytes)) refl
     where
-      by_header : (found : Option MessageHeader) → header_of (front_word bytes) ≡ found → skips_unknown version ≡ true
+      by_header : (found : Option MessageHeader) → header_of (front_word bytes) ≡ found → skips_unknown_messages version ≡ true
       by_header (Some header) typed = let means = rw typed at is.means in cc
-      by_header None untyped = by_version (skips_unknown version) refl
+      by_header None untyped = by_version (skips_unknown_messages version) refl
         where
-          by_version : (skips : Bool) → skips_unknown version ≡ skips → skips ≡ true
+          by_version : (skips : Bool) → skips_unknown_messages version ≡ skips → skips ≡ true
           by_version true skips = refl
           by_version false skips = let means = rw (untyped, skips) at is.means in cc
 

@@ -1,13 +1,13 @@
 -- The items of a stream: which bytes encode an item, and how a stream splits into items and a rest.
 --
--- A version decides how many bytes belong to a header, so each of these relations takes it: `body_length` and `item_of` ask it whether it
--- skips unknown messages, and nothing else does. Versions 5 to 8 read headers alike.
-use Rattle.std.specs.Prelude.{◌≡◌, ℕ, ◌+◌, ◌^◌, ◌≤◌, Bool, if◌then◌else◌, nat_le, List, [], ◌∷◌, ◌++◌, length, take, drop, Option, Some, None, Result, Ok, Err}
+-- A version decides how many bytes belong to a header, so each of these relations takes it: `body_length` and `item_of`
+-- ask it whether it skips unknown messages, and nothing else does. Versions 5 to 8 read headers alike.
+use Rattle.std.specs.Prelude.{◌≡◌, ℕ, ◌+◌, ◌^◌, ◌≤◌, Bool, if◌then◌else◌, List, [], ◌∷◌, ◌++◌, length, take, drop, Option, Some, None, Result, Ok, Err}
 use Rattle.std.specs.Option.{option_map_or}
 use Rattle.std.specs.Int.{w64, from_be_bytes}
 use Rattle.shared_core_base.specs.declared.version.Version.{Version}
 use Rattle.shared_core_base.specs.MessageHeader.{header_of, word_code, word_length}
-use Rattle.shared_core_base.specs.Version.{version_number}
+pub use Rattle.shared_core_base.specs.Version.{skips_unknown_messages}
 use Rattle.shared_core.specs.declared.encoding.item.Item.{Item}
 use Rattle.shared_core.specs.declared.encoding.item.Item.TheVariants.{Message, Unknown, Skipped}
 use Rattle.shared_core.specs.declared.encoding.item.Taken.{Taken}
@@ -22,22 +22,18 @@ use Rattle.shared_core.specs.declared.encoding.error.PushError.TheVariants.{OutO
 unfoldable pub front_word : List ℕ → ℕ
 front_word bytes = from_be_bytes w64 (take 8 bytes)
 
--- Whether a version skips a message of an unknown type with its payload: from V9 on.
-abbrev pub skips_unknown : Version → Bool
-skips_unknown version = nat_le 9 (version_number version)
-
 -- How many bytes belong to an item after its first eight: the length that its header says; where its code is no type's,
 -- the length in its word if the version skips such a message, and otherwise none.
 unfoldable pub body_length : Version → ℕ → ℕ
 body_length version word =
-    option_map_or (λ header. header.length) (header_of word) (if skips_unknown version then word_length word else 0)
+    option_map_or (λ header. header.length) (header_of word) (if skips_unknown_messages version then word_length word else 0)
 
 -- The item that a word and the bytes after it are: a message with its payload; or a code that is no type's, with its
 -- payload if the version skips such a message, and otherwise alone.
 unfoldable pub item_of : Version → ℕ → List ℕ → Item
 item_of version word body =
     option_map_or (λ header. Message (record { header = header; payload = body })) (header_of word)
-    (if skips_unknown version then Skipped (word_code word) body else Unknown (word_code word))
+    (if skips_unknown_messages version then Skipped (word_code word) body else Unknown (word_code word))
 
 -- The item that a decoder has taken.
 abbrev pub item_taken : Taken → Item

@@ -1,8 +1,8 @@
 //! What holds of every stream, whatever decodes it, and of equality. A law is the contract of a function that does nothing,
 //! or nothing but compare.
-ghost use Rattle.std.specs.Prelude.{◌≡◌, ◌≢◌, ◌≤◌, ◌<◌, ◌^◌, ◌↔◌, ℕ, [], ◌∷◌, ◌++◌, IsTrue, List, None, Some, false, not, true};
+ghost use Rattle.std.specs.Prelude.{◌≡◌, ◌≢◌, ◌≤◌, ◌<◌, ◌^◌, ◌↔◌, ℕ, [], ◌∷◌, ◌++◌, IsTrue, List, None, Some, false, true};
 ghost use Rattle.shared_core_base.specs.declared.version.Version.{Version};
-ghost use Rattle.shared_core.specs.Items.{IsItem, IsItemsThen, TakesItem, NoItemBegins, SplitsInto, skips_unknown};
+ghost use Rattle.shared_core.specs.Items.{IsItem, IsItemsThen, TakesItem, NoItemBegins, SplitsInto, skips_unknown_messages};
 ghost use Rattle.shared_core.specs.Written.{AreFrames, items_written, joined_frames};
 ghost use Rattle.shared_core.specs.Decoded.{DecodesTo, FrameSpells, requested_ack_of};
 ghost use Rattle.shared_core_base.specs.declared.header.MessageType.{MessageType as AnyType};
@@ -17,7 +17,8 @@ ghost use Rattle.shared_core_message.specs.Messages.{message_schema};
 ghost use Rattle.shared_core_codec.specs.Table as tables;
 ghost use Rattle.shared_core_message.specs.Frames.{WireForm, wire_size};
 ghost use Rattle.shared_core_runtime.specs.Flattening.{flattened};
-ghost use Rattle.shared_core_runtime.specs.Versions.{is_before_v7, proposal_form, suspension_form};
+ghost use Rattle.shared_core_base.specs.Version.{has_flat_suspensions, requests_acknowledgement};
+ghost use Rattle.shared_core_runtime.specs.Versions.{proposal_form, suspension_form};
 ghost use Rattle.shared_core.specs.declared.encoding.item.Item.{Item as AnyItem};
 ghost use Rattle.shared_core.specs.declared.encoding.item.Item.TheVariants.{Skipped, Unknown};
 
@@ -45,9 +46,9 @@ pub fn every_stream_splits()
 /// messages, and otherwise a skipped message. No stream has both.
 pub fn untyped_items_go_by_the_version()
     ensures unknown { (version : Version) (bytes : List ℕ) (code : ℕ)
-        → IsItem version bytes (Unknown code) → skips_unknown version ≡ false }
+        → IsItem version bytes (Unknown code) → skips_unknown_messages version ≡ false }
     ensures skipped { (version : Version) (bytes payload : List ℕ) (code : ℕ)
-        → IsItem version bytes (Skipped code payload) → skips_unknown version ≡ true }
+        → IsItem version bytes (Skipped code payload) → skips_unknown_messages version ≡ true }
 {}
 
 /// The next item stays the next whatever comes after it, and what it leaves is what it left with these bytes after.
@@ -89,7 +90,7 @@ pub fn frames_decode_to_what_was_written()
 /// A suspension written before V7 comes out as its three lists, however deep its tree: over the futures in preorder, with duplicates, and
 /// empty where nothing is awaited.
 pub fn suspensions_decode_to_their_three_lists()
-    ensures { (version : Version) (suspension : Parts) → is_before_v7 version ≡ true
+    ensures { (version : Version) (suspension : Parts) → has_flat_suspensions version ≡ true
         → Fits table suspension (table tables.suspension) → wire_size (suspension_form suspension version) < 2 ^ 32
         → FrameSpells version Suspension (suspension_form suspension version)
         (DecodesTo Suspension tables.suspension_v6 (flattened suspension)) }
@@ -107,7 +108,7 @@ pub fn notifications_are_within_the_template()
 pub fn acknowledgements_come_out_as_asked()
     ensures proposals { (version : Version) (proposal : Parts) → wire_size (proposal_form proposal version) < 2 ^ 32
         → FrameSpells version ProposeRunCompletion (proposal_form proposal version)
-        (λ item. requested_ack_of item ≡ Some (not (is_before_v7 version))) }
+        (λ item. requested_ack_of item ≡ Some (requests_acknowledgement version)) }
     ensures others { (version : Version) (ty : AnyType) (form : WireForm) → IsNamed ty → ty ≢ ProposeRunCompletion
         → wire_size form < 2 ^ 32 → FrameSpells version ty form (λ item. requested_ack_of item ≡ None) }
 {}

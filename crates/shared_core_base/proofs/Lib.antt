@@ -1,3 +1,4 @@
 pub mod Types
+pub mod TypeNames
 pub mod Equality
 pub mod Versions

@@ -25,7 +25,7 @@ found_passes test other (y ∷ ys) x all found =
 
 -- ---- types with a name
 
-is_named : MessageType → Bool
+unfoldable pub is_named : MessageType → Bool
 is_named (CustomEntry code) = false
 is_named ty = true
 

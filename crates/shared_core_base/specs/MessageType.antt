@@ -1,6 +1,7 @@
 -- The types of messages, and the 16-bit codes that denote them in a header.
-use Rattle.std.specs.Prelude.{◌≡◌, ℕ, ◌++◌, Bool, true, false, codes, decimal, find, List, Option, Some, None, Result, Ok, Err, ◌==◌, if◌then◌else◌, bit_and}
+use Rattle.std.specs.Prelude.{◌≡◌, ℕ, ◌++◌, Bool, true, false, codes, decimal, find, List, Option, Some, None, Result, Ok, Err, ◌==◌, if◌then◌else◌, bit_and, [], ◌∷◌}
 use Rattle.std.specs.Option.{option_or}
+use Rattle.std.specs.Str.{bytes_eq}
 use Rattle.std.specs.Fmt.{digits}
 use Rattle.shared_core_base.specs.declared.header.MessageType.{MessageType}
 use Rattle.shared_core_base.specs.declared.header.MessageType.TheVariants.{ProposeRunCompletion, CustomEntry}
@@ -20,6 +21,11 @@ custom_entry code = if bit_and code 0xFC00 == 0 then None else Some (CustomEntry
 -- The type that a code denotes: the named type whose code it is, otherwise its custom entry, if it has one.
 unfoldable pub type_of : ℕ → Option MessageType
 type_of code = option_or (find (λ ty. code_of ty == code) named_types) (custom_entry code)
+
+-- The first type of a list that has the name.
+abbrev pub type_in : List MessageType → List ℕ → Option MessageType
+type_in [] name = None
+type_in (ty ∷ types) name = if bytes_eq (variant_name_of ty) name then Some ty else type_in types name
 
 -- Reading a code returns the type that it denotes, or the code itself if it denotes none.
 abbrev pub ReadsType : ℕ → Result MessageType UnknownMessageType → Type 0

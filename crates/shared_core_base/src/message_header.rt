@@ -1,5 +1,7 @@
 //! The header before each message: its type, its length and its flag.
 ghost use Rattle.std.specs.Prelude.{◌≡◌, Some, None};
+ghost use Rattle.std.specs.Int.{w64, to_be_bytes};
+ghost use Rattle.shared_core_base.specs.MessageHeader.{word_of};
 
 use crate::header::MessageType;
 use crate::type_kinds::UnknownMessageType;
@@ -16,6 +18,9 @@ pub struct MessageHeader {
 const REQUESTED_ACK_BIT: u32 = 47;
 
 impl MessageHeader {
+    /// The size of a header in bytes.
+    pub const SIZE: usize = 8;
+
     /// A header without a flag, of a payload of `length` bytes.
     pub fn new(ty: MessageType, length: u32) -> MessageHeader
         ensures { result ≡ record { ty = ty; length = length; requested_ack = None } }
@@ -62,6 +67,13 @@ impl MessageHeader {
         ensures { result ≡ self.now.requested_ack }
     {
         self.requested_ack
+    }
+
+    /// The eight bytes of the header: its word, the most significant byte first.
+    pub fn to_bytes(self) -> [u8; 8]
+        ensures { result ≡ to_be_bytes w64 (word_of self) }
+    {
+        u64::from(self).to_be_bytes()
     }
 }
 

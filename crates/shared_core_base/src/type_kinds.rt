@@ -1,6 +1,7 @@
 //! What kind of message a type is of, and how types and unknown codes print.
-ghost use Rattle.std.specs.Prelude.{◌≡◌, ◌≤◌, ◌<◌, IsTrue, ◌↔◌};
-ghost use Rattle.shared_core_base.specs.MessageType.{code_of, allows_ack};
+ghost use Rattle.std.specs.Prelude.{◌≡◌, ◌≤◌, ◌<◌, IsTrue, Some, ◌↔◌};
+ghost use Rattle.shared_core_base.specs.declared.header.MessageType.{MessageType as AnyType};
+ghost use Rattle.shared_core_base.specs.MessageType.{IsNamed, allows_ack, code_of, named_types, type_in, variant_name_of};
 
 use crate::command_type::CommandType;
 use crate::header::MessageType;
@@ -15,6 +16,13 @@ const FIRST_NOTIFICATION: u16 = 0x8000;
 const FIRST_BEHIND_NOTIFICATIONS: u16 = 0xFC00;
 
 impl MessageType {
+    /// The named type that has this name, as `SleepCommand`, the name that `variant_name` returns.
+    pub fn from_name(name: &[u8]) -> Option<MessageType>
+        ensures { (ty : AnyType) → (result ≡ Some ty) ↔ (IsNamed ty × (variant_name_of ty ≡ name.now)) }
+    {
+        first_named(name)
+    }
+
     /// Whether this is a command: its code is from 0x0400 to below 0x8000. Custom entries count by their code too.
     pub fn is_command(&self) -> bool
         ensures { IsTrue result ↔ ((0x0400 ≤ code_of self.now) × (code_of self.now < 0x8000)) }
@@ -42,6 +50,18 @@ impl MessageType {
     {
         DebugName(*self)
     }
+}
+
+/// The first of the named types that has this name.
+fn first_named(name: &[u8]) -> Option<MessageType>
+    ensures { result ≡ type_in named_types name.now }
+{
+    for ty in MessageType::named() {
+        if ty.variant_name().as_bytes() == name {
+            return Some(*ty);
+        }
+    }
+    None
 }
 
 /// Prints the text of the type's command where `CommandType::try_from` succeeds, as `get state`, else the debug name, as

@@ -10,6 +10,7 @@ ghost use Rattle.shared_core_codec.specs.Table as tables;
 ghost use Rattle.shared_core_codec.specs.FieldParts.{text_part};
 ghost use Rattle.shared_core_codec.specs.EqualityRules.{equality_rules};
 
+use bytes::BytesMut;
 use shared_core_base::header::MessageType;
 use shared_core_base::version::Version;
 use shared_core_codec::error::EncodingError;
@@ -17,7 +18,7 @@ use shared_core_codec::occurrence::Occurrence;
 use shared_core_codec::plain;
 use shared_core_codec::record::WireRecord;
 use shared_core_codec::size::Size;
-use shared_core_message::frame::encode_frame_into;
+use shared_core_message::frame::{encode_frame_into, encode_frame_into_bytes};
 use shared_core_message::restate_message::{RestateEncodableMessage, RestateMessage};
 use shared_core_wire::error::WireError;
 use std::alloc::Global;
@@ -92,5 +93,13 @@ impl RestateEncodableMessage for PeekPromiseCommandMessage {
 
     fn encode_into(&self, _version: Version, out: &mut Vec<u8>) -> Result<(), EncodingError> {
         encode_frame_into(self, None, out)
+    }
+
+    fn encode_into_bytes(
+        &self,
+        _version: Version,
+        out: &mut BytesMut,
+    ) -> Result<(), EncodingError> {
+        encode_frame_into_bytes(self, None, out)
     }
 }

@@ -22,7 +22,7 @@ use crate::error::EncodingError;
 use crate::message_bytes::MessageBytes;
 use crate::occurrence::Occurrence;
 use crate::size::Size;
-use bytes::Bytes;
+use bytes::{Bytes, BytesMut};
 use shared_core_wire::error::WireError;
 use shared_core_wire::records::Records;
 use std::alloc::Global;
@@ -131,6 +131,30 @@ pub trait WireRecord: Sized + Drop + PartialEq {
         let start = out.len();
         out.resize(start + len as usize, 0)?;
         self.fill_payload(&mut out[start..]);
+        Ok(())
+    }
+
+    /// Appends the canonical payload, as `encode_payload_into` does, to a buffer whose spare room is initialized, so that
+    /// no byte is written twice.
+    final fn encode_payload_into_bytes(&self, out: &mut BytesMut) -> Result<(), EncodingError>
+        ensures ok { OnOk result (out.new.items ≡ out.old.items ++ canonical_payload table schema (parts self.now)) }
+        ensures short { OnOk result (size table schema (parts self.now) < 2 ^ 32) }
+        ensures reads_back { OnOk result (IsReadBack schema (parts self.now) (canonical_payload table schema (parts self.now))) }
+        ensures unchanged { OnErr result (out.new.items ≡ out.old.items) }
+        ensures full { IsErrOf result OutOfMemory → out.old.spare < size table schema (parts self.now) }
+        ensures spare { OnOk result (out.old.spare ≤ out.new.spare + size table schema (parts self.now)) }
+        ensures kept { OnErr result (out.old.spare ≤ out.new.spare) }
+        ensures too_long { IsErrOf result PayloadTooLong → 2 ^ 32 ≤ size table schema (parts self.now) }
+        ensures refused { 2 ^ 32 ≤ size table schema (parts self.now) → result ≡ Err PayloadTooLong }
+    {
+        let len = match self.encoded_len() {
+            Some(len) => len as usize,
+            None => return Err(EncodingError::PayloadTooLong),
+        };
+        let front = out.len();
+        out.reserve(len)?;
+        out.advance_mut(len);
+        self.fill_payload(&mut out.as_mut_slice()[front..]);
         Ok(())
     }
 

@@ -9,7 +9,7 @@ ghost use Rattle.shared_core_codec.specs.declared.error.EncodingError.TheVariant
 ghost use Rattle.shared_core_message.specs.Frames.{WireForm, WireFits, wire_size, wire_frame};
 ghost use Rattle.shared_core_message.specs.Messages.{IsSchemaOf};
 
-use bytes::Bytes;
+use bytes::{Bytes, BytesMut};
 use shared_core_base::header::MessageType;
 use shared_core_base::version::Version;
 use shared_core_codec::error::EncodingError;
@@ -52,6 +52,21 @@ pub trait RestateEncodableMessage: RestateMessage {
         ensures unchanged { OnErr result (out.new.items ≡ out.old.items) }
         ensures capacity { vec_capacity out.old ≤ vec_capacity out.new }
         ensures full { is_rewritten version ≡ false → IsErrOf result OutOfMemory → vec_capacity out.old < vec_len out.old + (8 + wire_size (wire_form self.now version)) }
+        ensures too_long { IsErrOf result PayloadTooLong → 2 ^ 32 ≤ wire_size (wire_form self.now version) }
+        ensures refused { 2 ^ 32 ≤ wire_size (wire_form self.now version)
+            → MatchBool (is_rewritten version) (IsErr result) (result ≡ Err PayloadTooLong) };
+
+    /// Appends the frame, as `encode_into` does, to a buffer whose spare room is initialized, so that no byte is written
+    /// twice.
+    fn encode_into_bytes(&self, version: Version, out: &mut BytesMut) -> Result<(), EncodingError>
+        ensures ok { OnOk result (out.new.items ≡ out.old.items ++ wire_frame Self.message_type (wire_form self.now version)) }
+        ensures short { OnOk result (wire_size (wire_form self.now version) < 2 ^ 32) }
+        // what is written fits its schema
+        ensures fits { OnOk result (WireFits (wire_form self.now version)) }
+        ensures unchanged { OnErr result (out.new.items ≡ out.old.items) }
+        ensures full { is_rewritten version ≡ false → IsErrOf result OutOfMemory → out.old.spare < 8 + wire_size (wire_form self.now version) }
+        ensures spare { OnOk result (out.old.spare ≤ out.new.spare + (8 + wire_size (wire_form self.now version))) }
+        ensures kept { OnErr result (out.old.spare ≤ out.new.spare) }
         ensures too_long { IsErrOf result PayloadTooLong → 2 ^ 32 ≤ wire_size (wire_form self.now version) }
         ensures refused { 2 ^ 32 ≤ wire_size (wire_form self.now version)
             → MatchBool (is_rewritten version) (IsErr result) (result ≡ Err PayloadTooLong) };

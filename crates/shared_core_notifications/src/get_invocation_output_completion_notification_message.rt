@@ -11,6 +11,7 @@ ghost use Rattle.shared_core_codec.specs.FieldParts.{option_part};
 ghost use Rattle.shared_core_codec.specs.EqualityRules.{equality_rules};
 
 pub use crate::any_result::AnyResult as Result;
+use bytes::BytesMut;
 use shared_core_base::header::MessageType;
 use shared_core_base::version::Version;
 use shared_core_codec::error::EncodingError;
@@ -19,7 +20,7 @@ use shared_core_codec::oneof::OneOf;
 use shared_core_codec::record::WireRecord;
 use shared_core_codec::size::Size;
 use shared_core_codec::{oneof, plain};
-use shared_core_message::frame::encode_frame_into;
+use shared_core_message::frame::{encode_frame_into, encode_frame_into_bytes};
 use shared_core_message::restate_message::{RestateEncodableMessage, RestateMessage};
 use shared_core_wire::error::WireError;
 use std::alloc::Global;
@@ -94,5 +95,13 @@ impl RestateEncodableMessage for GetInvocationOutputCompletionNotificationMessag
         out: &mut Vec<u8>,
     ) -> result::Result<(), EncodingError> {
         encode_frame_into(self, None, out)
+    }
+
+    fn encode_into_bytes(
+        &self,
+        _version: Version,
+        out: &mut BytesMut,
+    ) -> result::Result<(), EncodingError> {
+        encode_frame_into_bytes(self, None, out)
     }
 }

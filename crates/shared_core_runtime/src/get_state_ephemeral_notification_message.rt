@@ -11,6 +11,7 @@ ghost use Rattle.shared_core_codec.specs.Table as tables;
 ghost use Rattle.shared_core_codec.specs.FieldParts.{message_part, option_part};
 ghost use Rattle.shared_core_codec.specs.EqualityRules.{different_members, equality_rules};
 
+use bytes::BytesMut;
 use shared_core_base::header::MessageType;
 use shared_core_base::version::Version;
 use shared_core_codec::error::EncodingError;
@@ -20,7 +21,7 @@ use shared_core_codec::oneof::OneOf;
 use shared_core_codec::record::WireRecord;
 use shared_core_codec::size::Size;
 use shared_core_codec::{oneof, plain};
-use shared_core_message::frame::encode_frame_into;
+use shared_core_message::frame::{encode_frame_into, encode_frame_into_bytes};
 use shared_core_message::restate_message::{RestateEncodableMessage, RestateMessage};
 use shared_core_parts::value::Value;
 use shared_core_parts::void::Void;
@@ -159,5 +160,13 @@ impl RestateEncodableMessage for GetStateEphemeralNotificationMessage {
         out: &mut Vec<u8>,
     ) -> result::Result<(), EncodingError> {
         encode_frame_into(self, None, out)
+    }
+
+    fn encode_into_bytes(
+        &self,
+        _version: Version,
+        out: &mut BytesMut,
+    ) -> result::Result<(), EncodingError> {
+        encode_frame_into_bytes(self, None, out)
     }
 }

@@ -3,15 +3,17 @@
 ghost use Rattle.std.specs.Prelude.{◌≡◌, IfOk, OnOk, false};
 ghost use Rattle.shared_core_parts.specs.Futures.{future_parts, future_elements};
 ghost use Rattle.shared_core_runtime.specs.Flattening.{AppendsFutures, flattened, messages_in, preorder};
-ghost use Rattle.shared_core_runtime.specs.Versions.{is_before_v7, proposal_form, suspension_form};
+ghost use Rattle.shared_core_base.specs.Version.{has_flat_suspensions};
+ghost use Rattle.shared_core_runtime.specs.Versions.{proposal_form, suspension_form};
 
 use crate::propose_run_completion_message::ProposeRunCompletionMessage;
 use crate::suspension_message::SuspensionMessage;
 use crate::suspension_message_v6::SuspensionMessageV6;
+use bytes::BytesMut;
 use shared_core_base::version::Version;
 use shared_core_codec::error::EncodingError;
 use shared_core_codec::record::WireRecord;
-use shared_core_message::frame::encode_frame_into;
+use shared_core_message::frame::{encode_frame_into, encode_frame_into_bytes};
 use shared_core_message::restate_message::RestateEncodableMessage;
 use shared_core_parts::future::Future;
 use std::alloc::{AllocError, Global};
@@ -23,10 +25,17 @@ impl RestateEncodableMessage for ProposeRunCompletionMessage {
     ghost is_rewritten = { λ _. false };
 
     fn encode_into(&self, version: Version, out: &mut Vec<u8>) -> Result<(), EncodingError> {
-        if is_before_v7(version) {
+        if !version.requests_acknowledgement() {
             return encode_frame_into(self, None, out);
         }
         encode_frame_into(self, Some(true), out)
+    }
+
+    fn encode_into_bytes(&self, version: Version, out: &mut BytesMut) -> Result<(), EncodingError> {
+        if !version.requests_acknowledgement() {
+            return encode_frame_into_bytes(self, None, out);
+        }
+        encode_frame_into_bytes(self, Some(true), out)
     }
 }
 
@@ -35,21 +44,22 @@ impl RestateEncodableMessage for ProposeRunCompletionMessage {
 impl RestateEncodableMessage for SuspensionMessage {
     ghost wire_form = { λ message version. suspension_form (⟦<SuspensionMessage as WireRecord>⟧.parts message) version };
 
-    ghost is_rewritten = { is_before_v7 };
+    ghost is_rewritten = { has_flat_suspensions };
 
     fn encode_into(&self, version: Version, out: &mut Vec<u8>) -> Result<(), EncodingError> {
-        if is_before_v7(version) {
+        if version.has_flat_suspensions() {
             // its lists are allocated by the buffer's allocator
             return encode_frame_into(&flatten(self, *out.allocator())?, None, out);
         }
         encode_frame_into(self, None, out)
     }
-}
 
-fn is_before_v7(version: Version) -> bool
-    ensures { result ≡ is_before_v7 version }
-{
-    version < Version::V7
+    fn encode_into_bytes(&self, version: Version, out: &mut BytesMut) -> Result<(), EncodingError> {
+        if version.has_flat_suspensions() {
+            return encode_frame_into_bytes(&flatten(self, *out.allocator())?, None, out);
+        }
+        encode_frame_into_bytes(self, None, out)
+    }
 }
 
 fn flatten(suspension: &SuspensionMessage, alloc: Global) -> Result<SuspensionMessageV6, AllocError>

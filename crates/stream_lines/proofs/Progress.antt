@@ -8,7 +8,7 @@ use Rattle.std.specs.Option.{option_map_or}
 use Rattle.shared_core_base.specs.declared.message_header.MessageHeader.{MessageHeader}
 use Rattle.shared_core_base.specs.MessageHeader.{header_of, word_code, word_length}
 use Rattle.shared_core.specs.declared.encoding.item.Item.TheVariants.{Message, Unknown, Skipped}
-use Rattle.shared_core.specs.Items.{AreItems, IsItem, IsItemsThen, SplitsInto, front_word, body_length, item_of, skips_unknown}
+use Rattle.shared_core.specs.Items.{AreItems, IsItem, IsItemsThen, SplitsInto, front_word, body_length, item_of, skips_unknown_messages}
 use Rattle.shared_core.proofs.Items.{nothing_begins_with_none, then_start, then_join, then_more, split_of, split_begins}
 use Rattle.stream_lines.specs.declared.error.PrintError.{PrintError}
 use Rattle.stream_lines.specs.declared.error.PrintError.TheVariants.{Input, Output, OutOfMemory, TooLong}
@@ -30,7 +30,7 @@ zero_more n = omega arith
 
 item_long : (version : Version) (bytes : List ℕ) (item : Item) → IsItem version bytes item → length bytes ≡ item_size item
 unfolding body_length item_of
-item_long version bytes item is = by_header (header_of (front_word bytes)) (skips_unknown version) is.whole is.means
+item_long version bytes item is = by_header (header_of (front_word bytes)) (skips_unknown_messages version) is.whole is.means
   where
     by_header : (header : Option MessageHeader) (skips : Bool)
         → length bytes ≡ 8 + option_map_or (λ h. h.length) header (cond skips (word_length (front_word bytes)) 0)

@@ -12,13 +12,7 @@ use std::fmt::Debug;
 
 /// The type of a name.
 pub fn type_of_name(name: &str) -> Result<MessageType, Failed> {
-    match MessageType::named()
-        .iter()
-        .find(|ty| ty.variant_name() == name)
-    {
-        Some(ty) => Ok(*ty),
-        None => Err(Failed::Unreadable),
-    }
+    MessageType::from_name(name.as_bytes()).ok_or(Failed::Unreadable)
 }
 
 /// Checks the frame of a message of the type of a name.

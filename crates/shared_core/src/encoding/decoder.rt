@@ -1,7 +1,6 @@
 //! The decoder of a stream that comes in chunks.
 ghost use Rattle.std.specs.Prelude.{◌≡◌, ◌+◌, ◌<◌, ◌≤◌, ◌++◌, length, drop, take, IfOk, IfSome, IfNone, OnErr};
 ghost use Rattle.std.specs.Prelude.{MatchOption, Some, None};
-ghost use Rattle.shared_core.specs.Items.{skips_unknown};
 ghost use Rattle.shared_core.specs.Unread.{held_bytes, held_length};
 
 use crate::encoding::item::Taken;
@@ -54,13 +53,6 @@ fn hold_head(head: &mut Option<[u8; 8]>, pending: &mut PendingBytes) -> Option<[
     let bytes = pending.take_head();
     *head = Some(bytes);
     Some(bytes)
-}
-
-/// Whether a message of an unknown type is skipped with its payload. Before, only its header is.
-fn skips_unknown(version: Version) -> bool
-    ensures { result ≡ skips_unknown version }
-{
-    version >= Version::V9
 }
 
 /// Takes the held header and `count` bytes after it, if as many have come. An `Err` takes nothing.
@@ -201,7 +193,7 @@ impl Decoder {
         let header = match MessageHeader::try_from(word) {
             Ok(header) => header,
             Err(unknown) => {
-                if !skips_unknown(self.version) {
+                if !self.version.skips_unknown_messages() {
                     self.head = None;
                     return Ok(Some(Taken::Unknown(unknown)));
                 }

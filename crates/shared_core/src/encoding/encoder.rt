@@ -6,7 +6,7 @@ ghost use Rattle.shared_core_base.specs.Version.{version_number};
 ghost use Rattle.shared_core_codec.specs.declared.error.EncodingError.TheVariants.{PayloadTooLong, OutOfMemory};
 ghost use Rattle.shared_core_message.specs.Frames.{wire_size, wire_frame};
 
-use bytes::Bytes;
+use bytes::{Bytes, BytesMut};
 use shared_core_base::version::Version;
 use shared_core_codec::error::EncodingError;
 use shared_core_message::restate_message::RestateEncodableMessage;
@@ -78,5 +78,36 @@ impl Encoder {
             → MatchBool (M.is_rewritten self.now.version) (IsErr result) (result ≡ Err PayloadTooLong) }
     {
         message.encode_into(self.version, out)
+    }
+
+    /// Appends the frame of a message, as `encode` returns it, to a buffer whose spare room is initialized, so that no
+    /// byte is written twice. `out.freeze_to(out.len())` then takes the frames off as `Bytes` that share the buffer's
+    /// block, so that many frames need few allocations.
+    ///
+    /// The errors are those of `encode`, and after one the buffer has the same bytes. It allocates only if the buffer
+    /// has too little spare room, or if the message is rewritten first, as a suspension is before V7.
+    #[tactic(auto, using(crate::proofs::DecodedFrames::appended_is_frame_of))]
+    pub fn encode_into_bytes<M: RestateEncodableMessage>(
+        &self,
+        message: &M,
+        out: &mut BytesMut,
+    ) -> Result<(), EncodingError>
+        ensures appended { OnOk result (out.new.items
+            ≡ out.old.items ++ wire_frame M.message_type (M.wire_form message.now self.now.version)) }
+        ensures frame { OnOk result
+            (IsFrameOf self.now.version M.message_type (M.wire_form message.now self.now.version)
+            (wire_frame M.message_type (M.wire_form message.now self.now.version))) }
+        ensures unchanged { OnErr result (out.new.items ≡ out.old.items) }
+        ensures full { M.is_rewritten self.now.version ≡ false → IsErrOf result OutOfMemory
+            → out.old.spare < 8 + wire_size (M.wire_form message.now self.now.version) }
+        ensures spare { OnOk result
+            (out.old.spare ≤ out.new.spare + (8 + wire_size (M.wire_form message.now self.now.version))) }
+        ensures kept { OnErr result (out.old.spare ≤ out.new.spare) }
+        ensures too_long { IsErrOf result PayloadTooLong
+            → 2 ^ 32 ≤ wire_size (M.wire_form message.now self.now.version) }
+        ensures refused { 2 ^ 32 ≤ wire_size (M.wire_form message.now self.now.version)
+            → MatchBool (M.is_rewritten self.now.version) (IsErr result) (result ≡ Err PayloadTooLong) }
+    {
+        message.encode_into_bytes(self.version, out)
     }
 }
