@@ -9,17 +9,15 @@ set -u
 cd "$(dirname "$0")/../.." || exit 1
 . scripts/checks/lib.sh
 
-# The last version: that of the library, those that callers from C, the programs and the test vectors can ask for, and what pages and comments say.
-last=$(sed -n '/fn maximum_supported_version/,/^    }$/s/^        Version::V\([0-9]*\)$/\1/p' crates/shared_core_base/src/version.rt)
+# The last version: that of the library, those that callers from other languages and the test vectors can ask for, and what
+# pages and comments say. The programs ask the library for it.
+last=$(sed -n '/fn maximum_supported_version/,/^    }$/s/^        Version::V\([0-9]*\)$/\1/p' \
+  crates/shared_core_base/src/version.rt)
 for place in include/pendratsoa.h python/pendratsoa/_request.py rust/src/lib.rs ruby/lib/pendratsoa/functions.rb \
-  tools/generators/record_vectors.py crates/test_vectors/src/cases.rt crates/journal_c_api/src/answer.rt \
-  crates/journal_c_api/specs/Answers.antt crates/journal_diff/src/options.rt crates/journal_dump/src/command_line.rt; do
+  tools/generators/record_vectors.py crates/test_vectors/src/cases.rt; do
   echo "$place $last" >> "$work/last"
-  echo "$place $(grep -oE 'Version::V[0-9]+|Some V[0-9]+|LAST_VERSION(: u32)? (= )?[0-9]+' "$place" | grep -oE '[0-9]+$' | sort -n | tail -n 1)" >> "$work/asked"
-done
-for place in crates/journal_diff/src/options.rt crates/journal_dump/src/command_line.rt; do
-  echo "$place, by its words $last" >> "$work/last"
-  echo "$place, by its words $(sed -n 's/^const VERSIONS.*"\([0-9]*\)"\];$/\1/p' "$place")" >> "$work/asked"
+  found=$(grep -oE 'Version::V[0-9]+|LAST_VERSION(: u32)? (= )?[0-9]+' "$place" | grep -oE '[0-9]+$' | sort -n | tail -n 1)
+  echo "$place $found" >> "$work/asked"
 done
 same "the last version of shared_core_base and those that can be asked for" "$work/last" "$work/asked"
 find README.md conformance bench/README.md bench/src docs include examples python rust/src crates/*/src crates/*/specs -name '*.[a-z]*' | sort \

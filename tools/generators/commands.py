@@ -17,9 +17,6 @@ HEADING = "Commands compared: their names, whether two are the same but for what
 # Modules that are written by hand, and whether other crates see them. What is written holds impls alone, which need no name.
 BY_HAND = {"difference": True, "equality": True, "laws": True, "name": True, "printed": False}
 
-# The number of the field that names a command.
-NAME_NUMBER = 12
-
 # The function that writes the line of a field, by its presence and its kind.
 WRITERS = {
     ("plain", "u32"): "write_number",
@@ -31,6 +28,14 @@ WRITERS = {
 
 # The presences and kinds that `==` compares.
 COMPARED = {(presence, kind) for presence in ("plain", "optional") for kind in ("u32", "u64", "bool", "enum", "text", "bytes")}
+
+
+def name_number():
+    """The number of the field that names a command, one for all commands."""
+    found = {row.number for message in messages() if message.is_command() for row in message.rows if row.name == "name"}
+    if len(found) != 1:
+        refuse(f"commands have their names at several numbers: {sorted(found)}")
+    return found.pop()
 
 
 class Entry:
@@ -59,9 +64,9 @@ class Command:
 
     def check_entry(self):
         """Refuses a command without a name, and a field that is compared and neither printed nor the name."""
-        name = self.row(NAME_NUMBER)
+        name = self.row(name_number())
         if name is None or isinstance(name, OneOf) or (name.presence, name.kind) != ("plain", "text"):
-            refuse(f"{self.message.name} has no text {NAME_NUMBER}, its name")
+            refuse(f"{self.message.name} has no text {name_number()}, its name")
         for row in self.compared():
             if row is not name and row not in self.printed():
                 refuse(f"{row.name} of {self.message.name} is compared, and so has to be printed")
@@ -257,7 +262,7 @@ def write_command(command, shared):
     trait = source.use("crate::name", "NamedCommandMessage")
     source.body.append(
         f"impl {trait} for {message.name} {{\n"
-        f"    fn command_name(&self) -> &str {{\n        &self.{command.row(NAME_NUMBER).name}\n    }}\n}}\n"
+        f"    fn command_name(&self) -> &str {{\n        &self.{command.row(name_number()).name}\n    }}\n}}\n"
     )
     write_equality(source, command)
     for row in command.printed():

@@ -2,7 +2,7 @@
 what of a command is compared and printed. And the list of types for the scripts that write and list streams.
 """
 from . import laid_out
-from .commands import Entry
+from .commands import Entry, name_number
 from .proto import OneOf, earlier, messages, schema_name, schemas, typed
 from .records import KINDS, missing  # noqa: F401
 
@@ -32,7 +32,11 @@ use Rattle.std.specs.Prelude.{ℕ, List, [], ◌∷◌, codes}
 use Rattle.shared_core_codec.specs.Table as schema
 use Rattle.shared_core_compare.specs.CommandFields.{CommandFields}
 
--- The commands, by their schemas.
+-- The number of the field that names a command.
+abbrev pub name_number : ℕ
+name_number = %d
+
+-- The commands, by their schemas. Their code is proved against their entries.
 abbrev pub commands : List (ℕ × CommandFields)
 """
 
@@ -115,12 +119,14 @@ def commands():
         entry = Entry(message)
         not_compared = "".join(f"{number} ∷ " for number in entry.not_compared)
         payloads = "".join(f"{number} ∷ " for number in entry.payloads)
-        printed = "".join(f'({number}, codes "{name}") ∷ ' for number, name in entry.printed)
+        lines = [f'({number}, codes "{name}") ∷' for number, name in entry.printed] + ["[]"]
+        between = " " if len(lines) <= 4 else "\n            "
+        printed = between + between.join(lines)
         entries.append(
-            f"(schema.{schema_name(message.name)}, record {{ not_compared = {not_compared}[]; payloads = {payloads}[]; "
-            f"printed = {printed}[]; }})\n"
+            f"(\n      schema.{schema_name(message.name)},\n      record {{\n        not_compared = {not_compared}[];\n"
+            f"        payloads = {payloads}[];\n        printed ={printed};\n      }},\n    )\n"
         )
-    return f"{COMMANDS}commands = {'    ∷ '.join(entries)}    ∷ []\n"
+    return f"{COMMANDS % name_number()}commands = {'    ∷ '.join(entries)}    ∷ []\n"
 
 
 def texts():
@@ -128,7 +134,7 @@ def texts():
     return {
         "crates/shared_core_codec/specs/Table.antt": table(),
         "crates/shared_core_message/specs/Messages.antt": message_schemas(),
-        # COMPARE
+        "crates/shared_core_compare/specs/CommandTable.antt": commands(),
     }
 
 

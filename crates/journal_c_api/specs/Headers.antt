@@ -12,7 +12,8 @@ use Rattle.journal_c_api.specs.declared.answer.Refusal.{Refusal}
 use Rattle.journal_c_api.specs.declared.answer.Refusal.TheVariants.{Unknown}
 use Rattle.journal_c_api.specs.Answers.{supported_version}
 
--- The flag of a type's headers at a version: the proposal of a run's result asks for an acknowledgement from V7 on, and no other header has a flag.
+-- The flag of a type's headers at a version: the proposal of a run's result asks for an acknowledgement from V7 on, and
+-- no other header has a flag.
 abbrev pub flag_at : Version → MessageType → Option Bool
 flag_at version ProposeRunCompletion = if requests_acknowledgement version then Some true else None
 flag_at version ty = None

@@ -48,7 +48,8 @@ pub record Announces (version : Version) (word : ℕ) (announced : Announced) : 
   pub ack_is : (body : List ℕ) → item_ack (item_of version word body) ≡ from_bool announced.asks_ack
   pub length_is : announced.length ≡ body_length version word
 
--- How many bytes are missing at least: of a header that is not whole, or else of what the header says; none where an item is whole.
+-- How many bytes are missing at least: of a header that is not whole, or else of what the header says; none where an
+-- item is whole.
 abbrev pub missing_bytes : Version → List ℕ → ℕ
 missing_bytes version bytes =
     if nat_lt (length bytes) 8 then 8 - length bytes else (8 + body_length version (front_word bytes)) - length bytes

@@ -33,8 +33,8 @@ pub fn header_eq(
     visit_command(ty, comparing).ok_or(Refusal::Unknown)?
 }
 
-/// Writes a line for each printed field in which the commands that two payloads of a code mean differ: a line feed, three spaces and
-/// `name: first != second`.
+/// Writes a line for each printed field in which the commands that two payloads of a code mean differ: a line feed,
+/// three spaces and `name: first != second`.
 ///
 /// `Malformed` where one of the two is not well-formed for the type, `Unknown` where the code is that of no command.
 #[tactic(auto, using(crate::proofs::Writing::writes_answer))]

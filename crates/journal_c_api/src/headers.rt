@@ -41,7 +41,8 @@ fn requested_ack(version: Version, ty: MessageType) -> Option<bool>
     }
 }
 
-/// Each frame of `journal_frame` begins with the header that `journal_header` writes for its version, its type and the length of its payload.
+/// Each frame of `journal_frame` begins with the header that `journal_header` writes for its version, its type and the
+/// length of its payload.
 #[tactic(auto, using(crate::proofs::FrameHeaders::begins_frame))]
 pub fn headers_begin_frames()
     ensures { (version code : ℕ) (payload frame : List ℕ) → AnswersFrame version code payload (Ok frame)

@@ -20,8 +20,9 @@ const NOTIFICATION_NUMBERS: usize = 4;
 /// the name, and after it the result's canonical payload or text. Returns how many bytes these are; where there is no
 /// room for them, the numbers are written nevertheless.
 ///
-/// `Unknown` where the code is that of no notification, else `NoRoom` where there is room for fewer than four numbers, else `Malformed`, then
-/// `NoId`, then `NoResult`, and last `TooLong` where the result's payload would have more than 4,294,967,295 bytes.
+/// `Unknown` where the code is that of no notification, else `NoRoom` where there is room for fewer than four numbers,
+/// else `Malformed`, then `NoId`, then `NoResult`, and last `TooLong` where the result's payload would have more than
+/// 4,294,967,295 bytes.
 pub fn write_notification(
     alloc: Global,
     code: u16,

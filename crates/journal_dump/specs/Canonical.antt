@@ -5,7 +5,8 @@ use Rattle.shared_core_json.specs.declared.error.JsonError.{JsonError}
 use Rattle.shared_core_json.specs.declared.error.JsonError.TheVariants.{Malformed, TooLong, OutOfMemory}
 use Rattle.shared_core_json.specs.Payloads.{IsSpelling, IsTooLong}
 
--- There is a schema, the payload is well-formed for it, and the canonical payload of what it means is too long to be written.
+-- There is a schema, the payload is well-formed for it, and the canonical payload of what it means is too long to be
+-- written.
 abbrev pub IsLongFor : Option ℕ → List ℕ → Type 0
 IsLongFor schema payload = (s : ℕ) × (schema ≡ Some s) × IsTooLong s payload
 

@@ -25,8 +25,8 @@ pub extern "C" fn journal_header_eq(
     answer_of(commands::header_eq(alloc, code, first, second, ignore_payloads != 0))
 }
 
-/// Decodes two payloads for the command type that has the code, and writes a line for each printed field in which the two commands differ:
-/// a line feed, three spaces and `name: first != second`.
+/// Decodes two payloads for the command type that has the code, and writes a line for each printed field in which the
+/// two commands differ: a line feed, three spaces and `name: first != second`.
 ///
 /// `Malformed` if one of the two is not well-formed for the type, `Unknown` if the code is that of no command.
 #[unsafe(no_mangle)]

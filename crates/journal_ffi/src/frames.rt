@@ -23,7 +23,8 @@ pub extern "C" fn journal_header(
     answer_of(headers::write_header(version, code, payload_length, out))
 }
 
-/// Decodes a payload for the named message type that has the code, and writes the frame of that message at a version from 5 to 9.
+/// Decodes a payload for the named message type that has the code, and writes the frame of that message at a version
+/// from 5 to 9.
 ///
 /// `Malformed` if it is not well-formed for the type, `TooLong` if the payload of the frame would have more than
 /// 4,294,967,295 bytes, `Unknown` if the number is no version's or the code no named type's.

@@ -79,7 +79,8 @@ abbrev pub HasMalformed : (MessageType → Option ℕ) → Version → List ℕ 
 HasMalformed schema_of version stream =
     (items : List Item) × (item : Item) × (rest : List ℕ) × IsItemsThen version stream (items ++ item ∷ []) rest × ¬ (Decodes schema_of item)
 
--- Each item of the stream decodes, and the count is that of its messages of a named type; or one of its items does not decode.
+-- Each item of the stream decodes, and the count is that of its messages of a named type; or one of its items does not
+-- decode.
 abbrev pub DecodesAll : Version → List ℕ → Result ℕ Refusal → Type 0
 DecodesAll version stream (Ok count) =
     (items : List Item) × (rest : List ℕ) × SplitsInto version stream items rest × (count ≡ count_with message_schema items) × AllDecode message_schema items

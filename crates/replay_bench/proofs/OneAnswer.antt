@@ -23,7 +23,7 @@ use Rattle.shared_core.specs.declared.encoding.item.Item.{Item}
 use Rattle.shared_core.specs.declared.encoding.item.Item.TheVariants.{Message, Unknown, Skipped}
 use Rattle.shared_core.specs.declared.encoding.raw_message.RawMessage.{RawMessage}
 use Rattle.shared_core.specs.Errors.{command_mismatch_text}
-use Rattle.shared_core.proofs.Items.{one_split}
+use Rattle.shared_core.proofs.Items.{split_is_unique}
 use Rattle.replay_bench.specs.declared.verdicts.Side.{Side}
 use Rattle.replay_bench.specs.declared.verdicts.Side.TheVariants.{Recorded, Replayed}
 use Rattle.replay_bench.specs.Answers.{Answer, SameCommands, RecordedEnds, ReplayedEnds, OtherType, OtherCommand, NotWellFormed}
@@ -198,7 +198,7 @@ are_commands (item ∷ items) = with_command (command_of item) (commands_among i
 
 one_journal : (version : Version) (stream : List ℕ) (a b : List RawMessage) → IsJournal version stream a → IsJournal version stream b → a ≡ b
 one_journal version stream a b f g =
-    f.among ∙ ap commands_among (one_split version stream f.items g.items f.rest g.rest f.split g.split).0 ∙ sym g.among
+    f.among ∙ ap commands_among (split_is_unique version stream f.items g.items f.rest g.rest f.split g.split).0 ∙ sym g.among
 
 -- two journals have an answer
 pub journals_answer : (version : Version) (ignore : Bool) (recorded replayed : List ℕ) → (answer : Answer) × HasAnswer version ignore recorded replayed answer

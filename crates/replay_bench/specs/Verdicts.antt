@@ -24,12 +24,14 @@ use Rattle.replay_bench.specs.Journals.{IsCommand, IsJournal}
 
 -- ---- the result for two commands at an index
 
--- Both payloads are well-formed for the schema, and the commands that they mean are the same but for what is not compared.
+-- Both payloads are well-formed for the schema, and the commands that they mean are the same but for what is not
+-- compared.
 abbrev pub MeanTheSame : Bool → List ℕ → List ℕ → ℕ → Type 0
 MeanTheSame ignore actual expected s =
     IsAccepted s actual × IsAccepted s expected × AreSame s ignore (payload_meaning s actual) (payload_meaning s expected)
 
--- Both payloads are well-formed for the schema, the commands that they mean are not the same, and the text has their difference.
+-- Both payloads are well-formed for the schema, the commands that they mean are not the same, and the text has their
+-- difference.
 abbrev pub MeanOthers : Bool → ℕ → MessageType → List ℕ → List ℕ → List ℕ → ℕ → Type 0
 MeanOthers ignore index ty actual expected text s =
     IsAccepted s actual × IsAccepted s expected
@@ -61,7 +63,8 @@ IsFound ignore index actual expected (NotWellFormed side found) =
     × IsSomeAnd (message_schema actual.header.ty) (IsMalformedOn side actual.payload expected.payload)
 IsFound ignore index actual expected answer = ⊥
 
--- The result for two commands at an index: nothing if they are the same, otherwise what differs; or an allocation fails.
+-- The result for two commands at an index: nothing if they are the same, otherwise what differs; or an allocation
+-- fails.
 unfoldable pub AnswersPair : Bool → ℕ → RawMessage → RawMessage → Result (Option Verdict) BenchError → Type 0
 AnswersPair ignore index actual expected (Ok None) = AreAlike ignore actual expected
 AnswersPair ignore index actual expected (Ok (Some verdict)) = IsFound ignore index actual expected (answer_of verdict)

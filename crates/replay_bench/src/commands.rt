@@ -96,7 +96,8 @@ fn push(decoder: &mut Decoder, taken: u64, piece: Bytes) -> Result<u64, BenchErr
     }
 }
 
-/// The next command among the whole items that a decoder holds, or `None` where no whole item is left. Other items are passed over.
+/// The next command among the whole items that a decoder holds, or `None` where no whole item is left. Other items are
+/// passed over.
 fn buffered_command(decoder: &mut Decoder) -> Result<Option<RawMessage>, AllocError>
     ensures leads { IfOk result (λ found. LeadsTo decoder.old.version decoder.old.bytes found decoder.new.bytes) }
     ensures command { IfOk result (λ found. IfSome found IsCommand) }

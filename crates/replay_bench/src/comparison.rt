@@ -44,7 +44,8 @@ pub fn compare_journals(
     }
 }
 
-/// Compares two journals that readers give, as `compare_journals` does, with at most `piece` bytes a read, which is 1 at least, and at most 65,536.
+/// Compares two journals that readers give, as `compare_journals` does, with at most `piece` bytes a read, which is 1
+/// at least, and at most 65,536.
 ///
 /// A journal is read only as far as the result needs. `Read` says whose read failed; what was returned before is not
 /// lost by it, since the first result ends the comparison.

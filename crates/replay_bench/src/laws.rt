@@ -6,7 +6,7 @@ ghost use Rattle.replay_bench.specs.Answers.{Answer};
 ghost use Rattle.replay_bench.specs.Verdicts.{HasAnswer};
 
 /// Two journals have one result: there is one, and no other.
-pub fn two_journals_have_one_answer()
+pub fn verdict_exists_and_is_unique()
     ensures some { (version : Version) (ignore : Bool) (recorded replayed : List ℕ)
         → (answer : Answer) × HasAnswer version ignore recorded replayed answer }
     ensures one { (version : Version) (ignore : Bool) (recorded replayed : List ℕ) (answer other : Answer)

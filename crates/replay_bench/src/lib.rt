@@ -1,5 +1,5 @@
-//! Two journals compared, what was recorded with what is replayed, command by command: a crate above `shared_core`, over its public
-//! calls and their contracts alone.
+//! Two journals compared, what was recorded with what is replayed, command by command: a crate above `shared_core`,
+//! over its public calls and their contracts alone.
 #![tactic(auto)]
 
 mod commands;

@@ -55,8 +55,8 @@ pub enum Verdict {
 /// Why two journals have no verdict.
 #[derive(Clone, Copy, Debug, PartialEq, Eq)]
 pub enum BenchError {
-    /// The payload of the command at this index of this journal is not well-formed for the command's type, which both journals have there. All
-    /// commands before are the same.
+    /// The payload of the command at this index of this journal is not well-formed for the command's type, which both
+    /// journals have there. All commands before are the same.
     Malformed {
         /// The journal.
         side: Side,

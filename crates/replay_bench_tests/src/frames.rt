@@ -32,7 +32,8 @@ pub const SLEEP_MALFORMED: &str = "040c000000000001ff";
 
 pub const RUN_MALFORMED: &str = "0411000000000001ff";
 
-/// Items that are no commands: the end of a journal, a notification, a custom entry in the range of commands, and a header of no type.
+/// Items that are no commands: the end of a journal, a notification, a custom entry in the range of commands, and a
+/// header of no type.
 pub const END: &str = "0003000000000000";
 
 pub const NOTIFICATION: &str = "800200000000000408012200";

@@ -22,17 +22,17 @@ use Rattle.shared_core.specs.declared.encoding.error.DecodingError.TheVariants.{
 use Rattle.shared_core.specs.declared.encoding.item.Item.{Item}
 use Rattle.shared_core.specs.declared.encoding.item.Item.TheVariants.{Message, Unknown, Skipped}
 use Rattle.shared_core.specs.declared.encoding.raw_message.RawMessage.{RawMessage}
-use Rattle.shared_core.specs.Decoded.{AnswersWritten, DecodesTo, FrameSpells, IsFrameOf, requested_ack_of}
+use Rattle.shared_core.specs.Decoded.{AnswersWritten, DecodesTo, FrameEncodes, IsFrameOf, requested_ack_of}
 use Rattle.shared_core.specs.Items.{AnswersNext, IsItem, TakesItem}
 use Rattle.shared_core.specs.Typed.{IsCanonical}
 use Rattle.shared_core.specs.Written.{item_written}
-use Rattle.shared_core.proofs.Items.{one_item as no_item_begins_another}
+use Rattle.shared_core.proofs.Items.{one_item as items_are_prefix_free}
 use Rattle.shared_core.proofs.Frames.{frame_is_item}
 use Rattle.shared_core.proofs.TypedPayloads.{written_means}
 
 -- a wire form comes out as it was written
 pub form_decodes : (version : Version) (ty : MessageType) (form : WireForm) → IsNamed ty → wire_size form < 2 ^ 32 → Fits table form.parts (table form.schema) → levels form.parts ≤ 100
-    → FrameSpells version ty form (DecodesTo ty form.schema form.parts)
+    → FrameEncodes version ty form (DecodesTo ty form.schema form.parts)
 form_decodes version ty form named small fits low =
     let written : IsCanonical form.schema form.parts (wire_payload form) = ((fits, low, omega (arith, small)), refl) in
     let means = written_means form.schema form.parts (wire_payload form) written in
@@ -52,7 +52,7 @@ frame_comes_out version ty form bytes named fits small is low rest new answer = 
 
     comes : (item : Item) → TakesItem version (bytes ++ rest) item new → DecodesTo ty form.schema form.parts item × (new ≡ rest)
     comes item (first, spelled, joined) =
-        let same = no_item_begins_another version bytes first rest new (item_written ty form) item written.0 spelled joined in
+        let same = items_are_prefix_free version bytes first rest new (item_written ty form) item written.0 spelled joined in
         (subst (DecodesTo ty form.schema form.parts) same.1 written.1, sym same.2)
 
     by_answer : (answer : Result (Option RawMessage) DecodingError) → AnswersNext version (bytes ++ rest) answer new → AnswersWritten ty form (bytes ++ rest) answer rest new
@@ -83,12 +83,12 @@ appended_is_frame_of (Err e) version ty form named fits small = small
 
 -- a suspension before V7 comes out as its three lists
 pub suspension_decodes : (version : Version) (suspension : Parts) → has_flat_suspensions version ≡ true → Fits table suspension (table tables.suspension) → wire_size (suspension_form suspension version) < 2 ^ 32
-    → FrameSpells version Suspension (suspension_form suspension version) (DecodesTo Suspension tables.suspension_v6 (flattened suspension))
+    → FrameEncodes version Suspension (suspension_form suspension version) (DecodesTo Suspension tables.suspension_v6 (flattened suspension))
 suspension_decodes version suspension before fits =
     let flat = flattened suspension in
     let form : suspension_form suspension version ≡ plain_form tables.suspension_v6 flat = ap (λ (b : Bool). cond b (plain_form tables.suspension_v6 flat) (plain_form tables.suspension suspension)) before in
     let low : levels flat ≤ 100 = let none = flattened_levels suspension fits in omega (arith, none) in
-    subst (λ (form : WireForm). wire_size form < 2 ^ 32 → FrameSpells version Suspension form (DecodesTo Suspension tables.suspension_v6 flat)) (sym form)
+    subst (λ (form : WireForm). wire_size form < 2 ^ 32 → FrameEncodes version Suspension form (DecodesTo Suspension tables.suspension_v6 flat)) (sym form)
     (λ small. form_decodes version Suspension (plain_form tables.suspension_v6 flat) tt small (flattened_fits suspension fits) low)
 
 asked : (requests : Bool) → Some (eqb (ack_bit (cond requests (Some true) None)) 1) ≡ Some requests
@@ -97,7 +97,7 @@ asked false = refl
 
 -- a proposal asks for an acknowledgement from V7 on
 pub proposal_asks : (version : Version) (proposal : Parts) → wire_size (proposal_form proposal version) < 2 ^ 32
-    → FrameSpells version ProposeRunCompletion (proposal_form proposal version) (λ item. requested_ack_of item ≡ Some (requests_acknowledgement version))
+    → FrameEncodes version ProposeRunCompletion (proposal_form proposal version) (λ item. requested_ack_of item ≡ Some (requests_acknowledgement version))
 proposal_asks version proposal small =
     let form = proposal_form proposal version in
     (frame_is_item version ProposeRunCompletion form (wire_frame ProposeRunCompletion form) tt small refl, asked (requests_acknowledgement version))
@@ -110,7 +110,7 @@ no_flag ty = elim ty as (λ ty. ty ≢ ProposeRunCompletion → allows_ack ty �
 
 -- no other message asks
 pub others_ask_nothing : (version : Version) (ty : MessageType) (form : WireForm) → IsNamed ty → ty ≢ ProposeRunCompletion → wire_size form < 2 ^ 32
-    → FrameSpells version ty form (λ item. requested_ack_of item ≡ None)
+    → FrameEncodes version ty form (λ item. requested_ack_of item ≡ None)
 others_ask_nothing version ty form named other small = (
   frame_is_item version ty form (wire_frame ty form) named small refl,
   ap (λ (b : Bool). cond b (Some (eqb (ack_bit form.requested_ack) 1)) None) (no_flag ty other),

@@ -50,8 +50,8 @@ module _ (version : Version) where
       let long : length first ≤ length bytes = omega (arith, ap length splits, length-append first others) in
       omega (arith, is.whole, ap (body_length version) same)
 
-  -- What a word says of the item that it begins: how many bytes belong to it behind the eight, and what it is with them. Only what follows
-  -- right here looks into how the version decides that.
+  -- What a word says of the item that it begins: how many bytes belong to it behind the eight, and what it is with
+  -- them. Only what follows right here looks into how the version decides that.
   pub record Announces (word size : ℕ) (item : List ℕ → Item) : Type 0 where
     pub length_is : size ≡ body_length version word
     pub item_is : (body : List ℕ) → item body ≡ item_of version word body
@@ -194,8 +194,8 @@ module _ (version : Version) where
       (ap (λ l. i ∷ l) tails.0 ∙ ap (λ k. k ∷ items') heads.1, tails.1)
 
   -- a stream splits in one way
-  pub one_split : (stream : List ℕ) (items others : List Item) (rest left : List ℕ) → SplitsInto version stream items rest → SplitsInto version stream others left → (items ≡ others) × (rest ≡ left)
-  one_split stream items others rest left one other =
+  pub split_is_unique : (stream : List ℕ) (items others : List Item) (rest left : List ℕ) → SplitsInto version stream items rest → SplitsInto version stream others left → (items ≡ others) × (rest ≡ left)
+  split_is_unique stream items others rest left one other =
       same_split one.items_then.front rest other.items_then.front left items others one.items_then.spelled other.items_then.spelled one.no_more other.no_more
       (sym one.items_then.whole ∙ other.items_then.whole)
 

@@ -1,4 +1,5 @@
--- The view of a notification agrees with the notification's own type, and misses a field exactly where no record is one.
+-- The view of a notification agrees with the notification's own type, and misses a field exactly where no record is
+-- one.
 use Rattle.std.proofs.Common.{◌≡◌, ◌≤◌, ℕ, leb, List, [], ◌∷◌, Option, Some, None, Result, Ok, Err, Bool, true, false, cond, ◌||◌, inl, inr, refl, sym, ap, subst, ◌∙◌}
 use Rattle.std.specs.List.{list_any}
 use Rattle.std.proofs.lemmas.Bool.{le-leb}

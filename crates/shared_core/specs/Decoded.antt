@@ -27,8 +27,8 @@ requested_ack_of (Message message) = message.header.requested_ack
 requested_ack_of other = None
 
 -- The frame of a wire form is the encoding of the item that was written, and that item has this property.
-abbrev pub FrameSpells : Version → MessageType → WireForm → (Item → Type 0) → Type 0
-FrameSpells version ty form HasProperty =
+abbrev pub FrameEncodes : Version → MessageType → WireForm → (Item → Type 0) → Type 0
+FrameEncodes version ty form HasProperty =
     IsItem version (wire_frame ty form) (item_written ty form) × HasProperty (item_written ty form)
 
 -- What a decoder returns whose pending bytes begin with the frame of a wire form, followed by the rest: the message

@@ -1,5 +1,6 @@
 pub mod Unread
 pub mod Items
+pub mod Iteration
 pub mod Segments
 pub mod Errors
 pub mod Typed

@@ -28,8 +28,8 @@ pub use shared_core_errors::constants::{
     unexpected_input_message,
 };
 
-/// A command is of the type that the code expects at its place in the journal, and yet another one. A contract sees it as the record of its
-/// index and the two commands.
+/// A command is of the type that the code expects at its place in the journal, and yet another one. A contract sees it
+/// as the record of its index and the two commands.
 #[derive(Debug, Drop)]
 pub struct CommandMismatchError<M> {
     command_index: i64,

@@ -1,10 +1,10 @@
-//! What holds of every stream, whatever decodes it, and of equality. A law is the contract of a function that does nothing,
-//! or nothing but compare.
+//! What holds of every stream, whatever decodes it, and of equality. A law is the contract of a function that does
+//! nothing, or nothing but compare.
 ghost use Rattle.std.specs.Prelude.{◌≡◌, ◌≢◌, ◌≤◌, ◌<◌, ◌^◌, ◌↔◌, ℕ, [], ◌∷◌, ◌++◌, IsTrue, List, None, Some, false, true};
 ghost use Rattle.shared_core_base.specs.declared.version.Version.{Version};
 ghost use Rattle.shared_core.specs.Items.{IsItem, IsItemsThen, TakesItem, NoItemBegins, SplitsInto, skips_unknown_messages};
 ghost use Rattle.shared_core.specs.Written.{AreFrames, items_written, joined_frames};
-ghost use Rattle.shared_core.specs.Decoded.{DecodesTo, FrameSpells, requested_ack_of};
+ghost use Rattle.shared_core.specs.Decoded.{DecodesTo, FrameEncodes, requested_ack_of};
 ghost use Rattle.shared_core_base.specs.declared.header.MessageType.{MessageType as AnyType};
 ghost use Rattle.shared_core_base.specs.declared.header.MessageType.TheVariants.{ProposeRunCompletion, Suspension};
 ghost use Rattle.shared_core_base.specs.MessageType.{IsNamed, code_of};
@@ -25,26 +25,26 @@ ghost use Rattle.shared_core.specs.declared.encoding.item.Item.TheVariants.{Skip
 use crate::encoding::{Item, RawMessage};
 
 /// The encodings of items are prefix-free: where two items are at the beginning of the same bytes, they are one item.
-pub fn no_item_begins_another()
+pub fn items_are_prefix_free()
     ensures { (version : Version) (a b x y : List ℕ) (i j : AnyItem)
         → IsItem version a i → IsItem version b j → a ++ x ≡ b ++ y → (a ≡ b) × (i ≡ j) × (x ≡ y) }
 {}
 
 /// A stream splits in one way.
-pub fn one_split()
+pub fn split_is_unique()
     ensures { (version : Version) (stream : List ℕ) (items others : List AnyItem) (rest left : List ℕ)
         → SplitsInto version stream items rest → SplitsInto version stream others left → (items ≡ others) × (rest ≡ left) }
 {}
 
 /// Every stream splits.
-pub fn every_stream_splits()
+pub fn split_exists()
     ensures { (version : Version) (stream : List ℕ)
         → (items : List AnyItem) × (rest : List ℕ) × SplitsInto version stream items rest }
 {}
 
 /// The version decides what a code that is no type's is: an unknown header, at a version that does not skip such
 /// messages, and otherwise a skipped message. No stream has both.
-pub fn untyped_items_go_by_the_version()
+pub fn version_decides_untyped_items()
     ensures unknown { (version : Version) (bytes : List ℕ) (code : ℕ)
         → IsItem version bytes (Unknown code) → skips_unknown_messages version ≡ false }
     ensures skipped { (version : Version) (bytes payload : List ℕ) (code : ℕ)
@@ -53,14 +53,15 @@ pub fn untyped_items_go_by_the_version()
 
 /// The next item stays the next whatever comes after it, and what it leaves is what it left with these bytes after.
 #[tactic(auto, using(crate::proofs::Items::takes_more))]
-pub fn next_item_stays()
+pub fn next_item_is_stable()
     ensures { (version : Version) (old new more : List ℕ) (item : AnyItem)
         → TakesItem version old item new → TakesItem version (old ++ more) item (new ++ more) }
 {}
 
-/// The item that is taken off a stream is the first of those that it splits into, and the others are those of what is left.
+/// The item that is taken off a stream is the first of those that it splits into, and the others are those of what is
+/// left.
 #[tactic(auto, using(crate::proofs::Splits::taken_comes_first))]
-pub fn taken_item_comes_first()
+pub fn taken_item_is_the_first()
     ensures { (version : Version) (old new rest : List ℕ) (item : AnyItem) (items : List AnyItem)
         → TakesItem version old item new → SplitsInto version new items rest → SplitsInto version old (item ∷ items) rest }
 {}
@@ -74,29 +75,30 @@ pub fn stream_without_items_is_rest()
 /// Frames written one after the other are, whatever follows them, items in this order, each a message of its type with
 /// the payload that was written. So `decode_pieces`, whose result begins with what was written, gives them back however
 /// it is split.
-pub fn frames_come_out_in_order()
+pub fn frames_are_read_in_order()
     ensures { (version : Version) (messages : List (AnyType × WireForm)) (rest : List ℕ) → AreFrames messages
         → IsItemsThen version (joined_frames messages ++ rest) (items_written messages) rest }
 {}
 
 /// What was written comes out again: the frame of a wire form whose value fits its schema, at most one hundred levels
 /// deep, encodes an item that decodes to this value.
-pub fn frames_decode_to_what_was_written()
+pub fn written_frames_decode_to_their_values()
     ensures { (version : Version) (ty : AnyType) (form : WireForm) → IsNamed ty → wire_size form < 2 ^ 32
         → Fits table form.parts (table form.schema) → levels form.parts ≤ 100
-        → FrameSpells version ty form (DecodesTo ty form.schema form.parts) }
+        → FrameEncodes version ty form (DecodesTo ty form.schema form.parts) }
 {}
 
-/// A suspension written before V7 comes out as its three lists, however deep its tree: over the futures in preorder, with duplicates, and
-/// empty where nothing is awaited.
-pub fn suspensions_decode_to_their_three_lists()
+/// A suspension written before V7 comes out as its three lists, however deep its tree: over the futures in preorder,
+/// with duplicates, and empty where nothing is awaited.
+pub fn flat_suspensions_decode_to_their_lists()
     ensures { (version : Version) (suspension : Parts) → has_flat_suspensions version ≡ true
         → Fits table suspension (table tables.suspension) → wire_size (suspension_form suspension version) < 2 ^ 32
-        → FrameSpells version Suspension (suspension_form suspension version)
+        → FrameEncodes version Suspension (suspension_form suspension version)
         (DecodesTo Suspension tables.suspension_v6 (flattened suspension)) }
 {}
 
-/// Each named type has a schema, and the rows of each named notification's schema are rows of the notification template.
+/// Each named type has a schema, and the rows of each named notification's schema are rows of the notification
+/// template.
 pub fn notifications_are_within_the_template()
     ensures named { (ty : AnyType) → IsNamed ty → (s : ℕ) × (message_schema ty ≡ Some s) }
     ensures within { (ty : AnyType) (s : ℕ) → 0x8000 ≤ code_of ty → code_of ty < 0xFC00 → message_schema ty ≡ Some s
@@ -105,12 +107,12 @@ pub fn notifications_are_within_the_template()
 
 /// A request for an acknowledgement is decoded as it was encoded: a proposal of a run's result makes it from V7 on and
 /// not before, and the header of every other message has no such flag.
-pub fn acknowledgements_come_out_as_asked()
+pub fn acknowledgement_requests_are_read_back()
     ensures proposals { (version : Version) (proposal : Parts) → wire_size (proposal_form proposal version) < 2 ^ 32
-        → FrameSpells version ProposeRunCompletion (proposal_form proposal version)
+        → FrameEncodes version ProposeRunCompletion (proposal_form proposal version)
         (λ item. requested_ack_of item ≡ Some (requests_acknowledgement version)) }
     ensures others { (version : Version) (ty : AnyType) (form : WireForm) → IsNamed ty → ty ≢ ProposeRunCompletion
-        → wire_size form < 2 ^ 32 → FrameSpells version ty form (λ item. requested_ack_of item ≡ None) }
+        → wire_size form < 2 ^ 32 → FrameEncodes version ty form (λ item. requested_ack_of item ≡ None) }
 {}
 
 /// `==` of messages compares the whole header and the whole payload.

@@ -315,7 +315,8 @@ impl Error {
         self
     }
 
-    /// The error that pauses the invocation, or retries it where `should_pause` is false. A pause needs version 7 or later.
+    /// The error that pauses the invocation, or retries it where `should_pause` is false. A pause needs version 7 or
+    /// later.
     pub fn with_should_pause(mut self, should_pause: bool) -> Error
         ensures { result ≡ record self { behavior = if should_pause then ErrorBehavior.Pause else ErrorBehavior.Retry } }
     {

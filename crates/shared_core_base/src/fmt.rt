@@ -27,7 +27,8 @@ impl<'a, W: Write> DiffFormatter<'a, W> {
         DiffFormatter { fmt, indentation }
     }
 
-    /// Writes the line of a field: a line feed, the indentation and `field: actual != expected`. It fails where the writer fails.
+    /// Writes the line of a field: a line feed, the indentation and `field: actual != expected`. It fails where the
+    /// writer fails.
     pub fn write_diff<A: Display + Drop, E: Display + Drop>(
         &mut self,
         field: &'static str,
@@ -107,7 +108,8 @@ impl ListItem for u8 {
     }
 }
 
-/// Writes the texts of the items in order, joined by `, `; nothing where there are none. It fails where the writer fails.
+/// Writes the texts of the items in order, joined by `, `; nothing where there are none. It fails where the writer
+/// fails.
 pub fn write_joined<T: ListItem, W: Write>(f: &mut Formatter<W>, items: &[T]) -> fmt::Result
     ensures { WritesOnOk W.write_str_gives f.old result (join_by T.text comma_space items.now) f.new }
 {

@@ -64,8 +64,8 @@ fn first_named(name: &[u8]) -> Option<MessageType>
     None
 }
 
-/// Prints the text of the type's command where `CommandType::try_from` succeeds, as `get state`, else the debug name, as
-/// `CustomEntry(64513)`.
+/// Prints the text of the type's command where `CommandType::try_from` succeeds, as `get state`, else the debug name,
+/// as `CustomEntry(64513)`.
 impl fmt::Display for MessageType {
     ghost use Rattle.std.specs.Prelude.{Some};
     ghost use Rattle.shared_core_base.specs.CommandType.{message_type_text};

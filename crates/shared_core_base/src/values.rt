@@ -80,7 +80,8 @@ pub struct Header {
 /// How a payload is serialized. By default its bytes are the same each time.
 #[derive(Clone, Copy, Debug, Default)]
 pub struct PayloadOptions {
-    /// Whether the same value may be serialized to other bytes another time, so that a replay compares no payload bytes.
+    /// Whether the same value may be serialized to other bytes another time, so that a replay compares no payload
+    /// bytes.
     pub unstable_serialization: bool,
 }
 

@@ -41,7 +41,8 @@ IsEmptyField k p = is_default p ≡ true
 abbrev pub field_accepts : Occurrence → Kind → Bool
 field_accepts o k = accepts_value (accepts_message table o.left) k (value_in o)
 
--- The occurrence is well-formed for a field of this kind, and merged into a field that holds the part old it gives the part p.
+-- The occurrence is well-formed for a field of this kind, and merged into a field that holds the part old it gives the
+-- part p.
 abbrev pub FieldBecomes : Occurrence → Kind → Part → Part → Type 0
 FieldBecomes o k old p = (field_accepts o k ≡ true) × (singular_of table (message_overlay table o.left) k old (value_in o) [] ≡ p)
 
@@ -51,7 +52,8 @@ FieldBecomes o k old p = (field_accepts o k ≡ true) × (singular_of table (mes
 abbrev pub repeated_accepts : Occurrence → Kind → Bool
 repeated_accepts o k = accepts_element (accepts_message table o.left) k (value_in o)
 
--- The occurrence is well-formed for a repeated field of this kind, and appended to the elements old it gives the elements new.
+-- The occurrence is well-formed for a repeated field of this kind, and appended to the elements old it gives the
+-- elements new.
 abbrev pub FieldExtends : Occurrence → Kind → Parts → Parts → Type 0
 FieldExtends o k old new = (repeated_accepts o k ≡ true) × (new ≡ old +++ all_elements table (message_overlay table o.left) k (value_in o ∷ []))
 
@@ -65,7 +67,8 @@ IsMember o members = includes (numbers (OneOf members)) o.number ≡ true
 abbrev pub member_accepts : Occurrence → List (ℕ × Kind) → Bool
 member_accepts o members = accepts_value (accepts_message table o.left) (member_kind members o.number) (value_in o)
 
--- The occurrence is well-formed for the member of its number, and merged into a oneof that holds the part old it gives the part p.
+-- The occurrence is well-formed for the member of its number, and merged into a oneof that holds the part old it gives
+-- the part p.
 abbrev pub MemberBecomes : Occurrence → List (ℕ × Kind) → Part → Part → Type 0
 MemberBecomes o members old p = (member_accepts o members ≡ true) × (oneof_over table (message_overlay table o.left) members old (record_in o ∷ []) ≡ p)
 

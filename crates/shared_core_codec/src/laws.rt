@@ -1,4 +1,5 @@
-//! Laws of records and of the table of schemas. Each is the contract of a function that does nothing, so that its statement is proved.
+//! Laws of records and of the table of schemas. Each is the contract of a function that does nothing, so that its
+//! statement is proved.
 
 ghost use Rattle.std.specs.Prelude.{◌≡◌, true, length};
 ghost use Rattle.std.specs.List.{list_all};

@@ -53,7 +53,8 @@ pub trait WireRecord: Sized + Drop + PartialEq {
         ensures sum { size.new ≡ measured_rows (table schema) (parts self.now) size.old }
         ensures fit { FieldsFit (table schema) (parts self.now) };
 
-    /// Writes the fields before `end`, the last one first, and returns where the first begins. (For the code of records.)
+    /// Writes the fields before `end`, the last one first, and returns where the first begins. (For the code of
+    /// records.)
     fn encode_back(&self, out: &mut [u8], end: usize) -> usize
         requires within { end ≤ length out.old }
         requires room { rows_size (table schema) (parts self.now) ≤ end }
@@ -134,8 +135,8 @@ pub trait WireRecord: Sized + Drop + PartialEq {
         Ok(())
     }
 
-    /// Appends the canonical payload, as `encode_payload_into` does, to a buffer whose spare room is initialized, so that
-    /// no byte is written twice.
+    /// Appends the canonical payload, as `encode_payload_into` does, to a buffer whose spare room is initialized, so
+    /// that no byte is written twice.
     final fn encode_payload_into_bytes(&self, out: &mut BytesMut) -> Result<(), EncodingError>
         ensures ok { OnOk result (out.new.items ≡ out.old.items ++ canonical_payload table schema (parts self.now)) }
         ensures short { OnOk result (size table schema (parts self.now) < 2 ^ 32) }

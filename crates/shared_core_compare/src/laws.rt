@@ -10,7 +10,7 @@ use crate::difference::CommandMessageHeaderDiff;
 use crate::equality::CommandMessageHeaderEq;
 
 /// `header_eq` is reflexive.
-pub fn each_is_the_same_as_itself<M: CommandMessageHeaderEq>(
+pub fn header_eq_is_reflexive<M: CommandMessageHeaderEq>(
     command: &M,
     ignore_payload_equality: bool,
 ) -> bool
@@ -20,7 +20,7 @@ pub fn each_is_the_same_as_itself<M: CommandMessageHeaderEq>(
 }
 
 /// `header_eq` is symmetric.
-pub fn either_is_asked<M: CommandMessageHeaderEq>(
+pub fn header_eq_is_symmetric<M: CommandMessageHeaderEq>(
     a: &M,
     b: &M,
     ignore_payload_equality: bool,
@@ -35,7 +35,7 @@ pub fn either_is_asked<M: CommandMessageHeaderEq>(
 }
 
 /// `header_eq` is transitive.
-pub fn sameness_goes_on<M: CommandMessageHeaderEq>(
+pub fn header_eq_is_transitive<M: CommandMessageHeaderEq>(
     a: &M,
     b: &M,
     c: &M,
@@ -54,7 +54,7 @@ pub fn sameness_goes_on<M: CommandMessageHeaderEq>(
 }
 
 /// Commands that are equal with their payloads are equal without them.
-pub fn the_same_with_payloads_is_the_same_without<M: CommandMessageHeaderEq>(
+pub fn equality_with_payloads_implies_equality_without<M: CommandMessageHeaderEq>(
     a: &M,
     b: &M,
 ) -> (bool, bool)
@@ -66,7 +66,7 @@ pub fn the_same_with_payloads_is_the_same_without<M: CommandMessageHeaderEq>(
 }
 
 /// If two commands differ with their payloads, their names differ or their difference has at least one line.
-pub fn what_differs_is_named_or_printed<M: CommandMessageHeaderEq + CommandMessageHeaderDiff>(
+pub fn unequal_commands_print_a_difference<M: CommandMessageHeaderEq + CommandMessageHeaderDiff>(
     a: &M,
     b: &M,
 ) -> bool

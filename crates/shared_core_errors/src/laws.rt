@@ -12,8 +12,8 @@ use shared_core_parts::notification::NotificationId;
 use std::alloc::AllocError;
 use std::collections::{HashMap, HashSet};
 
-/// The order of awaited ids depends on the set alone: two sets with the same ids print them in the same order, however each
-/// holds them, and so an error about either is the same text.
+/// The order of awaited ids depends on the set alone: two sets with the same ids print them in the same order, however
+/// each holds them, and so an error about either is the same text.
 pub fn order_depends_on_the_set(
     a: &HashSet<NotificationId>,
     b: &HashSet<NotificationId>,

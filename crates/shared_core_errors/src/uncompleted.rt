@@ -17,8 +17,8 @@ use std::cmp::Ordering;
 use std::collections::{HashMap, HashSet};
 use std::{error, fmt};
 
-/// The code awaits notifications where the journal records no await. They print in this order: completions by their ids, then named
-/// signals by the bytes of their names, then signals by their ids, the one that cancels last.
+/// The code awaits notifications where the journal records no await. They print in this order: completions by their
+/// ids, then named signals by the bytes of their names, then signals by their ids, the one that cancels last.
 ///
 /// A contract sees it as the record of the ids in that order and of what is known of some of them.
 #[derive(Debug, Drop)]

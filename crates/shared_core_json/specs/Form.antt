@@ -46,7 +46,8 @@ abbrev pub member_if : Bool → List ℕ → Json → Members → Members
 member_if present name json others = if present then member name json others else others
 
 unfoldable mutual
-  -- The JSON of a part: a number, bytes, a message as an object, the elements of a repeated field as an array, the member of a oneof.
+  -- The JSON of a part: a number, bytes, a message as an object, the elements of a repeated field as an array, the
+  -- member of a oneof.
   pub part_json : Part → Kind → Json
   part_json Absent k = null
   part_json (Number n) k = number_json k n

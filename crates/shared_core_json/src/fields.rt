@@ -18,7 +18,8 @@ pub enum Kind {
     Message(u32),
 }
 
-/// A field of a schema: its number, its name in JSON, its kind, and whether each of its records is an element of a list.
+/// A field of a schema: its number, its name in JSON, its kind, and whether each of its records is an element of a
+/// list.
 #[derive(Clone, Copy)]
 pub struct Field(pub u32, pub &'static str, pub Kind, pub bool);
 

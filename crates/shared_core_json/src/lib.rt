@@ -1,7 +1,7 @@
 //! The JSON of the protocol's messages: proto3's JSON form, by the names of proto/journal.proto.
 //!
-//! A payload is decoded and written canonically (`canonical`), and the canonical payload is written as JSON (`write_message`), which goes
-//! over its records once, by one table of fields for all messages.
+//! A payload is decoded and written canonically (`canonical`), and the canonical payload is written as JSON
+//! (`write_message`), which goes over its records once, by one table of fields for all messages.
 #![tactic(auto)]
 
 mod canonical;

@@ -56,8 +56,8 @@ pub trait RestateEncodableMessage: RestateMessage {
         ensures refused { 2 ^ 32 ≤ wire_size (wire_form self.now version)
             → MatchBool (is_rewritten version) (IsErr result) (result ≡ Err PayloadTooLong) };
 
-    /// Appends the frame, as `encode_into` does, to a buffer whose spare room is initialized, so that no byte is written
-    /// twice.
+    /// Appends the frame, as `encode_into` does, to a buffer whose spare room is initialized, so that no byte is
+    /// written twice.
     fn encode_into_bytes(&self, version: Version, out: &mut BytesMut) -> Result<(), EncodingError>
         ensures ok { OnOk result (out.new.items ≡ out.old.items ++ wire_frame Self.message_type (wire_form self.now version)) }
         ensures short { OnOk result (wire_size (wire_form self.now version) < 2 ^ 32) }

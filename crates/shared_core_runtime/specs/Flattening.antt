@@ -19,7 +19,8 @@ unfoldable mutual
   messages_in nil = []
   messages_in (cons p ps) = messages_of_part p ++ messages_in ps
 
--- The preorder of a future's value: the future, then the preorders of its nested futures in their order, since no other message is in it.
+-- The preorder of a future's value: the future, then the preorders of its nested futures in their order, since no other
+-- message is in it.
 abbrev pub preorder : Parts → List Parts
 preorder future = future ∷ messages_in future
 

@@ -14,13 +14,13 @@ use crate::error::WireError;
 use crate::records::Record;
 
 /// The encodings of varints are prefix-free, and each encodes one number.
-pub fn no_varint_begins_another()
+pub fn varints_are_prefix_free()
     ensures { (a b x y : List ℕ) (m n : ℕ) → IsVarint a m → IsVarint b n
         → a ++ x ≡ b ++ y → (a ≡ b) × (m ≡ n) }
 {}
 
 /// The encodings of records are prefix-free, and each encodes one record.
-pub fn no_record_begins_another()
+pub fn records_are_prefix_free()
     ensures { (left : ℕ) (a b x y : List ℕ) (r s : FieldRecord)
         → IsRecordWithin left a r → IsRecordWithin left b s
         → a ++ x ≡ b ++ y → (a ≡ b) × (r ≡ s) }
@@ -46,13 +46,13 @@ pub fn record_has_two_bytes()
 {}
 
 /// `record_list` returns the record list that a payload encodes, and `None` if it encodes none.
-pub fn record_list_is_spelled()
+pub fn record_list_is_exact()
     ensures { (left : ℕ) (payload : List ℕ) (rs : List FieldRecord)
         → (record_list left payload ≡ Some rs) ↔ IsRecordListWithin left payload rs }
 {}
 
 /// `packed_numbers` returns the numbers that a packed run encodes, and `None` if it encodes none.
-pub fn packed_numbers_are_spelled()
+pub fn packed_numbers_is_exact()
     ensures { (bytes ns : List ℕ) → (packed_numbers bytes ≡ Some ns) ↔ IsSequence IsVarint bytes ns }
 {}
 
@@ -88,7 +88,7 @@ pub fn canonical_payload_is_read_back()
 {}
 
 /// Two values are equal if and only if their canonical payloads are.
-pub fn value_has_one_spelling()
+pub fn canonical_payload_is_unique()
     ensures { (table : Table) → AreSchemas table → OneSpellingLaw table }
 {}
 

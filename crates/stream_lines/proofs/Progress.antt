@@ -65,7 +65,8 @@ lack_in is_long version bytes rest front item Output is lack = absurd lack
 lack_in is_long version bytes rest front item OutOfMemory is lack = tt
 lack_in is_long version bytes rest front item TooLong is lack = (front, item, rest, is, lack)
 
--- A printing that goes on: the items of what was read have their lines, and these bytes are pending, which no item begins.
+-- A printing that goes on: the items of what was read have their lines, and these bytes are pending, which no item
+-- begins.
 pub record GoesOn (line : ℕ → Item → List ℕ) (version : Version) (first start left out : Option (List ℕ)) (total : ℕ) (pending : List ℕ) : Type 0 where
   pub read : List ℕ
   pub items : List Item

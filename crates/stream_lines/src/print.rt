@@ -16,7 +16,8 @@ use shared_core::version::Version;
 use std::alloc::{AllocError, Global};
 use std::io::{Read, Write};
 
-/// Writes a line for each item of a stream of a version, of at least V5, and at its end a line for the bytes that are in no item.
+/// Writes a line for each item of a stream of a version, of at least V5, and at its end a line for the bytes that are
+/// in no item.
 ///
 /// It reads at most `piece` bytes at a time, from 1 to 65,536, and writes the lines of the items that a chunk completes
 /// before it reads the next. `Ok` comes only if the reader has no byte left, and then all is written. After `Input` the

@@ -105,7 +105,8 @@ fn pairs_with_payloads_and_without(rt: HostRuntime) {
             [0, 0],
             Ok("\n   value: <empty> != ''"),
         ),
-        // two lines; a line of what is not compared; a name that is compared and has no line; and what is neither compared nor printed
+        // two lines; a line of what is not compared; a name that is compared and has no line; and what is neither
+        // compared nor printed
         (
             0x0403,
             b"\x0a\x01\xff\x1a\x03\x0a\x01\xff",

@@ -6,7 +6,8 @@ use crate::frames::{journal_frame, journal_header};
 /// A ProposeRunCompletion's payload: completion 1 with the value "x".
 const PROPOSAL: [u8; 5] = [0x08, 0x01, 0x72, 0x01, 0x78];
 
-/// A Suspension's payload: a future that waits for signal 1, round one that waits for completion 1, signal 17 and the signal "abc".
+/// A Suspension's payload: a future that waits for signal 1, round one that waits for completion 1, signal 17 and the
+/// signal "abc".
 const SUSPENSION: [u8; 18] = [
     0x22, 0x10, 0x12, 0x01, 0x01, 0x22, 0x0B, 0x0A, 0x01, 0x01, 0x12, 0x01, 0x11, 0x1A, 0x03, 0x61,
     0x62, 0x63,

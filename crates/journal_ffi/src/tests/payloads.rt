@@ -57,7 +57,8 @@ fn canonical_payloads(rt: HostRuntime) {
 
 #[test]
 fn merged_payloads(rt: HostRuntime) {
-    // Another member between two breaks their run. Each of the two is to be well-formed by itself, also where the joined bytes are.
+    // Another member between two breaks their run. Each of the two is to be well-formed by itself, also where the
+    // joined bytes are.
     for (schema, first, second, expected) in [
         (
             41,
@@ -94,7 +95,8 @@ fn merged_payloads(rt: HostRuntime) {
 
 #[test]
 fn json(rt: HostRuntime) {
-    // Numbers of 32 and of 64 bits, a text and bytes in the members of a message, a payload that is no record list, and no schema.
+    // Numbers of 32 and of 64 bits, a text and bytes in the members of a message, a payload that is no record list, and
+    // no schema.
     for (schema, payload, expected) in [
         (
             12,

@@ -4,7 +4,7 @@ ghost use Rattle.std.specs.Prelude.{MatchOption, Some, None};
 ghost use Rattle.shared_core.specs.Unread.{held_bytes, held_length};
 
 use crate::encoding::item::Taken;
-use crate::encoding::{DecodingError, Item, PushError, RawMessage};
+use crate::encoding::{DecodingError, Item, Items, PushError, RawMessage};
 use crate::pending_bytes::PendingBytes;
 use bytes::Bytes;
 use shared_core_base::header::MessageHeader;
@@ -172,6 +172,18 @@ impl Decoder {
             return Ok(None);
         };
         Ok(Some(taken.into_item()))
+    }
+
+    /// The items that the decoder holds, in order, for a loop: each is taken as it is returned, as by `next_item`.
+    pub fn items(&mut self) -> Items<'_>
+        ensures decoder { result.decoder.now ≡ self.old }
+        ensures fresh { result.has_failed ≡ false }
+        ensures same_reference { result.decoder.ghost_name ≡ self.entry.ghost_name }
+    {
+        Items {
+            decoder: self,
+            has_failed: false,
+        }
     }
 
     /// Takes the next item: what `next_item` returns, with the error of a code that is no type's.

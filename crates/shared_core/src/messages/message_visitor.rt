@@ -1,7 +1,7 @@
 //! The record of a message's type, found at run time.
 //!
-//! A visitor is code that is written once for any record. What it promises is said for any type and schema, so that a call by a type that is
-//! known only at run time carries the same promise.
+//! A visitor is code that is written once for any record. What it promises is said for any type and schema, so that a
+//! call by a type that is known only at run time carries the same promise.
 
 ghost use Rattle.std.specs.Prelude.{◌≡◌, ℕ, Some};
 ghost use Rattle.shared_core_base.specs.declared.header.MessageType.{MessageType as AnyType};

@@ -1,5 +1,0 @@
-use Rattle.shared_core.proofs.Frames.{frames_then}
-use Rattle.shared_core.proofs.laws.frames_come_out_in_order.Goals as goal
-
-pub returns : goal.returns
-returns c = frames_then

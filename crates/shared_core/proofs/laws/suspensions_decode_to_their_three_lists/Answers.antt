@@ -1,5 +1,0 @@
-use Rattle.shared_core.proofs.DecodedFrames.{suspension_decodes}
-use Rattle.shared_core.proofs.laws.suspensions_decode_to_their_three_lists.Goals as goal
-
-pub returns : goal.returns
-returns c = suspension_decodes

@@ -1,5 +1,0 @@
-use Rattle.shared_core_wire.proofs.RecordLists.{records_listed}
-use Rattle.shared_core_wire.proofs.laws.record_list_is_spelled.Goals as goal
-
-pub returns : goal.returns
-returns c = records_listed
