@@ -11,6 +11,13 @@ if command -v rt > /dev/null; then
   find crates \( -name '*.rt' -o -name '*.antt' \) ! -path '*/out/*' \
     -exec "$(dirname "$(rt doc)")/bin/rattle" fmt --check {} + > "$out" 2> "$err"
   outcome 'the layout of crates/' $?
+  # the formatter takes .rt files alone
+  for folder in tests/*/mod.rt.in; do
+    folder=${folder%/mod.rt.in}
+    sources "$folder" "$work/$folder"
+  done
+  find "$work/tests" -name '*.rt' -exec "$(dirname "$(rt doc)")/bin/rattle" fmt --check {} + > "$out" 2> "$err"
+  outcome 'the layout of tests/' $?
 else
   without 'the layout' rt
 fi

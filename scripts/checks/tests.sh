@@ -3,7 +3,7 @@
 #
 # They check the public API by its types, and what calls answer and print where no contract says it. `rt try --test`
 # compiles all of them as one crate, in a temporary copy of the sources, and stops at each fault of memory. Each test
-# counts as one, and each folder has a line; that the sources are in the layout of `rt fmt` counts as one too.
+# counts as one, and each folder has a line.
 set -u
 cd "$(dirname "$0")/../.." || exit 1
 . scripts/checks/lib.sh
@@ -39,11 +39,6 @@ done
 proved=crates/shared_core_tests/src
 [ ! -d "$crate/src/streams" ] || cp "$proved/frames.rt" "$proved/steps.rt" "$crate/src/streams/"
 [ ! -d "$crate/src/comparisons" ] || cp crates/shared_core_compare_tests/src/steps.rt "$crate/src/comparisons/"
-
-# `rt fmt` takes .rt files alone, so the copies are compared with its layout
-find "$crate/src" -name '*.rt' ! -path "$crate/src/lib.rt" -exec "$(dirname "$(rt doc)")/bin/rattle" fmt --check {} + \
-  > "$out" 2> "$err"
-outcome 'the layout of tests/' $?
 
 (cd "$crate" && rt try --test --steps 1 --seconds 600) > "$out" 2> "$err"
 status=$?
