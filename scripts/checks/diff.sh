@@ -37,7 +37,6 @@ other_payload="command 1: $found
 other_type="command 1: $found
  - The previous execution ran and recorded the following: 'set state' (index '1')
  - The current execution attempts to perform the following: 'handler return'"
-usage='usage: journal_diff [--ignore-payloads] [--protocol 5..9] RECORDED REPLAYED'
 
 journal_diff 0 'same, 4 commands' '' recorded recorded
 journal_diff 0 'same, 4 commands' '' - recorded
@@ -60,15 +59,16 @@ journal_diff 2 '' 'journal_diff: the replayed command 1 is malformed' recorded "
 journal_diff 2 '' 'journal_diff: the recorded command 1 is malformed' "$work/malformed" "$work/malformed"
 journal_diff 1 'recorded ends at command 1' '' "$work/first" "$work/malformed"
 
-journal_diff 2 '' "$usage"
-journal_diff 2 '' "$usage" recorded
-journal_diff 2 '' "$usage" - -
-journal_diff 2 '' "$usage" --protocol 4 recorded recorded
+refused '<RECORDED>'
+refused '<REPLAYED>' recorded
+refused 'only one journal can come from the standard input' - -
+refused "invalid value '4' for '--protocol <VERSION>'" --protocol 4 recorded recorded
+refused "unexpected argument 'other'" recorded recorded other
 journal_diff 0 'journal_diff 0.1.0' '' --version
-journal_diff 2 '' 'journal_diff: nothing: cannot be opened' recorded nothing
-journal_diff 2 '' 'journal_diff: reading the recorded journal failed' . recorded
-journal_diff 2 '' 'journal_diff: reading the replayed journal failed' recorded .
-journal_diff 2 '' 'journal_diff: the words cannot be fetched' recorded "$(printf '\377')"
+journal_diff 2 '' 'journal_diff: nothing: No such file or directory (os error 2)' recorded nothing
+journal_diff 2 '' 'journal_diff: .: is a directory' . recorded
+journal_diff 2 '' 'journal_diff: .: is a directory' recorded .
+journal_diff 2 '' 'journal_diff: an argument is not UTF-8' recorded "$(printf '\377')"
 
 failing_input 'journal_diff: reading the recorded journal failed' - recorded
 failing_input 'journal_diff: reading the replayed journal failed' recorded -

@@ -65,7 +65,6 @@ whole="$start
 $input
 $state
 $rest"
-usage='usage: journal_dump [--protocol 5..9] [--type NAME].. [--no-payload] [FILE]'
 
 dump 0 "$whole" ''
 dump 0 "$whole" '' replay
@@ -114,21 +113,31 @@ $end" '' --protocol 7 "$work/v6"
 dump 0 '{"offset":30,"type":"End","code":3,"length":1}
 {"offset":39,"rest":0}' '' --no-payload --type End "$work/v6"
 
-dump 2 '' "$usage" --protocol 4 replay
-dump 2 '' "$usage" --type Nothing replay
-dump 2 '' "$usage" --type CustomEntry replay
-for name in 65536 0 8 1024 064513 +64513 ''; do
-  dump 2 '' "$usage" --type "CustomEntry($name)" replay
+# A type's name may be in any case, and end with Message; several have commas between.
+dump 0 "$input
+$rest" '' --type inputcommand
+dump 0 "$start
+$state
+$rest" '' --type GetLazyStateCompletionNotificationMessage,START -
+
+# Refused arguments are named, with what is taken.
+refused "invalid value '4' for '--protocol <VERSION>'" --protocol 4 replay
+refused '[possible values: 5, 6, 7, 8, 9]' --protocol 4 replay
+refused "no type has the name 'Nothing'; the types are Start, Suspension, " --type Nothing replay
+for name in CustomEntry 'CustomEntry(64513' 'CustomEntry(64513) ' ''; do
+  refused "no type has the name '$name'" --type "$name" replay
 done
-dump 2 '' "$usage" --type 'CustomEntry(64513' replay
-dump 2 '' "$usage" --type 'CustomEntry(64513) ' replay
-dump 2 '' "$usage" --type
-dump 2 '' "$usage" replay replay
-dump 2 '' "$usage" --payload
+for code in 65536 0 8 1024 064513 +64513 ''; do
+  refused "no type has the name 'CustomEntry($code)'" --type "CustomEntry($code)" replay
+done
+refused "no type has the name 'Nothing'" --type Start,Nothing replay
+refused "a value is required for '--type <NAME>'" --type
+refused "unexpected argument 'other'" replay other
+refused "unexpected argument '--payload'" --payload
 dump 0 'journal_dump 0.1.0' '' --version
-dump 2 '' 'journal_dump: nothing: cannot be opened' nothing
-dump 2 '' 'journal_dump: .: is a folder' .
-dump 2 '' 'journal_dump: the words cannot be fetched' "$(printf '\377')"
+dump 2 '' 'journal_dump: nothing: No such file or directory (os error 2)' nothing
+dump 2 '' 'journal_dump: .: is a directory' .
+dump 2 '' 'journal_dump: an argument is not UTF-8' "$(printf '\377')"
 "$program" --help > "$work/out" 2> "$work/err"
 status=$?
 [ "$status" -eq 0 ] && grep -q '^Usage: journal_dump' "$work/out" && [ ! -s "$work/err" ]

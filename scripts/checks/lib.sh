@@ -170,6 +170,17 @@ printed() {
 # What the programs have in common where something fails: $program prints one line on the standard error, and ends with
 # the status $failure.
 
+# refused WHY ARGUMENT..: these arguments are refused, with the status 2: nothing is written, and the standard error says
+# an error that has this text
+refused() {
+  why=$1
+  shift
+  "$program" "$@" < /dev/null > "$out" 2> "$err"
+  status=$?
+  [ "$status" -eq 2 ] && [ ! -s "$out" ] && head -n 1 "$err" | grep -q '^error: ' && grep -qF -e "$why" "$err"
+  outcome "refused: $*" $?
+}
+
 # failing_input LINE ARGUMENT..: a standard input that is a folder; the line says so, and nothing is written
 failing_input() {
   line=$1

@@ -184,8 +184,8 @@ while IFS='|' read -r place words; do
 done << 'EOF'
 CHANGELOG.md|^## 
 README.md|^Status: 
-crates/journal_diff/src/options.rt|\.version\("
-crates/journal_dump/src/command_line.rt|\.version\("
+crates/journal_diff/src/arguments.rt|\.version\("
+crates/journal_dump/src/arguments.rt|\.version\("
 crates/journal_ffi/src/names.rt|the version of the library, as "
 docs/C.md|libpendratsoa\.so\.
 docs/C.md|The version\*\*, 

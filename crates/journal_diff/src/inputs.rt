@@ -1,10 +1,11 @@
 //! Opening the two inputs.
 
-use crate::options::Options;
+use crate::arguments::Arguments;
+use command_line::open_file;
 use either::Either;
-use std::fs;
 use std::fs::File;
 use std::io::Stdin;
+use std::{fmt, io};
 
 /// A file, or the standard input.
 pub type Input = Either<File, Stdin>;
@@ -16,21 +17,34 @@ pub struct Inputs {
     pub replayed: Input,
 }
 
-/// Opens both journals. An error is the path of the one that cannot be opened.
-pub fn open<'a>(rt: &HostRuntime, options: &Options<'a>) -> Result<Inputs, &'a str> {
+/// A journal that cannot be opened: its path, and why.
+#[derive(Drop)]
+pub struct OpenError<'a> {
+    path: &'a str,
+    reason: io::Error,
+}
+
+impl<'a> fmt::Display for OpenError<'a> {
+    fn fmt<W: fmt::Write>(&self, f: &mut fmt::Formatter<W>) -> fmt::Result {
+        write!(f, "{}: {}", self.path, self.reason)
+    }
+}
+
+/// Opens both journals.
+pub fn open<'a>(rt: &HostRuntime, asked: &Arguments<'a>) -> Result<Inputs, OpenError<'a>> {
     Ok(Inputs {
-        recorded: open_one(rt, options.recorded)?,
-        replayed: open_one(rt, options.replayed)?,
+        recorded: open_one(rt, asked.recorded)?,
+        replayed: open_one(rt, asked.replayed)?,
     })
 }
 
-/// Opens a journal.
-fn open_one<'a>(rt: &HostRuntime, path: &'a str) -> Result<Input, &'a str> {
+/// Opens a journal: the standard input, where the path is `-`.
+fn open_one<'a>(rt: &HostRuntime, path: &'a str) -> Result<Input, OpenError<'a>> {
     if path == "-" {
         return Ok(Either::Right(rt.stdin()));
     }
-    match fs::open(rt, path) {
+    match open_file(rt, path) {
         Ok(file) => Ok(Either::Left(file)),
-        Err(_) => Err(path),
+        Err(reason) => Err(OpenError { path, reason }),
     }
 }

@@ -1,6 +1,6 @@
 //! Tests of the command line.
 
-use crate::options::read_options;
+use crate::arguments::parse_arguments;
 use clap::error::ErrorKind;
 use shared_core::version::Version;
 use std::alloc::Global;
@@ -12,7 +12,7 @@ fn asked(alloc: Global, texts: &[&str]) -> Result<String, Fail> {
     for text in texts {
         words.push(String::from_str(alloc, text)?)?;
     }
-    Ok(match read_options(alloc, words.as_slice()) {
+    Ok(match parse_arguments(alloc, words.as_slice()) {
         Ok(options) => format!(in alloc; "{options:?}")?,
         Err(error) => {
             let kind = error.kind();
@@ -26,15 +26,15 @@ fn words_of_the_program(rt: HostRuntime) -> Result<(), Fail> {
     for (words, wanted) in [
         (
             &["a", "b"][..],
-            "Options { recorded: \"a\", replayed: \"b\", version: V8, ignore_payloads: false }",
+            "Arguments { recorded: \"a\", replayed: \"b\", version: V8, ignore_payloads: false }",
         ),
         (
             &["--ignore-payloads", "--protocol", "9", "-", "b"][..],
-            "Options { recorded: \"-\", replayed: \"b\", version: V9, ignore_payloads: true }",
+            "Arguments { recorded: \"-\", replayed: \"b\", version: V9, ignore_payloads: true }",
         ),
         (
             &["a", "--protocol=5", "-"][..],
-            "Options { recorded: \"a\", replayed: \"-\", version: V5, ignore_payloads: false }",
+            "Arguments { recorded: \"a\", replayed: \"-\", version: V5, ignore_payloads: false }",
         ),
         (&["-", "-"][..], "ArgumentConflict"),
         (&[][..], "MissingRequiredArgument"),

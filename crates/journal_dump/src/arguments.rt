@@ -11,9 +11,9 @@ use std::alloc::{AllocError, Global};
 
 /// The parsed command line.
 #[derive(Drop)]
-pub struct CommandLine<'a> {
-    /// The path of the stream; none for the standard input.
-    pub path: Option<&'a str>,
+pub struct Arguments<'a> {
+    /// The path of the stream, or `-` for the standard input.
+    pub path: &'a str,
     /// The version of the protocol.
     pub version: Version,
     /// The codes of the selected types; none for all.
@@ -29,13 +29,16 @@ fn version_of(word: &str) -> Option<Version>
     Version::from_number(word.parse().ok()?)
 }
 
-/// The code of the type that has this name in a dump: that of a named type, or of a custom entry, as
-/// `CustomEntry(64513)`.
+/// The code of the type that has this name: a named type's in any case of letters, with or without `Message` at the
+/// end, or that of a custom entry, as `CustomEntry(64513)`.
 fn code_of(alloc: Global, name: &str) -> Result<Option<u16>, AllocError> {
-    match MessageType::from_name(name.as_bytes()) {
-        Some(ty) => Ok(Some(u16::from(ty))),
-        None => custom_code(alloc, name),
+    let short = name.strip_suffix("Message").unwrap_or(name);
+    for ty in MessageType::named() {
+        if ty.variant_name().eq_ignore_ascii_case(short) {
+            return Ok(Some(u16::from(*ty)));
+        }
     }
+    custom_code(alloc, name)
 }
 
 /// The code of the custom entry that has this name.
@@ -58,6 +61,18 @@ fn code_within(name: &str) -> Option<u16> {
     digits.parse().ok()
 }
 
+/// What is said of a name that no type has: the name, and the names that there are.
+fn unknown_type(alloc: Global, name: &str) -> Result<String, AllocError> {
+    let mut text = format!(in alloc; "no type has the name '{name}'; the types are")?;
+    for ty in MessageType::named() {
+        text.push(' ')?;
+        text.push_str(ty.variant_name())?;
+        text.push(',')?;
+    }
+    text.push_str(" and CustomEntry(CODE)")?;
+    Ok(text)
+}
+
 /// The clap definition of the command line.
 fn command<'a>(alloc: Global) -> Result<Command<'a>, AllocError> {
     let protocol = Arg::new(alloc, "protocol")
@@ -70,14 +85,17 @@ fn command<'a>(alloc: Global) -> Result<Command<'a>, AllocError> {
         .long("type")
         .value_name("NAME")
         .action(ArgAction::Append)
-        .help("Shows messages of this type alone, or of several such types");
+        .help(
+            "Shows messages of this type alone; several with commas between, or given several times",
+        );
     let no_payload = Arg::new(alloc, "no-payload")
         .long("no-payload")
         .action(ArgAction::SetTrue)
         .help("Leaves out what is in messages");
     let path = Arg::new(alloc, "file")
         .value_name("FILE")
-        .help("The stream; without it the standard input");
+        .default_value("-")
+        .help("The stream: a file, or - for the standard input");
     Command::new(alloc, "journal_dump")
         .version("0.1.0")
         .about("Prints a stream of the protocol as JSON, one object a line for each of its items.")
@@ -89,27 +107,26 @@ fn command<'a>(alloc: Global) -> Result<Command<'a>, AllocError> {
 
 /// Parses the arguments after the program's name. The error is an invalid argument, or a request for the help or the
 /// version.
-pub fn read_command_line<'a>(alloc: Global, words: &'a [String]) -> Result<CommandLine<'a>, Error>
-    ensures { IfOk result (λ line. 5 ≤ version_number line.version) }
+pub fn parse_arguments<'a>(alloc: Global, arguments: &'a [String]) -> Result<Arguments<'a>, Error>
+    ensures { IfOk result (λ parsed. 5 ≤ version_number parsed.version) }
 {
     let mut command = command(alloc)?;
-    let matches = command.try_get_matches_from_mut(words)?;
+    let matches = command.try_get_matches_from_mut(arguments)?;
     let Some(version) = matches.get_str("protocol").and_then(version_of) else {
         return Err(command.error(ErrorKind::InvalidValue, "a version is from 5 to 9")?);
     };
     let mut codes = Vec::new(alloc);
     if let Some(names) = matches.get_strs("type") {
-        for name in names {
+        for name in names.iter().flat_map(|names| names.split(',')) {
             let Some(code) = code_of(alloc, name)? else {
-                return Err(command.error(ErrorKind::InvalidValue, "there is no such type")?);
+                let why = unknown_type(alloc, name)?;
+                return Err(command.error(ErrorKind::InvalidValue, why.as_str())?);
             };
-            let Ok(()) = codes.push(code) else {
-                return Err(Error::from(AllocError));
-            };
+            codes.push(code)?;
         }
     }
-    Ok(CommandLine {
-        path: matches.get_str("file"),
+    Ok(Arguments {
+        path: matches.get_str("file").unwrap_or("-"),
         version,
         codes,
         payloads: !matches.get_flag("no-payload"),

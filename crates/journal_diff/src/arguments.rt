@@ -10,7 +10,7 @@ use std::alloc::{AllocError, Global};
 
 /// The parsed command line.
 #[derive(Debug, Clone, Copy, Drop)]
-pub struct Options<'a> {
+pub struct Arguments<'a> {
     /// The path of the recorded journal, or `-` for the standard input.
     pub recorded: &'a str,
     /// The path of the replayed journal, or `-` for the standard input.
@@ -61,11 +61,11 @@ fn command<'a>(alloc: Global) -> Result<Command<'a>, AllocError> {
 
 /// Parses the arguments after the program's name. The error is an invalid argument, or a request for the help or the
 /// version.
-pub fn read_options<'a>(alloc: Global, words: &'a [String]) -> Result<Options<'a>, Error>
-    ensures { IfOk result (λ options. 5 ≤ version_number options.version) }
+pub fn parse_arguments<'a>(alloc: Global, arguments: &'a [String]) -> Result<Arguments<'a>, Error>
+    ensures { IfOk result (λ parsed. 5 ≤ version_number parsed.version) }
 {
     let mut command = command(alloc)?;
-    let matches = command.try_get_matches_from_mut(words)?;
+    let matches = command.try_get_matches_from_mut(arguments)?;
     let version = matches.get_str("protocol").and_then(version_of);
     let (Some(recorded), Some(replayed), Some(version)) = (
         matches.get_str("recorded"),
@@ -74,7 +74,7 @@ pub fn read_options<'a>(alloc: Global, words: &'a [String]) -> Result<Options<'a
     ) else {
         return Err(command.error(
             ErrorKind::MissingRequiredArgument,
-            "two journals are compared",
+            "two journals are compared: RECORDED and REPLAYED",
         )?);
     };
     if recorded == "-" && replayed == "-" {
@@ -83,7 +83,7 @@ pub fn read_options<'a>(alloc: Global, words: &'a [String]) -> Result<Options<'a
             "only one journal can come from the standard input",
         )?);
     }
-    Ok(Options {
+    Ok(Arguments {
         recorded,
         replayed,
         version,

@@ -1,0 +1,57 @@
+//! What the programs share: their arguments, the files that they read, and how they say what is wrong.
+#![tactic(auto)]
+
+ghost use Rattle.std.specs.Prelude.{◌≡◌};
+ghost use Rattle.std.specs.Process.{exit_status};
+
+use clap::Error;
+use clap::error::ErrorKind;
+use std::fmt::Display;
+use std::fs::File;
+use std::process::ExitCode;
+use std::{env, fs, io};
+
+/// The program's arguments, its own name first.
+pub fn arguments(rt: &HostRuntime) -> io::Result<Vec<String>> {
+    Ok(env::args(rt)?.collect(rt.alloc())?)
+}
+
+/// Opens a file to be read. A directory is an error here, and not first where it is read.
+pub fn open_file(rt: &HostRuntime, path: &str) -> io::Result<File> {
+    let file = fs::open(rt, path)?;
+    if file.metadata().is_ok_and(|metadata| metadata.is_dir()) {
+        return Err(io::Error::from(io::ErrorKind::IsADirectory));
+    }
+    Ok(file)
+}
+
+/// Prints `PROGRAM: WHY` in a line on the standard error, and returns the status.
+pub fn fail<T: Display + Drop>(
+    rt: &HostRuntime,
+    program: &'static str,
+    why: T,
+    status: u8,
+) -> ExitCode
+    ensures { exit_status result ≡ status }
+{
+    // there is nothing to do if the standard error fails too
+    let _ = eprintln!(rt; "{program}: {why}");
+    ExitCode::from(status)
+}
+
+/// Prints what a command line asks for: the help or the version, with the status 0. Otherwise prints on the standard
+/// error which argument is wrong, why, and what is taken, with the status 2. `failure` is the status of an allocation or
+/// an output that fails.
+pub fn report(rt: &HostRuntime, program: &'static str, error: &Error, failure: u8) -> ExitCode {
+    if error.kind() == ErrorKind::OutOfMemory {
+        return fail(rt, program, "out of memory", failure);
+    }
+    let printed = error.print(rt);
+    if error.use_stderr() {
+        return ExitCode::from(2);
+    }
+    match printed {
+        Ok(()) => ExitCode::SUCCESS,
+        Err(_) => fail(rt, program, "output failed", failure),
+    }
+}
