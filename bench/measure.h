@@ -41,6 +41,14 @@ int64_t measure_frame(uint32_t version, uint16_t code, const uint8_t *payload, s
 int64_t measure_frame_into(uint32_t version, uint16_t code, const uint8_t *payload, size_t payload_length, size_t rounds,
                            uint8_t *out, size_t room);
 
+/* As measure_frame_into, but the buffer's spare room is initialized, so that no byte is written twice. */
+int64_t measure_frame_spare(uint32_t version, uint16_t code, const uint8_t *payload, size_t payload_length,
+                            size_t rounds, uint8_t *out, size_t room);
+
+/* As measure_frame, but the frames of all rounds share the blocks of one buffer, and the last 1,024 are held. */
+int64_t measure_frame_shared(uint32_t version, uint16_t code, const uint8_t *payload, size_t payload_length,
+                             size_t rounds, uint8_t *out, size_t room);
+
 /* As journal_is_well_formed, but `rounds` times over (0 counts as 1): beside so many calls, what a call from C costs. */
 int64_t measure_well_formed(uint32_t schema, const uint8_t *payload, size_t payload_length, size_t rounds);
 

@@ -109,6 +109,44 @@ pub extern "C" fn measure_frame_into(
     answer_of(frames::write_frame(alloc, version, code, payload, rounds, out))
 }
 
+/// As `measure_frame_into`, but the buffer's spare room is initialized, so that no byte is written twice.
+#[unsafe(no_mangle)]
+pub extern "C" fn measure_frame_spare(
+    alloc: Global,
+    version: u32,
+    code: u16,
+    payload: &[u8],
+    rounds: usize,
+    out: &mut [u8],
+) -> i64
+    ensures { Answers result (Writes (AnswersFrame version code payload.now) out.old out.new) }
+{
+    let rounds = Rounds {
+        count: rounds,
+        buffer: Buffer::Spare,
+    };
+    answer_of(frames::write_frame(alloc, version, code, payload, rounds, out))
+}
+
+/// As `measure_frame`, but the frames of all rounds share the blocks of one buffer, and the last 1,024 are held.
+#[unsafe(no_mangle)]
+pub extern "C" fn measure_frame_shared(
+    alloc: Global,
+    version: u32,
+    code: u16,
+    payload: &[u8],
+    rounds: usize,
+    out: &mut [u8],
+) -> i64
+    ensures { Answers result (Writes (AnswersFrame version code payload.now) out.old out.new) }
+{
+    let rounds = Rounds {
+        count: rounds,
+        buffer: Buffer::Shared,
+    };
+    answer_of(frames::write_frame(alloc, version, code, payload, rounds, out))
+}
+
 /// As `journal_is_well_formed`, but repeated `rounds` times (0 counts as 1).
 #[unsafe(no_mangle)]
 pub extern "C" fn measure_well_formed(

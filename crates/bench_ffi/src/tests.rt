@@ -2,8 +2,8 @@
 //! always runs out of memory.
 
 use crate::{
-    measure_compare, measure_frame, measure_frame_into, measure_items, measure_messages,
-    measure_well_formed,
+    measure_compare, measure_frame, measure_frame_into, measure_frame_shared, measure_frame_spare,
+    measure_items, measure_messages, measure_well_formed,
 };
 use shared_core_base::header::MessageType;
 
@@ -149,16 +149,22 @@ fn frames_in_rounds(rt: HostRuntime) {
         for rounds in [0, 1, 5] {
             let mut out = [0; 8];
             let mut same = [0; 8];
+            let mut spare = [0; 8];
+            let mut shared = [0; 8];
             let mut short = [0; 7];
             let answers = [
                 measure_frame(rt.alloc(), version, code, payload, rounds, &mut out),
                 measure_frame_into(rt.alloc(), version, code, payload, rounds, &mut same),
+                measure_frame_spare(rt.alloc(), version, code, payload, rounds, &mut spare),
+                measure_frame_shared(rt.alloc(), version, code, payload, rounds, &mut shared),
                 measure_frame_into(rt.alloc(), version, code, payload, rounds, &mut short),
             ];
             let written = if answer == 8 { end } else { [0; 8] };
             assert!(rt;
-                answers == [answer; 3] && out == written && same == written && short == [0; 7],
-                "code {code} at {version}, {rounds} rounds: {answers:?}, {out:?}, {same:?}, {short:?}"
+                answers == [answer; 5]
+                    && [out, same, spare, shared] == [written; 4]
+                    && short == [0; 7],
+                "code {code} at {version}, {rounds} rounds: {answers:?}, {out:?}, {same:?}, {spare:?}, {shared:?}"
             );
         }
     }

@@ -7,7 +7,7 @@ ghost use Rattle.journal_c_api.specs.Answers.{Writes};
 ghost use Rattle.journal_c_api.specs.Payloads.{AnswersFrame, AnswersFrameOf, SpellsForm, SpellsFrame};
 
 use crate::rounds::repeated;
-use bytes::Bytes;
+use bytes::{Bytes, BytesMut};
 use journal_c_api::answer::{Refusal, version_of, write_over};
 use journal_c_api::payloads::decoded;
 use shared_core::encoding::Encoder;
@@ -32,7 +32,17 @@ pub enum Buffer {
     New,
     /// That of the round before, cleared.
     Reused,
+    /// That of the round before, cleared, with spare room that is initialized.
+    Spare,
+    /// One for many rounds, whose frames share its block; the last 1,024 of them are held.
+    Shared,
 }
+
+/// The bytes of the block that frames share.
+const BLOCK: usize = 65_536;
+
+/// How many frames that share blocks are held.
+const HELD: usize = 1024;
 
 /// Writes the frame, at a version, of the message of a named type that a payload encodes.
 #[tactic(auto, using(journal_c_api::proofs::Writing::writes_answer))]
@@ -104,6 +114,8 @@ impl<'a> MessageVisitor for Framing<'a> {
         match self.rounds.buffer {
             Buffer::New => encode_new(self.alloc, self.encoder, &message, self.rounds.count),
             Buffer::Reused => encode_reused(self.alloc, self.encoder, &message, self.rounds.count),
+            Buffer::Spare => encode_spare(self.alloc, self.encoder, &message, self.rounds.count),
+            Buffer::Shared => encode_shared(self.alloc, self.encoder, &message, self.rounds.count),
         }
     }
 }
@@ -144,4 +156,60 @@ fn encode_reused<M: RestateEncodableMessage>(
         return Err(Refusal::OutOfMemory);
     };
     Ok(frame)
+}
+
+/// The same, with a buffer whose spare room is initialized.
+fn encode_spare<M: RestateEncodableMessage>(
+    alloc: Global,
+    encoder: Encoder,
+    message: &M,
+    rounds: usize,
+) -> Result<Bytes, Refusal>
+    ensures { SpellsForm M.message_type (M.wire_form message.now encoder.version) result }
+{
+    let mut frame = BytesMut::new(alloc);
+    for _round in 1..rounds {
+        frame.clear();
+        encoder.encode_into_bytes(message, &mut frame)?;
+    }
+    frame.clear();
+    encoder.encode_into_bytes(message, &mut frame)?;
+    let Ok(frame) = frame.freeze() else {
+        return Err(Refusal::OutOfMemory);
+    };
+    Ok(frame)
+}
+
+/// The same, but the frames of all rounds share the block of one buffer, and the last ones are held.
+fn encode_shared<M: RestateEncodableMessage>(
+    alloc: Global,
+    encoder: Encoder,
+    message: &M,
+    rounds: usize,
+) -> Result<Bytes, Refusal>
+    ensures { SpellsForm M.message_type (M.wire_form message.now encoder.version) result }
+{
+    let mut block = BytesMut::with_capacity(alloc, BLOCK)?;
+    let mut held = Vec::with_capacity(alloc, HELD)?;
+    for round in 1..rounds {
+        let frame = shared_frame(&encoder, message, &mut block)?;
+        match held.get_mut(round % HELD) {
+            Some(place) => *place = frame,
+            None => held.push(frame)?,
+        }
+    }
+    shared_frame(&encoder, message, &mut block)
+}
+
+/// The frame of a message, in the block of a buffer that is cleared before.
+fn shared_frame<M: RestateEncodableMessage>(
+    encoder: &Encoder,
+    message: &M,
+    block: &mut BytesMut,
+) -> Result<Bytes, Refusal>
+    ensures { SpellsForm M.message_type (M.wire_form message.now encoder.now.version) result }
+{
+    block.clear();
+    encoder.encode_into_bytes(message, block)?;
+    Ok(block.freeze_to(block.len())?)
 }
