@@ -79,7 +79,7 @@ fn take_payload(
 
 impl Decoder {
     ghost use Rattle.std.specs.Prelude.{◌≡◌, ◌+◌, ◌≤◌, ◌++◌, [], length, OnOk, OnErr, IfOk, IfErr, IsOk, MatchOption};
-    ghost use Rattle.std.specs.Prelude.{None, Ok};
+    ghost use Rattle.std.specs.Prelude.{None, Ok, false};
     ghost use Rattle.shared_core_base.specs.Version.{version_number};
     ghost use Rattle.shared_core.specs.Items.{AnswersNext, NoItemBegins, PayloadIsNext, RefusesPiece, TakesEight};
     ghost use Rattle.shared_core.specs.Items.{TakesItem, item_taken};
