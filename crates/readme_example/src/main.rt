@@ -3,7 +3,7 @@
 
 use anyhow::Result;
 use bytes::Bytes;
-use shared_core::encoding::{Decoder, Encoder, RawMessage};
+use shared_core::encoding::{Decoder, Encoder, Item, RawMessage};
 use shared_core::header::MessageType;
 use shared_core::messages::{SetStateCommandMessage, StartMessage, Value};
 use shared_core::version::Version;
@@ -29,29 +29,32 @@ fn recorded(alloc: Global) -> Result<Vec<u8>> {
     Ok(stream)
 }
 
-/// Appends a message to `out`: every other one as it came, the command that sets a state with the value 2.
-fn copy_changed(alloc: Global, message: &RawMessage, index: i64, out: &mut Vec<u8>) -> Result<()> {
-    if message.ty() != MessageType::SetStateCommand {
-        out.extend_from_slice(&message.header().to_bytes())?;
-        out.extend_from_slice(message.payload().as_slice())?;
-        return Ok(());
+/// Appends a message to `out`: the command that sets a state with the value 2, every other message as it came.
+fn copy_changed(alloc: Global, message: &RawMessage, out: &mut Vec<u8>) -> Result<()> {
+    match message.ty() {
+        MessageType::SetStateCommand => {
+            let mut command: SetStateCommandMessage = message.decode_as(alloc)?;
+            command.value = value(b"2");
+            Encoder::new(Version::V8).encode_into(&command, out)?;
+        }
+        _ => {
+            out.extend_from_slice(&message.header().to_bytes())?;
+            out.extend_from_slice(message.payload().as_slice())?;
+        }
     }
-    // where the message were of another type, the error would say this index
-    let mut command: SetStateCommandMessage = message.decode_to(alloc, index)?;
-    command.value = value(b"2");
-    Encoder::new(Version::V8).encode_into(&command, out)?;
     Ok(())
 }
 
 /// Reads a stream and writes it again, with each state set to 2.
 fn change(rt: &HostRuntime, decoder: &mut Decoder) -> Result<Vec<u8>> {
     let mut changed = Vec::new(rt.alloc());
-    for index in 0..i64::MAX {
-        let Some(message) = decoder.consume_next()? else {
-            break;
+    for item in decoder.items() {
+        // a header of an unknown type is an item too, and is left out
+        let Item::Message(message) = item? else {
+            continue;
         };
         println!(rt; "{}: {} bytes", message.ty(), message.payload().len())?;
-        copy_changed(rt.alloc(), &message, index, &mut changed)?;
+        copy_changed(rt.alloc(), &message, &mut changed)?;
     }
     Ok(changed)
 }
