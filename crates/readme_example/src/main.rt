@@ -3,7 +3,7 @@
 
 use anyhow::Result;
 use bytes::Bytes;
-use shared_core::encoding::{Decoder, Encoder, Item, RawMessage};
+use shared_core::encoding::{Decoder, Encoder, Item};
 use shared_core::header::MessageType;
 use shared_core::messages::{SetStateCommandMessage, StartMessage, Value};
 use shared_core::version::Version;
@@ -29,34 +29,23 @@ fn recorded(alloc: Global) -> Result<Vec<u8>> {
     Ok(stream)
 }
 
-/// Appends a message to `out`: the command that sets a state with the value 2, every other message as it came.
-fn copy_changed(alloc: Global, message: &RawMessage, out: &mut Vec<u8>) -> Result<()> {
-    match message.ty() {
-        MessageType::SetStateCommand => {
-            let mut command: SetStateCommandMessage = message.decode_as(alloc)?;
-            command.value = value(b"2");
-            Encoder::new(Version::V8).encode_into(&command, out)?;
-        }
-        _ => {
-            out.extend_from_slice(&message.header().to_bytes())?;
-            out.extend_from_slice(message.payload().as_slice())?;
-        }
-    }
-    Ok(())
-}
-
-/// Reads a stream and writes it again, with each state set to 2.
-fn change(rt: &HostRuntime, decoder: &mut Decoder) -> Result<Vec<u8>> {
-    let mut changed = Vec::new(rt.alloc());
+/// Reads the messages that have come, and writes them again, with each state set to 2.
+fn change(alloc: Global, decoder: &mut Decoder, out: &mut Vec<u8>) -> Result<()> {
     for item in decoder.items() {
         // a header of an unknown type is an item too, and is left out
         let Item::Message(message) = item? else {
             continue;
         };
-        println!(rt; "{}: {} bytes", message.ty(), message.payload().len())?;
-        copy_changed(rt.alloc(), &message, &mut changed)?;
+        if let MessageType::SetStateCommand = message.ty() {
+            let mut command: SetStateCommandMessage = message.decode_as(alloc)?;
+            command.value = value(b"2");
+            Encoder::new(Version::V8).encode_into(&command, out)?;
+        } else {
+            out.extend_from_slice(&message.header().to_bytes())?;
+            out.extend_from_slice(message.payload().as_slice())?;
+        }
     }
-    Ok(changed)
+    Ok(())
 }
 
 fn main(rt: HostRuntime) -> Result<()> {
@@ -69,7 +58,8 @@ fn main(rt: HostRuntime) -> Result<()> {
     decoder.push(stream.slice(..half)?)?;
     decoder.push(stream.slice(half..)?)?;
 
-    let changed = change(&rt, &mut decoder)?;
+    let mut changed = Vec::new(alloc);
+    change(alloc, &mut decoder, &mut changed)?;
     println!(rt;
         "{} bytes written, {} in no message",
         changed.len(),
