@@ -1,10 +1,10 @@
 //! Names and numbers: of the library, of schemas and of types.
 
 ghost use Rattle.std.specs.Prelude.{◌≡◌, Ok, codes, length};
-ghost use Rattle.shared_core_base.specs.MessageType.{debug_name_of, named_types};
+ghost use Rattle.shared_core_base.specs.MessageType.{debug_name_of};
 ghost use Rattle.shared_core_base.specs.declared.header.MessageType.TheVariants.{CustomEntry};
 ghost use Rattle.journal_c_api.specs.Answers.{Writes, written_over};
-ghost use Rattle.journal_c_api.specs.Names.{AnswersSchema, AnswersTypeCode, AnswersTypeName, type_in};
+ghost use Rattle.journal_c_api.specs.Names.{AnswersSchema, AnswersTypeCode, AnswersTypeName};
 
 use crate::answer::{Refusal, version_of, write_over};
 use arrayvec::ArrayString;
