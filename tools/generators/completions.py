@@ -9,9 +9,12 @@ SOURCE = "the options of the programs and proto/journal.proto"
 
 # Where a program declares its options.
 DECLARED = {
-    "journal_diff": "crates/journal_diff/src/options.rt",
-    "journal_dump": "crates/journal_dump/src/command_line.rt",
+    "journal_diff": "crates/journal_diff/src/arguments.rt",
+    "journal_dump": "crates/journal_dump/src/arguments.rt",
 }
+
+# Where the library says which versions it supports.
+VERSIONS = "crates/shared_core_base/src/version.rt"
 
 # The lister has no options, but an argument.
 WORDS = {"journal_list": "v9"}
@@ -29,13 +32,14 @@ class Option:
         self.value = found.get("value_name")
         self.help = found["help"]
         self.is_repeated = "ArgAction::Append" in declared
-        self.has_versions = "VERSIONS" in declared
+        self.has_versions = "supported_numbers" in declared
 
 
 def options(program):
     """The options of a program, and how many files it takes."""
     text = (ROOT / DECLARED[program]).read_text(encoding="utf-8")
-    versions = re.findall(r'"(\d+)"', re.search(r"^const VERSIONS.*$", text, re.M)[0])
+    numbers = re.search(r"fn supported_numbers.*?^    }$", (ROOT / VERSIONS).read_text(encoding="utf-8"), re.M | re.S)
+    versions = re.findall(r'"(\d+)"', numbers[0])
     declared = [Option(found) for found in re.findall(r"= Arg::new\((.*?);\n", text, re.S)]
     named = [option for option in declared if option.name]
     for option in named:

@@ -85,9 +85,7 @@ fn command<'a>(alloc: Global) -> Result<Command<'a>, AllocError> {
         .long("type")
         .value_name("NAME")
         .action(ArgAction::Append)
-        .help(
-            "Shows messages of this type alone; several with commas between, or given several times",
-        );
+        .help("Shows messages of this type alone, or of several, with commas between");
     let no_payload = Arg::new(alloc, "no-payload")
         .long("no-payload")
         .action(ArgAction::SetTrue)
