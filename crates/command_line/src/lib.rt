@@ -26,12 +26,7 @@ pub fn open_file(rt: &HostRuntime, path: &str) -> io::Result<File> {
 }
 
 /// Prints `PROGRAM: WHY` in a line on the standard error, and returns the status.
-pub fn fail<T: Display + Drop>(
-    rt: &HostRuntime,
-    program: &'static str,
-    why: T,
-    status: u8,
-) -> ExitCode
+pub fn fail<T: Display + Drop>(rt: &HostRuntime, program: &str, why: T, status: u8) -> ExitCode
     ensures { exit_status result ≡ status }
 {
     // there is nothing to do if the standard error fails too
@@ -42,7 +37,7 @@ pub fn fail<T: Display + Drop>(
 /// Prints what a command line asks for: the help or the version, with the status 0. Otherwise prints on the standard
 /// error which argument is wrong, why, and what is taken, with the status 2. `failure` is the status of an allocation or
 /// an output that fails.
-pub fn report(rt: &HostRuntime, program: &'static str, error: &Error, failure: u8) -> ExitCode {
+pub fn report(rt: &HostRuntime, program: &str, error: &Error, failure: u8) -> ExitCode {
     if error.kind() == ErrorKind::OutOfMemory {
         return fail(rt, program, "out of memory", failure);
     }
