@@ -50,9 +50,8 @@ def load(name: str) -> ctypes.CDLL:
             call.argtypes = parameters
             call.restype = ctypes.c_int64
     except (OSError, AttributeError) as error:
-        raise ImportError(
-            f"pendratsoa: the library {name} cannot be used: {error}; PENDRATSOA_LIBRARY may name its file", name=__name__
-        ) from error
+        text = f"the library {name} cannot be used: {error}; PENDRATSOA_LIBRARY may name its file"
+        raise ImportError(f"pendratsoa: {text}", name=__name__) from error
     return library
 
 

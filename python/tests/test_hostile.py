@@ -78,7 +78,8 @@ class TestArguments(unittest.TestCase):
 
     def test_messages_of_every_kind(self):
         for value in values():
-            for message in (Message(value, value, value, value), Message(8, CALL_COMMAND, value), Message(8, value, b"")):
+            mixed = Message(8, CALL_COMMAND, value), Message(8, value, b""), Message(value, CALL_COMMAND, b"")
+            for message in (Message(value, value, value, value), *mixed):
                 for name in ("type", "schema", "is_command", "is_notification"):
                     self.tried(getattr, message, name)
                 for call in (message.json, message.canonical, message.frame, message.notification, message.__repr__):

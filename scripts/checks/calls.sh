@@ -102,6 +102,34 @@ same "the calls and those that rust/src/ffi.rs makes" "$work/values" "$work/line
 grep -o 'journal_[a-z_]*(' node/src/addon.c | tr -d '(' | sort > "$work/lines"
 same "the calls and the functions of node/src/addon.c" "$work/values" "$work/lines"
 
+# The names in the tables of docs/LANGUAGES.md are words of the sources of their column.
+awk -F'|' '
+  /^\| / && /TypeScript \|$/ { for (i = 2; i < NF; i++) language[i] = $i; next }
+  /^\| / {
+    for (i = 2; i < NF; i++) {
+      count = split($i, parts, "`")
+      for (part = 2; part <= count; part += 2) {
+        gsub(/\([^)]*\)/, " ", parts[part])
+        found = split(parts[part], words, /[^A-Za-z_?]+/)
+        for (word = 1; word <= found; word++) if (words[word] !~ /^(new)?$/) print language[i], words[word]
+      }
+    }
+  }' docs/LANGUAGES.md | sort -u > "$work/names"
+while read -r language word; do
+  case $language in
+    C) places=include/pendratsoa.h ;;
+    Python) places=python/pendratsoa ;;
+    Rust) places=rust/src ;;
+    Go) places=go ;;
+    Ruby) places=ruby/lib ;;
+    TypeScript) places=node/index.d.ts ;;
+    *) places=/dev/null ;;
+  esac
+  grep -rqw -- "$word" $places || echo "$language $word"
+done < "$work/names" > "$work/absent"
+[ -s "$work/names" ] && [ ! -s "$work/absent" ]
+outcome "the names of docs/LANGUAGES.md: not in the sources: $(tr '\n' ' ' < "$work/absent")" $?
+
 # It has tests, is called by nobody who means well, and stands in the table of promises.
 grep -oh 'journal_[a-z_]*(' crates/journal_ffi/src/tests/*.rt | sed 's/(//' | sort -u > "$work/lines"
 same "the calls and the tests of journal_ffi" "$work/values" "$work/lines"

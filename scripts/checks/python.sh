@@ -18,7 +18,8 @@ unset PENDRATSOA_LIBRARY LD_LIBRARY_PATH
 
 # What is installed: the wheel where it can be built, else the folder with the library in it.
 mkdir "$work/python"
-(cd python && tar -c --exclude='*.so' --exclude='build' --exclude='dist' --exclude='*.egg-info' .) | tar -x -C "$work/python"
+(cd python && tar -c --exclude='*.so' --exclude=build --exclude=dist --exclude='*.egg-info' .) |
+  tar -x -C "$work/python"
 case_of 'scripts/python.sh' sh scripts/python.sh "$work/python"
 [ "$failed" -eq 0 ] || finish
 wheel=$work/python/dist/pendratsoa-$version-py3-none-linux_x86_64.whl
