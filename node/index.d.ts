@@ -346,18 +346,23 @@ export function compareJournals(
 // Errors.
 
 /**
- * A call failed. The message names the argument that it failed for, and its value. Of this class itself is the error
- * that the library returned a number which this module does not know, as a later one may.
+ * A call failed. The message names the call, the argument that it failed for, and its value. Of this class itself is
+ * the error that the library returned a number which this module does not know, as a later one may.
  */
 export class JournalError extends Error {
+  constructor(message?: string, details?: { call?: string; argument?: string; value?: unknown });
+
   /** What is wrong: one text for each class. */
   readonly code: string;
 
+  /** The name of the function or the class that was called. */
+  readonly call: string | undefined;
+
   /** The name of the argument, if the error is about one. */
-  readonly argument?: string;
+  readonly argument: string | undefined;
 
   /** The value of that argument. */
-  readonly value?: unknown;
+  readonly value: unknown;
 }
 
 /** A payload is not well-formed for its schema. */

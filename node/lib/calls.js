@@ -29,77 +29,87 @@ const notificationNumbers = new BigUint64Array(4);
 const verdictNumbers = new BigUint64Array(2);
 
 export function libraryVersion() {
-  return text(written((out) => addon.libraryVersion(out), {}));
+  return text(written((out) => addon.libraryVersion(out), { call: 'libraryVersion' }));
 }
 
 export function schema(version, code) {
-  return checked(addon.schema(version, code), { version, code });
+  return checked(addon.schema(version, code), { call: 'schema', version, code });
 }
 
 export function typeName(code) {
-  return text(written((out) => addon.typeName(code, out), { code }));
+  return text(written((out) => addon.typeName(code, out), { call: 'typeName', code }));
 }
 
 export function typeCode(name) {
   if (typeof name !== 'string') {
     throw wrongKind('name', name, 'a string');
   }
-  return checked(addon.typeCode(encoder.encode(name)), { name });
+  return checked(addon.typeCode(encoder.encode(name)), { call: 'typeCode', name });
 }
 
 export function header(version, code, payloadLength) {
-  return bytes(written((out) => addon.header(version, code, payloadLength, out), { version, code, payloadLength }));
+  const given = { call: 'header', version, code, payloadLength };
+  return bytes(written((out) => addon.header(version, code, payloadLength, out), given));
 }
 
 export function frame(version, code, payload) {
-  return bytes(written((out) => addon.frame(version, code, payload, out), { version, code, payload }));
+  const given = { call: 'frame', version, code, payload };
+  return bytes(written((out) => addon.frame(version, code, payload, out), given));
 }
 
 export function isWellFormed(schema, payload) {
-  return checked(addon.isWellFormed(known(schema), payload), { schema, payload }) === 1;
+  const given = { call: 'isWellFormed', schema, payload };
+  return checked(addon.isWellFormed(known(schema, given), payload), given) === 1;
 }
 
 export function canonical(schema, payload) {
-  const number = known(schema);
-  return bytes(written((out) => addon.canonical(number, payload, out), { schema, payload }));
+  const given = { call: 'canonical', schema, payload };
+  const number = known(schema, given);
+  return bytes(written((out) => addon.canonical(number, payload, out), given));
 }
 
 export function merge(schema, first, second) {
-  const number = known(schema);
-  return bytes(written((out) => addon.merge(number, first, second, out), { schema, first, second }));
+  const given = { call: 'merge', schema, first, second };
+  const number = known(schema, given);
+  return bytes(written((out) => addon.merge(number, first, second, out), given));
 }
 
 export function toJson(schema, payload) {
-  const number = known(schema);
-  return text(written((out) => addon.json(number, payload, out), { schema, payload }));
+  const given = { call: 'toJson', schema, payload };
+  const number = known(schema, given);
+  return text(written((out) => addon.json(number, payload, out), given));
 }
 
 export function notification(code, payload) {
-  const found = written((out) => addon.notification(code, payload, notificationNumbers, out), { code, payload });
+  const given = { call: 'notification', code, payload };
+  const found = written((out) => addon.notification(code, payload, notificationNumbers, out), given);
   const [idNumber, number, nameLength, resultNumber] = Array.from(notificationNumbers, Number);
-  const idKind = kindOf(ID_KINDS, idNumber, 'kind of id');
-  const resultKind = kindOf(RESULT_KINDS, resultNumber, 'kind of result');
+  const idKind = kindOf(ID_KINDS, idNumber, given, 'kind of id');
+  const resultKind = kindOf(RESULT_KINDS, resultNumber, given, 'kind of result');
   const id = idKind === 'signalName' ? text(found.subarray(0, nameLength)) : number;
   return { idKind, id, resultKind, result: found.slice(nameLength) };
 }
 
 export function headerEq(code, first, second, { ignorePayloads = false } = {}) {
-  return checked(addon.headerEq(code, first, second, ignorePayloads), { code, first, second }) === 1;
+  return checked(addon.headerEq(code, first, second, ignorePayloads), { call: 'headerEq', code, first, second }) === 1;
 }
 
 export function difference(code, first, second) {
-  return text(written((out) => addon.difference(code, first, second, out), { code, first, second }));
+  const given = { call: 'difference', code, first, second };
+  return text(written((out) => addon.difference(code, first, second, out), given));
 }
 
 export function compareJournals(version, recorded, replayed, { ignorePayloads = false } = {}) {
-  const found = written((out) => addon.verdict(version, recorded, replayed, ignorePayloads, verdictNumbers, out), {
-    version,
-  });
+  const given = { call: 'compareJournals', version };
+  const found = written(
+    (out) => addon.verdict(version, recorded, replayed, ignorePayloads, verdictNumbers, out),
+    given,
+  );
   const [kind, index] = Array.from(verdictNumbers, Number);
-  return { kind: kindOf(VERDICT_KINDS, kind, 'kind of verdict'), index, text: text(found) };
+  return { kind: kindOf(VERDICT_KINDS, kind, given, 'kind of verdict'), index, text: text(found) };
 }
 
-/** What a call returned, which is no error. */
+/** What a call returned, which is no error. `given` has its name and its arguments. */
 export function checked(returned, given) {
   if (returned < 0) {
     throw refusal(returned, given);
@@ -130,14 +140,14 @@ function text(found) {
 }
 
 /** The number of a schema. What is neither a number nor a name, the addon does not take. */
-function known(schema) {
+function known(schema, given) {
   const isUnknownName = typeof schema === 'string' && schemaNumber(schema) === undefined;
-  return isUnknownName ? checked(UNKNOWN, { schema }) : schemaNumber(schema);
+  return isUnknownName ? checked(UNKNOWN, given) : schemaNumber(schema);
 }
 
-function kindOf(kinds, number, what) {
+function kindOf(kinds, number, given, what) {
   if (number >= kinds.length) {
-    throw notKnown(what, number);
+    throw notKnown(given.call, what, number);
   }
   return kinds[number];
 }

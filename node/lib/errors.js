@@ -11,8 +11,9 @@ export class JournalError extends Error {
     identify(this, 'JOURNAL_ERROR');
   }
 
-  constructor(message, argument, value) {
+  constructor(message, { call, argument, value } = {}) {
     super(message);
+    this.call = call;
     this.argument = argument;
     this.value = value;
   }
@@ -93,27 +94,31 @@ const REFUSALS = new Map([
   [-7, [NoResult, payloadOf, 'the notification has an id and no result']],
 ]);
 
-/** The error that a negative number is, of a call with these arguments, by their names. */
+/** The error that a negative number is, of a call: its name and its arguments, by their names. */
 export function refusal(number, given) {
   if (!REFUSALS.has(number)) {
-    return notKnown('error', number);
+    return notKnown(given.call, 'error', number);
   }
   const [ErrorClass, argumentOf, reason] = REFUSALS.get(number);
+  const { call } = given;
   const argument = argumentOf(given);
   if (argument === undefined) {
-    return new ErrorClass(reason);
+    return new ErrorClass(`${call}: ${reason}`, { call });
   }
-  return new ErrorClass(`${argument} ${shown(given[argument])}: ${reason}`, argument, given[argument]);
+  const value = given[argument];
+  return new ErrorClass(`${call}: ${argument} ${shown(value)}: ${reason}`, { call, argument, value });
 }
 
-/** The error that the library returned the number of a kind, or of an error, which only a later one has. */
-export function notKnown(what, number) {
-  return new JournalError(`the library returned the ${what} ${number}, which this module does not know`);
+/** The error that the library returned the number of an error, or of a kind, which only a later one has. */
+export function notKnown(call, what, number) {
+  const message = `${call}: the library returned the ${what} ${number}, which this module does not know`;
+  return new JournalError(message, { call });
 }
 
 /** The error that a source ended with so many bytes in no item. */
-export function incomplete(rest) {
-  return new Incomplete(`source ended within an item, after ${byteCount(rest)} of it`, 'source', rest);
+export function incomplete(call, rest) {
+  const message = `${call}: the source ended within an item, after ${byteCount(rest)} of it`;
+  return new Incomplete(message, { call, argument: 'source', value: rest });
 }
 
 /** The error that an argument is of another kind than it has to be. */

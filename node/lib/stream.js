@@ -25,7 +25,7 @@ export class Stream {
   #end = 0;
 
   constructor(version = 8) {
-    checked(addon.next(version, NOTHING, numbers), { version });
+    checked(addon.next(version, NOTHING, numbers), { call: 'Stream', version });
     this.#version = version;
   }
 
@@ -68,7 +68,7 @@ export class Stream {
   /** Takes the item that the rest begins with, if it is whole. An error takes nothing. */
   #take() {
     const rest = this.#bytes.subarray(this.#begin, this.#end);
-    if (checked(addon.next(this.#version, rest, numbers), { version: this.#version }) > 0) {
+    if (checked(addon.next(this.#version, rest, numbers), { call: 'Stream', version: this.#version }) > 0) {
       return undefined;
     }
     const item = itemOf(this.#version, rest);
@@ -94,7 +94,7 @@ function itemOf(version, bytes) {
     case 2n:
       return new Skipped(version, code, numbers[WORD], payload());
     default:
-      throw notKnown('kind of item', numbers[KIND]);
+      throw notKnown('Stream', 'kind of item', numbers[KIND]);
   }
 }
 
@@ -109,7 +109,7 @@ export function decode(version = 8) {
       }
     },
     flush() {
-      atEnd(stream);
+      atEnd(stream, 'decode');
     },
   });
 }
@@ -124,11 +124,12 @@ async function* itemsOf(stream, source) {
     stream.feed(chunk);
     yield* stream;
   }
-  atEnd(stream);
+  atEnd(stream, 'items');
 }
 
-function atEnd(stream) {
+/** Throws if a source ended within an item. */
+function atEnd(stream, call) {
   if (stream.rest > 0) {
-    throw incomplete(stream.rest);
+    throw incomplete(call, stream.rest);
   }
 }

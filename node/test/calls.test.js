@@ -41,7 +41,7 @@ test('each error of the header is that of a class', () => {
   const defined = Array.from(HEADER.matchAll(/^#define (JOURNAL_\w+) \((-\d+)\)$/gm));
   assert.equal(defined.length, 7);
   for (const [, code, number] of defined) {
-    const error = refusal(Number(number), { version: 8, code: 0, payload: new Uint8Array(0) });
+    const error = refusal(Number(number), { call: 'frame', version: 8, code: 0, payload: hex('') });
     assert.equal(error.code, code);
     assert.equal(pendratsoa[error.name], error.constructor);
     assert.ok(error instanceof pendratsoa.JournalError && error instanceof Error);
@@ -208,7 +208,8 @@ test('a notification without id or result', () => {
     code: 'JOURNAL_NO_ID',
     argument: 'payload',
     value: payload,
-    message: 'payload of 2 bytes: the notification has no id',
+    call: 'notification',
+    message: 'notification: payload of 2 bytes: the notification has no id',
   });
   assert.throws(() => pendratsoa.notification(SIGNAL_NOTIFICATION, hex('1011')), pendratsoa.NoResult);
   assert.throws(() => pendratsoa.notification(CALL_COMMAND, hex('')), unknown('code', CALL_COMMAND));
@@ -274,7 +275,7 @@ test('a malformed payload is named', () => {
       code: 'JOURNAL_MALFORMED',
       argument,
       value: bad,
-      message: `${argument} of 1 byte: not well-formed for its schema`,
+      message: new RegExp(`^\\w+: ${argument} of 1 byte: not well-formed for its schema$`),
     });
   }
 });
@@ -309,7 +310,7 @@ test('what does not exist is named', () => {
     assert.throws(call, unknown(argument, value));
   }
   assert.throws(() => pendratsoa.canonical('Voids', none), {
-    message: "schema 'Voids': unknown, or not of the kind that the call is for",
+    message: "canonical: schema 'Voids': unknown, or not of the kind that the call is for",
   });
 });
 
@@ -361,7 +362,8 @@ test('lengths of a payload', () => {
       code: 'JOURNAL_TOO_LONG',
       argument: 'payloadLength',
       value: length,
-      message: `payloadLength ${length}: more than 4,294,967,295 bytes`,
+      call: 'header',
+      message: `header: payloadLength ${length}: more than 4,294,967,295 bytes`,
     });
   }
   for (const length of [-1, 0.5, NaN, -Infinity, -(2 ** 32)]) {

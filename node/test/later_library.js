@@ -13,11 +13,12 @@ const { JournalError, Stream } = pendratsoa;
 const NONE = hex('');
 
 /** The error of a number that this package does not know: of no class below JournalError. */
-function notKnown(what) {
+function notKnown(call, what) {
   return (error) => {
     assert.equal(Object.getPrototypeOf(error), JournalError.prototype);
     assert.equal(error.code, 'JOURNAL_ERROR');
-    assert.equal(error.message, `the library returned the ${what}, which this module does not know`);
+    assert.equal(error.message, `${call}: the library returned the ${what}, which this module does not know`);
+    assert.equal(error.call, call);
     return true;
   };
 }
@@ -28,12 +29,12 @@ test('the library is not the proved one', () => {
 
 test('errors of other numbers', () => {
   for (const number of [8, 12, 65_535]) {
-    assert.throws(() => pendratsoa.schema(8, number), notKnown(`error -${number}`));
+    assert.throws(() => pendratsoa.schema(8, number), notKnown('schema', `error -${number}`));
   }
 });
 
 test('errors that need little memory, or much', () => {
-  const outOfMemory = { name: 'OutOfMemory', code: 'JOURNAL_OUT_OF_MEMORY', message: 'an allocation failed' };
+  const outOfMemory = { name: 'OutOfMemory', code: 'JOURNAL_OUT_OF_MEMORY', message: /^\w+: an allocation failed$/ };
   assert.throws(() => pendratsoa.typeCode('Start'), outOfMemory);
   assert.throws(() => pendratsoa.isWellFormed(0, NONE), outOfMemory);
   assert.throws(() => pendratsoa.toJson(0, NONE), outOfMemory);
@@ -44,7 +45,7 @@ test('errors that need little memory, or much', () => {
     name: 'TooLong',
     code: 'JOURNAL_TOO_LONG',
     argument: 'payload',
-    message: 'payload of 0 bytes: more than 4,294,967,295 bytes',
+    message: 'frame: payload of 0 bytes: more than 4,294,967,295 bytes',
   });
 });
 
@@ -52,7 +53,7 @@ test('items of other kinds', () => {
   const stream = new Stream();
   stream.feed(hex('0300000000000000'));
   for (let i = 0; i < 2; i += 1) {
-    assert.throws(() => [...stream], notKnown('kind of item 3'));
+    assert.throws(() => [...stream], notKnown('Stream', 'kind of item 3'));
     assert.equal(stream.rest, 8);
   }
 });
@@ -65,14 +66,14 @@ test('notifications of other kinds', () => {
     resultKind: 'stateKeys',
     result: NONE,
   });
-  assert.throws(() => pendratsoa.notification(0xfbff, hex('03000000')), notKnown('kind of id 3'));
-  assert.throws(() => pendratsoa.notification(0xfbff, hex('00000005')), notKnown('kind of result 5'));
-  assert.throws(() => pendratsoa.notification(0xfbff, hex('ff0000ff')), notKnown('kind of id 255'));
+  assert.throws(() => pendratsoa.notification(0xfbff, hex('03000000')), notKnown('notification', 'kind of id 3'));
+  assert.throws(() => pendratsoa.notification(0xfbff, hex('00000005')), notKnown('notification', 'kind of result 5'));
+  assert.throws(() => pendratsoa.notification(0xfbff, hex('ff0000ff')), notKnown('notification', 'kind of id 255'));
 });
 
 test('verdicts of other kinds', () => {
   assert.equal(pendratsoa.compareJournals(8, hex('06'), NONE).kind, 'badReplayed');
-  assert.throws(() => pendratsoa.compareJournals(8, hex('07'), NONE), notKnown('kind of verdict 7'));
+  assert.throws(() => pendratsoa.compareJournals(8, hex('07'), NONE), notKnown('compareJournals', 'kind of verdict 7'));
 });
 
 test('results that need more room each time', () => {

@@ -5,7 +5,7 @@ import { Readable } from 'node:stream';
 import test from 'node:test';
 import { MessageChannel } from 'node:worker_threads';
 
-import { Incomplete, Message, Skipped, Stream, UnknownCode, decode, items } from 'pendratsoa';
+import { Message, Skipped, Stream, UnknownCode, decode, items } from 'pendratsoa';
 
 import { bytesOf, chunksOf, hex, joined, listed, textOf } from './support.js';
 
@@ -267,7 +267,8 @@ test('a source that ends within an item', async () => {
       code: 'JOURNAL_INCOMPLETE',
       argument: 'source',
       value: 8,
-      message: 'source ended within an item, after 8 bytes of it',
+      call: 'items',
+      message: 'items: the source ended within an item, after 8 bytes of it',
     },
   );
   assert.deepEqual(found, ITEMS);
@@ -305,7 +306,7 @@ test('a transform stream that ends within an item', async () => {
   const reader = chunks.pipeThrough(decode()).getReader();
   assert.deepEqual((await reader.read()).value, ITEMS[0]);
   assert.deepEqual((await reader.read()).value, ITEMS[1]);
-  await assert.rejects(reader.read(), Incomplete);
+  await assert.rejects(reader.read(), { name: 'Incomplete', call: 'decode' });
 });
 
 test('a transform stream with a wrong chunk', async () => {
