@@ -1,5 +1,5 @@
-//! Under the feature `library`, links the library for C, that of the measuring calls and the toolchain's C part, and
-//! into the measuring program a counter of allocations.
+//! Under the feature `library`, links the library of the measuring calls and the toolchain's C part, and into the
+//! measuring program a counter of allocations. The crate pendratsoa links the library for C.
 
 use std::env;
 use std::error::Error;
@@ -11,7 +11,6 @@ fn main() -> Result<(), Box<dyn Error>> {
     if env::var_os("CARGO_FEATURE_LIBRARY").is_none() {
         return Ok(());
     }
-    link("JOURNAL_FFI", "journal_ffi")?;
     link("BENCH_FFI", "bench_ffi")?;
     link("RATTLE_C", "libc_c")?;
     link_counter()

@@ -30,8 +30,14 @@ if command -v python3 > /dev/null; then
 fi
 quietly sh ../scripts/static_library.sh journal_ffi || exit 1
 quietly sh ../scripts/static_library.sh bench_ffi || exit 1
-JOURNAL_FFI=$(folder ../crates/journal_ffi/out/libjournal_ffi.a) || exit 1
+# installed again only if it is new, since all is built again then
+library=target/pendratsoa/lib/libpendratsoa.a
+if [ ! -e $library ] || [ -n "$(find ../crates/journal_ffi/out/libjournal_ffi.a -newer $library)" ]; then
+  quietly sh ../scripts/install.sh --library target/pendratsoa || exit 1
+fi
+PENDRATSOA_PREFIX=$PWD/target/pendratsoa
+PENDRATSOA_STATIC=1
 BENCH_FFI=$(folder ../crates/bench_ffi/out/libbench_ffi.a) || exit 1
 RATTLE_C=$(folder "$(dirname "$(rt doc)")/c/liblibc_c.a") || exit 1
-export JOURNAL_FFI BENCH_FFI RATTLE_C
+export PENDRATSOA_PREFIX PENDRATSOA_STATIC BENCH_FFI RATTLE_C
 quietly cargo build --release --features library

@@ -1,17 +1,33 @@
-//! The calls of pendratsoa.h and of measure.h that this folder uses.
+//! The calls of the library that this folder uses: those of pendratsoa.h, by the crate `pendratsoa`, and those of
+//! measure.h.
 
 use std::fmt;
 
-/// Why a call gives no answer.
-#[derive(Clone, Copy, Debug, PartialEq, Eq)]
+use pendratsoa::Error;
+
+/// Why a call fails.
+#[derive(Clone, Debug, PartialEq, Eq)]
 pub enum Refusal {
     Malformed,
     OutOfMemory,
     NoRoom,
     TooLong,
     Unknown,
-    /// Another number, which none of these calls lists.
-    Unlisted(i64),
+    /// What none of these calls lists.
+    Unlisted(String),
+}
+
+impl From<Error> for Refusal {
+    fn from(error: Error) -> Refusal {
+        match error {
+            Error::Malformed(_) => Refusal::Malformed,
+            Error::OutOfMemory => Refusal::OutOfMemory,
+            Error::NoRoom => Refusal::NoRoom,
+            Error::TooLong(_) => Refusal::TooLong,
+            Error::Unknown(_) => Refusal::Unknown,
+            other => Refusal::Unlisted(other.to_string()),
+        }
+    }
 }
 
 impl From<i64> for Refusal {
@@ -22,7 +38,7 @@ impl From<i64> for Refusal {
             -3 => Refusal::NoRoom,
             -4 => Refusal::TooLong,
             -5 => Refusal::Unknown,
-            other => Refusal::Unlisted(other),
+            other => Refusal::Unlisted(other.to_string()),
         }
     }
 }
@@ -42,42 +58,6 @@ impl fmt::Display for Refusal {
 
 mod c {
     extern "C" {
-        pub fn journal_next(
-            version: u32,
-            bytes: *const u8,
-            length: usize,
-            item: *mut u64,
-            item_room: usize,
-        ) -> i64;
-        pub fn journal_is_well_formed(
-            schema: u32,
-            payload: *const u8,
-            payload_length: usize,
-        ) -> i64;
-        pub fn journal_canonical(
-            schema: u32,
-            payload: *const u8,
-            payload_length: usize,
-            out: *mut u8,
-            room: usize,
-        ) -> i64;
-        pub fn journal_merge(
-            schema: u32,
-            first: *const u8,
-            first_length: usize,
-            second: *const u8,
-            second_length: usize,
-            out: *mut u8,
-            room: usize,
-        ) -> i64;
-        pub fn journal_frame(
-            version: u32,
-            code: u16,
-            payload: *const u8,
-            payload_length: usize,
-            out: *mut u8,
-            room: usize,
-        ) -> i64;
         pub fn measure_items(
             version: u32,
             stream: *const u8,
@@ -131,64 +111,6 @@ mod c {
 /// A number that is not negative, or a refusal.
 fn count(answer: i64) -> Result<usize, Refusal> {
     usize::try_from(answer).map_err(|_| Refusal::from(answer))
-}
-
-/// What a call writes, into room that is made longer where it does not do.
-fn written(
-    room: usize,
-    call: impl Fn(&mut [u8]) -> Result<usize, Refusal>,
-) -> Result<Vec<u8>, Refusal> {
-    let mut out = vec![0; room];
-    let length = call(&mut out)?;
-    if length > room {
-        out.resize(length, 0);
-        call(&mut out)?;
-    }
-    out.truncate(length);
-    Ok(out)
-}
-
-/// Room for the canonical payload of almost any payload of a length.
-fn room(length: usize) -> usize {
-    length + length / 2 + 32
-}
-
-/// An item of a stream, as journal_next tells it.
-#[derive(Clone, Copy, Debug, PartialEq, Eq)]
-pub struct Item {
-    pub kind: u64,
-    pub word: u64,
-    pub code: u16,
-    pub asks: bool,
-    pub size: usize,
-    pub payload: usize,
-}
-
-/// The item that bytes begin with, or how many more there have to be.
-pub fn next(version: u32, bytes: &[u8]) -> Result<Result<Item, usize>, Refusal> {
-    let mut numbers = [0; 6];
-    // SAFETY: the lengths are those of the slices, of which `numbers` alone is written
-    let missing = count(unsafe {
-        c::journal_next(
-            version,
-            bytes.as_ptr(),
-            bytes.len(),
-            numbers.as_mut_ptr(),
-            numbers.len(),
-        )
-    })?;
-    if missing > 0 {
-        return Ok(Err(missing));
-    }
-    let [kind, word, code, asks, size, payload] = numbers;
-    Ok(Ok(Item {
-        kind,
-        word,
-        code: code as u16,
-        asks: asks == 1,
-        size: size as usize,
-        payload: payload as usize,
-    }))
 }
 
 /// A word for each item of a stream, of the last of the rounds. There are at most as many as `words` has.
@@ -245,8 +167,10 @@ pub fn compare(
 
 /// Whether a payload is well-formed for a schema: 1 or 0.
 pub fn is_well_formed(schema: usize, payload: &[u8]) -> Result<usize, Refusal> {
-    // SAFETY: the length is that of the slice, which is only read
-    count(unsafe { c::journal_is_well_formed(schema as u32, payload.as_ptr(), payload.len()) })
+    Ok(usize::from(pendratsoa::is_well_formed(
+        schema as u32,
+        payload,
+    )?))
 }
 
 /// The same, so many times over.
@@ -261,47 +185,23 @@ pub fn is_well_formed_in_rounds(
 
 /// The canonical payload of what a payload means.
 pub fn canonical(schema: usize, payload: &[u8]) -> Result<Vec<u8>, Refusal> {
-    written(room(payload.len()), |out| {
-        canonical_to(schema, payload, out)
-    })
-}
-
-/// The length of the canonical payload of what a payload means, which is written where there is room for it.
-pub fn canonical_to(schema: usize, payload: &[u8], out: &mut [u8]) -> Result<usize, Refusal> {
-    // SAFETY: the lengths are those of the slices, of which `out` alone is written
-    count(unsafe {
-        c::journal_canonical(
-            schema as u32,
-            payload.as_ptr(),
-            payload.len(),
-            out.as_mut_ptr(),
-            out.len(),
-        )
-    })
+    Ok(pendratsoa::canonical(schema as u32, payload)?)
 }
 
 /// The canonical payload of what comes of merging the second payload into the first.
 pub fn merge(schema: usize, first: &[u8], second: &[u8]) -> Result<Vec<u8>, Refusal> {
-    written(room(first.len() + second.len()), |out| {
-        // SAFETY: the lengths are those of the slices, of which `out` alone is written
-        count(unsafe {
-            c::journal_merge(
-                schema as u32,
-                first.as_ptr(),
-                first.len(),
-                second.as_ptr(),
-                second.len(),
-                out.as_mut_ptr(),
-                out.len(),
-            )
-        })
-    })
+    Ok(pendratsoa::merge(schema as u32, first, second)?)
+}
+
+/// The frame of the message that a payload holds.
+pub fn frame_once(version: u32, code: u16, payload: &[u8]) -> Result<Vec<u8>, Refusal> {
+    Ok(pendratsoa::frame(version, code, payload)?)
 }
 
 /// A call that returns a frame's length, and writes it where there is room for it.
 pub type FrameCall = fn(u32, u16, &[u8], usize, &mut [u8]) -> Result<usize, Refusal>;
 
-/// The frame of the message that a payload holds, of the last of the rounds, by one of the three calls below.
+/// The same of the last of the rounds, by one of the two calls below.
 pub fn frame(
     call: FrameCall,
     version: u32,
@@ -309,30 +209,15 @@ pub fn frame(
     payload: &[u8],
     rounds: usize,
 ) -> Result<Vec<u8>, Refusal> {
-    written(8 + room(payload.len()), |out| {
-        call(version, code, payload, rounds, out)
-    })
-}
-
-/// A frame that is made once, whatever the rounds.
-pub fn frame_once(
-    version: u32,
-    code: u16,
-    payload: &[u8],
-    _rounds: usize,
-    out: &mut [u8],
-) -> Result<usize, Refusal> {
-    // SAFETY: the lengths are those of the slices, of which `out` alone is written
-    count(unsafe {
-        c::journal_frame(
-            version,
-            code,
-            payload.as_ptr(),
-            payload.len(),
-            out.as_mut_ptr(),
-            out.len(),
-        )
-    })
+    // room for the frame of almost any payload; where it does not do, it is made longer
+    let mut out = vec![0; 40 + payload.len() + payload.len() / 2];
+    let length = call(version, code, payload, rounds, &mut out)?;
+    if length > out.len() {
+        out.resize(length, 0);
+        call(version, code, payload, rounds, &mut out)?;
+    }
+    out.truncate(length);
+    Ok(out)
 }
 
 /// A frame for which each round has a buffer of its own.

@@ -13,6 +13,7 @@ use std::process::ExitCode;
 use std::time::{Duration, Instant};
 
 use bytes::BytesMut;
+use pendratsoa::{next_item, Next};
 use pendratsoa_bench::hostile::{self, Hostile};
 use pendratsoa_bench::random::Random;
 use pendratsoa_bench::schema;
@@ -198,6 +199,12 @@ struct Failed(String);
 impl From<ours::Refusal> for Failed {
     fn from(refusal: ours::Refusal) -> Failed {
         Failed(format!("the library refuses: {refusal}"))
+    }
+}
+
+impl From<pendratsoa::Error> for Failed {
+    fn from(error: pendratsoa::Error) -> Failed {
+        Failed::from(ours::Refusal::from(error))
     }
 }
 
@@ -594,8 +601,8 @@ impl Crossing {
 fn items_by_next(workload: &Workload) -> Result<usize, Failed> {
     let mut rest = workload.stream.as_slice();
     let mut count = 0;
-    while let Ok(item) = ours::next(workload.version, rest)? {
-        rest = &rest[item.size..];
+    while let Next::Item { size, .. } = next_item(workload.version, rest)? {
+        rest = &rest[size..];
         count += 1;
     }
     Ok(count)

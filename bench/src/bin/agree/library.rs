@@ -1,5 +1,6 @@
 //! The answers of the library to random cases.
 
+use pendratsoa::{next_item, Item, Next};
 use pendratsoa_bench::cases::{any, any_piece};
 use pendratsoa_bench::conformance::{hex, Case, Listing, MALFORMED};
 use pendratsoa_bench::ours::{self, FrameCall, Refusal};
@@ -88,9 +89,12 @@ fn compare_case(tally: &mut Tally, random: &mut Random) {
             payload,
         } => {
             let rounds = random.below(3);
-            let calls: [FrameCall; 3] = [ours::frame_once, ours::frame_to, ours::frame_into];
+            let code = message_type.code;
+            let ours = ours::frame_once(*version, code, payload);
+            equal(tally, kind, &case, &written(&ours), &verdict.answer);
+            let calls: [FrameCall; 2] = [ours::frame_to, ours::frame_into];
             for call in calls {
-                let ours = ours::frame(call, *version, message_type.code, payload, rounds);
+                let ours = ours::frame(call, *version, code, payload, rounds);
                 equal(tally, kind, &case, &written(&ours), &verdict.answer);
             }
         }
@@ -143,18 +147,19 @@ fn list_by_next(version: u32, stream: &[u8]) -> String {
     let mut listing = Listing::default();
     let mut rest = stream;
     loop {
-        let item = match ours::next(version, rest) {
-            Ok(Ok(item)) => item,
-            Ok(Err(_missing)) => return listing.rest(rest.len()),
-            Err(refusal) => return refusal.to_string(),
+        let (item, size) = match next_item(version, rest) {
+            Ok(Next::Item { item, size }) => (item, size),
+            Ok(Next::Missing(_)) => return listing.rest(rest.len()),
+            Err(error) => return error.to_string(),
         };
-        let length = item.size - item.payload;
-        match item.kind {
-            0 => listing.message(item.code, item.asks, length),
-            1 => listing.unknown(item.code),
-            _ => listing.skipped(item.code, length),
+        match item {
+            Item::Message(message) => {
+                listing.message(message.code, message.requires_ack, message.payload.len())
+            }
+            Item::UnknownCode(unknown) => listing.unknown(unknown.code),
+            Item::Skipped(skipped) => listing.skipped(skipped.code, skipped.payload.len()),
         }
-        rest = &rest[item.size..];
+        rest = &rest[size..];
     }
 }
 
