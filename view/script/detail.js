@@ -73,6 +73,8 @@ function tableRow(label, cells, className = "", note = "") {
   return element("tr", className, head, cells.map((cell) => element("td", "", cell ?? element("span", "form", "—"))));
 }
 
+const hasTwoTypes = (row) => row.every(Boolean) && new Set(row.map(typeOf)).size === 2;
+
 /** How two values of a path are laid out, and the parts in which they differ. */
 function layoutsOf(pair, differs) {
   const layouts = pair.map((value) => value && layoutOf(value));
@@ -84,13 +86,14 @@ function layoutsOf(pair, differs) {
   return [{ ...one, part: parts[0] }, { ...other, part: parts[1] }];
 }
 
-/** The rows of what is in the messages: those that differ between two, which are marked, and the others. */
+/** The rows of what is in the messages: those that differ between two of one type, which are marked, and the others. */
 function valueRows(row) {
+  const isComparable = isPair && row.every(Boolean) && !hasTwoTypes(row);
   const values = row.map(valuesByPath);
   const paths = new Set(values.flatMap((one) => [...one.keys()]));
   const found = [...paths].map((path) => {
     const pair = values.map((one) => one.get(path));
-    const differs = isPair && row.every(Boolean) && JSON.stringify(pair[0]?.value) !== JSON.stringify(pair[1]?.value);
+    const differs = isComparable && JSON.stringify(pair[0]?.value) !== JSON.stringify(pair[1]?.value);
     const isCompared = pair.every((value) => value?.compared !== false);
     const note = differs ? (isCompared ? "differs" : "differs, not compared") : "";
     const layouts = layoutsOf(pair, differs);
@@ -104,10 +107,9 @@ function valueRows(row) {
 function factRows(row) {
   const facts = row.map((item) => new Map(item ? factsOf(item) : []));
   const labels = new Set(facts.flatMap((one) => [...one.keys()]));
-  const hasTwoTypes = row.every(Boolean) && new Set(row.map(typeOf)).size === 2;
   return [...labels].map((label) => {
     const nodes = facts.map((one) => one.get(label) ?? null);
-    return tableRow(label, nodes, label === "type" && hasTwoTypes ? "differs" : "");
+    return tableRow(label, nodes, label === "type" && hasTwoTypes(row) ? "differs" : "");
   });
 }
 

@@ -201,6 +201,12 @@ class Marks(PageTest):
         self.assertEqual(self.marked(b"aa", b"aaa"), ["", "a"])
         self.assertEqual(self.marked(b"\xff\x01\xff", b"\xff\x23\xff")[1].split(), ["23", "ff", ".#"])
 
+    def test_of_two_types_nothing_but_the_type_is_marked(self):
+        streams = [frame("RunCommand", name="one"), frame("SleepCommand", name="two")]
+        self.open(*(written(f"type{side}", stream) for side, stream in enumerate(streams)))
+        self.assertEqual(self.text("tr.differs"), "typeRunCommand 0x0411SleepCommand 0x040C")
+        self.assertEqual(self.value("document.querySelectorAll('tr.differs, mark').length"), 1)
+
     def test_a_character_stays_whole(self):
         self.assertEqual(self.marked("\U0001f600".encode(), "\U0001f601".encode()), ["\U0001f600", "\U0001f601"])
         self.assertEqual(self.marked("\U0001f600".encode(), "\U0001fa00".encode()), ["\U0001f600", "\U0001fa00"])
@@ -572,6 +578,10 @@ class Accessibility(PageTest):
         for role in ("checkbox", "searchbox", "button", "option", "link"):
             names = [name for found, name in nodes if found == role]
             self.assertTrue(names and all(names), role)
+
+    def test_every_field_has_its_label(self):
+        self.open(STREAMS / "recorded")
+        self.assertEqual(self.value("[...document.querySelectorAll('input')].filter((one) => !one.labels.length).length"), 0)
 
     def test_the_active_row_is_the_selected_one(self):
         self.open(STREAMS / "recorded")
