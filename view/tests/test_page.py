@@ -581,7 +581,8 @@ class Accessibility(PageTest):
 
     def test_every_field_has_its_label(self):
         self.open(STREAMS / "recorded")
-        self.assertEqual(self.value("[...document.querySelectorAll('input')].filter((one) => !one.labels.length).length"), 0)
+        unlabelled = "[...document.querySelectorAll('input')].filter((input) => input.labels.length === 0).length"
+        self.assertEqual(self.value(unlabelled), 0)
 
     def test_the_active_row_is_the_selected_one(self):
         self.open(STREAMS / "recorded")
