@@ -145,9 +145,13 @@ func TestReadersThatAreNone(t *testing.T) {
 			t.Errorf("%s: %v, %v, %d", name, item, err, decoder.Rest())
 		}
 	}
-	// a reader may return nothing now and then
-	data := unhex(t, input)
-	some := steps{returns(0, nil), gives(data[:9], nil), returns(0, nil), gives(data[9:], nil)}
+}
+
+func TestReaderThatReturnsNothingNowAndThen(t *testing.T) {
+	var some steps
+	for _, data := range append(must(Header(8, 0xfc01, 200))(t), make([]byte, 200)...) {
+		some = append(some, returns(0, nil), gives([]byte{data}, nil))
+	}
 	if items, err := all(NewDecoder(&some, 8)); len(items) != 1 || err != io.EOF {
 		t.Errorf("%v, %v", items, err)
 	}

@@ -78,7 +78,8 @@ func unexpected[Number int64 | uint64](what string, number Number) error {
 // unsigned returns a version or a schema as the library takes it, or that it is unknown. A conversion alone would cut
 // it.
 func unsigned(call, name string, number int) (uint32, error) {
-	if number < 0 || uint64(number) > math.MaxUint32 {
+	// as an unsigned number, a negative one is greater than all others
+	if uint64(number) > math.MaxUint32 {
 		return 0, &Error{call, named(name, number), ErrUnknown}
 	}
 	return uint32(number), nil
