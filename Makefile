@@ -45,7 +45,7 @@ python:
 	sh scripts/python.sh
 
 go:
-	cd go && go build . && go vet .
+	cd go && go build ./... && go vet ./...
 
 ruby:
 	[ -z '$(PREFIX)' ] || cp -L '$(PREFIX)/lib/libpendratsoa.so' ruby/lib/pendratsoa/

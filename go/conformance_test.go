@@ -182,24 +182,8 @@ func list(decoder *Decoder) (string, error) {
 		} else if err != nil {
 			return "", err
 		}
-		items = append(items, itemText(item))
+		items = append(items, item.String())
 	}
-}
-
-// itemText returns an item as the listing of a stream has it.
-func itemText(item Item) string {
-	switch item := item.(type) {
-	case UnknownCode:
-		return fmt.Sprintf("unknown %#x", item.Code)
-	case Skipped:
-		return fmt.Sprintf("skipped %#x %d", item.Code, len(item.Payload))
-	case Message:
-		if item.RequiresAck {
-			return fmt.Sprintf("%s %d ack", item.Type(), len(item.Payload))
-		}
-		return fmt.Sprintf("%s %d", item.Type(), len(item.Payload))
-	}
-	return "no item"
 }
 
 func compareVector(names []string, data [][]byte) (string, error) {

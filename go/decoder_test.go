@@ -294,8 +294,9 @@ func TestMessageWithoutSchemaOrType(t *testing.T) {
 	wantError(t, err, ErrUnknown, text)
 	_, err = entry.Canonical()
 	wantError(t, err, ErrUnknown, text)
-	if name := (Message{Version: 8, Code: 8}).Type(); name != "" {
-		t.Errorf("the type is %q", name)
+	none := Message{Version: 8, Code: 8}
+	if none.Type() != "" || none.String() != "code 0x0008 0" {
+		t.Errorf("%q, %v", none.Type(), none)
 	}
 }
 

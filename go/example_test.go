@@ -25,20 +25,19 @@ func Example() {
 		} else if err != nil {
 			log.Fatal(err)
 		}
-		switch item := item.(type) {
-		case pendratsoa.Message:
-			json, err := item.JSON()
-			fmt.Println(item.Type(), string(json), err)
-		case pendratsoa.UnknownCode:
-			fmt.Printf("unknown code %#x\n", item.Code)
-		case pendratsoa.Skipped:
-			fmt.Printf("skipped code %#x, %d bytes\n", item.Code, len(item.Payload))
+		fmt.Println(item)
+		if message, ok := item.(pendratsoa.Message); ok {
+			json, err := message.JSON()
+			fmt.Println(string(json), err)
 		}
 	}
 	// Output:
-	// Start {"id":"a2V5","debugId":"key","knownEntries":1,"partialState":true,"key":"key"} <nil>
-	// InputCommand {"value":{"content":"aW5wdXQ="}} <nil>
-	// GetLazyStateCompletionNotification {"completionId":1,"void":{}} <nil>
+	// Start 19
+	// {"id":"a2V5","debugId":"key","knownEntries":1,"partialState":true,"key":"key"} <nil>
+	// InputCommand 9
+	// {"value":{"content":"aW5wdXQ="}} <nil>
+	// GetLazyStateCompletionNotification 4
+	// {"completionId":1,"void":{}} <nil>
 }
 
 // A stream that comes in chunks is written to a buffer; an error at its end loses nothing.

@@ -182,7 +182,7 @@ func TestMemoryDoesNotGrow(t *testing.T) {
 	work(5_000)
 	before := resident(t)
 	work(50_000)
-	if grown := resident(t) - before; grown > 8<<20 {
+	if grown := resident(t) - before; grown > 16<<20 {
 		t.Errorf("the process holds %d bytes more", grown)
 	}
 }

@@ -1,7 +1,10 @@
 package pendratsoa
 
-// An Item is what a stream consists of: a Message, an UnknownCode or a Skipped.
+import "fmt"
+
+// An Item is what a stream consists of: a Message, an UnknownCode or a Skipped. Its String is a line of a listing.
 type Item interface {
+	fmt.Stringer
 	isItem()
 }
 
@@ -33,6 +36,30 @@ type Skipped struct {
 func (Message) isItem()     {}
 func (UnknownCode) isItem() {}
 func (Skipped) isItem()     {}
+
+// String returns the name of the type and the length of the payload in bytes, as "InputCommand 9", with " ack" if the
+// header requests an acknowledgement.
+func (m Message) String() string {
+	name := m.Type()
+	if name == "" {
+		name = codeText(m.Code)
+	}
+	text := fmt.Sprintf("%s %d", name, len(m.Payload))
+	if m.RequiresAck {
+		text += " ack"
+	}
+	return text
+}
+
+// String returns the code, as "unknown 0x8".
+func (u UnknownCode) String() string {
+	return fmt.Sprintf("unknown %#x", u.Code)
+}
+
+// String returns the code and the length of the payload in bytes, as "skipped 0x8 2".
+func (s Skipped) String() string {
+	return fmt.Sprintf("skipped %#x %d", s.Code, len(s.Payload))
+}
 
 // NewMessage returns the message of a type with a payload, which is taken as it is. It requests an acknowledgement if
 // the header of its type does at this version. The errors are those of Header.

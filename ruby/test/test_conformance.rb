@@ -16,7 +16,8 @@ class TestConformance < Minitest::Test
       failed += 1
       puts "failed: #{line[0, 300]}\n  returned: #{found[0, 300]}"
     end
-    puts "#{passed} passed, #{failed} failed"
+    # on a line of its own, after the dots of other tests
+    puts "", "#{passed} passed, #{failed} failed"
     assert_operator passed, :>, 13_000
     assert_equal 0, failed
   end

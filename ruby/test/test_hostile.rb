@@ -182,8 +182,8 @@ class TestThreadsAndMemory < Minitest::Test
     skip "not run: there is no /proc" unless File.exist?("/proc/self/statm")
     20.times { work }
     before = resident
-    200.times { work }
-    assert_operator resident - before, :<, 16 << 20
+    300.times { work }
+    assert_operator resident - before, :<, 8 << 20
   end
 
   def test_moved_objects

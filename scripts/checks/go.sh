@@ -1,5 +1,5 @@
 #!/bin/sh
-# The package for Go: formatted and vetted, its tests, examples and test vectors, and goroutines with the race detector.
+# The package for Go: gofmt and go vet, its tests and examples, the test vectors, goroutines with the race detector.
 #
 # It is built in a copy, over the installed library and without a network. It takes the proved static library, as
 # scripts/checks/c.sh does.
@@ -14,6 +14,7 @@ installed_library
 
 # the tests read the other folders beside their own
 cp -R go conformance examples include proto "$work"
+top=$PWD
 cd "$work/go" || exit 1
 GOFLAGS=-mod=mod
 GOPROXY=off
@@ -25,7 +26,7 @@ export GOFLAGS GOPROXY GOPATH GOCACHE GODEBUG
 gofmt -l -d . > "$out" 2> "$err"
 [ ! -s "$out" ] && [ ! -s "$err" ]
 outcome 'gofmt' $?
-case_of 'go vet' go vet .
+case_of 'go vet' go vet ./...
 
 # tests: runs all tests and shows what is not that one has passed
 tests() {
@@ -36,6 +37,18 @@ tests() {
 }
 case_of 'the tests' tests
 counted 'the test vectors' grep -xE '[0-9]+ passed, [0-9]+ failed' "$work/tests"
+
+# listed STREAM VERSION: the example lists a stream as list_stream.awk does
+listed() {
+  od -An -v -t u1 "$work/examples/streams/$1" |
+    awk -v version="$2" -f "$top/scripts/checks/list_stream.awk" "$work/proto/types.txt" - > "$work/listing"
+  "$work/listing_program" "$2" < "$work/examples/streams/$1" > "$out" 2> "$err"
+  same "the listing of $1" "$work/listing" "$out"
+}
+case_of 'the example' go build -o "$work/listing_program" ./examples/listing
+listed replay 8
+listed cut_short 7
+listed unknown_type 9
 
 if go test -race -run '^$' . > "$work/race" 2>&1; then
   case_of 'goroutines with the race detector' go test -race -run Goroutines .

@@ -1,5 +1,5 @@
 #!/bin/sh
-# The gem for Ruby: its tests and the test vectors without a warning, built and installed with the library in it.
+# The gem for Ruby: its tests and the test vectors without a warning, built and installed with its library, its example.
 #
 # It works on a copy, over the installed library and without a network. It takes the proved static library, as
 # scripts/checks/c.sh does.
@@ -14,11 +14,15 @@ installed_library
 
 # the tests read the other folders beside their own
 cp -R ruby conformance examples include proto "$work"
+top=$PWD
 cd "$work/ruby" || exit 1
+
+RUBYLIB=$work/ruby/lib
+export RUBYLIB
 
 # tests: runs all tests and shows how they ended; a warning of these files fails
 tests() {
-  ruby -w -I lib -e 'Dir["./test/test_*.rb"].sort.each { |file| require file }' > "$work/tests" 2> "$work/warnings"
+  ruby -w -e 'Dir["./test/test_*.rb"].sort.each { |file| require file }' > "$work/tests" 2> "$work/warnings"
   ended=$?
   sed -n '/^Finished in/,$p' "$work/tests"
   cat "$work/warnings" >&2
@@ -27,21 +31,27 @@ tests() {
 case_of 'the tests' tests
 counted 'the test vectors' grep -xE '[0-9]+ passed, [0-9]+ failed' "$work/tests"
 
-# the gem with the library in it, which is then found without a word of the environment
+# The gem with the library in it needs neither this folder nor the environment. The example is run over it.
 if command -v gem > /dev/null; then
   cp -L "$PENDRATSOA_LIBRARY" lib/pendratsoa/
   case_of 'gem build' gem build pendratsoa.gemspec
   case_of 'gem install' gem install --local --no-document --install-dir "$work/gems" pendratsoa-*.gem
-  unset PENDRATSOA_LIBRARY LD_LIBRARY_PATH
+  unset RUBYLIB PENDRATSOA_LIBRARY LD_LIBRARY_PATH
   GEM_HOME=$work/gems
   export GEM_HOME
-  cd "$work" || exit 1
-  echo 'InputCommand 9' > "$work/wanted"
-  ruby -r pendratsoa -e 'Pendratsoa::Stream.read(ARGF.binmode) { |item| puts item if item.code == 0x0400 }' \
-    examples/streams/replay > "$out" 2> "$err"
-  same 'the installed gem' "$work/wanted" "$out"
 else
   without 'the gem' gem
 fi
+
+# listed STREAM VERSION: the example lists a stream as list_stream.awk does
+listed() {
+  od -An -v -t u1 "$work/examples/streams/$1" |
+    awk -v version="$2" -f "$top/scripts/checks/list_stream.awk" "$work/proto/types.txt" - > "$work/listing"
+  ruby examples/listing.rb "$2" < "$work/examples/streams/$1" > "$out" 2> "$err"
+  same "the listing of $1" "$work/listing" "$out"
+}
+listed replay 8
+listed cut_short 7
+listed unknown_type 9
 
 finish
