@@ -2,11 +2,13 @@
 # Installs the Debian packages of scripts/packages.txt that are missing: scripts/packages.sh
 #
 # It does what it can: without apt-get, without the rights for it or without a network nothing is installed, which it
-# says in one line, and its status is 0. It takes ten minutes at most. No test needs it: a check whose tool is absent
-# says 'not run'.
+# says in one line, and its status is 0. It takes ten minutes at most, and removes nothing: a package that would take the
+# place of another is left out. No test needs it: a check whose tool is absent says 'not run'.
 set -u
 cd "$(dirname "$0")/.." || exit 0
 
+# after how many seconds nothing more is downloaded, and after how many it ends
+downloading=400
 seconds=600
 wanted=$(sed 's/ *#.*//' scripts/packages.txt)
 
@@ -22,12 +24,19 @@ missing() {
   done
 }
 
-# apt WORD..: apt-get, within what is left of the time
+# apt SECONDS WORD..: apt-get, until so many seconds after the start
 apt() {
-  left=$((end - $(date +%s)))
+  left=$((start + $1 - $(date +%s)))
+  shift
   [ "$left" -gt 0 ] || return 1
   DEBIAN_FRONTEND=noninteractive timeout "$left" apt-get -qq -y -o DPkg::Lock::Timeout="$left" "$@" \
     < /dev/null > /dev/null 2>&1
+}
+
+# install PACKAGE..: downloads packages first, so that a slow network interrupts no installation
+install() {
+  apt $downloading install --no-install-recommends --no-remove --download-only "$@" &&
+    apt $seconds install --no-install-recommends --no-remove --no-download "$@"
 }
 
 for tool in apt-get dpkg-query timeout; do
@@ -43,15 +52,15 @@ if [ "$(id -u)" -ne 0 ]; then
   exit 0
 fi
 
-end=$(($(date +%s) + seconds))
+start=$(date +%s)
 # the lists of packages may be absent or old
 # shellcheck disable=SC2086 # the names are split
-if ! apt install --no-install-recommends $packages; then
-  apt update
-  if ! apt install --no-install-recommends $packages; then
+if ! install $packages; then
+  apt $downloading update
+  if ! install $packages; then
     # a package that cannot be had does not keep the others away
     for package in $packages; do
-      apt install --no-install-recommends "$package"
+      install "$package"
     done
   fi
 fi
