@@ -50,7 +50,7 @@ if command -v pkg-config > /dev/null; then
 else
   without 'the program of docs/C.md' pkg-config
 fi
-if command -v pkg-config > /dev/null && command -v cmake > /dev/null; then
+if command -v pkg-config > /dev/null && command -v cmake > /dev/null && command -v make > /dev/null; then
   mkdir "$work/cmake"
   cp "$work/page.c" "$work/cmake/frame.c"
   awk '/^```cmake$/ { is_code = 1; next } /^```$/ { is_code = 0 } is_code' docs/C.md > "$work/cmake/CMakeLists.txt"
@@ -60,7 +60,7 @@ if command -v pkg-config > /dev/null && command -v cmake > /dev/null; then
   "$work/cmake/build/frame" > "$out" 2> "$err"
   same 'what the program by cmake prints' "$work/wanted" "$out"
 else
-  without 'cmake with docs/C.md' 'cmake or pkg-config'
+  without 'cmake with docs/C.md' 'cmake, make or pkg-config'
 fi
 sed -n 's/^#define \(JOURNAL_[A-Z_]*\) (\(-[0-9]\)).*/\2 \1/p' include/pendratsoa.h > "$work/wanted"
 sed -n 's/^| \(-[0-9]\) | `\(JOURNAL_[A-Z_]*\)` .*/\1 \2/p' docs/C.md > "$work/out"

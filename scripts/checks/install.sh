@@ -57,7 +57,7 @@ for name in $programs pendratsoa $calls; do
 done
 if command -v man > /dev/null; then
   for name in $programs pendratsoa $calls; do
-    MANPATH=$prefix/share/man MANWIDTH=80 man --warnings "$name" > "$out" 2> "$err"
+    LC_ALL=C MANPATH=$prefix/share/man MANWIDTH=80 man --warnings "$name" > "$out" 2> "$err"
     status=$?
     [ $status -eq 0 ] && grep -q "$name" "$out" && [ ! -s "$err" ]
     outcome "man $name" $?
