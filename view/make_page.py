@@ -55,7 +55,7 @@ def parse_arguments(words):
     parser.add_argument("stream", metavar="STREAM", help="a journal; with OTHER the recorded one")
     parser.add_argument("other", metavar="OTHER", nargs="?", help="the replayed journal")
     parser.add_argument("-o", "--output", metavar="FILE", default="journal.html", help="the page; - is the output")
-    parser.add_argument("--protocol", choices="56789", default="8", help="the version of the protocol, 8 by default")
+    parser.add_argument("--protocol", type=int, default=8, metavar="N", help="the version of the protocol, 8 by default")
     parser.add_argument("--ignore-payloads", action="store_true", help="payloads of user data are not compared")
     parser.add_argument(
         "--items", type=int, default=ITEMS, metavar="N", help=f"how many items the page shows, {ITEMS:,} by default"
@@ -194,14 +194,14 @@ def run(arguments):
     for path in paths:
         if not pathlib.Path(path).is_file():
             raise Failure(f"view: no such file: {path}", 2)
-    protocol = ["--protocol", arguments.protocol]
+    protocol = ["--protocol", str(arguments.protocol)]
     dump = [program("dump", arguments.unproved), *protocol]
     journals = [read_journal(dump, path, max(1, arguments.items // len(paths))) for path in paths]
     verdict = None
     if len(paths) == 2:
         options = [*protocol, *(["--ignore-payloads"] if arguments.ignore_payloads else [])]
         verdict = compare([program("diff", arguments.unproved), *options], paths)
-    text = page(journals, verdict, int(arguments.protocol), arguments.ignore_payloads)
+    text = page(journals, verdict, arguments.protocol, arguments.ignore_payloads)
     if arguments.output == "-":
         sys.stdout.buffer.write(text.encode())
     else:

@@ -137,8 +137,16 @@ class Endings(unittest.TestCase):
         self.assertIn("no folder", error)
 
     def test_other_arguments(self):
-        for words in ((), ("a", "b", "c"), ("--protocol", "4", "a"), ("--items", "0", "a"), ("--items", "x", "a")):
+        stream = STREAMS / "replay"
+        for words in ((), (stream, stream, stream), ("--protocol", "x", stream), ("--items", "0", stream)):
             self.assertEqual(run(*words)[0], 2)
+
+    def test_a_version_that_the_program_refuses(self):
+        path = WORK / "refused.html"
+        status, output, error = run("--protocol", "4", STREAMS / "replay", "-o", path)
+        self.assertEqual((status, output), (2, ""))
+        self.assertIn("journal_dump ended with the status 2", error)
+        self.assertFalse(path.exists())
 
 
 class Protocol(unittest.TestCase):
