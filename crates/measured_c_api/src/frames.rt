@@ -193,10 +193,13 @@ fn encode_shared<M: RestateEncodableMessage>(
     let mut held = Vec::with_capacity(alloc, HELD)?;
     for round in 1..rounds {
         let frame = shared_frame(&encoder, message, &mut block)?;
-        match held.get_mut(round % HELD) {
-            Some(place) => *place = frame,
-            None => held.push(frame)?,
+        if let Some(place) = held.get_mut(round % HELD) {
+            *place = frame;
+            continue;
         }
+        let Ok(()) = held.push(frame) else {
+            return Err(Refusal::OutOfMemory);
+        };
     }
     shared_frame(&encoder, message, &mut block)
 }
