@@ -2,8 +2,8 @@
 # Installs the Debian packages of scripts/packages.txt that are missing: scripts/packages.sh
 #
 # It does what it can: without apt-get, without the rights for it or without a network nothing is installed, which it
-# says in one line, and its status is 0. It takes ten minutes at most, and removes nothing: a package that would take the
-# place of another is left out. No test needs it: a check whose tool is absent says 'not run'.
+# says in one line, and its status is 0. It takes ten minutes at most, and removes nothing: a package that would replace
+# another is left out. No test needs it: a check whose tool is absent says 'not run'.
 set -u
 cd "$(dirname "$0")/.." || exit 0
 

@@ -59,7 +59,20 @@ done
 case_of 'the tests of the example' python3 -m unittest discover -s examples/python
 cat conformance/*.txt conformance/json/*.txt > "$work/lines"
 counted 'the test vectors' python3 scripts/checks/conformance_calls.py < "$work/lines"
-awk '/^```python$/ { inside = 1; next } /^```$/ { inside = 0 } inside' python/README.md > "$work/page.py"
+# python_of PAGE: its blocks of Python
+python_of() {
+  awk '/^```python$/ { inside = 1; next } /^```$/ { inside = 0 } inside' "$1"
+}
+
+{
+  echo 'from pendratsoa import Message, Stream'
+  python_of README.md
+} > "$work/readme.py"
+case_of 'the Python of README.md' python3 "$work/readme.py"
+cut -d ' ' -f 1 "$work/log" > "$out"
+printf '%s\n' Start InputCommand GetLazyStateCompletionNotification > "$work/wanted"
+same 'what it prints' "$work/wanted" "$out"
+python_of python/README.md > "$work/page.py"
 sed -n 's/^    \([A-Z][A-Za-z]* {.*\)$/\1/p' python/README.md > "$work/wanted"
 cp examples/streams/replay "$work/journal"
 (cd "$work" && python3 page.py) > "$out" 2> "$err"
