@@ -16,6 +16,9 @@ const ROLES = {
   awaits: "awaited by",
 };
 
+const isCut = about.journals.some(({ shown: first, items }) => first < items);
+const NOT_COMPLETED = `not completed in ${isCut ? "the items of this page" : "this journal"}`;
+
 /** What became of a key: who requested it, who completed it, who awaits it. */
 function threadNodes(thread, item) {
   const sentences = Object.entries(ROLES).flatMap(([role, text]) => {
@@ -24,7 +27,7 @@ function threadNodes(thread, item) {
     const more = others.length > 8 ? [` and ${number(others.length - 8)} more`] : [];
     return [element("span", "role", `${text} `, joined(others.slice(0, 8).map((other) => linkTo(other))), more)];
   });
-  if (thread.completes.length === 0) sentences.push(element("span", "role open", "not completed in this journal"));
+  if (thread.completes.length === 0) sentences.push(element("span", "role open", NOT_COMPLETED));
   return sentences;
 }
 

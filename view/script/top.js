@@ -35,7 +35,7 @@ function drawTop() {
   if (cut.length > 0) {
     byId("notice").hidden = false;
     byId("notice").textContent = cut.map(({ name, shown: first, items }) =>
-      `Of ${name} the first ${number(first)} of ${number(items)} items are shown, and counted.`).join(" ");
+      `Of ${name} the first ${number(first)} of ${number(items)} items are shown, counted and joined.`).join(" ");
   }
   if (!isPair) return;
   document.body.classList.add("pair");

@@ -509,7 +509,7 @@ class Sizes(PageTest):
 
     def test_items_beyond_the_limit(self):
         self.open(written("many", frame("End") * 5000), "--items", "1000")
-        self.assertEqual(self.text("#notice"), "Of many the first 1,000 of 5,000 items are shown, and counted.")
+        self.assertEqual(self.text("#notice"), "Of many the first 1,000 of 5,000 items are shown, counted and joined.")
         self.assertEqual(self.rows(), 1000)
 
     def test_a_difference_beyond_the_limit(self):
