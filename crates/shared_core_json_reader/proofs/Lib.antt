@@ -5,3 +5,6 @@ pub mod Levels
 pub mod Agreeing
 pub mod Whole
 pub mod Fitting
+pub mod ScalarsBack
+pub mod TreeBack
+pub mod LawOfJson

@@ -40,10 +40,10 @@ pub no_whole : (s : List ℕ) → ends_there (after_number s) ≡ false → whol
 unfolding whole_of_text
 no_whole s e = rw e refl
 
-abbrev with_sign : List ℕ → Option ℕ → Option Whole
+abbrev pub with_sign : List ℕ → Option ℕ → Option Whole
 with_sign s o = option_map (λ n. record { negative = eqb (head s) 45; magnitude = n }) o
 
-number_whole : (s : List ℕ) → ends_there (after_number s) ≡ true → whole_of_text s ≡ with_sign s (magnitude_of (scan (after_minus s)))
+pub number_whole : (s : List ℕ) → ends_there (after_number s) ≡ true → whole_of_text s ≡ with_sign s (magnitude_of (scan (after_minus s)))
 unfolding whole_of_text
 number_whole s e = rw e refl
 

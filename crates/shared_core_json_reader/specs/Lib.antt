@@ -6,3 +6,4 @@ pub mod Appended
 pub mod Errors
 pub mod Views
 pub mod Original
+pub mod Laws

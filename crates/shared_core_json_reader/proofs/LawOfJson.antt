@@ -1,0 +1,252 @@
+-- The JSON of a value, as tokens, is read as the value's canonical payload.
+use Rattle.std.proofs.Common.{◌≡◌, ℕ, suc, ◌+◌, ◌*◌, ◌≤◌, max, List, [], ◌∷◌, ◌++◌, length, Bool, true, false, cond, Some, option_map, option_and_then, refl, sym, ap, subst, ◌∙◌, append-nil, arith}
+use Rattle.std.proofs.lemmas.Bool.{eqb-true}
+use Rattle.std.proofs.lemmas.Str.{is_utf8-from_IsUtf8}
+use Rattle.std.proofs.lemmas.List.Concat.{flat_map-append}
+use Rattle.base64.specs.GeneralPurpose.{IsBytes}
+use Rattle.base64.proofs.EngineFacts.{front_bytes}
+use Rattle.json.specs.Json.{Json, Members, if_last, value}
+use Rattle.json.specs.Tree.{json_tokens, depth, items_depth, members_depth}
+use Rattle.json.proofs.Printed.Trees.{value-json_tokens}
+use Rattle.shared_core_wire.specs.Grammar.{RecordValue, Varint, Fixed64, Length, Group, Fixed32}
+use Rattle.shared_core_wire.specs.Spelling.{shortest_varint, key_bytes, record_bytes, record_list_bytes}
+use Rattle.shared_core_wire.specs.Schema.{Kind, Row, U32, U64, Boolean, Enumeration, Text, ByteString, Message}
+use Rattle.shared_core_wire.specs.Schema as schema
+use Rattle.shared_core_wire.specs.Value.{Part, Parts, Absent, Number, Bytes, Nested, Elements, Member, nil, cons}
+use Rattle.shared_core_wire.specs.Canonical.{kind_of, number_of, is_default, row_records, part_values, element_values, message_records, canonical_payload, part_levels, levels}
+use Rattle.shared_core_wire.specs.Fitting.{is_single, has_shape, PartFits, ElementsFit, Fits}
+use Rattle.shared_core_wire.proofs.Runs.{and_split}
+use Rattle.shared_core_codec.specs.Table.{table}
+use Rattle.shared_core_json.specs.Fields.{names_of, name_of}
+use Rattle.shared_core_json.specs.Form.{is_present, member_if, number_json, bytes_json, part_json, items_json, members_json, value_json}
+use Rattle.shared_core_json_reader.specs.Laws.{JsonIsReadBack}
+use Rattle.shared_core_json_reader.specs.Reading.{only_value}
+use Rattle.shared_core_json_reader.proofs.Agreeing.{out_of}
+use Rattle.shared_core_json_reader.proofs.TreeBack.{PartBytes, PartsBytes, message_back}
+use Rattle.shared_core_json_reader.proofs.Whole.{IsText, of_tokens}
+
+-- ---- how deep the JSON of a value is
+
+number_depth : (k : Kind) (n : ℕ) → depth (number_json k n) ≡ 0
+number_depth U32 n = refl
+number_depth U64 n = refl
+number_depth Boolean n = refl
+number_depth Enumeration n = refl
+number_depth Text n = refl
+number_depth ByteString n = refl
+number_depth (Message s) n = refl
+
+bytes_depth : (k : Kind) (b : List ℕ) → depth (bytes_json k b) ≡ 0
+bytes_depth U32 b = refl
+bytes_depth U64 b = refl
+bytes_depth Boolean b = refl
+bytes_depth Enumeration b = refl
+bytes_depth Text b = refl
+bytes_depth ByteString b = refl
+bytes_depth (Message s) b = refl
+
+-- what a oneof holds is a single value
+abbrev HoldsSingle : Part → Type 0
+HoldsSingle Absent = Unit {0}
+HoldsSingle (Number n) = Unit {0}
+HoldsSingle (Bytes b) = Unit {0}
+HoldsSingle (Nested ps) = Unit {0}
+HoldsSingle (Elements ps) = Unit {0}
+HoldsSingle (Member n p) = is_single p ≡ true
+
+single_holds : (p : Part) → is_single p ≡ true → HoldsSingle p
+single_holds Absent h = tt
+single_holds (Number n) h = tt
+single_holds (Bytes b) h = tt
+single_holds (Nested ps) h = tt
+single_holds (Elements ps) h = tt
+single_holds (Member n p) h = absurd cc
+
+shape_holds : (row : Row) (p : Part) → has_shape row p ≡ true → HoldsSingle p
+shape_holds row Absent h = tt
+shape_holds row (Number n) h = tt
+shape_holds row (Bytes b) h = tt
+shape_holds row (Nested ps) h = tt
+shape_holds row (Elements ps) h = tt
+shape_holds (schema.Plain n k) (Member m p) h = absurd cc
+shape_holds (schema.Optional n k) (Member m p) h = absurd cc
+shape_holds (schema.Repeated n k) (Member m p) h = absurd cc
+shape_holds (schema.OneOf members) (Member m p) h = (and_split _ _ h).1
+
+record Low (p : Part) (k : Kind) : Type 0 where
+  low : depth (part_json p k) ≤ 2 * part_levels p + 1
+  lower : is_single p ≡ true → depth (part_json p k) ≤ 2 * part_levels p
+
+member_low : (b : Bool) (name : List ℕ) (j : Json) (others : Members) (bound : ℕ) → depth j ≤ bound → members_depth others ≤ bound → members_depth (member_if b name j others) ≤ bound
+member_low true name j others bound h g = omega arith
+member_low false name j others bound h g = g
+
+mutual
+  unfolding PartFits part_levels part_json
+
+  part_low : (p : Part) (k : Kind) → PartFits table p k → HoldsSingle p → Low p k
+  part_low Absent k f h = record { low = omega arith; lower = λ e. omega arith }
+  part_low (Number n) k f h = record { low = omega (arith, number_depth k n); lower = λ e. omega (arith, number_depth k n) }
+  part_low (Bytes b) k f h = record { low = omega (arith, bytes_depth k b); lower = λ e. omega (arith, bytes_depth k b) }
+  part_low (Nested ps) (Message t) f h = let m = members_low (names_of t) ps (table t) f in record { low = omega (arith, m); lower = λ e. omega (arith, m) }
+  part_low (Nested ps) U32 f h = absurd f
+  part_low (Nested ps) U64 f h = absurd f
+  part_low (Nested ps) Boolean f h = absurd f
+  part_low (Nested ps) Enumeration f h = absurd f
+  part_low (Nested ps) Text f h = absurd f
+  part_low (Nested ps) ByteString f h = absurd f
+  part_low (Elements ps) k f h = let m = items_low ps k f in record { low = omega (arith, m); lower = λ e. absurd cc }
+  part_low (Member n p) k f h = let m = part_low p k f (single_holds p h) in record { low = m.low; lower = λ e. absurd cc }
+
+  items_low : (ps : Parts) (k : Kind) → ElementsFit table ps k → items_depth (items_json ps k) ≤ 2 * levels ps
+  items_low nil k f = omega arith
+  items_low (cons p ps) k f = let one = (part_low p k f.1 (single_holds p f.0)).lower f.0 in omega (arith, one, items_low ps k f.2)
+
+  members_low : (ns : List (ℕ × List ℕ)) (v : Parts) (rows : List Row) → Fits table v rows → members_depth (members_json ns v rows) ≤ 2 * levels v + 1
+  members_low ns nil rows f = omega arith
+  members_low ns (cons p ps) [] f = absurd f
+  members_low ns (cons p ps) (row ∷ rows) f =
+      let one = (part_low p (kind_of row p) f.1 (shape_holds row p f.0)).low in
+      member_low (is_present row p) (name_of ns (number_of row p)) (part_json p (kind_of row p)) (members_json ns ps rows) (2 * max (part_levels p) (levels ps) + 1) (omega (arith, one)) (omega (arith, members_low ns ps rows f.2))
+
+-- ---- the bytes of a value are those of its payload
+
+back_bytes : (a b : List ℕ) → IsBytes (a ++ b) → IsBytes b
+back_bytes [] b h = h
+back_bytes (x ∷ a) b h = back_bytes a b (λ i. h (suc i))
+
+no_bytes : (b : List ℕ) → length b ≡ 0 → IsBytes b
+no_bytes [] e i = omega arith
+no_bytes (x ∷ b) e i = absurd (omega arith)
+
+abbrev WsBytes : List RecordValue → Type 0
+WsBytes [] = Unit {0}
+WsBytes (Varint n ∷ ws) = WsBytes ws
+WsBytes (Fixed64 b ∷ ws) = WsBytes ws
+WsBytes (Length b ∷ ws) = IsBytes b × WsBytes ws
+WsBytes (Group b ∷ ws) = WsBytes ws
+WsBytes (Fixed32 b ∷ ws) = WsBytes ws
+
+ws_bytes : (n : ℕ) (ws : List RecordValue) → IsBytes (out_of n ws) → WsBytes ws
+ws_bytes n [] h = tt
+ws_bytes n (Varint m ∷ ws) h = ws_bytes n ws (back_bytes (record_bytes (record { number = n; value = Varint m })) (out_of n ws) h)
+ws_bytes n (Fixed64 b ∷ ws) h = ws_bytes n ws (back_bytes (record_bytes (record { number = n; value = Fixed64 b })) (out_of n ws) h)
+ws_bytes n (Length b ∷ ws) h = (
+  back_bytes (shortest_varint (length b)) b (back_bytes (key_bytes n 2) (shortest_varint (length b) ++ b) (front_bytes (record_bytes (record { number = n; value = Length b })) (out_of n ws) h)),
+  ws_bytes n ws (back_bytes (record_bytes (record { number = n; value = Length b })) (out_of n ws) h),
+)
+ws_bytes n (Group b ∷ ws) h = ws_bytes n ws (back_bytes (record_bytes (record { number = n; value = Group b })) (out_of n ws) h)
+ws_bytes n (Fixed32 b ∷ ws) h = ws_bytes n ws (back_bytes (record_bytes (record { number = n; value = Fixed32 b })) (out_of n ws) h)
+
+ws_front : (us ws : List RecordValue) → WsBytes (us ++ ws) → WsBytes us
+ws_front [] ws h = tt
+ws_front (Varint m ∷ us) ws h = ws_front us ws h
+ws_front (Fixed64 b ∷ us) ws h = ws_front us ws h
+ws_front (Length b ∷ us) ws h = (h.0, ws_front us ws h.1)
+ws_front (Group b ∷ us) ws h = ws_front us ws h
+ws_front (Fixed32 b ∷ us) ws h = ws_front us ws h
+
+ws_back : (us ws : List RecordValue) → WsBytes (us ++ ws) → WsBytes ws
+ws_back [] ws h = h
+ws_back (Varint m ∷ us) ws h = ws_back us ws h
+ws_back (Fixed64 b ∷ us) ws h = ws_back us ws h
+ws_back (Length b ∷ us) ws h = ws_back us ws h.1
+ws_back (Group b ∷ us) ws h = ws_back us ws h
+ws_back (Fixed32 b ∷ us) ws h = ws_back us ws h
+
+default_bytes : (p : Part) → is_default p ≡ true → PartBytes p
+default_bytes Absent e = absurd cc
+default_bytes (Number n) e = tt
+default_bytes (Bytes b) e = no_bytes b (eqb-true (length b) 0 e)
+default_bytes (Nested ps) e = absurd cc
+default_bytes (Elements ps) e = absurd cc
+default_bytes (Member n p) e = absurd cc
+
+number_elements : (ps : Parts) → ElementsFit table ps U32 → PartsBytes ps
+unfolding PartFits
+number_elements nil f = tt
+number_elements (cons (Number n) ps) f = (tt, number_elements ps f.2)
+number_elements (cons Absent ps) f = absurd (cc f.0)
+number_elements (cons (Bytes b) ps) f = absurd f.1
+number_elements (cons (Nested qs) ps) f = absurd f.1
+number_elements (cons (Elements qs) ps) f = absurd (cc f.0)
+number_elements (cons (Member n q) ps) f = absurd (cc f.0)
+
+run_bytes : (p : Part) → has_shape (schema.Repeated 0 U32) p ≡ true → PartFits table p U32 → PartBytes p
+unfolding PartFits
+run_bytes (Elements ps) h f = number_elements ps f
+run_bytes Absent h f = absurd cc
+run_bytes (Number n) h f = absurd cc
+run_bytes (Bytes b) h f = absurd cc
+run_bytes (Nested ps) h f = absurd cc
+run_bytes (Member n p) h f = absurd cc
+
+plain_bytes : (p : Part) (n : ℕ) (ws : List RecordValue) (b : Bool) → is_default p ≡ b → IsBytes (out_of n (cond b [] ws)) → (WsBytes ws → PartBytes p) → PartBytes p
+plain_bytes p n ws true e h hold = default_bytes p e
+plain_bytes p n ws false e h hold = hold (ws_bytes n ws h)
+
+row_bytes : (row : Row) (p : Part) (ws : List RecordValue) → has_shape row p ≡ true → PartFits table p (kind_of row p) → IsBytes (record_list_bytes (row_records row p ws)) → (WsBytes ws → PartBytes p) → PartBytes p
+row_bytes (schema.Plain n k) p ws i f h hold = plain_bytes p n ws (is_default p) refl h hold
+row_bytes (schema.Optional n k) p ws i f h hold = hold (ws_bytes n ws h)
+row_bytes (schema.Repeated n U32) p ws i f h hold = run_bytes p (shape_again p i) f
+  where
+    shape_again : (p : Part) → has_shape (schema.Repeated n U32) p ≡ true → has_shape (schema.Repeated 0 U32) p ≡ true
+    shape_again (Elements ps) g = refl
+    shape_again Absent g = g
+    shape_again (Number m) g = g
+    shape_again (Bytes b) g = g
+    shape_again (Nested ps) g = g
+    shape_again (Member m q) g = g
+row_bytes (schema.Repeated n U64) p ws i f h hold = hold (ws_bytes n ws h)
+row_bytes (schema.Repeated n Boolean) p ws i f h hold = hold (ws_bytes n ws h)
+row_bytes (schema.Repeated n Enumeration) p ws i f h hold = hold (ws_bytes n ws h)
+row_bytes (schema.Repeated n Text) p ws i f h hold = hold (ws_bytes n ws h)
+row_bytes (schema.Repeated n ByteString) p ws i f h hold = hold (ws_bytes n ws h)
+row_bytes (schema.Repeated n (Message s)) p ws i f h hold = hold (ws_bytes n ws h)
+row_bytes (schema.OneOf members) p ws i f h hold = hold (ws_bytes _ ws h)
+
+mutual
+  unfolding PartFits part_values
+
+  part_bytes : (p : Part) (k : Kind) → PartFits table p k → WsBytes (part_values table p k) → PartBytes p
+  part_bytes Absent k f h = tt
+  part_bytes (Number n) k f h = tt
+  part_bytes (Bytes b) k f h = h.0
+  part_bytes (Nested ps) (Message t) f h = message_bytes_of ps (table t) f h.0
+  part_bytes (Nested ps) U32 f h = absurd f
+  part_bytes (Nested ps) U64 f h = absurd f
+  part_bytes (Nested ps) Boolean f h = absurd f
+  part_bytes (Nested ps) Enumeration f h = absurd f
+  part_bytes (Nested ps) Text f h = absurd f
+  part_bytes (Nested ps) ByteString f h = absurd f
+  part_bytes (Elements ps) k f h = elements_bytes ps k f h
+  part_bytes (Member n p) k f h = part_bytes p k f h
+
+  elements_bytes : (ps : Parts) (k : Kind) → ElementsFit table ps k → WsBytes (element_values table ps k) → PartsBytes ps
+  elements_bytes nil k f h = tt
+  elements_bytes (cons p ps) k f h =
+      (part_bytes p k f.1 (ws_front (part_values table p k) (element_values table ps k) h), elements_bytes ps k f.2 (ws_back (part_values table p k) (element_values table ps k) h))
+
+  message_bytes_of : (v : Parts) (rows : List Row) → Fits table v rows → IsBytes (record_list_bytes (message_records table v rows)) → PartsBytes v
+  message_bytes_of nil rows f h = tt
+  message_bytes_of (cons p ps) [] f h = absurd f
+  message_bytes_of (cons p ps) (row ∷ rows) f h =
+      let ws = part_values table p (kind_of row p) in
+      let split = subst IsBytes (flat_map-append record_bytes (row_records row p ws) (message_records table ps rows)) h in (
+        row_bytes row p ws f.0 f.1 (front_bytes (record_list_bytes (row_records row p ws)) (record_list_bytes (message_records table ps rows)) split) (part_bytes p (kind_of row p) f.1),
+        message_bytes_of ps rows f.2 (back_bytes (record_list_bytes (row_records row p ws)) (record_list_bytes (message_records table ps rows)) split),
+      )
+
+-- ---- the law
+
+whole_value : (j : Json) → depth j ≤ 1000 → only_value (json_tokens j) ≡ Some j
+unfolding only_value
+whole_value j h = ap (option_and_then (λ p. if_last p.0 p.1)) (ap (value 1000) (sym (append-nil (json_tokens j))) ∙ value-json_tokens j 1000 [] h)
+
+pub json_back : (s : ℕ) → JsonIsReadBack s
+json_back s v bytes text spelling small low utf8 lexed =
+    let deep : depth (value_json s v) ≤ 1000 = omega (arith, members_low (names_of s) v (table s) spelling.fits) in
+    let held = message_bytes_of v (table s) spelling.fits (subst IsBytes spelling.canonical small) in
+    let is : IsText text (json_tokens (value_json s v)) = record { utf8 = is_utf8-from_IsUtf8 text utf8; lexed = sym lexed } in
+    of_tokens s text (json_tokens (value_json s v)) (Some (value_json s v)) is (whole_value (value_json s v) deep)
+    ∙ ap (option_map (canonical_payload table s)) (message_back 100 s v spelling.fits low held) ∙ ap (λ (b : List ℕ). Some b) (sym spelling.canonical)
