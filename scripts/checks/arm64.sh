@@ -36,11 +36,13 @@ case_of 'adversarial calls' $emulator "$work/hostile" 1 20000
 case_of 'adversarial calls in two threads' $emulator "$work/hostile" 2 5000 2
 
 # The example, with each library
-compiled 'the listing with the static library' -std=c99 examples/c/listing.c "$prefix/lib/libpendratsoa.a" \
-  -o "$work/static"
-compiled 'the listing with the shared library' -std=c99 examples/c/listing.c "$prefix/lib/libpendratsoa.so" \
-  -o "$work/shared"
 for listing in static shared; do
+  case $listing in
+    static) library=$prefix/lib/libpendratsoa.a ;;
+    shared) library=$prefix/lib/libpendratsoa.so ;;
+  esac
+  compiled "the listing with the $listing library" -std=c99 -Wpedantic -Wconversion examples/c/listing.c "$library" \
+    -o "$work/$listing"
   # shellcheck disable=SC2086 # the words are split
   $emulator -E LD_LIBRARY_PATH="$prefix/lib" "$work/$listing" < examples/streams/replay > "$out" 2> "$err"
   same "what the listing with the $listing library prints" examples/streams/replay.stdout "$out"

@@ -47,6 +47,11 @@ if command -v pkg-config > /dev/null; then
     $(PKG_CONFIG_PATH=$plain/lib/pkgconfig pkg-config --cflags --libs pendratsoa) -o "$work/page"
   LD_LIBRARY_PATH=$prefix/lib "$work/page" > "$work/out" 2> "$work/err"
   same 'what it prints' "$work/wanted" "$work/out"
+  # shellcheck disable=SC2046 # the flags are split
+  case_of 'the program of docs/C.md, linked statically' cc -static "$work/page.c" \
+    $(PKG_CONFIG_PATH=$plain/lib/pkgconfig pkg-config --static --cflags --libs pendratsoa) -o "$work/page"
+  "$work/page" > "$work/out" 2> "$work/err"
+  same 'what it prints, linked statically' "$work/wanted" "$work/out"
 else
   without 'the program of docs/C.md' pkg-config
 fi
