@@ -8,7 +8,8 @@ class TestConformance < Minitest::Test
 
   def test_conformance
     passed = failed = 0
-    FILES.flat_map { |file| File.readlines(file, chomp: true, encoding: "UTF-8") }.grep_v(/\A(#|record |\z)/).each do |line|
+    lines = FILES.flat_map { |file| File.readlines(file, chomp: true, encoding: "UTF-8") }
+    lines.grep_v(/\A(#|record |\z)/).each do |line|
       question, expected = line.split(" = ", 2)
       found = result(*question.split)
       next passed += 1 if found == expected

@@ -12,7 +12,8 @@ class TestConstants < Minitest::Test
   def test_errors_are_those_of_the_header
     errors = Pendratsoa.send(:const_get, :ERRORS)
     names = errors.transform_values { |kind| kind.name.delete_prefix("Pendratsoa::").upcase }.invert
-    assert_equal defined_numbers.select { |_, number| number.negative? }.transform_keys { |name| name.delete("_") }, names
+    defined_errors = defined_numbers.select { |_, number| number.negative? }
+    assert_equal defined_errors.transform_keys { |name| name.delete("_") }, names
   end
 
   def test_kinds_are_those_of_the_header

@@ -40,7 +40,7 @@ class TestArguments < Minitest::Test
   end
 
   def test_values_of_another_kind
-    nothing = [nil, true, 1.0, 8r, 8i, [8], { 8 => 8 }, :"8", Object.new, 0..8, Float::NAN, Float::INFINITY, BasicObject]
+    nothing = [nil, true, 1.0, 8r, 8i, [8], { 8 => 8 }, :"8", 0..8, Float::INFINITY, Object.new, BasicObject]
     numbers = nothing + ["8".b]
     each_replaced(version: numbers, code: numbers, length: numbers, schema: nothing, bytes: nothing + [8]) do |call, _|
       assert_raises(TypeError, &call)
@@ -55,7 +55,7 @@ class TestArguments < Minitest::Test
       assert_operator error.message.length, :<, 150
     end
     each_replaced(length: [1 << 32, (1 << 32) + 8, 1 << 64, 1 << 1000]) do |call, _|
-      assert_raises(Pendratsoa::TooLong, &call)
+      assert_operator assert_raises(Pendratsoa::TooLong, &call).message.length, :<, 150
     end
     each_replaced(length: [-1, 8 - (1 << 32), -(1 << 1000)]) { |call, _| assert_raises(ArgumentError, &call) }
   end
@@ -131,9 +131,12 @@ class TestLaterLibrary < Minitest::Test
   end
 
   def test_errors_of_the_whole_call
-    { -2 => [Pendratsoa::OutOfMemory, "merge: an allocation failed"],
-      -4 => [Pendratsoa::TooLong, "merge: the result would have more than 4,294,967,295 bytes"] }.each do |number, error|
-      returning(number) { assert_error(*error) { Pendratsoa.merge(13, "", "") } }
+    returning(-2) do
+      assert_error(Pendratsoa::OutOfMemory, "merge: an allocation failed") { Pendratsoa.merge(13, "", "") }
+    end
+    returning(-4) do
+      text = "merge: the result would have more than 4,294,967,295 bytes"
+      assert_error(Pendratsoa::TooLong, text) { Pendratsoa.merge(13, "", "") }
     end
   end
 

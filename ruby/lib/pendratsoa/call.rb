@@ -47,8 +47,9 @@ module Pendratsoa
     # The length of a payload in bytes.
     def length(argument)
       number = integer(argument)
-      raise ArgumentError, "#{@name}: #{argument} #{number} is negative" if number.negative?
-      raise error(TooLong, "#{argument} #{number} is more than 4,294,967,295", argument) if number >= 1 << 32
+      text = "#{argument} #{Shown.value(number)}"
+      raise ArgumentError, "#{@name}: #{text} is negative" if number.negative?
+      raise error(TooLong, "#{text} is more than 4,294,967,295", argument) if number >= 1 << 32
 
       number
     end

@@ -16,8 +16,8 @@ module Pendratsoa
   # The id and the result of a notification.
   #
   # The kind of the id is one of ID_KINDS, and the id a number, or the name of a signal in UTF-8. The kind of the result
-  # is one of RESULT_KINDS, and the result the canonical payload of a `Value`, a `Failure` or `StateKeys`, or the text of
-  # an invocation id in UTF-8; of a void it is empty.
+  # is one of RESULT_KINDS, and the result the canonical payload of a `Value`, a `Failure` or `StateKeys`, or the text
+  # of an invocation id in UTF-8; of a void it is empty.
   Notification = Struct.new(:id_kind, :id, :result_kind, :result) do
     def initialize(*)
       super

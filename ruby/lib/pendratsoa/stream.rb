@@ -27,7 +27,7 @@ module Pendratsoa
       @call = Call.new("Stream", version: version)
       @version = @call.version
       @lock = Mutex.new
-      # what came, where that which is in no item yet begins in it, and how many bytes of that the next item has at least
+      # what came, where that which is in no item yet begins in it, and how many bytes of that the next item needs
       @bytes = String.new
       @begin = 0
       @needed = 0
