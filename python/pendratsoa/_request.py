@@ -5,7 +5,7 @@ from __future__ import annotations
 import ctypes
 import functools
 import operator
-from typing import Any, Callable, Optional, Tuple, Type, Union
+from typing import Any, Callable, Optional, SupportsIndex, Tuple, Type, Union, cast
 
 from ._errors import ERRORS, JournalError, Malformed, NoId, NoResult, NoRoom, OutOfMemory, TooLong, Unknown
 from ._library import library
@@ -106,7 +106,7 @@ class Request:
         # and not a class below it, whose length could be another
         if type(data) is not bytes:
             try:
-                data = memoryview(data).tobytes()  # type: ignore[arg-type]
+                data = memoryview(cast(BytesLike, data)).tobytes()
             except TypeError:
                 raise TypeError(f"{self.call}: {argument} must be bytes-like, not {type(data).__name__}") from None
         self.size += len(data)
@@ -144,7 +144,7 @@ class Request:
     def _integer(self, argument: str) -> int:
         value = self.arguments[argument]
         try:
-            return operator.index(value)  # type: ignore[arg-type]
+            return operator.index(cast(SupportsIndex, value))
         except TypeError:
             raise TypeError(f"{self.call}: {argument} must be an int, not {type(value).__name__}") from None
 
