@@ -103,8 +103,8 @@ test('results of any length', () => {
   }
 });
 
-test('a text keeps its first letter and what is not ASCII', () => {
-  const text = '\ufeffa\u00e9\u{1f600}';
+test('a text that is not ASCII', () => {
+  const text = 'a\u00e9\u{1f600}';
   assert.deepEqual(JSON.parse(pendratsoa.toJson(ERROR_MESSAGE, errorMessage(text))), { message: text });
 });
 
@@ -115,6 +115,10 @@ test('results are in memory of their own', () => {
   first.fill(0);
   assert.deepEqual(second, hex('0a0102'));
   assert.deepEqual(pendratsoa.canonical(12, hex('0801')), hex('0a0101'));
+  const { result } = pendratsoa.notification(SIGNAL_NOTIFICATION, hex('1a0173 2a030a0178'));
+  pendratsoa.canonical(12, hex('0801'));
+  assert.deepEqual(result, hex('0a0178'));
+  assert.equal(result.buffer.byteLength, 3);
 });
 
 test('a view of any memory', () => {
@@ -164,6 +168,7 @@ test('each id of a notification', () => {
     ['10112200', 'signalId', 17],
     ['1a002200', 'signalName', ''],
     ['1a0361c3a92200', 'signalName', 'a\u00e9'],
+    ['1a04efbbbf612200', 'signalName', '\ufeffa'],
   ]) {
     assert.deepEqual(pendratsoa.notification(SIGNAL_NOTIFICATION, hex(payload)), {
       idKind,

@@ -227,16 +227,35 @@ test('a header that promises 4 GiB allocates only for what comes', () => {
   assert.ok(process.memoryUsage().arrayBuffers - before < 2 ** 26);
 });
 
-test('a payload that comes one byte at a time takes linear time', { timeout: 60_000 }, () => {
-  const payload = new Uint8Array(500_000).fill(1);
-  const bytes = joined(hex('fc0100000007a120'), payload);
+test('a payload that comes one byte at a time', () => {
+  const payload = new Uint8Array(10_000).fill(1);
   const stream = new Stream();
   let found = [];
-  for (let at = 0; at < bytes.length; at += 1) {
-    stream.feed(bytes.subarray(at, at + 1));
+  for (const chunk of chunksOf(joined(hex('fc01000000002710'), payload), 1)) {
+    assert.equal(found.length, 0);
+    stream.feed(chunk);
     found = [...stream];
   }
   assert.deepEqual(found, [new Message(8, 0xfc01, payload)]);
+});
+
+test('a payload in many chunks takes linear time', { timeout: 60_000 }, async () => {
+  const size = 2 ** 23;
+  const chunk = new Uint8Array(64);
+  const stream = new Stream();
+  stream.feed(hex('fc01000000800000'));
+  for (let fed = 0; fed < size; fed += chunk.length) {
+    for (const { payload } of stream) {
+      assert.fail(`a payload of ${payload.length} bytes`);
+    }
+    stream.feed(chunk);
+    // so that the time can run out
+    if (fed % 2 ** 16 === 0) {
+      await new Promise(setImmediate);
+    }
+  }
+  const [{ payload }] = stream;
+  assert.equal(payload.length, size);
 });
 
 test('the items of sources of every sort', async () => {
