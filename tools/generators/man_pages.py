@@ -1,4 +1,4 @@
-"""The man pages of the programs and of the library for C, made from docs/PROGRAMS.md, docs/C.md and include/pendratsoa.h."""
+"""The man pages of the programs and of the library for C, from docs/PROGRAMS.md, docs/C.md and include/pendratsoa.h."""
 import itertools
 import re
 import textwrap
@@ -76,9 +76,13 @@ def example(text):
     return f".PP\n.RS 4\n{as_it_is(text)}.RE\n"
 
 
+# Code between fences, code that is indented, in which lines may be empty, and all else up to an empty line.
+BLOCK = re.compile(r"^(?:```(?:.|\n)*?^```|    .*(?:\n+    .*)*|(?:.+(?:\n|\Z))+)", re.M)
+
+
 def blocks(text):
     """The paragraphs, items, tables and code of a section: its kind and its text."""
-    for block in re.findall(r"^(?:```(?:.|\n)*?^```|(?:.+(?:\n|\Z)(?:\n+(?=    ))?)+)", text, re.M):
+    for block in BLOCK.findall(text):
         block = block.rstrip("\n")
         if block.startswith("```"):
             yield "code", block.strip("`").partition("\n")[2].rstrip("\n")
