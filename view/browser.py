@@ -14,7 +14,7 @@ import sys
 import tempfile
 import time
 
-SECONDS = 30  # what a command or a condition may take
+SECONDS = 120  # what a command or a condition may take
 
 # What a key is to the protocol, where its name is not its character.
 NAMED_KEYS = {"Enter": "\r", "Escape": "", "ArrowDown": "", "ArrowUp": "", "Home": "", "End": "", "Tab": ""}

@@ -20,7 +20,7 @@ elif ! timeout 60 chromium --headless --no-sandbox --disable-gpu --user-data-dir
   > "$out" 2> "$err" < /dev/null; then
   left_out 'the page in a browser' 'chromium does not start here'
 else
-  counted 'the page in a browser' timeout 300 python3 view/tests/test_page.py
+  counted 'the page in a browser' timeout 900 python3 view/tests/test_page.py
 fi
 
 finish
