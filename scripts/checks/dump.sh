@@ -1,5 +1,5 @@
 #!/bin/sh
-# journal_dump on examples, refused words and what fails; its lines beside protobuf, jq and Python.
+# journal_dump on examples, refused arguments and what fails; its lines beside protobuf, jq and Python.
 #
 # It runs the proved program, also with each allocation failing in turn, and compares standard output, the
 # whole of standard error and the status. jq and Python's json read each line of the dumps of adversarial streams, and
@@ -8,40 +8,20 @@
 set -u
 cd "$(dirname "$0")/../.." || exit 1
 
-# not_run WHY: says so and ends
-not_run() {
-  echo "dump: not run, since $1"
-  echo '0 passed, 0 failed'
-  exit 0
-}
+. scripts/checks/lib.sh
 
-program=$PWD/crates/journal_dump/out/journal_dump
-[ -x "$program" ] || not_run 'there is no crates/journal_dump/out/journal_dump'
-[ -z "$(find crates/*/src -name '*.rt' -newer "$program")" ] || not_run 'crates/journal_dump/out/journal_dump is older than a source'
+program_of journal_dump
+[ -n "$program" ] || not_run "$why"
+failure=1
 top=$PWD
 run=$PWD/crates/journal_dump
-work=$(mktemp -d) || exit 1
-trap 'rm -rf "$work"' EXIT
 cd examples/streams || exit 1
-passed=0
-failed=0
 
-# outcome NAME STATUS: counts a case, which passed where the status is 0, and else shows how the program ended
-outcome() {
-  if [ "$2" -eq 0 ]; then
-    passed=$((passed + 1))
-  else
-    failed=$((failed + 1))
-    echo "failed: $1: status $status, standard output and standard error:"
-    cut -c1-300 "$work/out" | head -n 5
-    cat "$work/err"
-  fi
-}
-
-# ended NAME STATUS LINES [LINE]: the run ended with this status, wrote these lines or nothing, and said this line or nothing
-ended() {
-  wrote=$(cat "$work/out")
-  said=$(cat "$work/err")
+# dumped NAME STATUS LINES [LINE]: the run ended with this status, wrote these lines or nothing, and said this line or
+# nothing on the standard error
+dumped() {
+  wrote=$(cat "$out")
+  said=$(cat "$err")
   [ "$status" -eq "$2" ] && [ "$wrote" = "$3" ] && [ "$said" = "${4-}" ]
   outcome "$1" $?
 }
@@ -52,9 +32,9 @@ dump() {
   lines=$2
   line=$3
   shift 3
-  "$program" "$@" < replay > "$work/out" 2> "$work/err"
+  "$program" "$@" < replay > "$out" 2> "$err"
   status=$?
-  ended "journal_dump $*" "$wanted" "$lines" "$line"
+  dumped "journal_dump $*" "$wanted" "$lines" "$line"
 }
 
 start='{"offset":0,"type":"Start","code":0,"length":19,"message":{"id":"a2V5","debugId":"key","knownEntries":1,"partialState":true,"key":"key"}}'
@@ -65,6 +45,7 @@ whole="$start
 $input
 $state
 $rest"
+printf '%s\n' "$start" "$input" "$state" > "$work/three"
 
 dump 0 "$whole" ''
 dump 0 "$whole" '' replay
@@ -138,69 +119,34 @@ dump 0 'journal_dump 0.1.0' '' --version
 dump 2 '' 'journal_dump: nothing: No such file or directory (os error 2)' nothing
 dump 2 '' 'journal_dump: .: is a directory' .
 dump 2 '' 'journal_dump: an argument is not UTF-8' "$(printf '\377')"
-"$program" --help > "$work/out" 2> "$work/err"
+"$program" --help > "$out" 2> "$err"
 status=$?
-[ "$status" -eq 0 ] && grep -q '^Usage: journal_dump' "$work/out" && [ ! -s "$work/err" ]
+[ "$status" -eq 0 ] && grep -q '^Usage: journal_dump' "$out" && [ ! -s "$err" ]
 outcome 'journal_dump --help' $?
 
-"$program" < . > "$work/out" 2> "$work/err"
-status=$?
-ended 'a folder on the standard input' 1 '' 'journal_dump: input failed'
-: > "$work/out"
-"$program" replay 2> "$work/err" >&-
-status=$?
-ended 'a closed output' 1 '' 'journal_dump: output failed'
+failing_input 'journal_dump: input failed'
+closed_input 'journal_dump: input failed'
+failing_outputs replay
+: > "$out"
 for word in --help --version; do
-  "$program" $word 2> "$work/err" >&-
+  "$program" $word 2> "$err" >&-
   status=$?
-  ended "a closed output, $word" 1 '' 'journal_dump: output failed'
+  dumped "a closed output, $word" 1 '' 'journal_dump: output failed'
 done
-if [ -c /dev/full ]; then
-  "$program" replay > /dev/full 2> "$work/err"
-  status=$?
-  ended 'a full output' 1 '' 'journal_dump: output failed'
-else
-  echo 'dump: a full output: not run, since there is no /dev/full'
-fi
-
-# A reader that goes away after one line of many.
+# A long stream, in reads of 65,536 bytes, and outputs that end before its lines do
 i=0
 while [ $i -lt 2000 ]; do
   cat replay
   i=$((i + 1))
 done > "$work/many"
-{
-  "$program" "$work/many" 2> "$work/err"
-  echo $? > "$work/status"
-} | head -n 1 > "$work/out"
-status=$(cat "$work/status")
-ended 'journal_dump | head -n 1' 1 "$start" 'journal_dump: output failed'
-
-# All of it, in reads of 65,536 bytes
-"$program" "$work/many" > "$work/out" 2> "$work/err"
+"$program" "$work/many" > "$out" 2> "$err"
 status=$?
-[ "$status" -eq 0 ] && [ "$(wc -l < "$work/out")" -eq 6001 ] && [ "$(tail -n 1 "$work/out")" = '{"offset":112000,"rest":0}' ]
+[ "$status" -eq 0 ] && [ "$(wc -l < "$out")" -eq 6001 ] && [ "$(tail -n 1 "$out")" = '{"offset":112000,"rest":0}' ]
 outcome 'a long stream' $?
+cp "$out" "$work/many.lines"
+shortened_outputs "$work/many" "$work/many.lines"
 
-# A message of 4 GiB begins, and 128 MiB of address space do not hold the 192 MiB of it that come.
-if (ulimit -v 131072) 2> "$work/shell"; then
-  status=$(
-    {
-      cat replay
-      printf '\004\000\000\000\377\377\377\377'
-      dd if=/dev/zero bs=65536 count=3072 2> "$work/dd"
-    } | (
-      ulimit -v 131072
-      "$program" > "$work/out" 2> "$work/err"
-      echo $?
-    )
-  )
-  ended 'no memory' 1 "$start
-$input
-$state" 'journal_dump: out of memory'
-else
-  echo 'dump: no memory: not run, since memory cannot be bounded here'
-fi
+little_memory replay "$work/three"
 
 # Each allocation fails in turn, in a stream that needs some: whole lines are written and one line says why, or all.
 if command -v cc > /dev/null && cc -O2 -shared -fPIC -o "$work/refuse.so" "$top/tests/c/refuse.c" -ldl; then
@@ -210,13 +156,13 @@ if command -v cc > /dev/null && cc -O2 -shared -fPIC -o "$work/refuse.so" "$top/
   # at last none is refused, since fewer are made
   while [ "$request" -le "$requests" ] && [ "$wrong" -lt 5 ]; do
     request=$((request + 1))
-    REFUSE=$request LD_PRELOAD=$work/refuse.so "$program" < cut_short > "$work/out" 2> "$work/err" 3> "$work/requests"
+    REFUSE=$request LD_PRELOAD=$work/refuse.so "$program" < cut_short > "$out" 2> "$err" 3> "$work/requests"
     status=$?
     read -r requests < "$work/requests"
-    complaint=$(cat "$work/err")
+    complaint=$(cat "$err")
     case $status:$complaint in
-      0:) "$program" < cut_short | cmp -s - "$work/out" ;;
-      '1:journal_dump: out of memory') "$program" < cut_short 2> "$work/said" | head -n "$(wc -l < "$work/out")" | cmp -s - "$work/out" ;;
+      0:) "$program" < cut_short | cmp -s - "$out" ;;
+      '1:journal_dump: out of memory') "$program" < cut_short 2> "$work/said" | head -n "$(wc -l < "$out")" | cmp -s - "$out" ;;
       *) false ;;
     esac
     is_right=$?
@@ -224,14 +170,14 @@ if command -v cc > /dev/null && cc -O2 -shared -fPIC -o "$work/refuse.so" "$top/
     outcome "request $request refused" "$is_right"
   done
 else
-  echo 'dump: refused requests for memory: not run, since there is no cc'
+  without 'allocations that fail' cc
 fi
 
 # The stored run, and adversarial streams, of which others read each line.
 cd "$top" || exit 1
-"$program" < "$run/stdin" > "$work/out" 2> "$work/err"
+"$program" < "$run/stdin" > "$out" 2> "$err"
 status=$?
-[ "$status" -eq 0 ] && cmp -s "$run/stdout" "$work/out" && [ ! -s "$work/err" ]
+[ "$status" -eq 0 ] && cmp -s "$run/stdout" "$out" && [ ! -s "$err" ]
 outcome 'the stored run' $?
 # a payload of 17 MiB, which comes in many chunks
 content=17825792
@@ -244,58 +190,50 @@ content=17825792
   head -c "$content" /dev/zero | base64 -w 0
   printf '"}}}\n{"offset":17825810,"rest":0}\n'
 } > "$work/large.lines"
-"$program" < "$work/large" > "$work/out" 2> "$work/err"
+"$program" < "$work/large" > "$out" 2> "$err"
 status=$?
-[ "$status" -eq 0 ] && cmp -s "$work/large.lines" "$work/out" && [ ! -s "$work/err" ]
+[ "$status" -eq 0 ] && cmp -s "$work/large.lines" "$out" && [ ! -s "$err" ]
 outcome 'a payload of 17 MiB' $?
 for kind in random mixed skipped; do
   LC_ALL=C awk -v kind=$kind -v size=200000 -v seed=7 -f scripts/checks/write_stream.awk proto/types.txt > "$work/$kind"
   version=8
   [ $kind != skipped ] || version=9
-  "$program" --protocol $version "$work/$kind" > "$work/$kind.lines" 2> "$work/err"
+  "$program" --protocol $version "$work/$kind" > "$work/$kind.lines" 2> "$err"
   status=$?
-  cp "$work/$kind.lines" "$work/out"
+  cp "$work/$kind.lines" "$out"
   if command -v jq > /dev/null; then
-    [ "$status" -eq 0 ] && [ "$(jq -c 'type' "$work/out" | grep -c '^"object"$')" -eq "$(wc -l < "$work/out")" ] &&
-      [ "$(tail -n 1 "$work/out" | jq '.offset + .rest')" -eq "$(wc -c < "$work/$kind")" ]
+    [ "$status" -eq 0 ] && [ "$(jq -c 'type' "$out" | grep -c '^"object"$')" -eq "$(wc -l < "$out")" ] &&
+      [ "$(tail -n 1 "$out" | jq '.offset + .rest')" -eq "$(wc -c < "$work/$kind")" ]
     outcome "jq on a $kind stream" $?
   else
-    echo "dump: jq on a $kind stream: not run, since there is no jq"
+    without "jq on a $kind stream" jq
   fi
   if command -v python3 > /dev/null; then
-    [ "$status" -eq 0 ] && python3 -c 'import json, sys; [json.loads(line) for line in open(sys.argv[1], newline="\n")]' "$work/out" 2> "$work/err"
+    [ "$status" -eq 0 ] && python3 -c 'import json, sys; [json.loads(line) for line in open(sys.argv[1], newline="\n")]' "$out" 2> "$err"
     outcome "Python on a $kind stream" $?
   else
-    echo "dump: Python on a $kind stream: not run, since there is no python3"
+    without "Python on a $kind stream" python3
   fi
 done
 
 # Protobuf as the judge of all message types.
 judge=
 for python in python3 /usr/bin/python3; do
-  if command -v "$python" > /dev/null && "$python" -c 'import google.protobuf' 2> "$work/err"; then
+  if command -v "$python" > /dev/null && "$python" -c 'import google.protobuf' 2> "$err"; then
     judge=$python
   fi
 done
 if [ -n "$judge" ] && command -v protoc > /dev/null; then
   PYTHONDONTWRITEBYTECODE=1 $judge tools/generators/protobuf_dumps.py --random 1 300 "$program" > "$work/log" 2>&1
-  counts=$(tail -n 1 "$work/log")
-  case $counts in
-    [0-9]*' passed, '[0-9]*' failed')
-      passed=$((passed + ${counts%% *}))
-      more=${counts##*, }
-      failed=$((failed + ${more%% *}))
-      [ "${more%% *}" -eq 0 ] || cat "$work/log"
-      ;;
-    *)
-      failed=$((failed + 1))
-      echo 'failed: protobuf_dumps.py --random'
-      cat "$work/log"
-      ;;
-  esac
+  if ! add "$(tail -n 1 "$work/log")"; then
+    failed=$((failed + 1))
+    echo 'failed: protobuf_dumps.py --random'
+    cat "$work/log"
+  elif grep -q '^failed' "$work/log"; then
+    cat "$work/log"
+  fi
 else
-  echo "dump: protobuf's own printer: not run, since there is no protoc or no protobuf for python3"
+  left_out "protobuf's own printer" 'there is no protoc or no protobuf for python3'
 fi
 
-echo "$passed passed, $failed failed"
-[ "$failed" -eq 0 ]
+finish
