@@ -16,8 +16,8 @@ export PYTHONDONTWRITEBYTECODE
 counted 'the maker of the page' python3 view/tests/test_make_page.py
 if ! command -v chromium > /dev/null; then
   left_out 'the page in a browser' 'there is no chromium; the Debian package chromium has it'
-elif ! timeout 60 chromium --headless --no-sandbox --disable-gpu --user-data-dir="$work/browser" --dump-dom about:blank \
-  > "$out" 2> "$err" < /dev/null; then
+elif ! timeout 120 chromium --headless --no-sandbox --disable-gpu --user-data-dir="$work/browser" \
+  --dump-dom about:blank > "$out" 2> "$err" < /dev/null; then
   left_out 'the page in a browser' 'chromium does not start here'
 else
   counted 'the page in a browser' timeout 900 python3 view/tests/test_page.py
