@@ -2,7 +2,6 @@
 
 require_relative "helper"
 require "minitest/mock"
-require "objspace"
 require "rbconfig"
 require "open3"
 

@@ -124,8 +124,8 @@ module Pendratsoa
     # Cuts the item of these numbers from the bytes.
     def cut(kind, word, code, ack, size, payload_begin)
       kind = @call.kind(%i[message unknown_code skipped], kind, "an item")
-      # a copy; a slice could keep all the bytes in memory
-      payload = @bytes.unpack1("@#{@begin + payload_begin}a#{size - payload_begin}")
+      # a copy; a slice of the String could keep all of it in memory
+      payload = Fiddle::Pointer[@bytes][@begin + payload_begin, size - payload_begin]
       @begin += size
       case kind
       when :message then Message.new(@version, code, payload, ack == 1)
