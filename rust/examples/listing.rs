@@ -1,28 +1,20 @@
-//! Lists the stream that comes on the standard input, in chunks of 4 KiB: listing [VERSION]
+//! Lists the stream that comes on the standard input: listing [VERSION]
 //!
 //! A line is an item: the name of its type and the length of its payload, and ` ack` if its header requests an
 //! acknowledgement. The last line counts the bytes that are in no item. VERSION is from 5 to 9, by default 8.
 
 use std::env;
 use std::error::Error;
-use std::io::{self, Read, Write};
+use std::io::{self, Write};
 
 use pendratsoa::{Decoder, Item};
-
-const CHUNK: usize = 4096;
 
 fn main() -> Result<(), Box<dyn Error>> {
     let version = env::args().nth(1).map_or(Ok(8), |word| word.parse())?;
     let mut decoder = Decoder::new(version)?;
     let mut input = io::stdin().lock();
     let mut output = io::stdout().lock();
-    let mut chunk = [0; CHUNK];
-    loop {
-        let length = input.read(&mut chunk)?;
-        if length == 0 {
-            break;
-        }
-        decoder.feed(&chunk[..length])?;
+    while decoder.read_from(&mut input)? > 0 {
         for item in decoder.items() {
             writeln!(output, "{}", line(&item?)?)?;
         }

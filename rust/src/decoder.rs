@@ -1,9 +1,13 @@
 //! Streams that come in chunks.
 
+use std::io::{self, ErrorKind, Read};
 use std::iter::FusedIterator;
 
 use crate::error::Error;
 use crate::item::{next_item, Item, Next};
+
+/// The most bytes that are read at once.
+const CHUNK: usize = 64 << 10;
 
 /// A decoder of a stream of one version, which comes in chunks of any size.
 ///
@@ -60,16 +64,54 @@ impl Decoder {
 
     /// Appends bytes of the stream to those that came. `Error::OutOfMemory` leaves these unchanged.
     pub fn feed(&mut self, bytes: &[u8]) -> Result<(), Error> {
+        self.make_room(bytes.len())?;
+        self.bytes.extend_from_slice(bytes);
+        Ok(())
+    }
+
+    /// Reads once, at most 64 KiB, and appends the bytes to those that came. Returns how many they are, 0 at the end.
+    ///
+    /// An error of the reader, or a failed allocation, leaves the bytes that came unchanged.
+    ///
+    /// ```
+    /// use pendratsoa::Decoder;
+    ///
+    /// let mut input = &[0, 3, 0, 0, 0, 0, 0, 0, 0, 3][..];
+    /// let mut decoder = Decoder::new(8)?;
+    /// while decoder.read_from(&mut input)? > 0 {
+    ///     for item in decoder.items() {
+    ///         println!("{:?}", item?);
+    ///     }
+    /// }
+    /// assert_eq!(decoder.rest(), 2);
+    /// # Ok::<(), Box<dyn std::error::Error>>(())
+    /// ```
+    pub fn read_from<R: Read>(&mut self, mut reader: R) -> io::Result<usize> {
+        self.make_room(CHUNK)
+            .map_err(|error| io::Error::new(ErrorKind::OutOfMemory, error))?;
+        let length = self.bytes.len();
+        self.bytes.resize(length + CHUNK, 0);
+        let read = loop {
+            match reader.read(&mut self.bytes[length..]) {
+                Err(error) if error.kind() == ErrorKind::Interrupted => {}
+                read => break read,
+            }
+        };
+        let count = read.as_ref().map_or(0, |count| CHUNK.min(*count));
+        self.bytes.truncate(length + count);
+        read.map(|_| count)
+    }
+
+    /// Makes room for so many more bytes.
+    fn make_room(&mut self, count: usize) -> Result<(), Error> {
         // used bytes are dropped once they are the greater part, so that each byte is moved once on average
         if self.begin > self.bytes.len() / 2 {
             self.bytes.drain(..self.begin);
             self.begin = 0;
         }
         self.bytes
-            .try_reserve(bytes.len())
-            .map_err(|_| Error::OutOfMemory)?;
-        self.bytes.extend_from_slice(bytes);
-        Ok(())
+            .try_reserve(count)
+            .map_err(|_| Error::OutOfMemory)
     }
 
     /// The whole items among the bytes that came and are in no item yet. An item that was taken does not come again.

@@ -1,5 +1,7 @@
 //! Arguments that nobody means: each gives the error or the items that are promised, and nothing panics.
 
+use std::io::{self, ErrorKind, Read};
+
 use pendratsoa::{
     canonical, compare_journals, difference, frame, header, header_eq, is_well_formed, merge,
     next_item, notification, schema, to_json, type_code, type_name, Argument, Decoder, Error, Item,
@@ -241,6 +243,96 @@ fn streams_of_noise() {
             Ok(Next::Missing(1..))
         ));
     }
+}
+
+/// A reader that is interrupted before each byte, fails before the one at an index, and returns one byte at a time.
+struct Reader<'a> {
+    bytes: &'a [u8],
+    index: usize,
+    fails_at: usize,
+    is_interrupted: bool,
+}
+
+impl Read for Reader<'_> {
+    fn read(&mut self, out: &mut [u8]) -> io::Result<usize> {
+        self.is_interrupted = !self.is_interrupted;
+        if self.is_interrupted {
+            return Err(ErrorKind::Interrupted.into());
+        }
+        if self.index == self.fails_at {
+            self.fails_at = usize::MAX;
+            return Err(ErrorKind::TimedOut.into());
+        }
+        let byte = match self.bytes.get(self.index) {
+            Some(byte) => byte,
+            None => return Ok(0),
+        };
+        out[0] = *byte;
+        self.index += 1;
+        Ok(1)
+    }
+}
+
+#[test]
+fn readers_that_fail() {
+    let stream = [
+        &[0, 3, 0, 0, 0, 0, 0, 0, 4, 0, 0, 0, 0, 0, 0, 2, 0x62, 0][..],
+        &[0; 5],
+    ]
+    .concat();
+    for fails_at in 0..=stream.len() {
+        let mut decoder = Decoder::new(8).unwrap();
+        let mut reader = Reader {
+            bytes: &stream,
+            index: 0,
+            fails_at,
+            is_interrupted: false,
+        };
+        let (mut sizes, mut errors) = (Vec::new(), 0);
+        loop {
+            match decoder.read_from(&mut reader) {
+                Ok(0) => break,
+                Ok(count) => assert_eq!(count, 1),
+                Err(error) => {
+                    assert_eq!(error.kind(), ErrorKind::TimedOut);
+                    errors += 1;
+                }
+            }
+            sizes.extend(decoder.items().map(|item| size_of(&item.unwrap())));
+        }
+        assert_eq!((sizes, errors, decoder.rest()), (vec![8, 10], 1, 5));
+    }
+}
+
+#[test]
+fn streams_longer_than_a_chunk() {
+    let message = [&[4, 0, 0, 0, 0, 0, 0, 9, 0x72, 7, 0x0A, 5][..], b"input"].concat();
+    let stream = message.repeat(10_000);
+    let mut reader = &stream[..];
+    let mut decoder = Decoder::new(8).unwrap();
+    let mut count = 0;
+    while decoder.read_from(&mut reader).unwrap() > 0 {
+        count += decoder
+            .items()
+            .map(|item| assert_eq!(size_of(&item.unwrap()), 17))
+            .count();
+    }
+    assert_eq!((count, decoder.rest()), (10_000, 0));
+}
+
+/// A reader that returns more than it was given room for.
+struct Boaster;
+
+impl Read for Boaster {
+    fn read(&mut self, _: &mut [u8]) -> io::Result<usize> {
+        Ok(usize::MAX)
+    }
+}
+
+#[test]
+fn a_reader_that_returns_too_much() {
+    let mut decoder = Decoder::new(8).unwrap();
+    assert_eq!(decoder.read_from(Boaster).unwrap(), decoder.rest());
 }
 
 /// The size of an item in bytes.

@@ -94,6 +94,23 @@ fn messages_that_are_made() {
 }
 
 #[test]
+fn frames_at_other_versions() {
+    // a suspension that waits for a completion and for another future, which has a list of each before version 7
+    let payload = [
+        0x22, 0x10, 0x12, 1, 1, 0x22, 0x0B, 0x0A, 1, 1, 0x12, 1, 0x11, 0x1A, 3, b'a', b'b', b'c',
+    ];
+    let bytes = frame(MessageType::Suspension, &payload);
+    let found = match item(8, &bytes) {
+        Item::Message(message) => [5, 6, 7, 8, 9].map(|version| message.frame_at(version).unwrap()),
+        other => panic!("{other:?}"),
+    };
+    let [v5, v6, v7, v8, v9] = found;
+    let lists = [0x0A, 1, 1, 0x12, 2, 1, 0x11, 0x1A, 3, b'a', b'b', b'c'];
+    assert_eq!((&v5[8..], &v6[8..]), (&lists[..], &lists[..]));
+    assert_eq!([v7, v8, v9], [(); 3].map(|()| bytes.clone()));
+}
+
+#[test]
 fn ids_of_notifications() {
     for (payload, id) in [
         (&[0x08, 0, 0x22, 0][..], NotificationId::Completion(0)),
