@@ -99,6 +99,24 @@ mod c {
             out: *mut u8,
             room: usize,
         ) -> i64;
+        pub fn measure_frame_spare(
+            version: u32,
+            code: u16,
+            payload: *const u8,
+            payload_length: usize,
+            rounds: usize,
+            out: *mut u8,
+            room: usize,
+        ) -> i64;
+        pub fn measure_frame_shared(
+            version: u32,
+            code: u16,
+            payload: *const u8,
+            payload_length: usize,
+            rounds: usize,
+            out: *mut u8,
+            room: usize,
+        ) -> i64;
         pub fn measure_well_formed(
             schema: u32,
             payload: *const u8,
@@ -253,6 +271,50 @@ pub fn frame_into(
     // SAFETY: the lengths are those of the slices, of which `out` alone is written
     count(unsafe {
         c::measure_frame_into(
+            version,
+            code,
+            payload.as_ptr(),
+            payload.len(),
+            rounds,
+            out.as_mut_ptr(),
+            out.len(),
+        )
+    })
+}
+
+/// The same, with a buffer whose spare room is initialized.
+pub fn frame_spare(
+    version: u32,
+    code: u16,
+    payload: &[u8],
+    rounds: usize,
+    out: &mut [u8],
+) -> Result<usize, Refusal> {
+    // SAFETY: the lengths are those of the slices, of which `out` alone is written
+    count(unsafe {
+        c::measure_frame_spare(
+            version,
+            code,
+            payload.as_ptr(),
+            payload.len(),
+            rounds,
+            out.as_mut_ptr(),
+            out.len(),
+        )
+    })
+}
+
+/// A frame for which the frames of all rounds share the blocks of one buffer; the last 1,024 are held.
+pub fn frame_shared(
+    version: u32,
+    code: u16,
+    payload: &[u8],
+    rounds: usize,
+    out: &mut [u8],
+) -> Result<usize, Refusal> {
+    // SAFETY: the lengths are those of the slices, of which `out` alone is written
+    count(unsafe {
+        c::measure_frame_shared(
             version,
             code,
             payload.as_ptr(),

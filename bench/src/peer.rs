@@ -4,6 +4,7 @@
 
 use std::collections::VecDeque;
 use std::hint::black_box;
+use std::mem;
 
 use bytes::{Buf, BufMut, Bytes, BytesMut};
 use prost::{DecodeError, Message};
@@ -396,6 +397,18 @@ pub fn frame_into(
     frames(version, code, payload, rounds, out)
 }
 
+/// The same out of one buffer, whose blocks the frames share; the last ones are held.
+pub fn frame_shared(
+    version: u32,
+    code: u16,
+    payload: &[u8],
+    rounds: usize,
+) -> Result<Bytes, Refusal> {
+    let mut room = Shared::new();
+    frames(version, code, payload, rounds, &mut room)?;
+    Ok(room.last)
+}
+
 /// Where frames go: the one that is put in takes the place of the one before.
 trait Room {
     fn put(&mut self, code: u16, acknowledge: bool, message: &impl Message);
@@ -419,6 +432,40 @@ impl Room for BytesMut {
         self.clear();
         self.reserve(HEADER + length);
         append(code, acknowledge, length, message, self);
+    }
+}
+
+/// How many frames that share blocks are held, and the bytes of a block.
+const HELD: usize = 1024;
+const BLOCK: usize = 65_536;
+
+/// One buffer out of which all frames are taken, the last frame, and those that are held before it.
+struct Shared {
+    block: BytesMut,
+    last: Bytes,
+    held: VecDeque<Bytes>,
+}
+
+impl Shared {
+    fn new() -> Shared {
+        Shared {
+            block: BytesMut::with_capacity(BLOCK),
+            last: Bytes::new(),
+            held: VecDeque::with_capacity(HELD),
+        }
+    }
+}
+
+impl Room for Shared {
+    fn put(&mut self, code: u16, acknowledge: bool, message: &impl Message) {
+        let length = message.encoded_len();
+        self.block.reserve(HEADER + length);
+        append(code, acknowledge, length, message, &mut self.block);
+        let frame = self.block.split().freeze();
+        if self.held.len() == HELD {
+            self.held.pop_front();
+        }
+        self.held.push_back(mem::replace(&mut self.last, frame));
     }
 }
 

@@ -1,5 +1,5 @@
 //! Measures the library and the peer side by side, and prints a table in Markdown:
-//! speed [--check] [--only WORKLOAD] [--side ours|peer] [--what items|messages|encode|encode_into|payloads|headers] [--piece N] [--row NAME] [--size N]
+//! speed [--check] [--only WORKLOAD] [--side ours|peer] [--what items|messages|encode|encode_into|encode_spare|encode_shared|payloads|headers] [--piece N] [--row NAME] [--size N]
 //! [--rounds N] [--protocol 5..9]
 //!
 //! With --side nothing is compared or printed: that side alone goes over the workload so many times, for a profiler. Before a table is printed,
@@ -75,6 +75,8 @@ enum What {
     Encode,
     /// Frames are made in one buffer that is used again.
     EncodeInto,
+    EncodeSpare,
+    EncodeShared,
     /// Commands are compared, with their payloads.
     Payloads,
     /// Commands are compared, but for their payloads. The peer's derived `==` knows no such thing, and compares all.
@@ -83,10 +85,22 @@ enum What {
 
 impl What {
     /// What is done to a stream of messages.
-    const STREAM: [What; 4] = [What::Items, What::Messages, What::Encode, What::EncodeInto];
+    const STREAM: [What; 6] = [
+        What::Items,
+        What::Messages,
+        What::Encode,
+        What::EncodeInto,
+        What::EncodeSpare,
+        What::EncodeShared,
+    ];
 
     /// What is done to messages that are only written.
-    const FRAMES: [What; 2] = [What::Encode, What::EncodeInto];
+    const FRAMES: [What; 4] = [
+        What::Encode,
+        What::EncodeInto,
+        What::EncodeSpare,
+        What::EncodeShared,
+    ];
 
     /// What is done to commands.
     const COMMANDS: [What; 2] = [What::Payloads, What::Headers];
@@ -100,7 +114,7 @@ impl What {
     fn least_rounds(self) -> usize {
         match self {
             What::Items | What::Messages => 1,
-            What::Encode | What::EncodeInto => ENCODINGS,
+            What::Encode | What::EncodeInto | What::EncodeSpare | What::EncodeShared => ENCODINGS,
             What::Payloads | What::Headers => COMPARISONS,
         }
     }
@@ -111,6 +125,8 @@ impl What {
             What::Messages => "messages",
             What::Encode => "encode",
             What::EncodeInto => "encode_into",
+            What::EncodeSpare => "encode_spare",
+            What::EncodeShared => "encode_shared",
             What::Payloads => "payloads",
             What::Headers => "headers",
         }
@@ -258,7 +274,9 @@ impl<'a> Bench<'a> {
             }
             (What::Messages, Side::Ours) => ours::messages(version, stream, self.piece, rounds)?,
             (What::Messages, Side::Peer) => peer::messages(version, stream, self.piece, rounds)?,
-            (What::Encode | What::EncodeInto, side) => self.encode(side, rounds)?,
+            (What::Encode | What::EncodeInto | What::EncodeSpare | What::EncodeShared, side) => {
+                self.encode(side, rounds)?
+            }
             (What::Payloads, Side::Ours) => ours::compare(version, stream, false, rounds)?,
             (What::Headers, Side::Ours) => ours::compare(version, stream, true, rounds)?,
             (What::Payloads | What::Headers, Side::Peer) => peer::compare(version, stream, rounds)?,
@@ -287,10 +305,20 @@ impl<'a> Bench<'a> {
                 (Side::Ours, What::EncodeInto) => {
                     ours::frame_into(version, *code, payload, rounds, &mut self.out)?;
                 }
+                (Side::Ours, What::EncodeSpare) => {
+                    ours::frame_spare(version, *code, payload, rounds, &mut self.out)?;
+                }
+                (Side::Ours, What::EncodeShared) => {
+                    ours::frame_shared(version, *code, payload, rounds, &mut self.out)?;
+                }
                 (Side::Ours, _) => {
                     ours::frame_to(version, *code, payload, rounds, &mut self.out)?;
                 }
-                (Side::Peer, What::EncodeInto) => {
+                (Side::Peer, What::EncodeShared) => {
+                    let frame = peer::frame_shared(version, *code, payload, rounds)?;
+                    self.out[..frame.len()].copy_from_slice(&frame);
+                }
+                (Side::Peer, What::EncodeInto | What::EncodeSpare) => {
                     peer::frame_into(version, *code, payload, rounds, &mut self.buffer)?;
                     self.out[..self.buffer.len()].copy_from_slice(&self.buffer);
                 }
@@ -650,7 +678,11 @@ fn check_rounds(workload: &Workload, what: What, side: Side) -> Result<(), Faile
     let of_a_round = bench.of_a_round(side)?;
     let twice = bench.counted(side, 2)?;
     let more = bench.counted(side, 5)?;
-    let asks = what != What::EncodeInto || workload.has_lists();
+    // of frames that share blocks, a round asks for none or for several, as the blocks come
+    if what == What::EncodeShared {
+        return Ok(());
+    }
+    let asks = !matches!(what, What::EncodeInto | What::EncodeSpare) || workload.has_lists();
     if (of_a_round > 0) != asks || more.saturating_sub(twice) != 3 * of_a_round {
         return Err(failed(format!(
             "{of_a_round} requests for memory in a round, {twice} in two and {more} in five"
@@ -884,7 +916,7 @@ fn measure_calls(crossings: &[Crossing]) -> Result<(), Failed> {
 fn main() -> ExitCode {
     let Some(options) = Options::read(env::args().skip(1)) else {
         eprintln!(
-            "usage: speed [--check] [--only WORKLOAD] [--side ours|peer] [--what items|messages|encode|encode_into|payloads|headers] [--piece N] [--row NAME] [--size N] [--rounds N] [--protocol 5..9]"
+            "usage: speed [--check] [--only WORKLOAD] [--side ours|peer] [--what items|messages|encode|encode_into|encode_spare|encode_shared|payloads|headers] [--piece N] [--row NAME] [--size N] [--rounds N] [--protocol 5..9]"
         );
         return ExitCode::from(2);
     };

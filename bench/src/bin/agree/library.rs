@@ -92,7 +92,12 @@ fn compare_case(tally: &mut Tally, random: &mut Random) {
             let code = message_type.code;
             let ours = ours::frame_once(*version, code, payload);
             equal(tally, kind, &case, &written(&ours), &verdict.answer);
-            let calls: [FrameCall; 2] = [ours::frame_to, ours::frame_into];
+            let calls: [FrameCall; 4] = [
+                ours::frame_to,
+                ours::frame_into,
+                ours::frame_spare,
+                ours::frame_shared,
+            ];
             for call in calls {
                 let ours = ours::frame(call, *version, code, payload, rounds);
                 equal(tally, kind, &case, &written(&ours), &verdict.answer);
