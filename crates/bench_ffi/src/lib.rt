@@ -3,9 +3,9 @@
 #![tactic(auto)]
 
 ghost use Rattle.journal_c_api.specs.Answers.{Answers, Writes};
-ghost use Rattle.journal_c_api.specs.Payloads.{AnswersFrame, AnswersWellFormed};
-ghost use Rattle.measured_c_api.specs.Comparisons.{AnswersComparisons};
-ghost use Rattle.measured_c_api.specs.Streams.{AnswersItems, AnswersMessages};
+ghost use Rattle.journal_c_api.specs.Payloads.{ReturnsFrame, ReturnsWellFormed};
+ghost use Rattle.measured_c_api.specs.Comparisons.{ReturnsComparisons};
+ghost use Rattle.measured_c_api.specs.Streams.{ReturnsItems, ReturnsMessages};
 
 use journal_c_api::answer::answer_of;
 use measured_c_api::frames::{Buffer, Rounds};
@@ -31,7 +31,7 @@ pub extern "C" fn measure_items(
     rounds: usize,
     words: &mut [u64],
 ) -> i64
-    ensures { Answers result (AnswersItems version stream.now words.new) }
+    ensures { Answers result (ReturnsItems version stream.now words.new) }
 {
     answer_of(streams::items(alloc, version, stream, piece, rounds, words))
 }
@@ -46,7 +46,7 @@ pub extern "C" fn measure_messages(
     piece: usize,
     rounds: usize,
 ) -> i64
-    ensures { Answers result (AnswersMessages version stream.now) }
+    ensures { Answers result (ReturnsMessages version stream.now) }
 {
     answer_of(streams::messages(alloc, version, stream, piece, rounds))
 }
@@ -63,7 +63,7 @@ pub extern "C" fn measure_compare(
     ignore_payloads: u32,
     rounds: usize,
 ) -> i64
-    ensures { Answers result (AnswersComparisons version stream.now rounds) }
+    ensures { Answers result (ReturnsComparisons version stream.now rounds) }
 {
     answer_of(commands::compare(alloc, version, stream, ignore_payloads != 0, rounds))
 }
@@ -80,7 +80,7 @@ pub extern "C" fn measure_frame(
     rounds: usize,
     out: &mut [u8],
 ) -> i64
-    ensures { Answers result (Writes (AnswersFrame version code payload.now) out.old out.new) }
+    ensures { Answers result (Writes (ReturnsFrame version code payload.now) out.old out.new) }
 {
     let rounds = Rounds {
         count: rounds,
@@ -100,7 +100,7 @@ pub extern "C" fn measure_frame_into(
     rounds: usize,
     out: &mut [u8],
 ) -> i64
-    ensures { Answers result (Writes (AnswersFrame version code payload.now) out.old out.new) }
+    ensures { Answers result (Writes (ReturnsFrame version code payload.now) out.old out.new) }
 {
     let rounds = Rounds {
         count: rounds,
@@ -119,7 +119,7 @@ pub extern "C" fn measure_frame_spare(
     rounds: usize,
     out: &mut [u8],
 ) -> i64
-    ensures { Answers result (Writes (AnswersFrame version code payload.now) out.old out.new) }
+    ensures { Answers result (Writes (ReturnsFrame version code payload.now) out.old out.new) }
 {
     let rounds = Rounds {
         count: rounds,
@@ -138,7 +138,7 @@ pub extern "C" fn measure_frame_shared(
     rounds: usize,
     out: &mut [u8],
 ) -> i64
-    ensures { Answers result (Writes (AnswersFrame version code payload.now) out.old out.new) }
+    ensures { Answers result (Writes (ReturnsFrame version code payload.now) out.old out.new) }
 {
     let rounds = Rounds {
         count: rounds,
@@ -155,7 +155,7 @@ pub extern "C" fn measure_well_formed(
     payload: &[u8],
     rounds: usize,
 ) -> i64
-    ensures { Answers result (AnswersWellFormed schema payload.now) }
+    ensures { Answers result (ReturnsWellFormed schema payload.now) }
 {
     answer_of(payloads::is_well_formed(alloc, schema, payload, rounds))
 }

@@ -44,7 +44,7 @@ module _ (version : Version) (word : ℕ) where
     length_is = sizes ∙ says.length_is;
   }
 
-  -- all bytes behind the first eight are the payload
+  -- all bytes after the first eight are the payload
   payload_fills : (body : List ℕ) → length body ≡ body_length version word → length (item_payload (item_of version word body)) ≡ length body
   unfolding item_of body_length
   payload_fills body long = by_header (header_of word) refl
@@ -57,9 +57,9 @@ module _ (version : Version) (word : ℕ) where
           by_version true skips = rw (untyped, skips) refl
           by_version false skips = let none = rw (untyped, skips) at long in rw (untyped, skips) (sym none)
 
-  module _ (bytes head body old : List ℕ) (announced : Announced) (front : head ≡ take 8 bytes) (behind : body ≡ drop 8 bytes) (sized : length body + 8 ≡ length bytes) (reads : word ≡ from_be_bytes w64 head) (says : Announces version word announced) where
+  module _ (bytes head body old : List ℕ) (announced : Announced) (front : head ≡ take 8 bytes) (after : body ≡ drop 8 bytes) (sized : length body + 8 ≡ length bytes) (reads : word ≡ from_be_bytes w64 head) (says : Announces version word announced) where
     joined : bytes ≡ head ++ body
-    joined = rw (front, behind) (sym (take-append-drop 8 bytes))
+    joined = rw (front, after) (sym (take-append-drop 8 bytes))
 
     eight : length head ≡ 8
     eight = omega (arith, ap length joined, length-append head body)

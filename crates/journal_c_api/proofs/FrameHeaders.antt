@@ -15,8 +15,8 @@ use Rattle.shared_core_runtime.specs.Flattening.{flattened}
 use Rattle.shared_core_base.specs.Version.{has_flat_suspensions}
 use Rattle.shared_core.specs.Visiting.{written_form}
 use Rattle.journal_c_api.specs.Answers.{AtVersion, supported_version}
-use Rattle.journal_c_api.specs.Headers.{AnswersHeader, flag_at, header_at, header_answer}
-use Rattle.journal_c_api.specs.Payloads.{AnswersFrame, AnswersFrameAt, AnswersFrameOf}
+use Rattle.journal_c_api.specs.Headers.{ReturnsHeader, flag_at, header_at, header_answer}
+use Rattle.journal_c_api.specs.Payloads.{ReturnsFrame, ReturnsFrameAt, ReturnsFrameOf}
 
 suspension_flag : (before : Bool) (suspension : Parts)
     → (cond before (plain_form tables.suspension_v6 (flattened suspension)) (plain_form tables.suspension suspension)).requested_ack ≡ None
@@ -44,25 +44,25 @@ form_header ty version form frame flag is =
     ∙ ap (λ f. to_be_bytes w64 (word_of (header_of_payload ty f payload))) flag
     ∙ ap (λ n. to_be_bytes w64 (word_of (header_at version ty n))) left
 
-of_schema : (ty : MessageType) (schema : Option ℕ) (version : Version) (payload frame : List ℕ) → AnswersFrameOf ty schema version payload (Ok frame)
+of_schema : (ty : MessageType) (schema : Option ℕ) (version : Version) (payload frame : List ℕ) → ReturnsFrameOf ty schema version payload (Ok frame)
     → Ok (take 8 frame) ≡ header_answer (Some version) (Some ty) (length frame - 8)
 of_schema ty None version payload frame is = absurd cc
 of_schema ty (Some s) version payload frame held =
     let form = written_form ty s version (payload_meaning s payload) in
     ap Ok (form_header ty version form frame (flag_written ty s version (payload_meaning s payload)) held.1)
 
-of_type : (found : Option MessageType) (version : Version) (payload frame : List ℕ) → AnswersFrameAt found version payload (Ok frame)
+of_type : (found : Option MessageType) (version : Version) (payload frame : List ℕ) → ReturnsFrameAt found version payload (Ok frame)
     → Ok (take 8 frame) ≡ header_answer (Some version) found (length frame - 8)
 of_type None version payload frame is = absurd cc
 of_type (Some ty) version payload frame held = of_schema ty (message_schema ty) version payload frame held
 
 at_version : (spoken : Option Version) (found : Option MessageType) (payload frame : List ℕ)
-    → AtVersion spoken (Ok frame) (λ version. AnswersFrameAt found version payload (Ok frame))
+    → AtVersion spoken (Ok frame) (λ version. ReturnsFrameAt found version payload (Ok frame))
     → Ok (take 8 frame) ≡ header_answer spoken found (length frame - 8)
 at_version None found payload frame is = absurd cc
 at_version (Some version) found payload frame held = of_type found version payload frame held
 
 -- a frame of journal_frame begins with the header of journal_header
-pub begins_frame : (version code : ℕ) (payload frame : List ℕ) → AnswersFrame version code payload (Ok frame)
-    → AnswersHeader version code (length frame - 8) (Ok (take 8 frame))
+pub begins_frame : (version code : ℕ) (payload frame : List ℕ) → ReturnsFrame version code payload (Ok frame)
+    → ReturnsHeader version code (length frame - 8) (Ok (take 8 frame))
 begins_frame version code payload frame held = at_version (supported_version version) (type_of code) payload frame held

@@ -38,11 +38,11 @@ schema_of_type (Some ty) = command_schema ty
 schema_of_type None = None
 
 -- The result of journal_header_eq.
-abbrev pub AnswersSameness : ℕ → Bool → List ℕ → List ℕ → Result ℕ Refusal → Type 0
-AnswersSameness code ignore first second answer =
+abbrev pub ReturnsSameness : ℕ → Bool → List ℕ → List ℕ → Result ℕ Refusal → Type 0
+ReturnsSameness code ignore first second answer =
     AtSchema (schema_of_type (type_of code)) answer (λ s. ComparesPayloads (IsOneWhereSame s ignore) s first second answer)
 
 -- The result of journal_difference.
-abbrev pub AnswersDifference : ℕ → List ℕ → List ℕ → Result (List ℕ) Refusal → Type 0
-AnswersDifference code first second answer =
+abbrev pub ReturnsDifference : ℕ → List ℕ → List ℕ → Result (List ℕ) Refusal → Type 0
+ReturnsDifference code first second answer =
     AtSchema (schema_of_type (type_of code)) answer (λ s. ComparesPayloads (IsDifference s) s first second answer)

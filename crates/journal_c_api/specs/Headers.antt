@@ -28,5 +28,5 @@ header_answer (Some version) (Some ty) payload_length = Ok (to_be_bytes w64 (wor
 header_answer version ty payload_length = Err Unknown
 
 -- The result of journal_header.
-abbrev pub AnswersHeader : ℕ → ℕ → ℕ → Result (List ℕ) Refusal → Type 0
-AnswersHeader number code payload_length answer = answer ≡ header_answer (supported_version number) (type_of code) payload_length
+abbrev pub ReturnsHeader : ℕ → ℕ → ℕ → Result (List ℕ) Refusal → Type 0
+ReturnsHeader number code payload_length answer = answer ≡ header_answer (supported_version number) (type_of code) payload_length

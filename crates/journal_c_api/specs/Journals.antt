@@ -38,15 +38,15 @@ ReportsJournals version ignore recorded replayed (Ok report) =
 ReportsJournals version ignore recorded replayed (Err refusal) = refusal ≡ OutOfMemory
 
 -- The result is that of two journals. An allocation may fail.
-abbrev pub AnswersJournals : Version → Bool → List ℕ → List ℕ → Result Answer Refusal → Type 0
-AnswersJournals version ignore recorded replayed (Ok answer) = HasAnswer version ignore recorded replayed answer
-AnswersJournals version ignore recorded replayed (Err refusal) = refusal ≡ OutOfMemory
+abbrev pub ReturnsJournals : Version → Bool → List ℕ → List ℕ → Result Answer Refusal → Type 0
+ReturnsJournals version ignore recorded replayed (Ok answer) = HasAnswer version ignore recorded replayed answer
+ReturnsJournals version ignore recorded replayed (Err refusal) = refusal ≡ OutOfMemory
 
 -- The result of journal_verdict: NoRoom where there is room for fewer than two numbers.
-abbrev pub AnswersVerdict : ℕ → ℕ → Bool → List ℕ → List ℕ → Result Answer Refusal → Type 0
-AnswersVerdict number room ignore recorded replayed answer =
+abbrev pub ReturnsVerdict : ℕ → ℕ → Bool → List ℕ → List ℕ → Result Answer Refusal → Type 0
+ReturnsVerdict number room ignore recorded replayed answer =
     AtVersion (supported_version number) answer
-    (λ version. MatchBool (nat_lt room 2) (answer ≡ Err NoRoom) (AnswersJournals version ignore recorded replayed answer))
+    (λ version. MatchBool (nat_lt room 2) (answer ≡ Err NoRoom) (ReturnsJournals version ignore recorded replayed answer))
 
 -- The numbers and the text of a result of which this holds are written over two slices, and the count is that of the
 -- text's bytes; an error leaves both slices as they were.

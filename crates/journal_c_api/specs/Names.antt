@@ -15,16 +15,16 @@ schema_of (Some version) (Some ty) = schema_at version ty
 schema_of version ty = None
 
 -- The result of journal_schema.
-abbrev pub AnswersSchema : ℕ → ℕ → Result ℕ Refusal → Type 0
-AnswersSchema number code answer = answer ≡ ok_or (schema_of (supported_version number) (type_of code)) Unknown
+abbrev pub ReturnsSchema : ℕ → ℕ → Result ℕ Refusal → Type 0
+ReturnsSchema number code answer = answer ≡ ok_or (schema_of (supported_version number) (type_of code)) Unknown
 
 -- The result of journal_type_name: the debug name of the type that the code denotes.
-abbrev pub AnswersTypeName : ℕ → Result (List ℕ) Refusal → Type 0
-AnswersTypeName code answer = answer ≡ ok_or (option_map debug_name_of (type_of code)) Unknown
+abbrev pub ReturnsTypeName : ℕ → Result (List ℕ) Refusal → Type 0
+ReturnsTypeName code answer = answer ≡ ok_or (option_map debug_name_of (type_of code)) Unknown
 
 -- The result of journal_type_code: the code of a named type whose name this is, and Unknown where it is the name of
 -- none.
-abbrev pub AnswersTypeCode : List ℕ → Result ℕ Refusal → Type 0
-AnswersTypeCode name (Ok code) = (ty : MessageType) × IsNamed ty × (variant_name_of ty ≡ name) × (code ≡ code_of ty)
-AnswersTypeCode name (Err Unknown) = (ty : MessageType) → IsNamed ty → variant_name_of ty ≢ name
-AnswersTypeCode name (Err refusal) = ⊥
+abbrev pub ReturnsTypeCode : List ℕ → Result ℕ Refusal → Type 0
+ReturnsTypeCode name (Ok code) = (ty : MessageType) × IsNamed ty × (variant_name_of ty ≡ name) × (code ≡ code_of ty)
+ReturnsTypeCode name (Err Unknown) = (ty : MessageType) → IsNamed ty → variant_name_of ty ≢ name
+ReturnsTypeCode name (Err refusal) = ⊥

@@ -13,7 +13,7 @@ use Rattle.shared_core_message.specs.Messages.{message_schema}
 use Rattle.shared_core.specs.Typed.{MeansParts}
 use Rattle.shared_core.specs.Visiting.{written_form}
 use Rattle.shared_core_json.specs.Form.{json_text}
-use Rattle.shared_core_json.specs.Payloads.{IsSpelling, IsTooLong}
+use Rattle.shared_core_json.specs.Payloads.{IsEncoding, IsTooLong}
 use Rattle.journal_c_api.specs.declared.answer.Refusal.{Refusal}
 use Rattle.journal_c_api.specs.declared.answer.Refusal.TheVariants.{Malformed, OutOfMemory, TooLong, Unknown}
 use Rattle.journal_c_api.specs.Answers.{AtVersion, supported_version}
@@ -28,28 +28,28 @@ MeansRecord s parts payload (Err refusal) = ⊥
 
 -- Where each part of a payload is well-formed, the result is the canonical payload of what the joined parts mean, or
 -- that it is too long for a header; else it is Malformed. An allocation may fail.
-abbrev pub AnswersMeaning : ℕ → List ℕ → List (List ℕ) → Result (List ℕ) Refusal → Type 0
-AnswersMeaning s first rest (Ok bytes) =
+abbrev pub ReturnsMeaning : ℕ → List ℕ → List (List ℕ) → Result (List ℕ) Refusal → Type 0
+ReturnsMeaning s first rest (Ok bytes) =
     IsAccepted s first × All (IsAccepted s) rest × (bytes ≡ canonical_payload table s (payload_meaning s (first ++ concat rest)))
-AnswersMeaning s first rest (Err Malformed) = ¬ (IsAccepted s first × All (IsAccepted s) rest)
-AnswersMeaning s first rest (Err TooLong) =
+ReturnsMeaning s first rest (Err Malformed) = ¬ (IsAccepted s first × All (IsAccepted s) rest)
+ReturnsMeaning s first rest (Err TooLong) =
     IsAccepted s first × All (IsAccepted s) rest × (2 ^ 32 ≤ size table s (payload_meaning s (first ++ concat rest)))
-AnswersMeaning s first rest (Err OutOfMemory) = Unit {0}
-AnswersMeaning s first rest (Err refusal) = ⊥
+ReturnsMeaning s first rest (Err OutOfMemory) = Unit {0}
+ReturnsMeaning s first rest (Err refusal) = ⊥
 
 -- The result of journal_canonical and journal_merge: Unknown where no schema has the number.
-abbrev pub AnswersCanonical : ℕ → List ℕ → List (List ℕ) → Result (List ℕ) Refusal → Type 0
-AnswersCanonical s first rest answer =
-    MatchBool (nat_lt s (length schemas)) (AnswersMeaning s first rest answer) (answer ≡ Err Unknown)
+abbrev pub ReturnsCanonical : ℕ → List ℕ → List (List ℕ) → Result (List ℕ) Refusal → Type 0
+ReturnsCanonical s first rest answer =
+    MatchBool (nat_lt s (length schemas)) (ReturnsMeaning s first rest answer) (answer ≡ Err Unknown)
 
 -- Where the payload is well-formed for the schema, the result is the canonical payload of what it means, or that it is
 -- too long for a header; else it is Malformed. An allocation may fail.
-abbrev pub SpellsPayload : {Z : Type 0} → ℕ → List ℕ → Result (Vec ℕ Z) Refusal → Type 0
-SpellsPayload s payload (Ok canonical) = IsAccepted s payload × IsSpelling s (payload_meaning s payload) canonical.items
-SpellsPayload s payload (Err Malformed) = ¬ (IsAccepted s payload)
-SpellsPayload s payload (Err TooLong) = IsTooLong s payload
-SpellsPayload s payload (Err OutOfMemory) = Unit {0}
-SpellsPayload s payload (Err refusal) = ⊥
+abbrev pub EncodesPayload : {Z : Type 0} → ℕ → List ℕ → Result (Vec ℕ Z) Refusal → Type 0
+EncodesPayload s payload (Ok canonical) = IsAccepted s payload × IsEncoding s (payload_meaning s payload) canonical.items
+EncodesPayload s payload (Err Malformed) = ¬ (IsAccepted s payload)
+EncodesPayload s payload (Err TooLong) = IsTooLong s payload
+EncodesPayload s payload (Err OutOfMemory) = Unit {0}
+EncodesPayload s payload (Err refusal) = ⊥
 
 -- Where the payload is well-formed for the schema, the result is the JSON of what it means, or that its canonical
 -- payload is too long for a header; else it is Malformed. An allocation may fail.
@@ -61,8 +61,8 @@ PrintsPayload s payload (Err OutOfMemory) = Unit {0}
 PrintsPayload s payload (Err refusal) = ⊥
 
 -- The result of journal_json: Unknown where no schema has the number.
-abbrev pub AnswersJson : ℕ → List ℕ → Result (List ℕ) Refusal → Type 0
-AnswersJson s payload answer = MatchBool (nat_lt s (length schemas)) (PrintsPayload s payload answer) (answer ≡ Err Unknown)
+abbrev pub ReturnsJson : ℕ → List ℕ → Result (List ℕ) Refusal → Type 0
+ReturnsJson s payload answer = MatchBool (nat_lt s (length schemas)) (PrintsPayload s payload answer) (answer ≡ Err Unknown)
 
 -- The result is 1 where the payload is well-formed for the schema, and 0 where it is not. An allocation may fail.
 abbrev pub ChecksPayload : ℕ → List ℕ → Result ℕ Refusal → Type 0
@@ -71,35 +71,35 @@ ChecksPayload s payload (Err OutOfMemory) = Unit {0}
 ChecksPayload s payload (Err refusal) = ⊥
 
 -- The result of journal_is_well_formed: Unknown where no schema has the number.
-abbrev pub AnswersWellFormed : ℕ → List ℕ → Result ℕ Refusal → Type 0
-AnswersWellFormed s payload answer = MatchBool (nat_lt s (length schemas)) (ChecksPayload s payload answer) (answer ≡ Err Unknown)
+abbrev pub ReturnsWellFormed : ℕ → List ℕ → Result ℕ Refusal → Type 0
+ReturnsWellFormed s payload answer = MatchBool (nat_lt s (length schemas)) (ChecksPayload s payload answer) (answer ≡ Err Unknown)
 
 -- The result is the frame of a wire form, or that its payload is too long for a header. An allocation may fail.
-abbrev pub SpellsForm : MessageType → WireForm → Result (List ℕ) Refusal → Type 0
-SpellsForm ty form (Ok bytes) = bytes ≡ wire_frame ty form
-SpellsForm ty form (Err TooLong) = 2 ^ 32 ≤ wire_size form
-SpellsForm ty form (Err OutOfMemory) = Unit {0}
-SpellsForm ty form (Err refusal) = ⊥
+abbrev pub EncodesForm : MessageType → WireForm → Result (List ℕ) Refusal → Type 0
+EncodesForm ty form (Ok bytes) = bytes ≡ wire_frame ty form
+EncodesForm ty form (Err TooLong) = 2 ^ 32 ≤ wire_size form
+EncodesForm ty form (Err OutOfMemory) = Unit {0}
+EncodesForm ty form (Err refusal) = ⊥
 
 -- Where the payload is well-formed for the schema, the result is the frame of what it means; else it is Malformed. An
 -- allocation may fail.
-abbrev pub SpellsFrame : MessageType → ℕ → Version → List ℕ → Result (List ℕ) Refusal → Type 0
-SpellsFrame ty s version payload (Err Malformed) = ¬ (IsAccepted s payload)
-SpellsFrame ty s version payload (Err OutOfMemory) = Unit {0}
-SpellsFrame ty s version payload answer =
-    IsAccepted s payload × SpellsForm ty (written_form ty s version (payload_meaning s payload)) answer
+abbrev pub EncodesFrame : MessageType → ℕ → Version → List ℕ → Result (List ℕ) Refusal → Type 0
+EncodesFrame ty s version payload (Err Malformed) = ¬ (IsAccepted s payload)
+EncodesFrame ty s version payload (Err OutOfMemory) = Unit {0}
+EncodesFrame ty s version payload answer =
+    IsAccepted s payload × EncodesForm ty (written_form ty s version (payload_meaning s payload)) answer
 
 -- The result for a type with this schema: Unknown where it has none.
-abbrev pub AnswersFrameOf : MessageType → Option ℕ → Version → List ℕ → Result (List ℕ) Refusal → Type 0
-AnswersFrameOf ty (Some s) version payload answer = SpellsFrame ty s version payload answer
-AnswersFrameOf ty None version payload answer = answer ≡ Err Unknown
+abbrev pub ReturnsFrameOf : MessageType → Option ℕ → Version → List ℕ → Result (List ℕ) Refusal → Type 0
+ReturnsFrameOf ty (Some s) version payload answer = EncodesFrame ty s version payload answer
+ReturnsFrameOf ty None version payload answer = answer ≡ Err Unknown
 
 -- The result for the type that a code denotes: Unknown where it denotes none.
-abbrev pub AnswersFrameAt : Option MessageType → Version → List ℕ → Result (List ℕ) Refusal → Type 0
-AnswersFrameAt (Some ty) version payload answer = AnswersFrameOf ty (message_schema ty) version payload answer
-AnswersFrameAt None version payload answer = answer ≡ Err Unknown
+abbrev pub ReturnsFrameAt : Option MessageType → Version → List ℕ → Result (List ℕ) Refusal → Type 0
+ReturnsFrameAt (Some ty) version payload answer = ReturnsFrameOf ty (message_schema ty) version payload answer
+ReturnsFrameAt None version payload answer = answer ≡ Err Unknown
 
 -- The result of journal_frame.
-abbrev pub AnswersFrame : ℕ → ℕ → List ℕ → Result (List ℕ) Refusal → Type 0
-AnswersFrame number code payload answer =
-    AtVersion (supported_version number) answer (λ version. AnswersFrameAt (type_of code) version payload answer)
+abbrev pub ReturnsFrame : ℕ → ℕ → List ℕ → Result (List ℕ) Refusal → Type 0
+ReturnsFrame number code payload answer =
+    AtVersion (supported_version number) answer (λ version. ReturnsFrameAt (type_of code) version payload answer)

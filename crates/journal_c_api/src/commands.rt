@@ -1,7 +1,7 @@
 //! Commands compared, by their payloads.
 
 ghost use Rattle.journal_c_api.specs.Answers.{Writes, bytes_of};
-ghost use Rattle.journal_c_api.specs.Commands.{AnswersDifference, AnswersSameness, ComparesPayloads, IsDifference, IsOneWhereSame};
+ghost use Rattle.journal_c_api.specs.Commands.{ReturnsDifference, ReturnsSameness, ComparesPayloads, IsDifference, IsOneWhereSame};
 
 use crate::answer::{Refusal, write_answer};
 use crate::payloads::decoded;
@@ -21,7 +21,7 @@ pub fn header_eq(
     second: &[u8],
     ignore_payloads: bool,
 ) -> Result<usize, Refusal>
-    ensures { AnswersSameness code ignore_payloads first.now second.now result }
+    ensures { ReturnsSameness code ignore_payloads first.now second.now result }
 {
     let ty = MessageType::try_from(code)?;
     let comparing = Comparing {
@@ -45,14 +45,14 @@ pub fn write_difference(
     second: &[u8],
     out: &mut [u8],
 ) -> Result<usize, Refusal>
-    ensures { Writes (AnswersDifference code first.now second.now) out.old out.new result }
+    ensures { Writes (ReturnsDifference code first.now second.now) out.old out.new result }
 {
     write_answer(difference(alloc, code, first, second), out)
 }
 
 /// The lines of the printed fields in which the commands that two payloads of a code mean differ.
 fn difference(alloc: Global, code: u16, first: &[u8], second: &[u8]) -> Result<Vec<u8>, Refusal>
-    ensures { AnswersDifference code first.now second.now (bytes_of result) }
+    ensures { ReturnsDifference code first.now second.now (bytes_of result) }
 {
     let ty = MessageType::try_from(code)?;
     let printing = Printing {

@@ -2,7 +2,7 @@
 
 ghost use Rattle.shared_core_message.specs.Messages.{message_schema};
 ghost use Rattle.journal_c_api.specs.Answers.{Writes, bytes_of};
-ghost use Rattle.journal_c_api.specs.Payloads.{AnswersFrame, AnswersFrameOf, SpellsFrame};
+ghost use Rattle.journal_c_api.specs.Payloads.{ReturnsFrame, ReturnsFrameOf, EncodesFrame};
 
 use crate::answer::{Refusal, version_of, write_answer};
 use crate::payloads::decoded;
@@ -21,14 +21,14 @@ pub fn write_frame(
     payload: &[u8],
     out: &mut [u8],
 ) -> Result<usize, Refusal>
-    ensures { Writes (AnswersFrame version code payload.now) out.old out.new result }
+    ensures { Writes (ReturnsFrame version code payload.now) out.old out.new result }
 {
     write_answer(frame(alloc, version, code, payload), out)
 }
 
 /// The frame, at a version, of the message of a named type that a payload encodes.
 fn frame(alloc: Global, version: u32, code: u16, payload: &[u8]) -> Result<Vec<u8>, Refusal>
-    ensures { AnswersFrame version code payload.now (bytes_of result) }
+    ensures { ReturnsFrame version code payload.now (bytes_of result) }
 {
     let encoder = Encoder::new(version_of(version)?);
     let ty = MessageType::try_from(code)?;
@@ -42,7 +42,7 @@ fn frame_of(
     ty: MessageType,
     payload: &[u8],
 ) -> Result<Vec<u8>, Refusal>
-    ensures { AnswersFrameOf ty (message_schema ty) encoder.version payload.now (bytes_of result) }
+    ensures { ReturnsFrameOf ty (message_schema ty) encoder.version payload.now (bytes_of result) }
 {
     let framing = Framing {
         alloc,
@@ -63,7 +63,7 @@ struct Framing<'a> {
 impl<'a> MessageVisitor for Framing<'a> {
     type Output = Result<Vec<u8>, Refusal>;
 
-    ghost answers = { λ self ty schema answer. SpellsFrame ty schema self.encoder.version self.payload.now (bytes_of answer) };
+    ghost answers = { λ self ty schema answer. EncodesFrame ty schema self.encoder.version self.payload.now (bytes_of answer) };
 
     fn visit<M: RestateEncodableMessage + Debug>(self) -> Result<Vec<u8>, Refusal> {
         let message = decoded::<M>(self.alloc, self.payload)?;

@@ -2,8 +2,8 @@
 
 ghost use Rattle.std.specs.Prelude.{◌≡◌, ◌-◌, ℕ, List, Ok, length, take};
 ghost use Rattle.journal_c_api.specs.Answers.{Writes};
-ghost use Rattle.journal_c_api.specs.Headers.{AnswersHeader, flag_at};
-ghost use Rattle.journal_c_api.specs.Payloads.{AnswersFrame};
+ghost use Rattle.journal_c_api.specs.Headers.{ReturnsHeader, flag_at};
+ghost use Rattle.journal_c_api.specs.Payloads.{ReturnsFrame};
 
 use crate::answer::{Refusal, version_of, write_over};
 use shared_core::header::{MessageHeader, MessageType};
@@ -17,7 +17,7 @@ pub fn write_header(
     payload_length: u32,
     out: &mut [u8],
 ) -> Result<usize, Refusal>
-    ensures { Writes (AnswersHeader version code payload_length) out.old out.new result }
+    ensures { Writes (ReturnsHeader version code payload_length) out.old out.new result }
 {
     let version = version_of(version)?;
     let ty = MessageType::try_from(code)?;
@@ -45,6 +45,6 @@ fn requested_ack(version: Version, ty: MessageType) -> Option<bool>
 /// length of its payload.
 #[tactic(auto, using(crate::proofs::FrameHeaders::begins_frame))]
 pub fn headers_begin_frames()
-    ensures { (version code : ℕ) (payload frame : List ℕ) → AnswersFrame version code payload (Ok frame)
-        → AnswersHeader version code (length frame - 8) (Ok (take 8 frame)) }
+    ensures { (version code : ℕ) (payload frame : List ℕ) → ReturnsFrame version code payload (Ok frame)
+        → ReturnsHeader version code (length frame - 8) (Ok (take 8 frame)) }
 {}

@@ -2,7 +2,7 @@
 
 ghost use Rattle.std.specs.Prelude.{◌≤◌, length};
 ghost use Rattle.shared_core_base.specs.Version.{version_number};
-ghost use Rattle.journal_c_api.specs.Journals.{AnswersVerdict, ReportsAnswer, ReportsJournals, WritesVerdict};
+ghost use Rattle.journal_c_api.specs.Journals.{ReturnsVerdict, ReportsAnswer, ReportsJournals, WritesVerdict};
 ghost use Rattle.replay_bench.specs.Answers.{NotWellFormed, answer_of};
 
 use crate::answer::{Refusal, version_of, write_over};
@@ -29,7 +29,7 @@ pub fn write_verdict(
     numbers: &mut [u64],
     out: &mut [u8],
 ) -> Result<usize, Refusal>
-    ensures { WritesVerdict (AnswersVerdict version (length numbers.old) ignore_payloads recorded.now replayed.now)
+    ensures { WritesVerdict (ReturnsVerdict version (length numbers.old) ignore_payloads recorded.now replayed.now)
         numbers.old numbers.new out.old out.new result }
 {
     let version = version_of(version)?;

@@ -4,7 +4,7 @@ ghost use Rattle.std.specs.Prelude.{◌≡◌, Ok, codes, length};
 ghost use Rattle.shared_core_base.specs.MessageType.{debug_name_of};
 ghost use Rattle.shared_core_base.specs.declared.header.MessageType.TheVariants.{CustomEntry};
 ghost use Rattle.journal_c_api.specs.Answers.{Writes, written_over};
-ghost use Rattle.journal_c_api.specs.Names.{AnswersSchema, AnswersTypeCode, AnswersTypeName};
+ghost use Rattle.journal_c_api.specs.Names.{ReturnsSchema, ReturnsTypeCode, ReturnsTypeName};
 
 use crate::answer::{Refusal, version_of, write_over};
 use arrayvec::ArrayString;
@@ -24,7 +24,7 @@ pub fn write_library_version(out: &mut [u8]) -> Result<usize, Refusal>
 
 /// The number of the schema that payloads of a type have at a version.
 pub fn schema(version: u32, code: u16) -> Result<usize, Refusal>
-    ensures { AnswersSchema version code result }
+    ensures { ReturnsSchema version code result }
 {
     let version = version_of(version)?;
     let ty = MessageType::try_from(code)?;
@@ -34,7 +34,7 @@ pub fn schema(version: u32, code: u16) -> Result<usize, Refusal>
 
 /// Writes the name of the type that has a code, and returns its length in bytes.
 pub fn write_type_name(code: u16, out: &mut [u8]) -> Result<usize, Refusal>
-    ensures { Writes (AnswersTypeName code) out.old out.new result }
+    ensures { Writes (ReturnsTypeName code) out.old out.new result }
 {
     match MessageType::try_from(code)? {
         MessageType::CustomEntry(code) => Ok(write_text(custom_entry_name(code).as_str(), out)),
@@ -44,7 +44,7 @@ pub fn write_type_name(code: u16, out: &mut [u8]) -> Result<usize, Refusal>
 
 /// The code of the named type that has a name.
 pub fn type_code(name: &[u8]) -> Result<usize, Refusal>
-    ensures { AnswersTypeCode name.now result }
+    ensures { ReturnsTypeCode name.now result }
 {
     match MessageType::from_name(name) {
         Some(ty) => Ok(usize::from(u16::from(ty))),

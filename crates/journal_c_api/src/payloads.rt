@@ -2,14 +2,14 @@
 
 ghost use Rattle.std.specs.Prelude.{[], ◌∷◌, List};
 ghost use Rattle.journal_c_api.specs.Answers.{Writes, bytes_of};
-ghost use Rattle.journal_c_api.specs.Payloads.{AnswersCanonical, AnswersJson, AnswersMeaning, AnswersWellFormed, ChecksPayload, MeansRecord, SpellsPayload};
+ghost use Rattle.journal_c_api.specs.Payloads.{ReturnsCanonical, ReturnsJson, ReturnsMeaning, ReturnsWellFormed, ChecksPayload, MeansRecord, EncodesPayload};
 
 use crate::answer::{Refusal, write_answer};
 use bytes::Bytes;
 use json::Writer;
 use shared_core::messages::{RecordVisitor, visit_record};
 use shared_core::wire::{WireRecord, decode_parts};
-use shared_core_json::{write_canonical as spell_canonical, write_message};
+use shared_core_json::{write_canonical as encode_canonical, write_message};
 use std::alloc::Global;
 use std::fmt::Debug;
 
@@ -21,7 +21,7 @@ pub fn write_canonical(
     payload: &[u8],
     out: &mut [u8],
 ) -> Result<usize, Refusal>
-    ensures { Writes (AnswersCanonical schema payload.now []) out.old out.new result }
+    ensures { Writes (ReturnsCanonical schema payload.now []) out.old out.new result }
 {
     write_answer(canonical(alloc, schema, payload), out)
 }
@@ -35,7 +35,7 @@ pub fn write_merged(
     second: &[u8],
     out: &mut [u8],
 ) -> Result<usize, Refusal>
-    ensures { Writes (AnswersCanonical schema first.now (second.now ∷ [])) out.old out.new result }
+    ensures { Writes (ReturnsCanonical schema first.now (second.now ∷ [])) out.old out.new result }
 {
     write_answer(merged(alloc, schema, first, second), out)
 }
@@ -48,21 +48,21 @@ pub fn write_json(
     payload: &[u8],
     out: &mut [u8],
 ) -> Result<usize, Refusal>
-    ensures { Writes (AnswersJson schema payload.now) out.old out.new result }
+    ensures { Writes (ReturnsJson schema payload.now) out.old out.new result }
 {
     write_answer(json(alloc, schema, payload), out)
 }
 
 /// 1 where a payload is well-formed for a schema, and otherwise 0.
 pub fn is_well_formed(alloc: Global, schema: u32, payload: &[u8]) -> Result<usize, Refusal>
-    ensures { AnswersWellFormed schema payload.now result }
+    ensures { ReturnsWellFormed schema payload.now result }
 {
     visit_record(schema, Checking { alloc, payload }).ok_or(Refusal::Unknown)?
 }
 
 /// The canonical payload of what a payload means.
 fn canonical(alloc: Global, schema: u32, payload: &[u8]) -> Result<Vec<u8>, Refusal>
-    ensures { AnswersCanonical schema payload.now [] (bytes_of result) }
+    ensures { ReturnsCanonical schema payload.now [] (bytes_of result) }
 {
     visit_record(schema, Encoding { alloc, payload }).ok_or(Refusal::Unknown)?
 }
@@ -77,7 +77,7 @@ struct Encoding<'a> {
 impl<'a> RecordVisitor for Encoding<'a> {
     type Output = Result<Vec<u8>, Refusal>;
 
-    ghost answers = { λ self schema answer. AnswersMeaning schema self.payload.now [] (bytes_of answer) };
+    ghost answers = { λ self schema answer. ReturnsMeaning schema self.payload.now [] (bytes_of answer) };
 
     fn visit<M: WireRecord + Debug>(self) -> Result<Vec<u8>, Refusal> {
         let record = decoded::<M>(self.alloc, self.payload)?;
@@ -89,7 +89,7 @@ impl<'a> RecordVisitor for Encoding<'a> {
 
 /// The canonical payload of what two payloads mean, the second merged into the first.
 fn merged(alloc: Global, schema: u32, first: &[u8], second: &[u8]) -> Result<Vec<u8>, Refusal>
-    ensures { AnswersCanonical schema first.now (second.now ∷ []) (bytes_of result) }
+    ensures { ReturnsCanonical schema first.now (second.now ∷ []) (bytes_of result) }
 {
     let merging = Merging {
         alloc,
@@ -110,7 +110,7 @@ struct Merging<'a> {
 impl<'a> RecordVisitor for Merging<'a> {
     type Output = Result<Vec<u8>, Refusal>;
 
-    ghost answers = { λ self schema answer. AnswersMeaning schema self.first.now (self.second.now ∷ []) (bytes_of answer) };
+    ghost answers = { λ self schema answer. ReturnsMeaning schema self.first.now (self.second.now ∷ []) (bytes_of answer) };
 
     fn visit<M: WireRecord + Debug>(self) -> Result<Vec<u8>, Refusal> {
         let first = Bytes::copy_from_slice(self.alloc, self.first)?;
@@ -124,10 +124,10 @@ impl<'a> RecordVisitor for Merging<'a> {
 
 /// The JSON of what a payload means.
 fn json(alloc: Global, schema: u32, payload: &[u8]) -> Result<Vec<u8>, Refusal>
-    ensures { AnswersJson schema payload.now (bytes_of result) }
+    ensures { ReturnsJson schema payload.now (bytes_of result) }
 {
-    let spelling = Spelling { alloc, payload };
-    let canonical = visit_record(schema, spelling).ok_or(Refusal::Unknown)??;
+    let decoding = CanonicalPayload { alloc, payload };
+    let canonical = visit_record(schema, decoding).ok_or(Refusal::Unknown)??;
     let mut text = Writer::new(Vec::new(alloc));
     let mut base64 = String::new(alloc);
     write_message(&mut text, &mut base64, schema, canonical.as_slice())?;
@@ -136,20 +136,20 @@ fn json(alloc: Global, schema: u32, payload: &[u8]) -> Result<Vec<u8>, Refusal>
 
 /// Decodes a payload, and returns the canonical payload of what it means, from which the JSON is made.
 #[derive(Drop)]
-struct Spelling<'a> {
+struct CanonicalPayload<'a> {
     alloc: Global,
     payload: &'a [u8],
 }
 
-impl<'a> RecordVisitor for Spelling<'a> {
+impl<'a> RecordVisitor for CanonicalPayload<'a> {
     type Output = Result<Vec<u8>, Refusal>;
 
-    ghost answers = { λ self schema answer. SpellsPayload schema self.payload.now answer };
+    ghost answers = { λ self schema answer. EncodesPayload schema self.payload.now answer };
 
     fn visit<M: WireRecord + Debug>(self) -> Result<Vec<u8>, Refusal> {
         let payload = Bytes::copy_from_slice(self.alloc, self.payload)?;
         let mut canonical = Vec::new(self.alloc);
-        spell_canonical::<M>(self.alloc, &payload, &mut canonical)?;
+        encode_canonical::<M>(self.alloc, &payload, &mut canonical)?;
         Ok(canonical)
     }
 }

@@ -3,7 +3,7 @@ use Rattle.std.specs.Prelude.{◌≡◌, ℕ, List, Option, Some, None, Result, 
 use Rattle.shared_core_codec.specs.Payloads.{IsAccepted, payload_meaning}
 use Rattle.shared_core_json.specs.declared.error.JsonError.{JsonError}
 use Rattle.shared_core_json.specs.declared.error.JsonError.TheVariants.{Malformed, TooLong, OutOfMemory}
-use Rattle.shared_core_json.specs.Payloads.{IsSpelling, IsTooLong}
+use Rattle.shared_core_json.specs.Payloads.{IsEncoding, IsTooLong}
 
 -- There is a schema, the payload is well-formed for it, and the canonical payload of what it means is too long to be
 -- written.
@@ -13,9 +13,9 @@ IsLongFor schema payload = (s : ℕ) × (schema ≡ Some s) × IsTooLong s paylo
 -- If there is a schema, its number is returned, and the canonical payload of what the payload means is written;
 -- Malformed only if the payload is not well-formed for the schema; TooLong only if that canonical payload is too long;
 -- None only if there is no schema.
-abbrev pub AnswersSpelling : Option ℕ → List ℕ → List ℕ → Result (Option ℕ) JsonError → Type 0
-AnswersSpelling schema payload canonical (Ok None) = schema ≡ None
-AnswersSpelling schema payload canonical (Ok (Some s)) = (schema ≡ Some s) × IsAccepted s payload × IsSpelling s (payload_meaning s payload) canonical
-AnswersSpelling schema payload canonical (Err Malformed) = (s : ℕ) × (schema ≡ Some s) × ¬ (IsAccepted s payload)
-AnswersSpelling schema payload canonical (Err TooLong) = IsLongFor schema payload
-AnswersSpelling schema payload canonical (Err OutOfMemory) = Unit {0}
+abbrev pub ReturnsEncoding : Option ℕ → List ℕ → List ℕ → Result (Option ℕ) JsonError → Type 0
+ReturnsEncoding schema payload canonical (Ok None) = schema ≡ None
+ReturnsEncoding schema payload canonical (Ok (Some s)) = (schema ≡ Some s) × IsAccepted s payload × IsEncoding s (payload_meaning s payload) canonical
+ReturnsEncoding schema payload canonical (Err Malformed) = (s : ℕ) × (schema ≡ Some s) × ¬ (IsAccepted s payload)
+ReturnsEncoding schema payload canonical (Err TooLong) = IsLongFor schema payload
+ReturnsEncoding schema payload canonical (Err OutOfMemory) = Unit {0}

@@ -3,10 +3,10 @@
 ghost use Rattle.std.specs.Prelude.{IfOk};
 ghost use Rattle.std.specs.Result.{IsErrOf};
 ghost use Rattle.shared_core_codec.specs.Payloads.{IsAccepted, payload_meaning};
-ghost use Rattle.shared_core_json.specs.Payloads.{IsSpelling, IsTooLong};
+ghost use Rattle.shared_core_json.specs.Payloads.{IsEncoding, IsTooLong};
 ghost use Rattle.shared_core_json.specs.declared.error.JsonError.TheVariants.{Malformed, TooLong};
 ghost use Rattle.shared_core.specs.Visiting.{schema_at};
-ghost use Rattle.journal_dump.specs.Canonical.{AnswersSpelling};
+ghost use Rattle.journal_dump.specs.Canonical.{ReturnsEncoding};
 
 use bytes::Bytes;
 use shared_core::header::MessageType;
@@ -27,7 +27,7 @@ pub fn canonical_of(
     payload: &Bytes,
     canonical: &mut Vec<u8>,
 ) -> Result<Option<u32>, JsonError>
-    ensures { AnswersSpelling (schema_at version ty) payload.now canonical.new.items result }
+    ensures { ReturnsEncoding (schema_at version ty) payload.now canonical.new.items result }
 {
     let Some(schema) = schema_at(version, ty) else {
         return Ok(None);
@@ -59,7 +59,7 @@ impl<'a> RecordVisitor for Writing<'a> {
     type Output = Result<Vec<u8>, JsonError>;
 
     ghost answers = { λ self schema answer.
-        IfOk answer (λ buffer. IsAccepted schema self.payload.now × IsSpelling schema (payload_meaning schema self.payload.now) buffer.items)
+        IfOk answer (λ buffer. IsAccepted schema self.payload.now × IsEncoding schema (payload_meaning schema self.payload.now) buffer.items)
         × (IsErrOf answer Malformed → ¬ (IsAccepted schema self.payload.now))
         × (IsErrOf answer TooLong → IsTooLong schema self.payload.now) };
 

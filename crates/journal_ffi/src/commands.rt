@@ -2,7 +2,7 @@
 
 ghost use Rattle.std.specs.Prelude.{nat_lt};
 ghost use Rattle.journal_c_api.specs.Answers.{Answers, Writes};
-ghost use Rattle.journal_c_api.specs.Commands.{AnswersDifference, AnswersSameness};
+ghost use Rattle.journal_c_api.specs.Commands.{ReturnsDifference, ReturnsSameness};
 
 use journal_c_api::answer::answer_of;
 use journal_c_api::commands;
@@ -20,7 +20,7 @@ pub extern "C" fn journal_header_eq(
     second: &[u8],
     ignore_payloads: u32,
 ) -> i64
-    ensures { Answers result (AnswersSameness code (nat_lt 0 ignore_payloads) first.now second.now) }
+    ensures { Answers result (ReturnsSameness code (nat_lt 0 ignore_payloads) first.now second.now) }
 {
     answer_of(commands::header_eq(alloc, code, first, second, ignore_payloads != 0))
 }
@@ -37,7 +37,7 @@ pub extern "C" fn journal_difference(
     second: &[u8],
     out: &mut [u8],
 ) -> i64
-    ensures { Answers result (Writes (AnswersDifference code first.now second.now) out.old out.new) }
+    ensures { Answers result (Writes (ReturnsDifference code first.now second.now) out.old out.new) }
 {
     answer_of(commands::write_difference(alloc, code, first, second, out))
 }

@@ -1,8 +1,8 @@
 //! The calls that make headers and frames.
 
 ghost use Rattle.journal_c_api.specs.Answers.{Answers, Writes};
-ghost use Rattle.journal_c_api.specs.Headers.{AnswersHeader};
-ghost use Rattle.journal_c_api.specs.Payloads.{AnswersFrame};
+ghost use Rattle.journal_c_api.specs.Headers.{ReturnsHeader};
+ghost use Rattle.journal_c_api.specs.Payloads.{ReturnsFrame};
 
 use journal_c_api::answer::answer_of;
 use journal_c_api::{frames, headers};
@@ -18,7 +18,7 @@ pub extern "C" fn journal_header(
     payload_length: u32,
     out: &mut [u8],
 ) -> i64
-    ensures { Answers result (Writes (AnswersHeader version code payload_length) out.old out.new) }
+    ensures { Answers result (Writes (ReturnsHeader version code payload_length) out.old out.new) }
 {
     answer_of(headers::write_header(version, code, payload_length, out))
 }
@@ -36,7 +36,7 @@ pub extern "C" fn journal_frame(
     payload: &[u8],
     out: &mut [u8],
 ) -> i64
-    ensures { Answers result (Writes (AnswersFrame version code payload.now) out.old out.new) }
+    ensures { Answers result (Writes (ReturnsFrame version code payload.now) out.old out.new) }
 {
     answer_of(frames::write_frame(alloc, version, code, payload, out))
 }

@@ -2,7 +2,7 @@
 
 ghost use Rattle.std.specs.Prelude.{nat_lt, length};
 ghost use Rattle.journal_c_api.specs.Answers.{Answers};
-ghost use Rattle.journal_c_api.specs.Journals.{AnswersVerdict, WritesVerdict};
+ghost use Rattle.journal_c_api.specs.Journals.{ReturnsVerdict, WritesVerdict};
 
 use journal_c_api::answer::answer_of;
 use journal_c_api::journals;
@@ -23,7 +23,7 @@ pub extern "C" fn journal_verdict(
     numbers: &mut [u64],
     out: &mut [u8],
 ) -> i64
-    ensures { Answers result (WritesVerdict (AnswersVerdict version (length numbers.old) (nat_lt 0 ignore_payloads) recorded.now replayed.now)
+    ensures { Answers result (WritesVerdict (ReturnsVerdict version (length numbers.old) (nat_lt 0 ignore_payloads) recorded.now replayed.now)
         numbers.old numbers.new out.old out.new) }
 {
     let ignore_payloads = ignore_payloads != 0;

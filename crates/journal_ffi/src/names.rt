@@ -2,7 +2,7 @@
 
 ghost use Rattle.std.specs.Prelude.{◌≡◌, Ok, codes};
 ghost use Rattle.journal_c_api.specs.Answers.{Answers, Writes};
-ghost use Rattle.journal_c_api.specs.Names.{AnswersSchema, AnswersTypeCode, AnswersTypeName};
+ghost use Rattle.journal_c_api.specs.Names.{ReturnsSchema, ReturnsTypeCode, ReturnsTypeName};
 
 use journal_c_api::answer::answer_of;
 use journal_c_api::names;
@@ -19,7 +19,7 @@ pub extern "C" fn journal_library_version(out: &mut [u8]) -> i64
 /// `Unknown` if the number is no version's or the code no named type's.
 #[unsafe(no_mangle)]
 pub extern "C" fn journal_schema(version: u32, code: u16) -> i64
-    ensures { Answers result (AnswersSchema version code) }
+    ensures { Answers result (ReturnsSchema version code) }
 {
     answer_of(names::schema(version, code))
 }
@@ -28,7 +28,7 @@ pub extern "C" fn journal_schema(version: u32, code: u16) -> i64
 /// it.
 #[unsafe(no_mangle)]
 pub extern "C" fn journal_type_name(code: u16, out: &mut [u8]) -> i64
-    ensures { Answers result (Writes (AnswersTypeName code) out.old out.new) }
+    ensures { Answers result (Writes (ReturnsTypeName code) out.old out.new) }
 {
     answer_of(names::write_type_name(code, out))
 }
@@ -36,7 +36,7 @@ pub extern "C" fn journal_type_name(code: u16, out: &mut [u8]) -> i64
 /// Returns the code of the named type that has the name, as "SleepCommand". `Unknown` if none has.
 #[unsafe(no_mangle)]
 pub extern "C" fn journal_type_code(name: &[u8]) -> i64
-    ensures { Answers result (AnswersTypeCode name.now) }
+    ensures { Answers result (ReturnsTypeCode name.now) }
 {
     answer_of(names::type_code(name))
 }

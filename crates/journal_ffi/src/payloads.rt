@@ -2,7 +2,7 @@
 
 ghost use Rattle.std.specs.Prelude.{[], ◌∷◌};
 ghost use Rattle.journal_c_api.specs.Answers.{Answers, Writes};
-ghost use Rattle.journal_c_api.specs.Payloads.{AnswersCanonical, AnswersJson, AnswersWellFormed};
+ghost use Rattle.journal_c_api.specs.Payloads.{ReturnsCanonical, ReturnsJson, ReturnsWellFormed};
 
 use journal_c_api::answer::answer_of;
 use journal_c_api::payloads;
@@ -12,7 +12,7 @@ use std::alloc::Global;
 /// if no schema has the number.
 #[unsafe(no_mangle)]
 pub extern "C" fn journal_is_well_formed(alloc: Global, schema: u32, payload: &[u8]) -> i64
-    ensures { Answers result (AnswersWellFormed schema payload.now) }
+    ensures { Answers result (ReturnsWellFormed schema payload.now) }
 {
     answer_of(payloads::is_well_formed(alloc, schema, payload))
 }
@@ -28,7 +28,7 @@ pub extern "C" fn journal_canonical(
     payload: &[u8],
     out: &mut [u8],
 ) -> i64
-    ensures { Answers result (Writes (AnswersCanonical schema payload.now []) out.old out.new) }
+    ensures { Answers result (Writes (ReturnsCanonical schema payload.now []) out.old out.new) }
 {
     answer_of(payloads::write_canonical(alloc, schema, payload, out))
 }
@@ -43,7 +43,7 @@ pub extern "C" fn journal_merge(
     second: &[u8],
     out: &mut [u8],
 ) -> i64
-    ensures { Answers result (Writes (AnswersCanonical schema first.now (second.now ∷ [])) out.old out.new) }
+    ensures { Answers result (Writes (ReturnsCanonical schema first.now (second.now ∷ [])) out.old out.new) }
 {
     answer_of(payloads::write_merged(alloc, schema, first, second, out))
 }
@@ -52,7 +52,7 @@ pub extern "C" fn journal_merge(
 /// of `journal_canonical`.
 #[unsafe(no_mangle)]
 pub extern "C" fn journal_json(alloc: Global, schema: u32, payload: &[u8], out: &mut [u8]) -> i64
-    ensures { Answers result (Writes (AnswersJson schema payload.now) out.old out.new) }
+    ensures { Answers result (Writes (ReturnsJson schema payload.now) out.old out.new) }
 {
     answer_of(payloads::write_json(alloc, schema, payload, out))
 }

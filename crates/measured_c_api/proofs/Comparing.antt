@@ -13,7 +13,7 @@ use Rattle.measured_c_api.specs.Comparisons.{ComparesItem, ComparesAll}
 use Rattle.measured_c_api.specs.Streams.{Decodes, count_with}
 use Rattle.measured_c_api.proofs.Counting.{count_more}
 
--- what a compared item says of the items behind which it stands
+-- what a compared item says of the items after which it stands
 pub item_compared : (rounds : ℕ) (item : Item) (held : ℕ) → ComparesItem rounds item (Ok held)
     → Decodes command_schema item × (held ≡ rounds * count_with command_schema (item ∷ []))
 item_compared rounds (Message message) held (accepted, is) = (accepted, is ∙ ap (λ n. rounds * n) (sym (add-zero _)))

@@ -62,7 +62,7 @@ count_more schema_of (Message message ∷ items) item = omega (arith, count_more
 count_more schema_of (Unknown code ∷ items) item = count_more schema_of items item
 count_more schema_of (Skipped code payload ∷ items) item = count_more schema_of items item
 
--- what a decoded item says of the items behind which it stands
+-- what a decoded item says of the items after which it stands
 pub item_decoded : (item : Item) (count : ℕ) → DecodesItem item (Ok count)
     → Decodes message_schema item × (count ≡ count_with message_schema (item ∷ []))
 item_decoded (Message message) count (accepted, is) = (accepted, omega (arith, is, none_counted message_schema))

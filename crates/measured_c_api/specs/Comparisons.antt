@@ -41,5 +41,5 @@ ComparesAll rounds version stream (Err TooLong) =
 ComparesAll rounds version stream (Err refusal) = ⊥
 
 -- The result of measure_compare.
-abbrev pub AnswersComparisons : ℕ → List ℕ → ℕ → Result ℕ Refusal → Type 0
-AnswersComparisons number stream rounds answer = AtVersion (supported_version number) answer (λ version. ComparesAll rounds version stream answer)
+abbrev pub ReturnsComparisons : ℕ → List ℕ → ℕ → Result ℕ Refusal → Type 0
+ReturnsComparisons number stream rounds answer = AtVersion (supported_version number) answer (λ version. ComparesAll rounds version stream answer)

@@ -20,7 +20,7 @@ ComeBefore calls rounds (Err refusal) = calls ≤ rounds - 1
 
 -- The work is done round by round, each on the numbers that the one before it left. The last gives the result, and each
 -- before it a value.
-abbrev pub AnswersInRounds : {T : Type 0} → (List ℕ → Result T Refusal → List ℕ → Type 0) → ℕ → List ℕ → Result T Refusal → List ℕ → Type 0
-AnswersInRounds {T} works rounds old answer new =
+abbrev pub ReturnsInRounds : {T : Type 0} → (List ℕ → Result T Refusal → List ℕ → Type 0) → ℕ → List ℕ → Result T Refusal → List ℕ → Type 0
+ReturnsInRounds {T} works rounds old answer new =
     (values : List T) × (between : List ℕ) × FoldsTo (λ before value after. works before (Ok value) after) old values between
     × works between answer new × ComeBefore (length values) rounds answer

@@ -89,9 +89,9 @@ DecodesAll version stream (Err OutOfMemory) = Unit {0}
 DecodesAll version stream (Err refusal) = ⊥
 
 -- The result of measure_items.
-abbrev pub AnswersItems : ℕ → List ℕ → List ℕ → Result ℕ Refusal → Type 0
-AnswersItems number stream words answer = AtVersion (supported_version number) answer (λ version. WritesWords version stream words answer)
+abbrev pub ReturnsItems : ℕ → List ℕ → List ℕ → Result ℕ Refusal → Type 0
+ReturnsItems number stream words answer = AtVersion (supported_version number) answer (λ version. WritesWords version stream words answer)
 
 -- The result of measure_messages.
-abbrev pub AnswersMessages : ℕ → List ℕ → Result ℕ Refusal → Type 0
-AnswersMessages number stream answer = AtVersion (supported_version number) answer (λ version. DecodesAll version stream answer)
+abbrev pub ReturnsMessages : ℕ → List ℕ → Result ℕ Refusal → Type 0
+ReturnsMessages number stream answer = AtVersion (supported_version number) answer (λ version. DecodesAll version stream answer)

@@ -4,7 +4,7 @@ ghost use Rattle.std.specs.Prelude.{◌≡◌, ◌≤◌, Some};
 ghost use Rattle.shared_core_base.specs.Version.{version_number};
 ghost use Rattle.shared_core_compare.specs.Erasure.{AreSame};
 ghost use Rattle.shared_core.specs.Visiting.{command_schema};
-ghost use Rattle.measured_c_api.specs.Comparisons.{AnswersComparisons, ComparesAll, ComparesItem, ComparesPayload, HoldsInRounds};
+ghost use Rattle.measured_c_api.specs.Comparisons.{ReturnsComparisons, ComparesAll, ComparesItem, ComparesPayload, HoldsInRounds};
 
 use crate::pieced_stream::PiecedStream;
 use bytes::Bytes;
@@ -25,7 +25,7 @@ pub fn compare(
     ignore_payloads: bool,
     rounds: usize,
 ) -> Result<usize, Refusal>
-    ensures { AnswersComparisons version stream.now rounds result }
+    ensures { ReturnsComparisons version stream.now rounds result }
 {
     let version = version_of(version)?;
     let stream = Bytes::copy_from_slice(alloc, stream)?;

@@ -4,7 +4,7 @@ ghost use Rattle.std.specs.Prelude.{◌≡◌, ◌≤◌};
 ghost use Rattle.shared_core_base.specs.Version.{version_number};
 ghost use Rattle.shared_core_message.specs.Messages.{message_schema};
 ghost use Rattle.journal_c_api.specs.Answers.{Writes};
-ghost use Rattle.journal_c_api.specs.Payloads.{AnswersFrame, AnswersFrameOf, SpellsForm, SpellsFrame};
+ghost use Rattle.journal_c_api.specs.Payloads.{ReturnsFrame, ReturnsFrameOf, EncodesForm, EncodesFrame};
 
 use crate::rounds::repeated;
 use bytes::{Bytes, BytesMut};
@@ -54,7 +54,7 @@ pub fn write_frame(
     rounds: Rounds,
     out: &mut [u8],
 ) -> Result<usize, Refusal>
-    ensures { Writes (AnswersFrame version code payload.now) out.old out.new result }
+    ensures { Writes (ReturnsFrame version code payload.now) out.old out.new result }
 {
     let frame = frame(alloc, version, code, payload, rounds)?;
     write_over(&frame, out);
@@ -69,7 +69,7 @@ fn frame(
     payload: &[u8],
     rounds: Rounds,
 ) -> Result<Bytes, Refusal>
-    ensures { AnswersFrame version code payload.now result }
+    ensures { ReturnsFrame version code payload.now result }
 {
     let encoder = Encoder::new(version_of(version)?);
     let ty = MessageType::try_from(code)?;
@@ -84,7 +84,7 @@ fn frame_of(
     payload: &[u8],
     rounds: Rounds,
 ) -> Result<Bytes, Refusal>
-    ensures { AnswersFrameOf ty (message_schema ty) encoder.version payload.now result }
+    ensures { ReturnsFrameOf ty (message_schema ty) encoder.version payload.now result }
 {
     let framing = Framing {
         alloc,
@@ -107,7 +107,7 @@ struct Framing<'a> {
 impl<'a> MessageVisitor for Framing<'a> {
     type Output = Result<Bytes, Refusal>;
 
-    ghost answers = { λ self ty schema answer. SpellsFrame ty schema self.encoder.version self.payload.now answer };
+    ghost answers = { λ self ty schema answer. EncodesFrame ty schema self.encoder.version self.payload.now answer };
 
     fn visit<M: RestateEncodableMessage + Debug>(self) -> Result<Bytes, Refusal> {
         let message = decoded::<M>(self.alloc, self.payload)?;
@@ -127,7 +127,7 @@ fn encode_new<M: RestateEncodableMessage>(
     message: &M,
     rounds: usize,
 ) -> Result<Bytes, Refusal>
-    ensures { SpellsForm M.message_type (M.wire_form message.now encoder.version) result }
+    ensures { EncodesForm M.message_type (M.wire_form message.now encoder.version) result }
 {
     repeated(
         rounds,
@@ -143,7 +143,7 @@ fn encode_reused<M: RestateEncodableMessage>(
     message: &M,
     rounds: usize,
 ) -> Result<Bytes, Refusal>
-    ensures { SpellsForm M.message_type (M.wire_form message.now encoder.version) result }
+    ensures { EncodesForm M.message_type (M.wire_form message.now encoder.version) result }
 {
     let mut frame = Vec::new(alloc);
     for _round in 1..rounds {
@@ -165,7 +165,7 @@ fn encode_spare<M: RestateEncodableMessage>(
     message: &M,
     rounds: usize,
 ) -> Result<Bytes, Refusal>
-    ensures { SpellsForm M.message_type (M.wire_form message.now encoder.version) result }
+    ensures { EncodesForm M.message_type (M.wire_form message.now encoder.version) result }
 {
     let mut frame = BytesMut::new(alloc);
     for _round in 1..rounds {
@@ -187,7 +187,7 @@ fn encode_shared<M: RestateEncodableMessage>(
     message: &M,
     rounds: usize,
 ) -> Result<Bytes, Refusal>
-    ensures { SpellsForm M.message_type (M.wire_form message.now encoder.version) result }
+    ensures { EncodesForm M.message_type (M.wire_form message.now encoder.version) result }
 {
     let mut block = BytesMut::with_capacity(alloc, BLOCK)?;
     let mut held = Vec::with_capacity(alloc, HELD)?;
@@ -210,7 +210,7 @@ fn shared_frame<M: RestateEncodableMessage>(
     message: &M,
     block: &mut BytesMut,
 ) -> Result<Bytes, Refusal>
-    ensures { SpellsForm M.message_type (M.wire_form message.now encoder.now.version) result }
+    ensures { EncodesForm M.message_type (M.wire_form message.now encoder.now.version) result }
 {
     block.clear();
     encoder.encode_into_bytes(message, block)?;

@@ -1,6 +1,6 @@
 //! Benchmark work: checking payloads.
 
-ghost use Rattle.journal_c_api.specs.Payloads.{AnswersWellFormed};
+ghost use Rattle.journal_c_api.specs.Payloads.{ReturnsWellFormed};
 
 use crate::rounds::repeated;
 use journal_c_api::answer::Refusal;
@@ -14,7 +14,7 @@ pub fn is_well_formed(
     payload: &[u8],
     rounds: usize,
 ) -> Result<usize, Refusal>
-    ensures { AnswersWellFormed schema payload.now result }
+    ensures { ReturnsWellFormed schema payload.now result }
 {
     repeated(
         rounds,

@@ -1,6 +1,6 @@
 //! Repeating work.
 
-ghost use Rattle.measured_c_api.specs.Rounds.{AnswersInRounds, WorksAt};
+ghost use Rattle.measured_c_api.specs.Rounds.{ReturnsInRounds, WorksAt};
 
 use journal_c_api::answer::Refusal;
 
@@ -12,7 +12,7 @@ pub fn repeated<T: Drop, F: Fn(&mut [u64]) -> Result<T, Refusal>>(
     work: F,
 ) -> Result<T, Refusal>
     requires { F.IsAlwaysCallable work }
-    ensures { AnswersInRounds (WorksAt F.Fn work) rounds words.old result words.new }
+    ensures { ReturnsInRounds (WorksAt F.Fn work) rounds words.old result words.new }
 {
     for _round in 0..rounds.saturating_sub(1) {
         work(words)?;

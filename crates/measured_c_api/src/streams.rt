@@ -2,7 +2,7 @@
 
 ghost use Rattle.std.specs.Prelude.{◌≡◌, ◌≤◌};
 ghost use Rattle.shared_core_base.specs.Version.{version_number};
-ghost use Rattle.measured_c_api.specs.Streams.{AnswersItems, AnswersMessages, WritesWords, DecodesAll, DecodesItem, HasWord, item_word};
+ghost use Rattle.measured_c_api.specs.Streams.{ReturnsItems, ReturnsMessages, WritesWords, DecodesAll, DecodesItem, HasWord, item_word};
 
 use crate::messages::decode;
 use crate::pieced_stream::PiecedStream;
@@ -22,7 +22,7 @@ pub fn items(
     rounds: usize,
     words: &mut [u64],
 ) -> Result<usize, Refusal>
-    ensures { AnswersItems version stream.now words.new result }
+    ensures { ReturnsItems version stream.now words.new result }
 {
     let version = version_of(version)?;
     let stream = Bytes::copy_from_slice(alloc, stream)?;
@@ -39,7 +39,7 @@ pub fn messages(
     piece: usize,
     rounds: usize,
 ) -> Result<usize, Refusal>
-    ensures { AnswersMessages version stream.now result }
+    ensures { ReturnsMessages version stream.now result }
 {
     let version = version_of(version)?;
     let stream = Bytes::copy_from_slice(alloc, stream)?;

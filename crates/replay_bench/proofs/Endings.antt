@@ -10,7 +10,7 @@ use Rattle.replay_bench.specs.declared.verdicts.ReaderError.TheVariants.{Bench}
 use Rattle.replay_bench.specs.Journals.{IsJournal}
 use Rattle.replay_bench.specs.Taking.{HasNoCommand, TakesFirst}
 use Rattle.replay_bench.specs.Answers.{Answer, SameCommands, RecordedEnds, ReplayedEnds, NotWellFormed, answer_of}
-use Rattle.replay_bench.specs.Verdicts.{AnswersPair, AreAlike, ComparesKnown, HasAnswer, IsAnswer, IsFound}
+use Rattle.replay_bench.specs.Verdicts.{ReturnsPair, AreAlike, ComparesKnown, HasAnswer, IsAnswer, IsFound}
 use Rattle.replay_bench.proofs.Fronts.{journal_of}
 
 module _ (version : Version) (ignore : Bool) where
@@ -42,26 +42,26 @@ module _ (version : Version) (ignore : Bool) where
 
   -- ---- one command of each is taken
 
-  pub are_alike : (index : ℕ) (actual expected : RawMessage) → AnswersPair ignore index actual expected (Ok None) → AreAlike ignore actual expected
-  unfolding AnswersPair
+  pub are_alike : (index : ℕ) (actual expected : RawMessage) → ReturnsPair ignore index actual expected (Ok None) → AreAlike ignore actual expected
+  unfolding ReturnsPair
   are_alike index actual expected is = is
 
-  pub is_found : (index : ℕ) (actual expected : RawMessage) (verdict : Verdict) → AnswersPair ignore index actual expected (Ok (Some verdict)) → IsFound ignore index actual expected (answer_of verdict)
-  unfolding AnswersPair
+  pub is_found : (index : ℕ) (actual expected : RawMessage) (verdict : Verdict) → ReturnsPair ignore index actual expected (Ok (Some verdict)) → IsFound ignore index actual expected (answer_of verdict)
+  unfolding ReturnsPair
   is_found index actual expected verdict is = is
 
   module _ (index : ℕ) (actual expected : RawMessage) where
     -- they are alike
-    pub goes_behind : (recorded replayed left others now then : Option (List ℕ)) → GoesOn recorded replayed index left others
+    pub goes_after : (recorded replayed left others now then : Option (List ℕ)) → GoesOn recorded replayed index left others
         → TakesFirst version left (Some actual) now → TakesFirst version others (Some expected) then → AreAlike ignore actual expected
         → GoesOn recorded replayed (index + 1) now then
-    goes_behind None replayed left others now then goes one other alike = tt
-    goes_behind (Some recorded) None left others now then goes one other alike = tt
-    goes_behind (Some recorded) (Some replayed) None others now then goes one other alike = absurd goes
-    goes_behind (Some recorded) (Some replayed) (Some left) None now then goes one other alike = absurd goes
-    goes_behind (Some recorded) (Some replayed) (Some left) (Some others) None then goes one other alike = absurd one
-    goes_behind (Some recorded) (Some replayed) (Some left) (Some others) (Some now) None goes one other alike = absurd other
-    goes_behind (Some recorded) (Some replayed) (Some left) (Some others) (Some now) (Some then) goes one other alike = record {
+    goes_after None replayed left others now then goes one other alike = tt
+    goes_after (Some recorded) None left others now then goes one other alike = tt
+    goes_after (Some recorded) (Some replayed) None others now then goes one other alike = absurd goes
+    goes_after (Some recorded) (Some replayed) (Some left) None now then goes one other alike = absurd goes
+    goes_after (Some recorded) (Some replayed) (Some left) (Some others) None then goes one other alike = absurd one
+    goes_after (Some recorded) (Some replayed) (Some left) (Some others) (Some now) None goes one other alike = absurd other
+    goes_after (Some recorded) (Some replayed) (Some left) (Some others) (Some now) (Some then) goes one other alike = record {
       decides = λ rest more answer is is_other verdict.
           goes.decides (actual ∷ rest) (expected ∷ more) answer (one rest is) (other more is_other) (inl (alike, verdict));
     }
@@ -150,9 +150,9 @@ module _ (version : Version) (ignore : Bool) where
   -- two commands are refused
   pub answers_refusal : (index : ℕ) (actual expected : RawMessage) (recorded replayed left others now then : Option (List ℕ)) (refusal : BenchError)
       → GoesOn recorded replayed index left others
-      → TakesFirst version left (Some actual) now → TakesFirst version others (Some expected) then → AnswersPair ignore index actual expected (Err refusal)
+      → TakesFirst version left (Some actual) now → TakesFirst version others (Some expected) then → ReturnsPair ignore index actual expected (Err refusal)
       → ComparesKnown version ignore recorded replayed (Err (Bench refusal))
-  unfolding AnswersPair
+  unfolding ReturnsPair
   answers_refusal index actual expected recorded replayed left others now then OutOfMemory goes one other refused = answers_memory recorded replayed
   answers_refusal index actual expected recorded replayed left others now then TooLong goes one other refused = absurd refused
   answers_refusal index actual expected recorded replayed left others now then (Malformed side at) goes one other refused =

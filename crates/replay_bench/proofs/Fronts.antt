@@ -35,7 +35,7 @@ module _ (version : Version) where
   pub leads_nowhere : (bytes : List ℕ) → LeadsTo version bytes None bytes
   leads_nowhere bytes = record { joins = λ more commands is. is }
 
-  -- one item more, behind items that are no commands
+  -- one item more, after items that are no commands
   pub leads_on : (old between new : List ℕ) (item : Item) (first : Option RawMessage) → LeadsTo version old None between → TakesItem version between item new → first ≡ command_of item → LeadsTo version old first new
   leads_on old between new item first before taken is = record {
     joins = λ more commands journal.
@@ -50,11 +50,11 @@ module _ (version : Version) where
   takes_nothing None = tt
   takes_nothing (Some bytes) = λ commands is. is
 
-  pub takes_behind : (old between new : Option (List ℕ)) (first : Option RawMessage) → TakesFirst version old None between → TakesFirst version between first new → TakesFirst version old first new
-  takes_behind None between new first before taken = tt
-  takes_behind (Some old) None new first before taken = absurd before
-  takes_behind (Some old) (Some between) None first before taken = absurd taken
-  takes_behind (Some old) (Some between) (Some new) first before taken = λ commands is. before (with_first first commands) (taken commands is)
+  pub takes_after : (old between new : Option (List ℕ)) (first : Option RawMessage) → TakesFirst version old None between → TakesFirst version between first new → TakesFirst version old first new
+  takes_after None between new first before taken = tt
+  takes_after (Some old) None new first before taken = absurd before
+  takes_after (Some old) (Some between) None first before taken = absurd taken
+  takes_after (Some old) (Some between) (Some new) first before taken = λ commands is. before (with_first first commands) (taken commands is)
 
   -- what the decoder holds is the front of the journal
   pub takes_held : (old new : List ℕ) (coming : Option (List ℕ)) (first : Option RawMessage) → LeadsTo version old first new → TakesFirst version (prepend_known old coming) first (prepend_known new coming)
@@ -74,7 +74,7 @@ module _ (version : Version) where
   nothing_left held (Some old) end none =
       subst (λ bytes. IsJournal version bytes []) (sym (append-nil held) ∙ ap (λ l. held ++ l) (sym end)) (none_begins held none)
 
-  pub nothing_behind : (old new : Option (List ℕ)) → TakesFirst version old None new → HasNoCommand version new → HasNoCommand version old
-  nothing_behind None new taken none = tt
-  nothing_behind (Some old) None taken none = absurd taken
-  nothing_behind (Some old) (Some new) taken none = taken [] none
+  pub nothing_after : (old new : Option (List ℕ)) → TakesFirst version old None new → HasNoCommand version new → HasNoCommand version old
+  nothing_after None new taken none = tt
+  nothing_after (Some old) None taken none = absurd taken
+  nothing_after (Some old) (Some new) taken none = taken [] none

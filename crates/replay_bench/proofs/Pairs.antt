@@ -20,7 +20,7 @@ use Rattle.shared_core.specs.Typed.{MeansParts}
 use Rattle.replay_bench.specs.declared.verdicts.Side.TheVariants.{Recorded, Replayed}
 use Rattle.replay_bench.specs.declared.verdicts.Verdict.TheVariants.{TypeMismatch, HeaderMismatch}
 use Rattle.replay_bench.specs.declared.verdicts.BenchError.TheVariants.{OutOfMemory}
-use Rattle.replay_bench.specs.Verdicts.{AnswersPair, IsMalformedOn, IsPair, MeanOthers, MeanTheSame, bench_error_of}
+use Rattle.replay_bench.specs.Verdicts.{ReturnsPair, IsMalformedOn, IsPair, MeanOthers, MeanTheSame, bench_error_of}
 
 -- Two commands of the type of a record with this schema, at an index.
 pub record AreTyped (actual expected : RawMessage) (s : ℕ) : Type 0 where
@@ -35,13 +35,13 @@ are_typed index actual expected ty s pair own = record {
 
 module _ (ignore : Bool) (index : ℕ) (actual expected : RawMessage) where
   -- memory may be wanting
-  pub pair_memory : AnswersPair ignore index actual expected (Err OutOfMemory)
-  unfolding AnswersPair
+  pub pair_memory : ReturnsPair ignore index actual expected (Err OutOfMemory)
+  unfolding ReturnsPair
   pair_memory = tt
 
   -- the types differ
-  pub pair_types : (text : String Global) → actual.header.ty ≢ expected.header.ty → string_bytes text ≡ command_type_mismatch_text (pos index) actual.header.ty expected.header.ty → AnswersPair ignore index actual expected (Ok (Some (TypeMismatch index text)))
-  unfolding AnswersPair
+  pub pair_types : (text : String Global) → actual.header.ty ≢ expected.header.ty → string_bytes text ≡ command_type_mismatch_text (pos index) actual.header.ty expected.header.ty → ReturnsPair ignore index actual expected (Ok (Some (TypeMismatch index text)))
+  unfolding ReturnsPair
   pair_types text differ says = (refl, differ, says)
 
   module _ (s : ℕ) (typed : AreTyped actual expected s) where
@@ -49,29 +49,29 @@ module _ (ignore : Bool) (index : ℕ) (actual expected : RawMessage) where
     of_schema holds is = subst (λ schema. IsSomeAnd schema holds) (sym typed.schema) is
 
     -- the recorded command is not decoded
-    pub pair_recorded : (error : WireError) → (error ≡ wire.Malformed → ¬ (IsAccepted s actual.payload)) → AnswersPair ignore index actual expected (Err (bench_error_of Recorded index error))
-    unfolding AnswersPair
+    pub pair_recorded : (error : WireError) → (error ≡ wire.Malformed → ¬ (IsAccepted s actual.payload)) → ReturnsPair ignore index actual expected (Err (bench_error_of Recorded index error))
+    unfolding ReturnsPair
     pair_recorded wire.OutOfMemory refused = tt
     pair_recorded wire.Malformed refused =
         (typed.one_type, refl, of_schema (IsMalformedOn Recorded actual.payload expected.payload) (refused refl))
 
     -- the replayed one is not
-    pub pair_replayed : (one : Parts) (error : WireError) → MeansParts s actual.payload one → (error ≡ wire.Malformed → ¬ (IsAccepted s expected.payload)) → AnswersPair ignore index actual expected (Err (bench_error_of Replayed index error))
-    unfolding AnswersPair
+    pub pair_replayed : (one : Parts) (error : WireError) → MeansParts s actual.payload one → (error ≡ wire.Malformed → ¬ (IsAccepted s expected.payload)) → ReturnsPair ignore index actual expected (Err (bench_error_of Replayed index error))
+    unfolding ReturnsPair
     pair_replayed one wire.OutOfMemory means refused = tt
     pair_replayed one wire.Malformed means refused =
         (typed.one_type, refl, of_schema (IsMalformedOn Replayed actual.payload expected.payload) (means.0, refused refl))
 
     module _ (one other : Parts) (means : MeansParts s actual.payload one) (means_other : MeansParts s expected.payload other) where
       -- both mean the same
-      pub pair_alike : erased s ignore one ≡ erased s ignore other → AnswersPair ignore index actual expected (Ok None)
-      unfolding AnswersPair
+      pub pair_alike : erased s ignore one ≡ erased s ignore other → ReturnsPair ignore index actual expected (Ok None)
+      unfolding ReturnsPair
       pair_alike same =
           (typed.one_type, of_schema (MeanTheSame ignore actual.payload expected.payload) (means.0, means_other.0, ap (erased s ignore) (sym means.1) ∙ same ∙ ap (erased s ignore) means_other.1))
 
       -- they do not
-      pub pair_differs : (text : String Global) → ¬ (erased s ignore one ≡ erased s ignore other) → string_bytes text ≡ command_mismatch_text actual.header.ty (pos index) (difference s (codes "   ") one other) → AnswersPair ignore index actual expected (Ok (Some (HeaderMismatch index text)))
-      unfolding AnswersPair
+      pub pair_differs : (text : String Global) → ¬ (erased s ignore one ≡ erased s ignore other) → string_bytes text ≡ command_mismatch_text actual.header.ty (pos index) (difference s (codes "   ") one other) → ReturnsPair ignore index actual expected (Ok (Some (HeaderMismatch index text)))
+      unfolding ReturnsPair
       pair_differs text differ says =
           let as_read : string_bytes text ≡ command_mismatch_text actual.header.ty (pos index) (difference s (codes "   ") (payload_meaning s actual.payload) (payload_meaning s expected.payload)) =
           says

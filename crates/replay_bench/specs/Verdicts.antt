@@ -65,12 +65,12 @@ IsFound ignore index actual expected answer = ⊥
 
 -- The result for two commands at an index: nothing if they are the same, otherwise what differs; or an allocation
 -- fails.
-unfoldable pub AnswersPair : Bool → ℕ → RawMessage → RawMessage → Result (Option Verdict) BenchError → Type 0
-AnswersPair ignore index actual expected (Ok None) = AreAlike ignore actual expected
-AnswersPair ignore index actual expected (Ok (Some verdict)) = IsFound ignore index actual expected (answer_of verdict)
-AnswersPair ignore index actual expected (Err (Malformed side found)) = IsFound ignore index actual expected (NotWellFormed side found)
-AnswersPair ignore index actual expected (Err OutOfMemory) = Unit {0}
-AnswersPair ignore index actual expected (Err TooLong) = ⊥
+unfoldable pub ReturnsPair : Bool → ℕ → RawMessage → RawMessage → Result (Option Verdict) BenchError → Type 0
+ReturnsPair ignore index actual expected (Ok None) = AreAlike ignore actual expected
+ReturnsPair ignore index actual expected (Ok (Some verdict)) = IsFound ignore index actual expected (answer_of verdict)
+ReturnsPair ignore index actual expected (Err (Malformed side found)) = IsFound ignore index actual expected (NotWellFormed side found)
+ReturnsPair ignore index actual expected (Err OutOfMemory) = Unit {0}
+ReturnsPair ignore index actual expected (Err TooLong) = ⊥
 
 -- Two commands of this type are at an index.
 pub record IsPair (index : ℕ) (actual expected : RawMessage) (ty : MessageType) : Type 0 where

@@ -2,7 +2,7 @@
 
 ghost use Rattle.std.specs.Prelude.{◌≡◌, ◌<◌, ◌^◌};
 ghost use Rattle.replay_bench.specs.Journals.{IsCommand};
-ghost use Rattle.replay_bench.specs.Verdicts.{AnswersPair, IsPair, bench_error_of};
+ghost use Rattle.replay_bench.specs.Verdicts.{ReturnsPair, IsPair, bench_error_of};
 
 use crate::verdicts::{BenchError, Side, Verdict};
 use shared_core::encoding::RawMessage;
@@ -21,7 +21,7 @@ pub(crate) fn compare_commands(
 ) -> Result<Option<Verdict>, BenchError>
     requires index { index < 2 ^ 63 }
     requires command { IsCommand recorded.now }
-    ensures { AnswersPair ignore index recorded.now replayed.now result }
+    ensures { ReturnsPair ignore index recorded.now replayed.now result }
 {
     let actual = recorded.ty();
     let expected = replayed.ty();
@@ -44,7 +44,7 @@ fn compare_typed(
     requires index { index < 2 ^ 63 }
     requires command { IsCommand recorded.now }
     requires typed { recorded.now.header.ty ≡ replayed.now.header.ty }
-    ensures { AnswersPair ignore index recorded.now replayed.now result }
+    ensures { ReturnsPair ignore index recorded.now replayed.now result }
 {
     let pair = Pair {
         alloc,
@@ -76,7 +76,7 @@ impl<'a> CommandVisitor for Pair<'a> {
     ghost may_visit = { λ self ty. IsPair self.index self.recorded.now self.replayed.now ty };
 
     ghost answers = { λ self ty schema answer.
-        AnswersPair self.ignore self.index self.recorded.now self.replayed.now answer };
+        ReturnsPair self.ignore self.index self.recorded.now self.replayed.now answer };
 
     fn visit<M: CommandMessage>(self) -> Result<Option<Verdict>, BenchError> {
         let actual = match self.recorded.decode_as::<M>(self.alloc) {

@@ -22,8 +22,8 @@ use Rattle.shared_core.specs.declared.encoding.error.DecodingError.TheVariants.{
 use Rattle.shared_core.specs.declared.encoding.item.Item.{Item}
 use Rattle.shared_core.specs.declared.encoding.item.Item.TheVariants.{Message, Unknown, Skipped}
 use Rattle.shared_core.specs.declared.encoding.raw_message.RawMessage.{RawMessage}
-use Rattle.shared_core.specs.Decoded.{AnswersWritten, DecodesTo, FrameEncodes, IsFrameOf, requested_ack_of}
-use Rattle.shared_core.specs.Items.{AnswersNext, IsItem, TakesItem}
+use Rattle.shared_core.specs.Decoded.{ReturnsWritten, DecodesTo, FrameEncodes, IsFrameOf, requested_ack_of}
+use Rattle.shared_core.specs.Items.{ReturnsNext, IsItem, TakesItem}
 use Rattle.shared_core.specs.Typed.{IsCanonical}
 use Rattle.shared_core.specs.Written.{item_written}
 use Rattle.shared_core.proofs.Items.{one_item as items_are_prefix_free}
@@ -44,22 +44,22 @@ frame_is_read_back form fits small low = canonical_is_read_back form.schema form
 
 -- a decoder before which a frame stands returns the message that was written, whatever follows it
 frame_comes_out : (version : Version) (ty : MessageType) (form : WireForm) (bytes : List ℕ) → IsNamed ty → WireFits form → wire_size form < 2 ^ 32 → bytes ≡ wire_frame ty form → levels form.parts ≤ 100
-    → (rest new : List ℕ) (answer : Result (Option RawMessage) DecodingError) → AnswersNext version (bytes ++ rest) answer new → AnswersWritten ty form (bytes ++ rest) answer rest new
+    → (rest new : List ℕ) (answer : Result (Option RawMessage) DecodingError) → ReturnsNext version (bytes ++ rest) answer new → ReturnsWritten ty form (bytes ++ rest) answer rest new
 frame_comes_out version ty form bytes named fits small is low rest new answer = by_answer answer
   where
     written : IsItem version bytes (item_written ty form) × DecodesTo ty form.schema form.parts (item_written ty form)
     written = rw is (form_decodes version ty form named small fits low)
 
     comes : (item : Item) → TakesItem version (bytes ++ rest) item new → DecodesTo ty form.schema form.parts item × (new ≡ rest)
-    comes item (first, spelled, joined) =
-        let same = items_are_prefix_free version bytes first rest new (item_written ty form) item written.0 spelled joined in
+    comes item (first, encoded, joined) =
+        let same = items_are_prefix_free version bytes first rest new (item_written ty form) item written.0 encoded joined in
         (subst (DecodesTo ty form.schema form.parts) same.1 written.1, sym same.2)
 
-    by_answer : (answer : Result (Option RawMessage) DecodingError) → AnswersNext version (bytes ++ rest) answer new → AnswersWritten ty form (bytes ++ rest) answer rest new
+    by_answer : (answer : Result (Option RawMessage) DecodingError) → ReturnsNext version (bytes ++ rest) answer new → ReturnsWritten ty form (bytes ++ rest) answer rest new
     by_answer (Ok (Some message)) = comes (Message message)
     by_answer (Ok None) = λ answers. answers.0 (item_written ty form) rest (bytes, written.0, refl)
     by_answer (Err refusal) =
-        elim refusal as (λ refusal. AnswersNext version (bytes ++ rest) (Err refusal) new → AnswersWritten ty form (bytes ++ rest) (Err refusal) rest new) [
+        elim refusal as (λ refusal. ReturnsNext version (bytes ++ rest) (Err refusal) new → ReturnsWritten ty form (bytes ++ rest) (Err refusal) rest new) [
           | UnknownMessageType unknown ↦ λ taken. absurd (comes (Unknown unknown.0) taken).0
           | SkippedMessage code payload ↦ λ taken. absurd (comes (Skipped code payload) taken).0
           | OutOfMemory ↦ λ answers. (refl, answers.0)

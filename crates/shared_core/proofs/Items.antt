@@ -50,7 +50,7 @@ module _ (version : Version) where
       let long : length first ≤ length bytes = omega (arith, ap length splits, length-append first others) in
       omega (arith, is.whole, ap (body_length version) same)
 
-  -- What a word says of the item that it begins: how many bytes belong to it behind the eight, and what it is with
+  -- What a word says of the item that it begins: how many bytes belong to it after the eight, and what it is with
   -- them. Only what follows right here looks into how the version decides that.
   pub record Announces (word size : ℕ) (item : List ℕ → Item) : Type 0 where
     pub length_is : size ≡ body_length version word
@@ -95,10 +95,10 @@ module _ (version : Version) where
 
   -- the two answers to bytes whose first eight are `head`
   module _ (bytes head rest : List ℕ) (word : ℕ) (eight : length head ≡ 8) (whole : bytes ≡ head ++ rest) (reads : word ≡ from_be_bytes w64 head) where
-    pub takes_announced : (size : ℕ) (item : List ℕ → Item) (body behind : List ℕ) → Announces word size item → size ≤ length rest → body ≡ take size rest → behind ≡ drop size rest → TakesItem version bytes (item body) behind
-    takes_announced size item body behind announced fits is_body is_behind =
+    pub takes_announced : (size : ℕ) (item : List ℕ → Item) (body after : List ℕ) → Announces word size item → size ≤ length rest → body ≡ take size rest → after ≡ drop size rest → TakesItem version bytes (item body) after
+    takes_announced size item body after announced fits is_body is_after =
         let found = takes_front head rest word size eight reads announced.length_is fits in
-        rw (whole, announced.item_is body, is_body, is_behind) found
+        rw (whole, announced.item_is body, is_body, is_after) found
 
     pub none_partial : (size : ℕ) (item : List ℕ → Item) → Announces word size item → length rest < size → NoItemBegins version bytes
     none_partial size item announced short =
@@ -118,7 +118,7 @@ module _ (version : Version) where
       let rests : x ≡ y = sym (drop_exact (length a) a x refl) ∙ ap (drop (length a)) joined ∙ drop_exact (length a) b y (sym sizes) in
       (same, is.means ∙ ap (λ l. item_of version (front_word l) (drop 8 l)) same ∙ sym other.means, rests)
 
-  -- where an item stands at the front, it still does with more behind it
+  -- where an item stands at the front, it still does with more after it
   pub takes_more : (old new more : List ℕ) (item : Item) → TakesItem version old item new → TakesItem version (old ++ more) item (new ++ more)
   takes_more old new more item taken = (taken.0, taken.1, ap (λ l. l ++ more) taken.2 ∙ append_assoc taken.0 new more)
 
@@ -128,27 +128,27 @@ module _ (version : Version) where
   -- ---- items one after the other
 
   AreItems_join : (front back : List ℕ) (items others : List Item) → AreItems version front items → AreItems version back others → AreItems version (front ++ back) (items ++ others)
-  AreItems_join front back [] others spelled next = let P : List ℕ → Type 0 = λ l. AreItems version (l ++ back) others in subst P (sym spelled) next
-  AreItems_join front back (i ∷ items) others spelled next = (
-    spelled.0,
-    spelled.1 ++ back,
-    spelled.2,
-    AreItems_join spelled.1 back items others spelled.3 next,
-    ap (λ l. l ++ back) spelled.4 ∙ append_assoc spelled.0 spelled.1 back,
+  AreItems_join front back [] others encoded next = let P : List ℕ → Type 0 = λ l. AreItems version (l ++ back) others in subst P (sym encoded) next
+  AreItems_join front back (i ∷ items) others encoded next = (
+    encoded.0,
+    encoded.1 ++ back,
+    encoded.2,
+    AreItems_join encoded.1 back items others encoded.3 next,
+    ap (λ l. l ++ back) encoded.4 ∙ append_assoc encoded.0 encoded.1 back,
   )
 
   pub then_join : (stream mid rest : List ℕ) (items others : List Item) → IsItemsThen version stream items mid → IsItemsThen version mid others rest → IsItemsThen version stream (items ++ others) rest
   then_join stream mid rest items others first second = record {
     front = first.front ++ second.front;
-    spelled = AreItems_join first.front second.front items others first.spelled second.spelled;
+    encoded = AreItems_join first.front second.front items others first.encoded second.encoded;
     whole = first.whole ∙ ap (λ l. first.front ++ l) second.whole ∙ sym (append_assoc first.front second.front rest);
   }
 
   pub then_start : (stream : List ℕ) → IsItemsThen version stream [] stream
-  then_start stream = record { front = []; spelled = refl; whole = refl }
+  then_start stream = record { front = []; encoded = refl; whole = refl }
 
   pub then_one : (old new : List ℕ) (item : Item) → TakesItem version old item new → IsItemsThen version old (item ∷ []) new
-  then_one old new item taken = record { front = taken.0; spelled = (taken.0, [], taken.1, refl, sym (append-nil taken.0)); whole = taken.2 }
+  then_one old new item taken = record { front = taken.0; encoded = (taken.0, [], taken.1, refl, sym (append-nil taken.0)); whole = taken.2 }
 
   pub then_takes : (stream old new : List ℕ) (items : List Item) (item : Item) → IsItemsThen version stream items old → TakesItem version old item new → IsItemsThen version stream (items ++ item ∷ []) new
   then_takes stream old new items item before taken = then_join stream old new items (item ∷ []) before (then_one old new item taken)
@@ -156,7 +156,7 @@ module _ (version : Version) where
   pub then_more : (stream rest piece : List ℕ) (items : List Item) → IsItemsThen version stream items rest → IsItemsThen version (stream ++ piece) items (rest ++ piece)
   then_more stream rest piece items before = record {
     front = before.front;
-    spelled = before.spelled;
+    encoded = before.encoded;
     whole = ap (λ l. l ++ piece) before.whole ∙ append_assoc before.front rest piece;
   }
 
@@ -164,39 +164,39 @@ module _ (version : Version) where
 
   -- whatever items the stream begins with, the items that it splits into begin with them
   begins : (front rest left right : List ℕ) (items written : List Item) → AreItems version front items → AreItems version left written → NoItemBegins version rest → front ++ rest ≡ left ++ right → (others : List Item) × (items ≡ written ++ others)
-  begins front rest left right items [] spelled begun no_more joined = (items, refl)
-  begins front rest left right [] (w ∷ written) spelled begun no_more joined =
+  begins front rest left right items [] encoded begun no_more joined = (items, refl)
+  begins front rest left right [] (w ∷ written) encoded begun no_more joined =
       absurd (no_more w (begun.1 ++ right)
-      (begun.0, begun.2, ap (λ l. l ++ rest) (sym spelled) ∙ joined ∙ ap (λ l. l ++ right) begun.4 ∙ append_assoc begun.0 begun.1 right))
-  begins front rest left right (i ∷ items) (w ∷ written) spelled begun no_more joined =
-      let heads = one_item spelled.0 begun.0 (spelled.1 ++ rest) (begun.1 ++ right) i w spelled.2 begun.2
-      (sym (append_assoc spelled.0 spelled.1 rest) ∙ ap (λ l. l ++ rest) (sym spelled.4) ∙ joined ∙ ap (λ l. l ++ right) begun.4 ∙ append_assoc begun.0 begun.1 right) in
-      let tails = begins spelled.1 rest begun.1 right items written spelled.3 begun.3 no_more heads.2 in
+      (begun.0, begun.2, ap (λ l. l ++ rest) (sym encoded) ∙ joined ∙ ap (λ l. l ++ right) begun.4 ∙ append_assoc begun.0 begun.1 right))
+  begins front rest left right (i ∷ items) (w ∷ written) encoded begun no_more joined =
+      let heads = one_item encoded.0 begun.0 (encoded.1 ++ rest) (begun.1 ++ right) i w encoded.2 begun.2
+      (sym (append_assoc encoded.0 encoded.1 rest) ∙ ap (λ l. l ++ rest) (sym encoded.4) ∙ joined ∙ ap (λ l. l ++ right) begun.4 ∙ append_assoc begun.0 begun.1 right) in
+      let tails = begins encoded.1 rest begun.1 right items written encoded.3 begun.3 no_more heads.2 in
       (tails.0, ap (λ l. i ∷ l) tails.1 ∙ ap (λ k. k ∷ (written ++ tails.0)) heads.1)
 
   pub split_begins : (stream rest : List ℕ) (items : List Item) → SplitsInto version stream items rest → BeginsWithWritten version stream items
   split_begins stream rest items split written right front =
-      begins split.items_then.front rest front.front right items written split.items_then.spelled front.spelled split.no_more (sym split.items_then.whole ∙ front.whole)
+      begins split.items_then.front rest front.front right items written split.items_then.encoded front.encoded split.no_more (sym split.items_then.whole ∙ front.whole)
 
   same_split : (front rest front' rest' : List ℕ) (items items' : List Item) → AreItems version front items → AreItems version front' items' → NoItemBegins version rest → NoItemBegins version rest' → front ++ rest ≡ front' ++ rest' → (items ≡ items') × (rest ≡ rest')
-  same_split front rest front' rest' [] [] spelled spelled' none none' joined =
-      (refl, ap (λ l. l ++ rest) (sym spelled) ∙ joined ∙ ap (λ l. l ++ rest') spelled')
-  same_split front rest front' rest' [] (j ∷ items') spelled spelled' none none' joined =
-      absurd (none j (spelled'.1 ++ rest')
-      (spelled'.0, spelled'.2, ap (λ l. l ++ rest) (sym spelled) ∙ joined ∙ ap (λ l. l ++ rest') spelled'.4 ∙ append_assoc spelled'.0 spelled'.1 rest'))
-  same_split front rest front' rest' (i ∷ items) [] spelled spelled' none none' joined =
-      absurd (none' i (spelled.1 ++ rest)
-      (spelled.0, spelled.2, ap (λ l. l ++ rest') (sym spelled') ∙ sym joined ∙ ap (λ l. l ++ rest) spelled.4 ∙ append_assoc spelled.0 spelled.1 rest))
-  same_split front rest front' rest' (i ∷ items) (j ∷ items') spelled spelled' none none' joined =
-      let heads = one_item spelled.0 spelled'.0 (spelled.1 ++ rest) (spelled'.1 ++ rest') i j spelled.2 spelled'.2
-      (sym (append_assoc spelled.0 spelled.1 rest) ∙ ap (λ l. l ++ rest) (sym spelled.4) ∙ joined ∙ ap (λ l. l ++ rest') spelled'.4 ∙ append_assoc spelled'.0 spelled'.1 rest') in
-      let tails = same_split spelled.1 rest spelled'.1 rest' items items' spelled.3 spelled'.3 none none' heads.2 in
+  same_split front rest front' rest' [] [] encoded encoded' none none' joined =
+      (refl, ap (λ l. l ++ rest) (sym encoded) ∙ joined ∙ ap (λ l. l ++ rest') encoded')
+  same_split front rest front' rest' [] (j ∷ items') encoded encoded' none none' joined =
+      absurd (none j (encoded'.1 ++ rest')
+      (encoded'.0, encoded'.2, ap (λ l. l ++ rest) (sym encoded) ∙ joined ∙ ap (λ l. l ++ rest') encoded'.4 ∙ append_assoc encoded'.0 encoded'.1 rest'))
+  same_split front rest front' rest' (i ∷ items) [] encoded encoded' none none' joined =
+      absurd (none' i (encoded.1 ++ rest)
+      (encoded.0, encoded.2, ap (λ l. l ++ rest') (sym encoded') ∙ sym joined ∙ ap (λ l. l ++ rest) encoded.4 ∙ append_assoc encoded.0 encoded.1 rest))
+  same_split front rest front' rest' (i ∷ items) (j ∷ items') encoded encoded' none none' joined =
+      let heads = one_item encoded.0 encoded'.0 (encoded.1 ++ rest) (encoded'.1 ++ rest') i j encoded.2 encoded'.2
+      (sym (append_assoc encoded.0 encoded.1 rest) ∙ ap (λ l. l ++ rest) (sym encoded.4) ∙ joined ∙ ap (λ l. l ++ rest') encoded'.4 ∙ append_assoc encoded'.0 encoded'.1 rest') in
+      let tails = same_split encoded.1 rest encoded'.1 rest' items items' encoded.3 encoded'.3 none none' heads.2 in
       (ap (λ l. i ∷ l) tails.0 ∙ ap (λ k. k ∷ items') heads.1, tails.1)
 
   -- a stream splits in one way
   pub split_is_unique : (stream : List ℕ) (items others : List Item) (rest left : List ℕ) → SplitsInto version stream items rest → SplitsInto version stream others left → (items ≡ others) × (rest ≡ left)
   split_is_unique stream items others rest left one other =
-      same_split one.items_then.front rest other.items_then.front left items others one.items_then.spelled other.items_then.spelled one.no_more other.no_more
+      same_split one.items_then.front rest other.items_then.front left items others one.items_then.encoded other.items_then.encoded one.no_more other.no_more
       (sym one.items_then.whole ∙ other.items_then.whole)
 
   -- an item stands at the front of the bytes, or none does

@@ -29,19 +29,19 @@ rest_fits version pieces i piece rest items below is before =
 
 -- ---- a chunk comes after
 
--- the bytes of the segments and a chunk behind them
-pub joined_push : (front : List ℕ) (behind : List (List ℕ)) (piece : List ℕ) → front ++ concat (behind ++ piece ∷ []) ≡ (front ++ concat behind) ++ piece
-joined_push front behind piece = ap (λ l. front ++ l) (concat_push behind piece) ∙ sym (append_assoc front (concat behind) piece)
+-- the bytes of the segments and a chunk after them
+pub joined_push : (front : List ℕ) (beyond : List (List ℕ)) (piece : List ℕ) → front ++ concat (beyond ++ piece ∷ []) ≡ (front ++ concat beyond) ++ piece
+joined_push front beyond piece = ap (λ l. front ++ l) (concat_push beyond piece) ∙ sym (append_assoc front (concat beyond) piece)
 
--- behind segments one of which is not empty there may stand another
-pub segments_push : (front : List ℕ) (behind : List (List ℕ)) (len : ℕ) (piece : List ℕ) → AreSegments front behind len → 0 < length front → 0 < length piece → AreSegments front (behind ++ piece ∷ []) (len + length piece)
-segments_push front behind len piece are some more = record {
-  counted = ap (λ n. n + length piece) are.counted ∙ sym (length-append (front ++ concat behind) piece) ∙ ap length (sym (joined_push front behind piece));
-  filled = All-push (λ segment. 0 < length segment) behind piece are.filled more;
+-- after segments one of which is not empty there may stand another
+pub segments_push : (front : List ℕ) (beyond : List (List ℕ)) (len : ℕ) (piece : List ℕ) → AreSegments front beyond len → 0 < length front → 0 < length piece → AreSegments front (beyond ++ piece ∷ []) (len + length piece)
+segments_push front beyond len piece are some more = record {
+  counted = ap (λ n. n + length piece) are.counted ∙ sym (length-append (front ++ concat beyond) piece) ∙ ap length (sym (joined_push front beyond piece));
+  filled = All-push (λ segment. 0 < length segment) beyond piece are.filled more;
   first = λ none. absurd (omega (arith, none, some));
 }
 
--- ---- the first bytes of a segment and of those behind it, copied segment by segment
+-- ---- the first bytes of a segment and of those after it, copied segment by segment
 
 -- one more segment is copied, or as much of it as is wanted
 pub copied_next : (front : List ℕ) (segments : List (List ℕ)) (i count wanted part : ℕ) (segment copied next : List ℕ) → i < length segments → segment ≡ get_or segments i segment → copied ≡ take count (front ++ concat (take i segments)) → wanted ≡ count - length (front ++ concat (take i segments)) → 0 < wanted → part ≡ min wanted (length segment) → next ≡ copied ++ take part segment → (next ≡ take count (front ++ concat (take (i + 1) segments))) × (wanted - part ≡ count - length (front ++ concat (take (i + 1) segments)))

@@ -11,9 +11,9 @@ use Rattle.shared_core.specs.declared.encoding.error.DecodingError.TheVariants.{
 use Rattle.shared_core.specs.Typed.{IsCanonical, RefusesPayload, RefusesTyped}
 
 pub written_means : (schema : ℕ) (v : Parts) (payload : List ℕ) → IsCanonical schema v payload → IsAccepted schema payload × (payload_meaning schema payload ≡ v)
-written_means schema v payload (writable, spelled) =
+written_means schema v payload (writable, encoded) =
     let back = canonical_is_read_back schema v writable.0 writable.2 writable.1 in
-    rw spelled back
+    rw encoded back
 
 pub if_ok : {T E : Type 0} (r : Result T E) (P : Type 0) → P → IfOk r (λ _. P)
 if_ok (Ok x) P holds = holds

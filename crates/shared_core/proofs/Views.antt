@@ -24,7 +24,7 @@ use Rattle.shared_core.specs.declared.encoding.raw_message.RawMessage.{RawMessag
 use Rattle.shared_core.specs.declared.encoding.error.DecodingError.{DecodingError}
 use Rattle.shared_core.specs.declared.encoding.error.DecodingError.TheVariants.{DecodeMessage, OutOfMemory}
 use Rattle.shared_core.specs.Typed.{MeansParts, RefusesPayload}
-use Rattle.shared_core.specs.View.{IsOfNotification, AgreesWithType, AnswersLacking, IsMissing, has_record, id_numbers, lacking_field, result_numbers}
+use Rattle.shared_core.specs.View.{IsOfNotification, AgreesWithType, ReturnsLacking, IsMissing, has_record, id_numbers, lacking_field, result_numbers}
 
 -- whether the schema, if there is one, has rows of the template
 within : Option ℕ → Bool
@@ -102,42 +102,42 @@ held_field : Bool → Bool → Option (List ℕ)
 held_field id result = cond id (cond result None (Some (codes "result"))) (Some (codes "id"))
 
 answers_held : (message : RawMessage) (id result : Part) (answer : Result Notification DecodingError) → MeansParts notification_template message.payload (cons id (cons result nil))
-    → AnswersLacking message (held_field (is_present id) (is_present result)) answer → AnswersLacking message (lacking_field message.payload) answer
+    → ReturnsLacking message (held_field (is_present id) (is_present result)) answer → ReturnsLacking message (lacking_field message.payload) answer
 unfolding held_field
 answers_held message id result answer means answers =
     let held = records_held message.payload id result means in
-    subst (λ (b : Bool). AnswersLacking message (held_field b (has_record result_numbers message.payload)) answer) (sym held.0)
-    (subst (λ (b : Bool). AnswersLacking message (held_field (is_present id) b) answer) (sym held.1) answers)
+    subst (λ (b : Bool). ReturnsLacking message (held_field b (has_record result_numbers message.payload)) answer) (sym held.0)
+    (subst (λ (b : Bool). ReturnsLacking message (held_field (is_present id) b) answer) (sym held.1) answers)
 
 pub lacks_id : (message : RawMessage) (result : Part) (refusal : DecodingError) → MeansParts notification_template message.payload (cons Absent (cons result nil)) → IsMissing message (codes "id") refusal
-    → AnswersLacking message (lacking_field message.payload) (Err refusal)
+    → ReturnsLacking message (lacking_field message.payload) (Err refusal)
 unfolding held_field
 lacks_id message result refusal means missing = answers_held message Absent result (Err refusal) means (inl missing)
 
 pub lacks_result : (message : RawMessage) (id : Part) (refusal : DecodingError) → MeansParts notification_template message.payload (cons id (cons Absent nil)) → is_present id ≡ true → IsMissing message (codes "result") refusal
-    → AnswersLacking message (lacking_field message.payload) (Err refusal)
+    → ReturnsLacking message (lacking_field message.payload) (Err refusal)
 unfolding held_field
 lacks_result message id refusal means there missing =
-    answers_held message id Absent (Err refusal) means (subst (λ (b : Bool). AnswersLacking message (held_field b false) (Err refusal)) (sym there) (inl missing))
+    answers_held message id Absent (Err refusal) means (subst (λ (b : Bool). ReturnsLacking message (held_field b false) (Err refusal)) (sym there) (inl missing))
 
 pub lacks_nothing : (message : RawMessage) (id result : Part) (found : Notification) → MeansParts notification_template message.payload (cons id (cons result nil)) → is_present id ≡ true → is_present result ≡ true
-    → AnswersLacking message (lacking_field message.payload) (Ok found)
+    → ReturnsLacking message (lacking_field message.payload) (Ok found)
 unfolding held_field
 lacks_nothing message id result found means there here =
     answers_held message id result (Ok found) means
-    (subst (λ (b : Bool). AnswersLacking message (held_field b (is_present result)) (Ok found)) (sym there)
-    (subst (λ (b : Bool). AnswersLacking message (held_field true b) (Ok found)) (sym here) tt))
+    (subst (λ (b : Bool). ReturnsLacking message (held_field b (is_present result)) (Ok found)) (sym there)
+    (subst (λ (b : Bool). ReturnsLacking message (held_field true b) (Ok found)) (sym here) tt))
 
 -- a refused payload that is well-formed is one that an allocation fails for
 pub refused_for_memory : (message : RawMessage) (refusal : DecodingError) (lacking : Option (List ℕ)) → RefusesPayload notification_template message refusal → IsAccepted notification_template message.payload
-    → AnswersLacking message lacking (Err refusal)
+    → ReturnsLacking message lacking (Err refusal)
 refused_for_memory message refusal lacking refused accepted =
-    elim refusal as (λ refusal. RefusesPayload notification_template message refusal → AnswersLacking message lacking (Err refusal)) [
+    elim refusal as (λ refusal. RefusesPayload notification_template message refusal → ReturnsLacking message lacking (Err refusal)) [
       | DecodeMessage found error ↦ λ refused. absurd (refused.2 accepted)
       | OutOfMemory ↦ λ _. memory_lacks lacking
       | _ ↦ λ refused. absurd refused
     ] refused
   where
-    memory_lacks : (lacking : Option (List ℕ)) → AnswersLacking message lacking (Err OutOfMemory)
+    memory_lacks : (lacking : Option (List ℕ)) → ReturnsLacking message lacking (Err OutOfMemory)
     memory_lacks None = refl
     memory_lacks (Some field) = inr refl

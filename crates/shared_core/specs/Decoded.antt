@@ -11,7 +11,7 @@ use Rattle.shared_core.specs.declared.encoding.error.DecodingError.TheVariants.{
 use Rattle.shared_core.specs.declared.encoding.raw_message.RawMessage.{RawMessage}
 use Rattle.shared_core.specs.declared.encoding.item.Item.{Item}
 use Rattle.shared_core.specs.declared.encoding.item.Item.TheVariants.{Message}
-use Rattle.shared_core.specs.Items.{AnswersNext, IsItem}
+use Rattle.shared_core.specs.Items.{ReturnsNext, IsItem}
 use Rattle.shared_core.specs.Typed.{IsCanonical, MeansParts}
 use Rattle.shared_core.specs.Written.{item_written}
 
@@ -33,10 +33,10 @@ FrameEncodes version ty form HasProperty =
 
 -- What a decoder returns whose pending bytes begin with the frame of a wire form, followed by the rest: the message
 -- that decodes to what was written, and the rest is left; or an allocation fails, and all bytes are left.
-abbrev pub AnswersWritten : MessageType → WireForm → List ℕ → Result (Option RawMessage) DecodingError → List ℕ → List ℕ → Type 0
-AnswersWritten ty form old (Ok (Some message)) rest new = DecodesTo ty form.schema form.parts (Message message) × (new ≡ rest)
-AnswersWritten ty form old (Ok None) rest new = ⊥
-AnswersWritten ty form old (Err refusal) rest new = (refusal ≡ OutOfMemory) × (new ≡ old)
+abbrev pub ReturnsWritten : MessageType → WireForm → List ℕ → Result (Option RawMessage) DecodingError → List ℕ → List ℕ → Type 0
+ReturnsWritten ty form old (Ok (Some message)) rest new = DecodesTo ty form.schema form.parts (Message message) × (new ≡ rest)
+ReturnsWritten ty form old (Ok None) rest new = ⊥
+ReturnsWritten ty form old (Err refusal) rest new = (refusal ≡ OutOfMemory) × (new ≡ old)
 
 -- The bytes are the frame of a wire form: they encode one item, whose payload means what was written; and whatever
 -- follows them, a decoder that they were pushed to returns what was written.
@@ -45,4 +45,4 @@ pub record IsFrameOf (version : Version) (ty : MessageType) (form : WireForm) (b
   pub is_item : IsItem version bytes (item_written ty form)
   pub reads_back : IsReadBack form.schema form.parts (wire_payload form)
   pub comes_out : levels form.parts ≤ 100 → (rest new : List ℕ) (answer : Result (Option RawMessage) DecodingError)
-      → AnswersNext version (bytes ++ rest) answer new → AnswersWritten ty form (bytes ++ rest) answer rest new
+      → ReturnsNext version (bytes ++ rest) answer new → ReturnsWritten ty form (bytes ++ rest) answer rest new

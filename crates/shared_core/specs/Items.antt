@@ -63,7 +63,7 @@ NoItemBegins version bytes = (item : Item) (rest : List ℕ) → TakesItem versi
 -- The stream is encodings of these items, and after them these bytes.
 pub record IsItemsThen (version : Version) (stream : List ℕ) (items : List Item) (rest : List ℕ) : Type 0 where
   pub front : List ℕ
-  pub spelled : AreItems version front items
+  pub encoded : AreItems version front items
   pub whole : stream ≡ front ++ rest
 
 -- The stream splits into these items and a rest that no item begins.
@@ -88,13 +88,13 @@ PayloadIsNext version bytes = (item : Item) × (rest : List ℕ) × TakesItem ve
 -- What a result says of the bytes before the call, and what it leaves of them: the next message, taken; no item, where
 -- none is whole; an unknown code, whose eight bytes are taken; a skipped message, taken; or a failed allocation where a
 -- whole message or a skipped one is next, and all bytes are left.
-abbrev pub AnswersNext : Version → List ℕ → Result (Option RawMessage) DecodingError → List ℕ → Type 0
-AnswersNext version old (Ok (Some message)) new = TakesItem version old (Message message) new
-AnswersNext version old (Ok None) new = NoItemBegins version old × (new ≡ old)
-AnswersNext version old (Err (UnknownMessageType unknown)) new = TakesItem version old (Unknown unknown.0) new
-AnswersNext version old (Err (SkippedMessage code payload)) new = TakesItem version old (Skipped code payload) new
-AnswersNext version old (Err OutOfMemory) new = (new ≡ old) × PayloadIsNext version old
-AnswersNext version old (Err other) new = ⊥
+abbrev pub ReturnsNext : Version → List ℕ → Result (Option RawMessage) DecodingError → List ℕ → Type 0
+ReturnsNext version old (Ok (Some message)) new = TakesItem version old (Message message) new
+ReturnsNext version old (Ok None) new = NoItemBegins version old × (new ≡ old)
+ReturnsNext version old (Err (UnknownMessageType unknown)) new = TakesItem version old (Unknown unknown.0) new
+ReturnsNext version old (Err (SkippedMessage code payload)) new = TakesItem version old (Skipped code payload) new
+ReturnsNext version old (Err OutOfMemory) new = (new ≡ old) × PayloadIsNext version old
+ReturnsNext version old (Err other) new = ⊥
 
 -- Every result but that no item is whole and that an allocation fails leaves at least eight bytes fewer.
 abbrev pub TakesEight : List ℕ → Result (Option RawMessage) DecodingError → List ℕ → Type 0

@@ -53,11 +53,11 @@ abbrev pub lacking_field : List ℕ → Option (List ℕ)
 lacking_field payload = if has_record id_numbers payload then (if has_record result_numbers payload then None else Some (codes "result")) else Some (codes "id")
 
 -- The result where this field is lacking, or none: that it is missing, or else the view; or an allocation fails.
-abbrev pub AnswersLacking : RawMessage → Option (List ℕ) → Result Notification DecodingError → Type 0
-AnswersLacking message None (Ok found) = Unit {0}
-AnswersLacking message (Some field) (Ok found) = ⊥
-AnswersLacking message None (Err refusal) = refusal ≡ OutOfMemory
-AnswersLacking message (Some field) (Err refusal) = IsMissing message field refusal ⊎ (refusal ≡ OutOfMemory)
+abbrev pub ReturnsLacking : RawMessage → Option (List ℕ) → Result Notification DecodingError → Type 0
+ReturnsLacking message None (Ok found) = Unit {0}
+ReturnsLacking message (Some field) (Ok found) = ⊥
+ReturnsLacking message None (Err refusal) = refusal ≡ OutOfMemory
+ReturnsLacking message (Some field) (Err refusal) = IsMissing message field refusal ⊎ (refusal ≡ OutOfMemory)
 
 -- The payload is well-formed for the schema, and each of its numbers is one of the schema's or none of the template's.
 abbrev pub IsOfNotification : ℕ → List ℕ → Type 0

@@ -16,7 +16,7 @@ use std::marker::Model;
 pub struct PendingBytes {
     alloc: Global,
     front: Bytes,
-    behind: VecDeque<Bytes>,
+    after: VecDeque<Bytes>,
     len: usize,
 }
 
@@ -27,9 +27,9 @@ impl Model for PendingBytes {
 
     ghost Value = { List ℕ };
 
-    ghost view = { λ pending. pending.front ++ concat pending.behind.items };
+    ghost view = { λ pending. pending.front ++ concat pending.after.items };
 
-    ghost invariant = { λ pending. AreSegments pending.front pending.behind.items pending.len };
+    ghost invariant = { λ pending. AreSegments pending.front pending.after.items pending.len };
 }
 
 impl PendingBytes {
@@ -40,7 +40,7 @@ impl PendingBytes {
         PendingBytes {
             alloc,
             front: Bytes::new(),
-            behind: VecDeque::new(alloc),
+            after: VecDeque::new(alloc),
             len: 0,
         }
     }
@@ -70,7 +70,7 @@ impl PendingBytes {
             self.len = len;
             return Ok(());
         }
-        self.behind.push_back(piece)?;
+        self.after.push_back(piece)?;
         self.len = len;
         Ok(())
     }
@@ -86,7 +86,7 @@ impl PendingBytes {
             let head = *head;
             self.front.advance(8);
             self.len -= 8;
-            drop_used_up(&mut self.front, &mut self.behind);
+            drop_used_up(&mut self.front, &mut self.after);
             return head;
         }
         let mut head = [0; 8];
@@ -110,7 +110,7 @@ impl PendingBytes {
         }
         let bytes = self.front.split_to(count)?;
         self.len -= count;
-        drop_used_up(&mut self.front, &mut self.behind);
+        drop_used_up(&mut self.front, &mut self.after);
         Ok(bytes)
     }
 
@@ -123,11 +123,11 @@ impl PendingBytes {
         let part = count.min(self.front.len());
         bytes.extend_from_slice(&self.front.as_slice()[..part])?;
         let mut wanted = count - part;
-        for i in 0..self.behind.len() {
+        for i in 0..self.after.len() {
             if wanted == 0 {
                 break;
             }
-            let segment = self.behind[i].as_slice();
+            let segment = self.after[i].as_slice();
             let part = wanted.min(segment.len());
             bytes.extend_from_slice(&segment[..part])?;
             wanted -= part;
@@ -144,21 +144,21 @@ impl PendingBytes {
         let taken = count.min(self.front.len());
         self.front.advance(taken);
         self.len -= taken;
-        drop_used_up(&mut self.front, &mut self.behind);
+        drop_used_up(&mut self.front, &mut self.after);
         taken
     }
 }
 
 /// Replaces a used front segment by the next one.
-fn drop_used_up(front: &mut Bytes, behind: &mut VecDeque<Bytes>)
-    requires { All (λ segment. 0 < length segment) behind.old.items }
-    ensures segments { AreSegments front.new behind.new.items (length (front.old ++ concat behind.old.items)) }
-    ensures same { front.new ++ concat behind.new.items ≡ front.old ++ concat behind.old.items }
+fn drop_used_up(front: &mut Bytes, after: &mut VecDeque<Bytes>)
+    requires { All (λ segment. 0 < length segment) after.old.items }
+    ensures segments { AreSegments front.new after.new.items (length (front.old ++ concat after.old.items)) }
+    ensures same { front.new ++ concat after.new.items ≡ front.old ++ concat after.old.items }
 {
     if !front.is_empty() {
         return;
     }
-    *front = match behind.pop_front() {
+    *front = match after.pop_front() {
         Some(next) => next,
         None => Bytes::new(),
     };

@@ -5,12 +5,12 @@ use Rattle.shared_core_codec.proofs.Measuring.{from_end, from_index, from_next, 
 use Rattle.shared_core_codec.proofs.RowBytes.{bytes_value_bytes, message_bytes, no_packed, number_value_bytes, payload_size, plain_default, plain_value, some_packed, written_before}
 use Rattle.shared_core_codec.specs.Equality.{is_present}
 use Rattle.shared_core_codec.specs.FieldParts.{elements_part}
-use Rattle.shared_core_codec.specs.RowSpelling.{before_row, before_rows, length_record, row_bytes, row_size, rows_size, unpacked, value_bytes, varint_record, varints_of}
+use Rattle.shared_core_codec.specs.RowEncoding.{before_row, before_rows, length_record, row_bytes, row_size, rows_size, unpacked, value_bytes, varint_record, varints_of}
 use Rattle.shared_core_codec.specs.Table.{table}
 use Rattle.shared_core_wire.proofs.Shortest.{shortest_large, shortest_small}
 use Rattle.shared_core_wire.specs.Canonical.{canonical_payload, is_default, written_number}
 use Rattle.shared_core_wire.specs.Schema.{Kind, Message, Optional, Plain, Repeated, U32}
-use Rattle.shared_core_wire.specs.Spelling.{key_bytes, shortest_varint}
+use Rattle.shared_core_wire.specs.Encoding.{key_bytes, shortest_varint}
 use Rattle.shared_core_wire.specs.Value.{Absent, Bytes, Elements, Member, Nested, Number, Part, Parts}
 
 -- ---- varints
@@ -35,14 +35,14 @@ two_bytes_size n large small = rw (shortest_large n large, shortest_small (n / 1
 
 -- ---- records
 
-pub two_before : (a b behind mid now : List ℕ) → now ≡ a ++ mid → mid ≡ b ++ behind → now ≡ (a ++ b) ++ behind
-two_before a b behind mid now e f = rw (e, f) (sym (append_assoc a b behind))
+pub two_before : (a b after mid now : List ℕ) → now ≡ a ++ mid → mid ≡ b ++ after → now ≡ (a ++ b) ++ after
+two_before a b after mid now e f = rw (e, f) (sym (append_assoc a b after))
 
 pub two_size : (a b : List ℕ) → length (a ++ b) ≡ length a + length b
 two_size a b = length-append a b
 
-pub record_before : (at : ℕ) (b behind mid now : List ℕ) → now ≡ key_bytes at 2 ++ (shortest_varint (length b) ++ mid) → mid ≡ b ++ behind → now ≡ length_record at b ++ behind
-record_before at b behind mid now e f = rw (e, f) (simp append_assoc)
+pub record_before : (at : ℕ) (b after mid now : List ℕ) → now ≡ key_bytes at 2 ++ (shortest_varint (length b) ++ mid) → mid ≡ b ++ after → now ≡ length_record at b ++ after
+record_before at b after mid now e f = rw (e, f) (simp append_assoc)
 
 pub record_size : (at : ℕ) (b : List ℕ) → length (length_record at b) ≡ (length (key_bytes at 2) + length (shortest_varint (length b))) + length b
 record_size at b = simp length-append (omega arith)
@@ -96,57 +96,57 @@ any_size at k b = rw (bytes_value_bytes at k b) refl
 pub message_size : (at s : ℕ) (ps : Parts) → length (value_bytes at (Message s) (Nested ps)) ≡ (length (key_bytes at 2) + length (shortest_varint (rows_size (table s) ps))) + rows_size (table s) ps
 message_size at s ps = rw (message_bytes at s ps, payload_size s ps) (record_size at (canonical_payload table s ps))
 
-pub message_before : (at s start end : ℕ) (ps : Parts) (behind mid now : List ℕ) → now ≡ key_bytes at 2 ++ (shortest_varint (end - start) ++ mid) → start + rows_size (table s) ps ≡ end
-    → mid ≡ before_rows (table s) ps behind → now ≡ value_bytes at (Message s) (Nested ps) ++ behind
-message_before at s start end ps behind mid now e l f =
+pub message_before : (at s start end : ℕ) (ps : Parts) (after mid now : List ℕ) → now ≡ key_bytes at 2 ++ (shortest_varint (end - start) ++ mid) → start + rows_size (table s) ps ≡ end
+    → mid ≡ before_rows (table s) ps after → now ≡ value_bytes at (Message s) (Nested ps) ++ after
+message_before at s start end ps after mid now e l f =
     let z : end - start ≡ length (canonical_payload table s ps) = omega (arith, payload_size s ps) in
-    rw (message_bytes at s ps) (record_before at (canonical_payload table s ps) behind mid now (rw z at e) (f ∙ written_before s ps behind))
+    rw (message_bytes at s ps) (record_before at (canonical_payload table s ps) after mid now (rw z at e) (f ∙ written_before s ps after))
 
 -- ---- one element after the other, the last one first
 
--- the bytes stand before the end, and what was behind it is still there
-abbrev pub IsBehind : List ℕ → ℕ → ℕ → List ℕ → List ℕ → Type 0
-IsBehind bytes end start behind now = (start + length bytes ≡ end) × (now ≡ bytes ++ behind)
+-- the bytes stand before the end, and what was after it is still there
+abbrev pub IsAfter : List ℕ → ℕ → ℕ → List ℕ → List ℕ → Type 0
+IsAfter bytes end start after now = (start + length bytes ≡ end) × (now ≡ bytes ++ after)
 
-behind_step : (more bytes : List ℕ) (end old start : ℕ) (behind mid now : List ℕ) → start + length more ≡ old → now ≡ more ++ mid
-    → IsBehind bytes end old behind mid → IsBehind (more ++ bytes) end start behind now
-behind_step more bytes end old start behind mid now l w h =
-    (omega (arith, l, h.0, length-append more bytes), w ∙ ap (λ (t : List ℕ). more ++ t) h.1 ∙ sym (append_assoc more bytes behind))
+after_step : (more bytes : List ℕ) (end old start : ℕ) (after mid now : List ℕ) → start + length more ≡ old → now ≡ more ++ mid
+    → IsAfter bytes end old after mid → IsAfter (more ++ bytes) end start after now
+after_step more bytes end old start after mid now l w h =
+    (omega (arith, l, h.0, length-append more bytes), w ∙ ap (λ (t : List ℕ). more ++ t) h.1 ∙ sym (append_assoc more bytes after))
 
-pub behind_start : {M : Type 0} (view : M → Part) (at : ℕ) (k : Kind) (xs : List M) (i end : ℕ) (behind : List ℕ) → length xs ≤ i → IsBehind (from_index view at k xs i) end end behind behind
-behind_start view at k xs i end behind h = rw (from_end view at k xs i h) (omega arith, refl)
+pub after_start : {M : Type 0} (view : M → Part) (at : ℕ) (k : Kind) (xs : List M) (i end : ℕ) (after : List ℕ) → length xs ≤ i → IsAfter (from_index view at k xs i) end end after after
+after_start view at k xs i end after h = rw (from_end view at k xs i h) (omega arith, refl)
 
-pub behind_next : {M : Type 0} (view : M → Part) (at : ℕ) (k : Kind) (xs : List M) (i : ℕ) (x : M) (end old start : ℕ) (behind mid now : List ℕ) → 0 < i → i ≤ length xs → x ≡ get_or xs (i - 1) x
+pub after_next : {M : Type 0} (view : M → Part) (at : ℕ) (k : Kind) (xs : List M) (i : ℕ) (x : M) (end old start : ℕ) (after mid now : List ℕ) → 0 < i → i ≤ length xs → x ≡ get_or xs (i - 1) x
     → start + length (value_bytes at k (view x)) ≡ old → now ≡ value_bytes at k (view x) ++ mid
-    → IsBehind (from_index view at k xs i) end old behind mid → IsBehind (from_index view at k xs (i - 1)) end start behind now
-behind_next view at k xs i x end old start behind mid now z h e l w b =
+    → IsAfter (from_index view at k xs i) end old after mid → IsAfter (from_index view at k xs (i - 1)) end start after now
+after_next view at k xs i x end old start after mid now z h e l w b =
     let n : i - 1 + 1 ≡ i = omega arith in
-    rw (from_next view at k xs (i - 1) x (omega arith) e, n) (behind_step (value_bytes at k (view x)) (from_index view at k xs i) end old start behind mid now l w b)
+    rw (from_next view at k xs (i - 1) x (omega arith) e, n) (after_step (value_bytes at k (view x)) (from_index view at k xs i) end old start after mid now l w b)
 
-pub behind_room : {M : Type 0} (view : M → Part) (at : ℕ) (k : Kind) (xs : List M) (i : ℕ) (x : M) (end start : ℕ) → 0 < i → i ≤ length xs → x ≡ get_or xs (i - 1) x → unpacked k ≡ true
+pub after_room : {M : Type 0} (view : M → Part) (at : ℕ) (k : Kind) (xs : List M) (i : ℕ) (x : M) (end start : ℕ) → 0 < i → i ≤ length xs → x ≡ get_or xs (i - 1) x → unpacked k ≡ true
     → start + length (from_index view at k xs i) ≡ end → row_size (Repeated at k) (elements_part view xs) ≤ end → length (value_bytes at k (view x)) ≤ start
-behind_room view at k xs i x end start z h e u w r =
+after_room view at k xs i x end start z h e u w r =
     let n : i - 1 + 1 ≡ i = omega arith in
     let a = ap length (from_next view at k xs (i - 1) x (omega arith) e) in
     let b : length (from_index view at k xs (i - 1)) ≡ length (value_bytes at k (view x) ++ from_index view at k xs i) = rw n at a in
     omega (arith, b, length-append (value_bytes at k (view x)) (from_index view at k xs i), from_shorter view at k xs (i - 1), ap length (from_start view at k xs u))
 
-pub behind_all : {M : Type 0} (view : M → Part) (at : ℕ) (k : Kind) (xs : List M) (i end start : ℕ) (behind now : List ℕ) → i ≡ 0 → unpacked k ≡ true
-    → IsBehind (from_index view at k xs i) end start behind now → IsBehind (row_bytes (Repeated at k) (elements_part view xs)) end start behind now
-behind_all view at k xs i end start behind now z u b =
-    subst (λ (t : List ℕ). IsBehind t end start behind now) (ap (from_index view at k xs) z ∙ from_start view at k xs u) b
+pub after_all : {M : Type 0} (view : M → Part) (at : ℕ) (k : Kind) (xs : List M) (i end start : ℕ) (after now : List ℕ) → i ≡ 0 → unpacked k ≡ true
+    → IsAfter (from_index view at k xs i) end start after now → IsAfter (row_bytes (Repeated at k) (elements_part view xs)) end start after now
+after_all view at k xs i end start after now z u b =
+    subst (λ (t : List ℕ). IsAfter t end start after now) (ap (from_index view at k xs) z ∙ from_start view at k xs u) b
 
 -- ---- packed numbers, the last one first
 
-pub packed_start : (ns : List ℕ) (i end : ℕ) (behind : List ℕ) → length ns ≤ i → IsBehind (packed_from ns i) end end behind behind
-packed_start ns i end behind h = rw (packed_end ns i h) (omega arith, refl)
+pub packed_start : (ns : List ℕ) (i end : ℕ) (after : List ℕ) → length ns ≤ i → IsAfter (packed_from ns i) end end after after
+packed_start ns i end after h = rw (packed_end ns i h) (omega arith, refl)
 
-pub packed_behind : (ns : List ℕ) (i n d end old start : ℕ) (behind mid now : List ℕ) → 0 < i → i ≤ length ns → n ≡ get_or ns (i - 1) d
+pub packed_after : (ns : List ℕ) (i n d end old start : ℕ) (after mid now : List ℕ) → 0 < i → i ≤ length ns → n ≡ get_or ns (i - 1) d
     → start + length (shortest_varint n) ≡ old → now ≡ shortest_varint n ++ mid
-    → IsBehind (packed_from ns i) end old behind mid → IsBehind (packed_from ns (i - 1)) end start behind now
-packed_behind ns i n d end old start behind mid now z h e l w b =
+    → IsAfter (packed_from ns i) end old after mid → IsAfter (packed_from ns (i - 1)) end start after now
+packed_after ns i n d end old start after mid now z h e l w b =
     let k : i - 1 + 1 ≡ i = omega arith in
-    rw (packed_at ns (i - 1) n d (omega arith) e, k) (behind_step (shortest_varint n) (packed_from ns i) end old start behind mid now l w b)
+    rw (packed_at ns (i - 1) n d (omega arith) e, k) (after_step (shortest_varint n) (packed_from ns i) end old start after mid now l w b)
 
 pub packed_room : (ns : List ℕ) (i n d end start : ℕ) → 0 < i → i ≤ length ns → n ≡ get_or ns (i - 1) d → start + length (packed_from ns i) ≡ end → length (varints_of ns) ≤ end
     → length (shortest_varint n) ≤ start
@@ -156,8 +156,8 @@ packed_room ns i n d end start z h e w r =
     let b : length (packed_from ns (i - 1)) ≡ length (shortest_varint n ++ packed_from ns i) = rw k at a in
     omega (arith, b, length-append (shortest_varint n) (packed_from ns i), packed_shorter ns (i - 1), ap length (packed_all ns))
 
-pub packed_behind_all : (ns : List ℕ) (i end start : ℕ) (behind now : List ℕ) → i ≡ 0 → IsBehind (packed_from ns i) end start behind now → IsBehind (varints_of ns) end start behind now
-packed_behind_all ns i end start behind now z b = subst (λ (t : List ℕ). IsBehind t end start behind now) (ap (packed_from ns) z ∙ packed_all ns) b
+pub packed_after_all : (ns : List ℕ) (i end start : ℕ) (after now : List ℕ) → i ≡ 0 → IsAfter (packed_from ns i) end start after now → IsAfter (varints_of ns) end start after now
+packed_after_all ns i end start after now z b = subst (λ (t : List ℕ). IsAfter t end start after now) (ap (packed_from ns) z ∙ packed_all ns) b
 
 pub packed_size : (at : ℕ) (ns : List ℕ) → 0 < length ns → row_size (Repeated at U32) (elements_part Number ns) ≡ (length (key_bytes at 2) + length (shortest_varint (length (varints_of ns)))) + length (varints_of ns)
 packed_size at ns h = rw (some_packed at ns h) (record_size at (varints_of ns))
@@ -165,14 +165,14 @@ packed_size at ns h = rw (some_packed at ns h) (record_size at (varints_of ns))
 pub no_packed_size : (at : ℕ) (ns : List ℕ) → length ns ≡ 0 → row_size (Repeated at U32) (elements_part Number ns) ≡ 0
 no_packed_size at ns h = rw (no_packed at ns h) refl
 
-pub packed_before : (at start end : ℕ) (ns : List ℕ) (behind mid now : List ℕ) → 0 < length ns → now ≡ key_bytes at 2 ++ (shortest_varint (end - start) ++ mid) → start + length (varints_of ns) ≡ end
-    → mid ≡ varints_of ns ++ behind → now ≡ before_row (Repeated at U32) (elements_part Number ns) behind
-packed_before at start end ns behind mid now h e l f =
+pub packed_before : (at start end : ℕ) (ns : List ℕ) (after mid now : List ℕ) → 0 < length ns → now ≡ key_bytes at 2 ++ (shortest_varint (end - start) ++ mid) → start + length (varints_of ns) ≡ end
+    → mid ≡ varints_of ns ++ after → now ≡ before_row (Repeated at U32) (elements_part Number ns) after
+packed_before at start end ns after mid now h e l f =
     let z : end - start ≡ length (varints_of ns) = omega arith in
-    rw (some_packed at ns h) (record_before at (varints_of ns) behind mid now (rw z at e) f)
+    rw (some_packed at ns h) (record_before at (varints_of ns) after mid now (rw z at e) f)
 
-pub no_packed_before : (at : ℕ) (ns behind : List ℕ) → length ns ≡ 0 → behind ≡ before_row (Repeated at U32) (elements_part Number ns) behind
-no_packed_before at ns behind h = rw (no_packed at ns h) refl
+pub no_packed_before : (at : ℕ) (ns after : List ℕ) → length ns ≡ 0 → after ≡ before_row (Repeated at U32) (elements_part Number ns) after
+no_packed_before at ns after h = rw (no_packed at ns h) refl
 
 -- ---- whole payloads
 

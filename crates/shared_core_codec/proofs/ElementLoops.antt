@@ -3,9 +3,9 @@ use Rattle.std.proofs.Common.{◌≡◌, ℕ, ◌+◌, ◌<◌, ◌≤◌, ◌^�
 use Rattle.shared_core_codec.proofs.FittingRows.{FitFrom, fit_next, fit_number}
 use Rattle.shared_core_codec.proofs.Measuring.{count_next, from_index, packed_count, packed_from}
 use Rattle.shared_core_codec.specs.RowFitting.{ValueFits}
-use Rattle.shared_core_codec.specs.RowSpelling.{capped, value_bytes}
+use Rattle.shared_core_codec.specs.RowEncoding.{capped, value_bytes}
 use Rattle.shared_core_wire.specs.Schema.{Kind, U32}
-use Rattle.shared_core_wire.specs.Spelling.{shortest_varint}
+use Rattle.shared_core_wire.specs.Encoding.{shortest_varint}
 use Rattle.shared_core_wire.specs.Value.{Number, Part}
 
 abbrev pub IsMeasured : {M : Type 0} → (M → Part) → ℕ → Kind → List M → ℕ → ℕ → ℕ → Type 0

@@ -9,7 +9,7 @@ use Rattle.shared_core_wire.specs.declared.error.WireError.TheVariants.{Malforme
 use Rattle.shared_core_codec.specs.Computed.{IsComputed, packed_onto}
 use Rattle.shared_core_codec.specs.FieldParts.{parts_of}
 use Rattle.shared_core_codec.specs.Occurrences.{IsEmptyField}
-use Rattle.shared_core_codec.specs.RowSpelling.{unpacked}
+use Rattle.shared_core_codec.specs.RowEncoding.{unpacked}
 use Rattle.shared_core_wire.proofs.Readers.{some_is}
 use Rattle.shared_core_wire.proofs.Runs.{parts_append_nil}
 use Rattle.shared_core_wire.specs.Acceptance.{NestedAcceptance, accepts_value, accepts_element}

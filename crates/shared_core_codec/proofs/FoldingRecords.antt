@@ -21,10 +21,10 @@ reading_fold left from bytes (Ok p ∷ is) take v w h e =
     (p.field_record ∷ others.0, (h.0, h.1, h.2, h.3, others.1), fold_first take v s.0 w p.field_record others.0 s.1 others.2)
 reading_fold left from bytes (Err x ∷ is) take v w h e = absurd (none_some w e)
 
-pub fold_spelled : {V : Type 0} (left : ℕ) (payload : List ℕ) (take : V → FieldRecord → Option V) (v w : V) → fold_read take v (read_records left payload) ≡ Some w
+pub fold_encoded : {V : Type 0} (left : ℕ) (payload : List ℕ) (take : V → FieldRecord → Option V) (v w : V) → fold_read take v (read_records left payload) ≡ Some w
     → (rs : List FieldRecord) × IsRecordListWithin left payload rs × (fold_records take v rs ≡ Some w)
 unfolding read_records
-fold_spelled left payload take v w e = reading_fold left 0 payload (read_records left payload) take v w (read_reading left (length payload) 0 (length payload) payload (omega arith) (omega arith)) e
+fold_encoded left payload take v w e = reading_fold left 0 payload (read_records left payload) take v w (read_reading left (length payload) 0 (length payload) payload (omega arith) (omega arith)) e
 
 oks_fold : {V : Type 0} (take : V → FieldRecord → Option V) (is : List (Result PlacedRecord WireError)) (rs : List FieldRecord) (v : V) → map without_place is ≡ map Ok rs → fold_read take v is ≡ fold_records take v rs
 oks_fold take [] [] v e = refl

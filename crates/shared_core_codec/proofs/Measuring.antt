@@ -7,11 +7,11 @@ use Rattle.std.specs.Int.{w32, w64, cast_unsigned}
 use Rattle.shared_core_codec.proofs.RowBytes.{absent_bytes, bytes_value_bytes, each_bytes, each_cons, each_nil, elements_bytes, member_bytes, message_bytes, no_member, no_packed, number_value_bytes, option_bytes, rows_cons, rows_end, plain_default, plain_value, rows_nil, some_packed}
 use Rattle.shared_core_codec.specs.Equality.{is_present}
 use Rattle.shared_core_codec.specs.FieldParts.{elements_part, enum_number, parts_of}
-use Rattle.shared_core_codec.specs.RowSpelling.{capped, length_record, measured_message, measured_row, measured_rows, row_bytes, unpacked, value_bytes, varints_of}
+use Rattle.shared_core_codec.specs.RowEncoding.{capped, length_record, measured_message, measured_row, measured_rows, row_bytes, unpacked, value_bytes, varints_of}
 use Rattle.shared_core_codec.specs.Table.{table}
 use Rattle.shared_core_wire.specs.Canonical.{canonical_payload, is_default, message_records, written_number}
 use Rattle.shared_core_wire.specs.Schema.{Enumeration, Kind, Message, OneOf, Optional, Plain, Repeated, Row, U32}
-use Rattle.shared_core_wire.specs.Spelling.{key_bytes, record_list_bytes, shortest_varint}
+use Rattle.shared_core_wire.specs.Encoding.{key_bytes, record_list_bytes, shortest_varint}
 use Rattle.shared_core_wire.specs.Value.{Absent, Bytes, Elements, Member, Nested, Number, Part, Parts, cons, nil}
 
 pub capped_append : (a : ℕ) (xs ys : List ℕ) → capped (a + length (xs ++ ys)) ≡ capped (capped (a + length xs) + length ys)

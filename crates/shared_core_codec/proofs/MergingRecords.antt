@@ -9,7 +9,7 @@ use Rattle.std.proofs.lemmas.List.{take_more}
 use Rattle.std.specs.Result.{IsErrOf}
 use Rattle.shared_core_wire.specs.declared.error.WireError.{WireError}
 use Rattle.shared_core_wire.specs.declared.error.WireError.TheVariants.{Malformed, OutOfMemory}
-use Rattle.shared_core_codec.proofs.FoldingRecords.{fold_again, fold_spelled}
+use Rattle.shared_core_codec.proofs.FoldingRecords.{fold_again, fold_encoded}
 use Rattle.shared_core_codec.specs.Computed.{IsComputed}
 use Rattle.shared_core_codec.specs.Folding.{fold_read, fold_records}
 use Rattle.shared_core_codec.specs.Occurrences.{is_length, merged_with}
@@ -60,7 +60,7 @@ module _ (left s : ℕ) where
 
   pub fold_accepted : (payload : List ℕ) (v w : Parts) → fold_read merge v (read_records left payload) ≡ Some w → (accepts_payload table left s payload ≡ true) × (w ≡ overlay table left s v (or_empty (record_list left payload)))
   fold_accepted payload v w e =
-      let f = fold_spelled left payload merge v w e in
+      let f = fold_encoded left payload merge v w e in
       let d = listed_over f.0 v w f.2 in
       let found = records_again left payload f.0 f.1 in
       (ap (some_passes (accepts_records table left s)) found ∙ d.0, d.1 ∙ ap (λ o. overlay table left s v (or_empty o)) (sym found))

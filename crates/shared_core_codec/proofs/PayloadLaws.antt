@@ -7,7 +7,7 @@ use Rattle.shared_core_wire.proofs.Merging.{accepts_payload-append, overlay_byte
 use Rattle.shared_core_wire.proofs.ReadBackLevels.{canonical_back, canonical_one}
 use Rattle.shared_core_codec.specs.Table.{table}
 use Rattle.shared_core_codec.specs.Equality.{DecidesEquality}
-use Rattle.shared_core_codec.specs.Payloads.{IsReadBack, IsReadBackLaw, JoinedPayloadsLaw, HasOneSpelling}
+use Rattle.shared_core_codec.specs.Payloads.{IsReadBack, IsReadBackLaw, JoinedPayloadsLaw, HasOneEncoding}
 use Rattle.shared_core_codec.proofs.Tables.{are_schemas}
 
 pub canonical_is_read_back : (s : ℕ) (v : Parts) → Fits table v (table s) → IsReadBackLaw s v
@@ -20,6 +20,6 @@ reads_back s v bytes f e z l =
 pub joined_payloads : (s : ℕ) → JoinedPayloadsLaw s
 joined_payloads s v a b g h = (accepts_payload-append table 100 s a b g h, overlay_bytes-append table 100 s v a b g h)
 
-pub spells_one : (s : ℕ) (test : Bool) (v w : Parts) → Fits table v (table s) → Fits table w (table s) → DecidesEquality test v w → HasOneSpelling s test v w
-spells_one s test v w f g same l m z =
+pub encodes_one : (s : ℕ) (test : Bool) (v w : Parts) → Fits table v (table s) → Fits table w (table s) → DecidesEquality test v w → HasOneEncoding s test v w
+encodes_one s test v w f g same l m z =
     (λ e. ap (canonical_payload table s) (same.sound e), λ e. same.complete (canonical_one table are_schemas 100 s v w f g l m z e))

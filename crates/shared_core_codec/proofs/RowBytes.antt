@@ -4,11 +4,11 @@ use Rattle.std.specs.Prelude.{flat_map, if◌then◌else◌}
 use Rattle.std.proofs.lemmas.List.Concat.{flat_map-append}
 use Rattle.std.proofs.lemmas.List.{map-append}
 use Rattle.shared_core_codec.specs.FieldParts.{parts_of}
-use Rattle.shared_core_codec.specs.RowSpelling.{length_record, row_bytes, unpacked, value_bytes, varint_record, varints_of, before_row, before_rows, row_size, rows_size}
+use Rattle.shared_core_codec.specs.RowEncoding.{length_record, row_bytes, unpacked, value_bytes, varint_record, varints_of, before_row, before_rows, row_size, rows_size}
 use Rattle.shared_core_codec.specs.Table.{table}
 use Rattle.shared_core_wire.specs.Canonical.{canonical_payload, element_values, is_default, kind_of, message_records, number_bytes, part_values, row_records, written_number}
 use Rattle.shared_core_wire.specs.Schema.{Boolean, ByteString, Enumeration, Kind, Message, OneOf, Optional, Plain, Repeated, Row, Text, U32, U64, member_kind}
-use Rattle.shared_core_wire.specs.Spelling.{record_bytes, record_list_bytes, shortest_varint}
+use Rattle.shared_core_wire.specs.Encoding.{record_bytes, record_list_bytes, shortest_varint}
 use Rattle.shared_core_wire.specs.Value.{Absent, Bytes, Elements, Member, Nested, Number, Part, Parts, cons, nil}
 
 -- ---- a row's bytes

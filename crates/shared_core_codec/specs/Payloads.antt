@@ -33,6 +33,6 @@ JoinedPayloadsLaw s = (v : Parts) (a b : List ℕ) → IsAccepted s a → IsAcce
     → IsAccepted s (a ++ b) × (merged_payload s v (a ++ b) ≡ merged_payload s (merged_payload s v a) b)
 
 -- The test decides whether the canonical payloads of two values of nesting depth at most one hundred are equal.
-abbrev pub HasOneSpelling : ℕ → Bool → Parts → Parts → Type 0
-HasOneSpelling s test v w = levels v ≤ 100 → levels w ≤ 100 → size table s v < 2 ^ 64
+abbrev pub HasOneEncoding : ℕ → Bool → Parts → Parts → Type 0
+HasOneEncoding s test v w = levels v ≤ 100 → levels w ≤ 100 → size table s v < 2 ^ 64
     → (test ≡ true) ↔ (canonical_payload table s v ≡ canonical_payload table s w)

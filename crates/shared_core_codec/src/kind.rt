@@ -14,7 +14,7 @@ ghost use Rattle.shared_core_wire.specs.Value.{Part, Absent};
 ghost use Rattle.shared_core_wire.specs.Canonical.{is_default as is_default_part};
 ghost use Rattle.shared_core_codec.specs.Equality.{is_present};
 ghost use Rattle.shared_core_codec.specs.Occurrences.{field_accepts, FieldBecomes, IsEmptyField};
-ghost use Rattle.shared_core_codec.specs.RowSpelling.{capped, value_bytes, unpacked};
+ghost use Rattle.shared_core_codec.specs.RowEncoding.{capped, value_bytes, unpacked};
 ghost use Rattle.shared_core_codec.specs.RowFitting.{ValueFits};
 ghost use Rattle.shared_core_wire.specs.declared.error.WireError.TheVariants as error;
 

@@ -6,7 +6,7 @@ ghost use Rattle.std.specs.List.{list_all};
 ghost use Rattle.shared_core_wire.specs.Laws.{AreSchemas};
 ghost use Rattle.shared_core_codec.specs.Table.{table, schemas, schema_count};
 ghost use Rattle.shared_core_codec.specs.NamedSchemas.{names_schemas};
-ghost use Rattle.shared_core_codec.specs.Payloads.{HasOneSpelling, IsReadBackLaw, JoinedPayloadsLaw};
+ghost use Rattle.shared_core_codec.specs.Payloads.{HasOneEncoding, IsReadBackLaw, JoinedPayloadsLaw};
 
 use crate::record::WireRecord;
 
@@ -37,9 +37,9 @@ pub fn joined_payloads_merge<M: WireRecord>(_value: &M)
 {}
 
 /// Two records of nesting depth at most one hundred are equal if and only if their canonical payloads are.
-#[tactic(auto, using(crate::proofs::PayloadLaws::spells_one))]
+#[tactic(auto, using(crate::proofs::PayloadLaws::encodes_one))]
 pub fn equal_records_have_equal_payloads<M: WireRecord>(a: &M, b: &M)
-    ensures { HasOneSpelling M.schema (M.eq a.now b.now) (M.parts a.now) (M.parts b.now) }
+    ensures { HasOneEncoding M.schema (M.eq a.now b.now) (M.parts a.now) (M.parts b.now) }
 {
     a.encoded_len();
     b.encoded_len();

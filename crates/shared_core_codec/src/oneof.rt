@@ -5,7 +5,7 @@ ghost use Rattle.std.specs.Result.{IsErrOf};
 ghost use Rattle.shared_core_wire.specs.Schema.{Kind};
 ghost use Rattle.shared_core_wire.specs.Schema as row;
 ghost use Rattle.shared_core_wire.specs.Value.{Part};
-ghost use Rattle.shared_core_codec.specs.RowSpelling.{measured_row, before_row, row_size};
+ghost use Rattle.shared_core_codec.specs.RowEncoding.{measured_row, before_row, row_size};
 ghost use Rattle.shared_core_codec.specs.RowFitting.{FieldFits};
 ghost use Rattle.shared_core_codec.specs.Equality.{DecidesEquality, is_present};
 ghost use Rattle.shared_core_codec.specs.Occurrences.{IsMember, member_accepts, MemberBecomes};

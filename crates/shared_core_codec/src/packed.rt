@@ -7,7 +7,7 @@ ghost use Rattle.shared_core_wire.specs.Value.{Number};
 ghost use Rattle.shared_core_codec.specs.Computed.{IsComputed, packed_onto};
 ghost use Rattle.shared_core_codec.specs.FieldParts.{elements_part, parts_of};
 ghost use Rattle.shared_core_codec.specs.Occurrences.{repeated_accepts, FieldExtends};
-ghost use Rattle.shared_core_codec.specs.RowSpelling.{capped, measured_row, before_row, row_size, varints_of};
+ghost use Rattle.shared_core_codec.specs.RowEncoding.{capped, measured_row, before_row, row_size, varints_of};
 ghost use Rattle.shared_core_codec.specs.RowFitting.{FieldFits};
 ghost use Rattle.shared_core_wire.specs.declared.error.WireError.TheVariants as error;
 

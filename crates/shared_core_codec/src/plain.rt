@@ -4,7 +4,7 @@ ghost use Rattle.std.specs.Prelude.{◌≡◌, ◌+◌, ◌≤◌, length, drop,
 ghost use Rattle.std.specs.Result.{IsErrOf};
 ghost use Rattle.shared_core_wire.specs.Schema.{Plain};
 ghost use Rattle.shared_core_codec.specs.Occurrences.{field_accepts, FieldBecomes};
-ghost use Rattle.shared_core_codec.specs.RowSpelling.{measured_row, before_row, row_size};
+ghost use Rattle.shared_core_codec.specs.RowEncoding.{measured_row, before_row, row_size};
 ghost use Rattle.shared_core_codec.specs.RowFitting.{FieldFits};
 ghost use Rattle.shared_core_wire.specs.declared.error.WireError.TheVariants as error;
 

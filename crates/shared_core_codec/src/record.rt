@@ -12,7 +12,7 @@ ghost use Rattle.shared_core_codec.specs.Computed.{IsComputed};
 ghost use Rattle.shared_core_codec.specs.Folding.{fold_read};
 ghost use Rattle.shared_core_codec.specs.Occurrences.{schema_accepts, RecordMerges, merged_with};
 ghost use Rattle.shared_core_codec.specs.Payloads.{IsAccepted, merged_payload, payload_meaning, IsReadBack};
-ghost use Rattle.shared_core_codec.specs.RowSpelling.{measured_rows, before_rows, rows_size};
+ghost use Rattle.shared_core_codec.specs.RowEncoding.{measured_rows, before_rows, rows_size};
 ghost use Rattle.shared_core_codec.specs.RowFitting.{FieldsFit};
 ghost use Rattle.shared_core_codec.specs.Equality.{DecidesEquality};
 ghost use Rattle.shared_core_codec.specs.declared.error.EncodingError.TheVariants.{PayloadTooLong, OutOfMemory};

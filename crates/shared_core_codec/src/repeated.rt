@@ -5,7 +5,7 @@ ghost use Rattle.std.specs.Result.{IsErrOf};
 ghost use Rattle.shared_core_wire.specs.Schema.{Repeated};
 ghost use Rattle.shared_core_codec.specs.FieldParts.{elements_part, parts_of};
 ghost use Rattle.shared_core_codec.specs.Occurrences.{repeated_accepts, FieldExtends};
-ghost use Rattle.shared_core_codec.specs.RowSpelling.{measured_row, before_row, row_size};
+ghost use Rattle.shared_core_codec.specs.RowEncoding.{measured_row, before_row, row_size};
 ghost use Rattle.shared_core_codec.specs.RowFitting.{FieldFits};
 ghost use Rattle.shared_core_wire.specs.declared.error.WireError.TheVariants as error;
 

@@ -1,8 +1,8 @@
 //! The size of a canonical payload: a sum, capped at 2^32, and what each kind of record adds to it.
 
 ghost use Rattle.std.specs.Prelude.{◌≡◌, ◌+◌, ◌*◌, ◌^◌, ◌<◌, ◌≤◌, length};
-ghost use Rattle.shared_core_wire.specs.Spelling.{shortest_varint, key_bytes};
-ghost use Rattle.shared_core_codec.specs.RowSpelling.{length_record, capped, measured_message};
+ghost use Rattle.shared_core_wire.specs.Encoding.{shortest_varint, key_bytes};
+ghost use Rattle.shared_core_codec.specs.RowEncoding.{length_record, capped, measured_message};
 
 use shared_core_wire::varint::varint_len;
 use std::marker::Model;
@@ -102,7 +102,7 @@ impl Size {
 
     /// Adds a length-delimited record of this length.
     #[inline]
-    #[tactic(auto, unfolding(crate::specs::RowSpelling::measured_message))]
+    #[tactic(auto, unfolding(crate::specs::RowEncoding::measured_message))]
     pub fn add_sized(&mut self, number: u32, content: &Size)
         ensures { self.new ≡ measured_message number content.now self.old }
     {

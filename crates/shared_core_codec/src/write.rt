@@ -4,8 +4,8 @@
 //! that there is room, so nothing is tested and nothing can fail.
 
 ghost use Rattle.std.specs.Prelude.{◌≡◌, ◌+◌, ◌*◌, ◌^◌, ◌<◌, ◌≤◌, ◌++◌, length, drop};
-ghost use Rattle.shared_core_wire.specs.Spelling.{shortest_varint, key_bytes};
-ghost use Rattle.shared_core_codec.specs.RowSpelling.{length_record, varint_record};
+ghost use Rattle.shared_core_wire.specs.Encoding.{shortest_varint, key_bytes};
+ghost use Rattle.shared_core_codec.specs.RowEncoding.{length_record, varint_record};
 
 use crate::size::{LENGTH, VARINT, key};
 

@@ -87,8 +87,8 @@ rest_none : (indentation : List ℕ) (row : Row) (rows : List Row) (a b : Parts)
     → lines_of indentation (filter (λ field. not (includes (numbers row) field.0)) fields) rows (rest_parts a) (rest_parts b) ≡ []
 rest_none indentation row rows a b [] none = refl
 rest_none indentation row rows a b (f ∷ fields) none =
-    let behind = rest_none indentation row rows a b fields (second_nothing _ _ none) in
-    by_test (includes (numbers row) f.0) (λ t. rw t behind) (λ t. rw (t, first_nothing (numbered_line indentation f rows (rest_parts a) (rest_parts b)) (lines_of indentation fields (row ∷ rows) a b) (rw t at none)) behind)
+    let after = rest_none indentation row rows a b fields (second_nothing _ _ none) in
+    by_test (includes (numbers row) f.0) (λ t. rw t after) (λ t. rw (t, first_nothing (numbered_line indentation f rows (rest_parts a) (rest_parts b)) (lines_of indentation fields (row ∷ rows) a b) (rw t at none)) after)
 
 -- Where no field has a line, the rows that have one of them hold the same, and the others are erased.
 covered_rows_same : (fields : CommandFields) (indentation : List ℕ) (printed : List (ℕ × List ℕ)) (rows : List Row) (a b : Parts)

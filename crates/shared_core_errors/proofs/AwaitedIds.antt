@@ -58,14 +58,14 @@ id_eq_flips a b = equal_keys a b ∙ (eq_by_cmp_equiv nat_list_cmp_total).symm (
 
 -- an id that does not come after another, and differs from it, comes before it
 less_from_sorted : (a b : Id) → is_lt (compare_ids b a) ≡ false → id_eq a b ≡ false → compare_ids a b ≡ Less
-less_from_sorted a b behind differ = by _ refl
+less_from_sorted a b after differ = by _ refl
   where
     by : (r : Ordering) → compare_ids a b ≡ r → compare_ids a b ≡ Less
     by Less e = e
     by Equal e = absurd (let no : true ≡ false = ap is_eq (sym e) ∙ sym (equal_keys a b) ∙ differ in cc)
     by Greater e =
         let flipped = nat_list_cmp_total.antisymm (order_key b) (order_key a) in
-        absurd (let no : true ≡ false = ap (λ r. is_lt (ordering_reverse r)) (sym e) ∙ ap is_lt (sym flipped) ∙ behind in cc)
+        absurd (let no : true ≡ false = ap (λ r. is_lt (ordering_reverse r)) (sym e) ∙ ap is_lt (sym flipped) ∙ after in cc)
 
 -- sorted ids that differ ascend strictly
 ascending : (xs : List Id) → IsSortedByKey order_key (slice_cmp nat_cmp) xs → IsDistinct id_eq xs → IsStrictlySortedBy (slice_cmp nat_cmp) (map order_key xs)

@@ -16,10 +16,10 @@ use Rattle.shared_core_wire.specs.Schema.{Kind, Row, U32, U64, Boolean, Enumerat
 use Rattle.shared_core_wire.specs.Value.{Part, Parts, Absent, Number, Bytes, Nested, Elements, Member, nil, cons}
 use Rattle.shared_core_wire.specs.Fitting.{is_single, has_shape, NumberFits, BytesFit, PartFits, ElementsFit, Fits}
 use Rattle.shared_core_wire.specs.Canonical.{kind_of, number_of, written_number, is_default, number_bytes, row_records, part_values, element_values, message_records, canonical_payload, part_levels, levels}
-use Rattle.shared_core_wire.proofs.SpellingLaws.{spellable, spellable_value, varints_spelled}
+use Rattle.shared_core_wire.proofs.EncodingLaws.{encodable, encodable_value, varints_encoded}
 use Rattle.shared_core_wire.proofs.Readers.{bind_some}
 use Rattle.shared_core_wire.specs.Reader.{packed_numbers, sequence_past, varint_at, ◌>>=◌}
-use Rattle.shared_core_wire.specs.Spelling.{shortest_varint}
+use Rattle.shared_core_wire.specs.Encoding.{shortest_varint}
 use Rattle.shared_core_wire.proofs.ReadBack.{or_split, includes-append, distinct_back, distinct_other}
 use Rattle.shared_core_wire.proofs.Runs.{and_split, and_join}
 use Rattle.shared_core_codec.specs.Table.{table}
@@ -125,7 +125,7 @@ packed : (ps : Parts) → ElementsFit table ps U32 → run_tokens (flat_map numb
 unfolding packed_numbers
 packed ps h =
     let r = run ps h in
-    let ns = run_of 0 (flat_map shortest_varint (numbers_in ps)) (numbers_in ps) (varints_spelled (numbers_in ps) r.fit) in
+    let ns = run_of 0 (flat_map shortest_varint (numbers_in ps)) (numbers_in ps) (varints_encoded (numbers_in ps) r.fit) in
     ap (λ (bs : List ℕ). run_tokens bs) r.bytes ∙ ap (λ (xs : List ℕ). begin_array ∷ (map number_token xs ++ end_array ∷ [])) ns ∙ ap (λ (ts : List Token). begin_array ∷ ts) r.tokens
 
 -- ---- one level
@@ -136,7 +136,7 @@ module _ (nested : ℕ → List ℕ → List Token) (left : ℕ)
   record Single (p : Part) (k : Kind) : Type 0 where
     w : RecordValue
     is : part_values table p k ≡ w ∷ []
-    tokens : spellable_value w ≡ true → value_tokens nested k w ≡ json_tokens (part_json p k)
+    tokens : encodable_value w ≡ true → value_tokens nested k w ≡ json_tokens (part_json p k)
 
   single_number : (n : ℕ) (k : Kind) → NumberFits k n → Single (Number n) k
   unfolding part_values part_json
@@ -178,14 +178,14 @@ module _ (nested : ℕ → List ℕ → List Token) (left : ℕ)
   single (Member n p) k i h l = absurd cc
 
   -- the elements of a list, and its end
-  elements_tokens : (ps : Parts) (k : Kind) (rest : List Token) → ElementsFit table ps k → levels ps ≤ left → list_all spellable_value (element_values table ps k) ≡ true
+  elements_tokens : (ps : Parts) (k : Kind) (rest : List Token) → ElementsFit table ps k → levels ps ≤ left → list_all encodable_value (element_values table ps k) ≡ true
       → flat_map (value_tokens nested k) (element_values table ps k) ++ (end_array ∷ rest) ≡ tree.items_tokens (items_json ps k) ++ rest
   unfolding part_values PartFits levels part_json
   elements_tokens nil k rest h l s = refl
   elements_tokens (cons p ps) k rest h l s =
       let x = single p k h.0 h.1 (omega arith) in
       let low_rest : levels ps ≤ left = omega arith in
-      let e = and_split _ _ (ap (λ (ws : List RecordValue). list_all spellable_value (ws ++ element_values table ps k)) (sym x.is) ∙ s) in
+      let e = and_split _ _ (ap (λ (ws : List RecordValue). list_all encodable_value (ws ++ element_values table ps k)) (sym x.is) ∙ s) in
       let later = elements_tokens ps k rest h.2 low_rest e.1 in
       ap (λ (ws : List RecordValue). flat_map (value_tokens nested k) (ws ++ element_values table ps k) ++ (end_array ∷ rest)) x.is
       ∙ append_assoc (value_tokens nested k x.w) (flat_map (value_tokens nested k) (element_values table ps k)) (end_array ∷ rest)
@@ -226,14 +226,14 @@ module _ (nested : ℕ → List ℕ → List Token) (left : ℕ)
 
       single_written : (n : ℕ) (name : List ℕ) (k : Kind) (p : Part) → Single p k
           → field_numbered fields n ≡ Some (record { number = n; name = name; kind = k; is_element = false })
-          → eqb begun n ≡ false → list_all spellable (map (λ w. record { number = n; value = w }) (part_values table p k)) ≡ true
+          → eqb begun n ≡ false → list_all encodable (map (λ w. record { number = n; value = w }) (part_values table p k)) ≡ true
           → walk nested fields 0 rest ++ end_object ∷ [] ≡ members_tokens ms
           → walk nested fields begun (map (λ w. record { number = n; value = w }) (part_values table p k) ++ rest) ++ end_object ∷ []
           ≡ end_tokens begun ++ members_tokens (member name (part_json p k) ms)
       single_written n name k p x f ne s next =
-          let spells = ap (λ (ws : List RecordValue). list_all spellable (map (λ w. record { number = n; value = w }) ws)) (sym x.is) ∙ s in
+          let encodes = ap (λ (ws : List RecordValue). list_all encodable (map (λ w. record { number = n; value = w }) ws)) (sym x.is) ∙ s in
           ap (λ (ws : List RecordValue). walk nested fields begun (map (λ w. record { number = n; value = w }) ws ++ rest) ++ end_object ∷ []) x.is
-          ∙ one_written n name k x.w (part_json p k) f ne (x.tokens (and_split _ _ (and_split _ _ spells).0).1) next
+          ∙ one_written n name k x.w (part_json p k) f ne (x.tokens (and_split _ _ (and_split _ _ encodes).0).1) next
 
       -- the first element of a list, and the others
       first_written : (n : ℕ) (name : List ℕ) (k : Kind) (w : RecordValue) (ws all : List RecordValue)
@@ -255,7 +255,7 @@ module _ (nested : ℕ → List ℕ → List Token) (left : ℕ)
 
       elements_written : (n : ℕ) (name : List ℕ) (k : Kind) (p : Part) (ps : Parts)
           → field_numbered fields n ≡ Some (record { number = n; name = name; kind = k; is_element = true })
-          → eqb begun n ≡ false → eqb n 0 ≡ false → ElementsFit table (cons p ps) k → levels (cons p ps) ≤ left → list_all spellable_value (element_values table (cons p ps) k) ≡ true
+          → eqb begun n ≡ false → eqb n 0 ≡ false → ElementsFit table (cons p ps) k → levels (cons p ps) ≤ left → list_all encodable_value (element_values table (cons p ps) k) ≡ true
           → walk nested fields n rest ++ end_object ∷ [] ≡ end_tokens n ++ members_tokens ms
           → walk nested fields begun (map (λ w. record { number = n; value = w }) (element_values table (cons p ps) k) ++ rest) ++ end_object ∷ []
           ≡ end_tokens begun ++ members_tokens (member name (array (items_json (cons p ps) k)) ms)
@@ -268,7 +268,7 @@ module _ (nested : ℕ → List ℕ → List Token) (left : ℕ)
       -- a plain field, whose default is left out
       plain_written : (n : ℕ) (name : List ℕ) (k : Kind) (p : Part) (default : Bool) → Single p k
           → field_numbered fields n ≡ Some (record { number = n; name = name; kind = k; is_element = false })
-          → eqb begun n ≡ false → list_all spellable (map (λ w. record { number = n; value = w }) (cond default [] (part_values table p k))) ≡ true
+          → eqb begun n ≡ false → list_all encodable (map (λ w. record { number = n; value = w }) (cond default [] (part_values table p k))) ≡ true
           → walk nested fields begun rest ++ end_object ∷ [] ≡ end_tokens begun ++ members_tokens ms
           → walk nested fields 0 rest ++ end_object ∷ [] ≡ members_tokens ms
           → walk nested fields begun (map (λ w. record { number = n; value = w }) (cond default [] (part_values table p k)) ++ rest) ++ end_object ∷ []
@@ -276,15 +276,15 @@ module _ (nested : ℕ → List ℕ → List Token) (left : ℕ)
       plain_written n name k p true x f ne s stay next = stay
       plain_written n name k p false x f ne s stay next = single_written n name k p x f ne s next
 
-      spell_values : (n : ℕ) (ws : List RecordValue) → list_all spellable (map (λ w. record { number = n; value = w }) ws) ≡ true → list_all spellable_value ws ≡ true
-      spell_values n [] h = refl
-      spell_values n (w ∷ ws) h = let e = and_split _ _ h in and_join _ _ (and_split _ _ e.0).1 (spell_values n ws e.1)
+      encode_values : (n : ℕ) (ws : List RecordValue) → list_all encodable (map (λ w. record { number = n; value = w }) ws) ≡ true → list_all encodable_value ws ≡ true
+      encode_values n [] h = refl
+      encode_values n (w ∷ ws) h = let e = and_split _ _ h in and_join _ _ (and_split _ _ e.0).1 (encode_values n ws e.1)
 
       row_written : (names : List (ℕ × List ℕ)) (row : Row) (p : Part)
           → ((n : ℕ) → includes (numbers row) n ≡ true → field_numbered fields n ≡ Some (own_field names row n))
           → includes (numbers row) begun ≡ false → includes (numbers row) 0 ≡ false
           → has_shape row p ≡ true → PartFits table p (kind_of row p) → part_levels p ≤ left
-          → list_all spellable (row_records row p (part_values table p (kind_of row p))) ≡ true
+          → list_all encodable (row_records row p (part_values table p (kind_of row p))) ≡ true
           → walk nested fields begun rest ++ end_object ∷ [] ≡ end_tokens begun ++ members_tokens ms
           → walk nested fields 0 rest ++ end_object ∷ [] ≡ members_tokens ms
           → ((n : ℕ) → includes (numbers row) n ≡ true → walk nested fields n rest ++ end_object ∷ [] ≡ end_tokens n ++ members_tokens ms)
@@ -316,7 +316,7 @@ module _ (nested : ℕ → List ℕ → List Token) (left : ℕ)
       row_written names (Repeated n U32) (Elements (cons (Nested qs) ps)) f b z i h l s stay next nextn = absurd h.1
       row_written names (Repeated n k) (Elements nil) f b z i h l s stay next nextn = stay
       row_written names (Repeated n k) (Elements (cons p ps)) f b z i h l s stay next nextn =
-          elements_written n (name_of names n) k p ps (f n (own_number n)) (other_number (n ∷ []) begun n b (own_number n)) (not_zero (n ∷ []) n z (own_number n)) h l (spell_values n (element_values table (cons p ps) k) s) (nextn n (own_number n))
+          elements_written n (name_of names n) k p ps (f n (own_number n)) (other_number (n ∷ []) begun n b (own_number n)) (not_zero (n ∷ []) n z (own_number n)) h l (encode_values n (element_values table (cons p ps) k) s) (nextn n (own_number n))
       row_written names (Repeated n k) p f b z i h l s stay next nextn = absurd cc
       row_written names (OneOf members) Absent f b z i h l s stay next nextn = stay
       row_written names (OneOf members) (Member m p) f b z i h l s stay next nextn =
@@ -326,7 +326,7 @@ module _ (nested : ℕ → List ℕ → List Token) (left : ℕ)
 
     pub members_written : (names : List (ℕ × List ℕ)) (v : Parts) (rows : List Row) (begun : ℕ) → are_distinct (all_numbers rows) ≡ true → Knows fields names rows
         → includes (all_numbers rows) begun ≡ false → includes (all_numbers rows) 0 ≡ false
-        → Fits table v rows → levels v ≤ left → list_all spellable (message_records table v rows) ≡ true
+        → Fits table v rows → levels v ≤ left → list_all encodable (message_records table v rows) ≡ true
         → walk nested fields begun (message_records table v rows) ++ end_object ∷ [] ≡ end_tokens begun ++ members_tokens (members_json names v rows)
     unfolding part_values PartFits levels part_json walk
     members_written names nil [] begun d k b z h l s = refl
@@ -335,7 +335,7 @@ module _ (nested : ℕ → List ℕ → List Token) (left : ℕ)
     members_written names (cons p ps) (row ∷ rows) begun d k b z h l s =
         let low_row : part_levels p ≤ left = omega arith in
         let low_rest : levels ps ≤ left = omega arith in
-        let e = and_split _ _ (sym (list_all-append spellable (row_records row p (part_values table p (kind_of row p))) (message_records table ps rows)) ∙ s) in
+        let e = and_split _ _ (sym (list_all-append encodable (row_records row p (part_values table p (kind_of row p))) (message_records table ps rows)) ∙ s) in
         let before = or_split (includes (numbers row) begun) _ (sym (includes-append (numbers row) (all_numbers rows) begun) ∙ b) in
         let zero_of = or_split (includes (numbers row) 0) _ (sym (includes-append (numbers row) (all_numbers rows) 0) ∙ z) in
         let later = λ (n : ℕ) (g : includes (all_numbers rows) n ≡ false). members_written names ps rows n (distinct_back (numbers row) (all_numbers rows) d) (knows_rest fields names row rows d k) g zero_of.1 h.2 low_rest e.1 in

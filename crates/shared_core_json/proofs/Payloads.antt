@@ -7,7 +7,7 @@ use Rattle.json.specs.Tree.{json_tokens}
 use Rattle.shared_core_wire.specs.Grammar.{FieldRecord}
 use Rattle.shared_core_wire.specs.Reader.{record_list}
 use Rattle.shared_core_wire.specs.ReadRecords.{read_records, without_place}
-use Rattle.shared_core_wire.specs.Spelling.{record_bytes, record_list_bytes, is_field_number}
+use Rattle.shared_core_wire.specs.Encoding.{record_bytes, record_list_bytes, is_field_number}
 use Rattle.shared_core_wire.specs.Schema.{includes, all_numbers}
 use Rattle.shared_core_wire.specs.Value.{Parts}
 use Rattle.shared_core_wire.specs.Acceptance.{accepts_message}
@@ -19,13 +19,13 @@ use Rattle.shared_core_wire.proofs.ReadBack.{level_back}
 use Rattle.shared_core_wire.proofs.ReadBackLevels.{canonical_back}
 use Rattle.shared_core_wire.proofs.RecordLists.{records_empty, records_append, records_reads}
 use Rattle.shared_core_wire.proofs.Runs.{and_split}
-use Rattle.shared_core_wire.proofs.SpellingLaws.{spellable, record_spelled}
+use Rattle.shared_core_wire.proofs.EncodingLaws.{encodable, record_encoded}
 use Rattle.shared_core_codec.specs.Table.{table}
 use Rattle.shared_core_codec.specs.Payloads.{payload_meaning}
 use Rattle.shared_core_codec.proofs.Tables.{are_schemas}
 use Rattle.shared_core_json.specs.Fields.{schema_fields, names_of}
 use Rattle.shared_core_json.specs.Form.{value_json}
-use Rattle.shared_core_json.specs.Payloads.{IsSpelling, WritesJson}
+use Rattle.shared_core_json.specs.Payloads.{IsEncoding, WritesJson}
 use Rattle.shared_core_json.specs.Written.{payload_tokens}
 use Rattle.shared_core_json.proofs.Levels.{meaning_levels}
 use Rattle.shared_core_json.proofs.Members.{walk_items, members_written}
@@ -38,29 +38,29 @@ no_zero (n ∷ ns) h = let e = and_split _ _ h in by_test (eqb 0 n) refl (ltb-tr
     by_test true e g f = absurd (omega (arith, eqb-true 0 n e))
     by_test false e g f = f
 
-records_spelled : (left : ℕ) (rs : List FieldRecord) → list_all spellable rs ≡ true → record_list left (record_list_bytes rs) ≡ Some rs
-records_spelled left [] h = records_empty left
-records_spelled left (r ∷ rs) h =
+records_encoded : (left : ℕ) (rs : List FieldRecord) → list_all encodable rs ≡ true → record_list left (record_list_bytes rs) ≡ Some rs
+records_encoded left [] h = records_empty left
+records_encoded left (r ∷ rs) h =
     let e = and_split _ _ h in
-    records_append left (record_bytes r) (record_list_bytes rs) (r ∷ []) rs (record_spelled left r e.0) (records_spelled left rs e.1)
+    records_append left (record_bytes r) (record_list_bytes rs) (r ∷ []) rs (record_encoded left r e.0) (records_encoded left rs e.1)
 
-spells : (left s : ℕ) (v : Parts) → Fits table v (table s) → levels v ≤ left → length (canonical_payload table s v) < 2 ^ 64 → list_all spellable (message_records table v (table s)) ≡ true
+encodes : (left s : ℕ) (v : Parts) → Fits table v (table s) → levels v ≤ left → length (canonical_payload table s v) < 2 ^ 64 → list_all encodable (message_records table v (table s)) ≡ true
 unfolding accepts_message message_overlay
-spells zero s v h l z =
-    (level_back table (message_overlay table zero) (accepts_message table zero) zero (λ t ps f k c. absurd (omega arith)) v (table s) (are_schemas s) h l z).spells
-spells (suc left) s v h l z =
-    (level_back table (message_overlay table (suc left)) (accepts_message table (suc left)) (suc left) (λ t ps f k c. canonical_back table are_schemas left t ps f (omega arith) (ltb-true _ _ c)) v (table s) (are_schemas s) h l z).spells
+encodes zero s v h l z =
+    (level_back table (message_overlay table zero) (accepts_message table zero) zero (λ t ps f k c. absurd (omega arith)) v (table s) (are_schemas s) h l z).encodes
+encodes (suc left) s v h l z =
+    (level_back table (message_overlay table (suc left)) (accepts_message table (suc left)) (suc left) (λ t ps f k c. canonical_back table are_schemas left t ps f (omega arith) (ltb-true _ _ c)) v (table s) (are_schemas s) h l z).encodes
 
-canonical_items : (left : ℕ) (rs : List FieldRecord) → list_all spellable rs ≡ true → map without_place (read_records left (record_list_bytes rs)) ≡ map Ok rs
+canonical_items : (left : ℕ) (rs : List FieldRecord) → list_all encodable rs ≡ true → map without_place (read_records left (record_list_bytes rs)) ≡ map Ok rs
 unfolding read_records
-canonical_items left rs h = read_only left rs (length (record_list_bytes rs)) (record_list_bytes rs) (records_reads left (record_list_bytes rs) rs (records_spelled left rs h))
+canonical_items left rs h = read_only left rs (length (record_list_bytes rs)) (record_list_bytes rs) (records_reads left (record_list_bytes rs) rs (records_encoded left rs h))
 
 level_written : (left s : ℕ) (v : Parts) → Fits table v (table s) → levels v ≤ left → length (canonical_payload table s v) < 2 ^ 64
     → ((t : ℕ) (ps : Parts) → Fits table ps (table t) → suc (levels ps) ≤ left → length (canonical_payload table t ps) < 2 ^ 64 → payload_tokens left t (canonical_payload table t ps) ≡ json_tokens (value_json t ps))
     → payload_tokens (suc left) s (canonical_payload table s v) ≡ json_tokens (value_json s v)
 unfolding payload_tokens schema_fields
 level_written left s v h l z back =
-    let p = spells left s v h l z in
+    let p = encodes left s v h l z in
     let schema = and_split _ _ (are_schemas s) in
     let zero_of = no_zero (all_numbers (table s)) schema.0 in
     let rs = message_records table v (table s) in
@@ -72,14 +72,14 @@ pub canonical_written : (left s : ℕ) (v : Parts) → Fits table v (table s) �
 canonical_written zero s v h l z = level_written zero s v h l z (λ t ps f k c. absurd (omega arith))
 canonical_written (suc left) s v h l z = level_written (suc left) s v h l z (λ t ps f k c. canonical_written left t ps f (omega arith) c)
 
-pub spelling_written : (s : ℕ) (bytes : List ℕ) (old new : List Token) → length bytes < 2 ^ 64 → new ≡ old ++ payload_tokens 102 s bytes → WritesJson s bytes old new
-spelling_written s bytes old new len w v spelling =
-    w ∙ ap (λ (bs : List ℕ). old ++ payload_tokens 102 s bs) spelling.canonical
-    ∙ ap (λ (ts : List Token). old ++ ts) (canonical_written 101 s v spelling.fits spelling.low (subst (λ (bs : List ℕ). length bs < 2 ^ 64) spelling.canonical len))
+pub encoding_written : (s : ℕ) (bytes : List ℕ) (old new : List Token) → length bytes < 2 ^ 64 → new ≡ old ++ payload_tokens 102 s bytes → WritesJson s bytes old new
+encoding_written s bytes old new len w v encoding =
+    w ∙ ap (λ (bs : List ℕ). old ++ payload_tokens 102 s bs) encoding.canonical
+    ∙ ap (λ (ts : List Token). old ++ ts) (canonical_written 101 s v encoding.fits encoding.low (subst (λ (bs : List ℕ). length bs < 2 ^ 64) encoding.canonical len))
 
 -- the canonical payload of what a payload means
-pub decoded_spelling : (s : ℕ) (payload bytes : List ℕ) (v : Parts) → v ≡ payload_meaning s payload → Fits table v (table s) → bytes ≡ canonical_payload table s v → IsSpelling s (payload_meaning s payload) bytes
-decoded_spelling s payload bytes v e f c = record {
+pub decoded_encoding : (s : ℕ) (payload bytes : List ℕ) (v : Parts) → v ≡ payload_meaning s payload → Fits table v (table s) → bytes ≡ canonical_payload table s v → IsEncoding s (payload_meaning s payload) bytes
+decoded_encoding s payload bytes v e f c = record {
   fits = subst (λ (x : Parts). Fits table x (table s)) e f;
   low = meaning_levels table 100 s payload;
   canonical = c ∙ ap (canonical_payload table s) e;

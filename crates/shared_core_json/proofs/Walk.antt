@@ -2,7 +2,7 @@
 use Rattle.std.proofs.Common.{◌≡◌, ℕ, zero, suc, ◌-◌, ◌<◌, List, [], ◌∷◌, ◌++◌, length, drop, Some, None, Result, Ok, Err, true, false, append_assoc, refl, sym, ap, ◌∙◌, arith}
 use Rattle.std.proofs.lemmas.List.{length-append}
 use Rattle.json.specs.Token.{Token, begin_object, end_object, string, null}
-use Rattle.shared_core_wire.proofs.Groups.{behind}
+use Rattle.shared_core_wire.proofs.Groups.{beyond}
 use Rattle.shared_core_wire.proofs.Readers.{varint_pos, varint_reads}
 use Rattle.shared_core_wire.specs.Reader.{varint_at}
 use Rattle.shared_core_wire.specs.ReadRecords.{PlacedRecord, read_records}
@@ -27,7 +27,7 @@ numbers_first : (bytes text rest : List ℕ) (n : ℕ) → varint_at bytes ≡ S
 unfolding numbers_past
 numbers_first [] text rest n e parts h = absurd (omega (arith, ap length parts, length-append text rest))
 numbers_first (b ∷ bs) text rest n e parts h =
-    rw (e, numbers_past) (ap (λ (xs : List ℕ). n ∷ xs) (numbers_over (length bs - length rest) bs ∙ ap (numbers_past 0) (behind b bs text rest parts h)))
+    rw (e, numbers_past) (ap (λ (xs : List ℕ). n ∷ xs) (numbers_over (length bs - length rest) bs ∙ ap (numbers_past 0) (beyond b bs text rest parts h)))
 
 pub record NumbersTurn (bytes : List ℕ) (n : ℕ) (rest : List ℕ) : Type 0 where
   pub shorter : length rest < length bytes

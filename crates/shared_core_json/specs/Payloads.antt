@@ -11,14 +11,14 @@ use Rattle.shared_core_json.specs.Form.{value_json}
 
 -- The bytes are the canonical payload of a value of the schema s, of nesting depth at most one hundred and one. (No
 -- accepted payload means a deeper one than one hundred.)
-pub record IsSpelling (s : ℕ) (v : Parts) (bytes : List ℕ) : Type 0 where
+pub record IsEncoding (s : ℕ) (v : Parts) (bytes : List ℕ) : Type 0 where
   pub fits : Fits table v (table s)
   pub low : levels v ≤ 101
   pub canonical : bytes ≡ canonical_payload table s v
 
 -- If the bytes encode a value canonically, its JSON is appended to the tokens.
 abbrev pub WritesJson : ℕ → List ℕ → List Token → List Token → Type 0
-WritesJson s bytes old new = (v : Parts) → IsSpelling s v bytes → new ≡ old ++ json_tokens (value_json s v)
+WritesJson s bytes old new = (v : Parts) → IsEncoding s v bytes → new ≡ old ++ json_tokens (value_json s v)
 
 -- The payload is well-formed for the schema, and the canonical payload of what it means has more bytes than 32 bits can
 -- count.

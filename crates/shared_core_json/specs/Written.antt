@@ -74,8 +74,8 @@ abbrev pub lead_tokens : ℕ → NamedField → List Token
 lead_tokens begun f = if nat_eq begun f.number then [] else (end_tokens begun ++ key f.name ∷ (if f.is_element then begin_array ∷ [] else []))
 
 -- The list that is open after the value of a field.
-abbrev pub begun_behind : NamedField → ℕ
-begun_behind f = if f.is_element then f.number else 0
+abbrev pub begun_after : NamedField → ℕ
+begun_after f = if f.is_element then f.number else 0
 
 -- The tokens of a record of the field, if there is one.
 abbrev pub record_tokens : (ℕ → List ℕ → List Token) → ℕ → Option NamedField → RecordValue → List Token
@@ -85,7 +85,7 @@ record_tokens nested begun (Some f) w = lead_tokens begun f ++ value_tokens nest
 -- The list that is open after it.
 abbrev pub next_begun : ℕ → Option NamedField → ℕ
 next_begun begun None = begun
-next_begun begun (Some f) = begun_behind f
+next_begun begun (Some f) = begun_after f
 
 -- The tokens of the items that reading a payload gives.
 unfoldable pub items_tokens : (ℕ → List ℕ → List Token) → List NamedField → ℕ → List (Result PlacedRecord WireError) → List Token

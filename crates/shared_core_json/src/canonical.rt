@@ -10,7 +10,7 @@ ghost use Rattle.shared_core_codec.specs.Payloads.{IsAccepted, payload_meaning};
 ghost use Rattle.json.specs.Lex.{tokens};
 ghost use Rattle.json.specs.Tree.{json_tokens};
 ghost use Rattle.shared_core_json.specs.Form.{json_text, value_json};
-ghost use Rattle.shared_core_json.specs.Payloads.{IsSpelling, IsTooLong};
+ghost use Rattle.shared_core_json.specs.Payloads.{IsEncoding, IsTooLong};
 ghost use Rattle.shared_core_json.specs.declared.error.JsonError.TheVariants.{Malformed, TooLong};
 
 use crate::error::JsonError;
@@ -29,7 +29,7 @@ pub fn write_canonical<M: WireRecord>(
     canonical: &mut Vec<u8>,
 ) -> Result<(), JsonError>
     ensures accepted { OnOk result (IsAccepted M.schema payload.now) }
-    ensures spelled { OnOk result (IsSpelling M.schema (payload_meaning M.schema payload.now) canonical.new.items) }
+    ensures encoded { OnOk result (IsEncoding M.schema (payload_meaning M.schema payload.now) canonical.new.items) }
     ensures malformed { IsErrOf result Malformed → ¬ (IsAccepted M.schema payload.now) }
     ensures too_long { IsErrOf result TooLong → IsTooLong M.schema payload.now }
 {

@@ -6,7 +6,7 @@ use Rattle.std.proofs.lemmas.List.Concat.{flat_map-append}
 use Rattle.std.proofs.lemmas.Bool.{eqb-false, ltb-false, ne_eqb}
 use Rattle.json.specs.Json.{Json, null, boolean, number, string, array, object, Items, no_items, item, Members}
 use Rattle.shared_core_wire.specs.Grammar.{RecordValue, Varint, Length, FieldRecord}
-use Rattle.shared_core_wire.specs.Spelling.{shortest_varint, shortest_within, key_bytes, record_bytes, record_list_bytes}
+use Rattle.shared_core_wire.specs.Encoding.{shortest_varint, shortest_within, key_bytes, record_bytes, record_list_bytes}
 use Rattle.shared_core_wire.specs.Schema.{Kind, Row, U32, U64, Boolean, Enumeration, Text, ByteString, Message, includes, member_kind, are_distinct, all_numbers, numbers}
 use Rattle.shared_core_wire.specs.Schema as schema
 use Rattle.shared_core_wire.specs.Value.{Part, Parts, Absent, Number, Bytes, Nested, Elements, Member, nil, cons, default_of}

@@ -9,7 +9,7 @@ use Rattle.json.specs.Json.{Json, Members, if_last, value}
 use Rattle.json.specs.Tree.{json_tokens, depth, items_depth, members_depth}
 use Rattle.json.proofs.Printed.Trees.{value-json_tokens}
 use Rattle.shared_core_wire.specs.Grammar.{RecordValue, Varint, Fixed64, Length, Group, Fixed32}
-use Rattle.shared_core_wire.specs.Spelling.{shortest_varint, key_bytes, record_bytes, record_list_bytes}
+use Rattle.shared_core_wire.specs.Encoding.{shortest_varint, key_bytes, record_bytes, record_list_bytes}
 use Rattle.shared_core_wire.specs.Schema.{Kind, Row, U32, U64, Boolean, Enumeration, Text, ByteString, Message}
 use Rattle.shared_core_wire.specs.Schema as schema
 use Rattle.shared_core_wire.specs.Value.{Part, Parts, Absent, Number, Bytes, Nested, Elements, Member, nil, cons}
@@ -244,9 +244,9 @@ unfolding only_value
 whole_value j h = ap (option_and_then (λ p. if_last p.0 p.1)) (ap (value 1000) (sym (append-nil (json_tokens j))) ∙ value-json_tokens j 1000 [] h)
 
 pub json_back : (s : ℕ) → JsonIsReadBack s
-json_back s v bytes text spelling small low utf8 lexed =
-    let deep : depth (value_json s v) ≤ 1000 = omega (arith, members_low (names_of s) v (table s) spelling.fits) in
-    let held = message_bytes_of v (table s) spelling.fits (subst IsBytes spelling.canonical small) in
+json_back s v bytes text encoding small low utf8 lexed =
+    let deep : depth (value_json s v) ≤ 1000 = omega (arith, members_low (names_of s) v (table s) encoding.fits) in
+    let held = message_bytes_of v (table s) encoding.fits (subst IsBytes encoding.canonical small) in
     let is : IsText text (json_tokens (value_json s v)) = record { utf8 = is_utf8-from_IsUtf8 text utf8; lexed = sym lexed } in
     of_tokens s text (json_tokens (value_json s v)) (Some (value_json s v)) is (whole_value (value_json s v) deep)
-    ∙ ap (option_map (canonical_payload table s)) (message_back 100 s v spelling.fits low held) ∙ ap (λ (b : List ℕ). Some b) (sym spelling.canonical)
+    ∙ ap (option_map (canonical_payload table s)) (message_back 100 s v encoding.fits low held) ∙ ap (λ (b : List ℕ). Some b) (sym encoding.canonical)

@@ -10,7 +10,7 @@ use Rattle.base64.specs.declared.decode.DecodeAllocError.{DecodeAllocError}
 use Rattle.base64.specs.declared.decode.DecodeAllocError.TheVariants.{DecodeError as Failed}
 use Rattle.json.specs.Json.{Json}
 use Rattle.json.specs.Find.{as_str}
-use Rattle.shared_core_wire.specs.Spelling.{shortest_varint}
+use Rattle.shared_core_wire.specs.Encoding.{shortest_varint}
 use Rattle.shared_core_wire.proofs.Shortest.{shortest_small, shortest_large}
 use Rattle.shared_core_json_reader.specs.Scalars.{utf8_text, text_read, base64_bytes, bytes_read}
 use Rattle.shared_core_json_reader.specs.Original.{after_byte, after_original}

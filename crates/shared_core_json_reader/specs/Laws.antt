@@ -7,11 +7,11 @@ use Rattle.json.specs.Tree.{json_tokens}
 use Rattle.shared_core_wire.specs.Value.{Parts}
 use Rattle.shared_core_wire.specs.Canonical.{levels}
 use Rattle.shared_core_json.specs.Form.{value_json}
-use Rattle.shared_core_json.specs.Payloads.{IsSpelling}
+use Rattle.shared_core_json.specs.Payloads.{IsEncoding}
 use Rattle.shared_core_json_reader.specs.Reading.{text_payload}
 
 -- A text whose tokens are those of the JSON of a value, as that which is written for the value's canonical payload, is
 -- read as this payload, if the value is at most one hundred levels deep.
 abbrev pub JsonIsReadBack : ℕ → Type 0
-JsonIsReadBack s = (v : Parts) (bytes text : List ℕ) → IsSpelling s v bytes → IsBytes bytes → levels v ≤ 100
+JsonIsReadBack s = (v : Parts) (bytes text : List ℕ) → IsEncoding s v bytes → IsBytes bytes → levels v ≤ 100
     → IsUtf8 text → tokens text ≡ json_tokens (value_json s v) → text_payload s text ≡ Some bytes

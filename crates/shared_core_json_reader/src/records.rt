@@ -1,7 +1,7 @@
 //! Records appended to a payload.
 
 ghost use Rattle.std.specs.Prelude.{◌≡◌, ◌+◌, ◌*◌, ◌<◌, ◌++◌, OnOk};
-ghost use Rattle.shared_core_wire.specs.Spelling.{shortest_varint, key_bytes};
+ghost use Rattle.shared_core_wire.specs.Encoding.{shortest_varint, key_bytes};
 ghost use Rattle.shared_core_json_reader.specs.Appended.{varint_record, length_record};
 
 use std::alloc::AllocError;

@@ -11,7 +11,7 @@ ghost use Rattle.shared_core_codec.specs.FieldParts.{message_part};
 ghost use Rattle.shared_core_codec.specs.Computed.{IsComputed};
 ghost use Rattle.shared_core_codec.specs.Folding.{fold_read};
 ghost use Rattle.shared_core_codec.specs.Occurrences.{schema_accepts, RecordMerges, repeated_accepts, FieldExtends, merged_with};
-ghost use Rattle.shared_core_codec.specs.RowSpelling.{capped, value_bytes, measured_row, measured_rows, before_row, before_rows, row_size, rows_size};
+ghost use Rattle.shared_core_codec.specs.RowEncoding.{capped, value_bytes, measured_row, measured_rows, before_row, before_rows, row_size, rows_size};
 ghost use Rattle.shared_core_codec.specs.RowFitting.{ValueFits, FieldFits, FieldsFit};
 ghost use Rattle.shared_core_codec.specs.Equality.{part_equal, parts_equal};
 ghost use Rattle.shared_core_wire.specs.declared.error.WireError.TheVariants as error;

@@ -69,9 +69,9 @@ own_first place f = ap (λ (v : Parts). joined_lists place (preorder v)) (is_val
 
 -- ---- futures appended
 
--- parts behind others, and more behind these
-behind : (old middle new own rest all : Parts) → all ≡ own +++ rest → middle ≡ old +++ own → new ≡ middle +++ rest → new ≡ old +++ all
-behind old middle new own rest all a m n = n ∙ rw (m, a) (parts_append_assoc old own rest)
+-- parts after others, and more after these
+after : (old middle new own rest all : Parts) → all ≡ own +++ rest → middle ≡ old +++ own → new ≡ middle +++ rest → new ≡ old +++ all
+after old middle new own rest all a m n = n ∙ rw (m, a) (parts_append_assoc old own rest)
 
 pub future_appended : (f : Future) (old middle new : SuspensionMessageV6)
     → parts_of Number middle.waiting_completions.items ≡ parts_of Number old.waiting_completions.items +++ parts_of Number (out-Future f).waiting_completions.items
@@ -79,9 +79,9 @@ pub future_appended : (f : Future) (old middle new : SuspensionMessageV6)
     → parts_of text_part middle.waiting_named_signals.items ≡ parts_of text_part old.waiting_named_signals.items +++ parts_of text_part (out-Future f).waiting_named_signals.items
     → AppendsFutures middle new (messages_in (future_elements (out-Future f).nested_futures.items)) → AppendsFutures old new (preorder (future_parts f))
 future_appended f old middle new c s n w = record {
-  completions = behind _ _ _ _ _ _ (own_first 0 f) c w.completions;
-  signals = behind _ _ _ _ _ _ (own_first 1 f) s w.signals;
-  named_signals = behind _ _ _ _ _ _ (own_first 2 f) n w.named_signals;
+  completions = after _ _ _ _ _ _ (own_first 0 f) c w.completions;
+  signals = after _ _ _ _ _ _ (own_first 1 f) s w.signals;
+  named_signals = after _ _ _ _ _ _ (own_first 2 f) n w.named_signals;
 }
 
 joined_append : (place : ℕ) (fs gs : List Parts) → joined_lists place (fs ++ gs) ≡ joined_lists place fs +++ joined_lists place gs
@@ -101,9 +101,9 @@ none_appended flat = record {
 
 both_appended : (old middle new : SuspensionMessageV6) (fs gs hs : List Parts) → hs ≡ fs ++ gs → AppendsFutures old middle fs → AppendsFutures middle new gs → AppendsFutures old new hs
 both_appended old middle new fs gs hs h a b = record {
-  completions = behind _ _ _ _ _ _ (ap (joined_lists 0) h ∙ joined_append 0 fs gs) a.completions b.completions;
-  signals = behind _ _ _ _ _ _ (ap (joined_lists 1) h ∙ joined_append 1 fs gs) a.signals b.signals;
-  named_signals = behind _ _ _ _ _ _ (ap (joined_lists 2) h ∙ joined_append 2 fs gs) a.named_signals b.named_signals;
+  completions = after _ _ _ _ _ _ (ap (joined_lists 0) h ∙ joined_append 0 fs gs) a.completions b.completions;
+  signals = after _ _ _ _ _ _ (ap (joined_lists 1) h ∙ joined_append 1 fs gs) a.signals b.signals;
+  named_signals = after _ _ _ _ _ _ (ap (joined_lists 2) h ∙ joined_append 2 fs gs) a.named_signals b.named_signals;
 }
 
 -- the futures in the first so many futures

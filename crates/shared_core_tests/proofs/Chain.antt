@@ -6,19 +6,19 @@ use Rattle.shared_core_wire.specs.Canonical.{levels}
 use Rattle.shared_core_message.specs.Frames.{WireForm}
 use Rattle.shared_core.specs.declared.encoding.error.DecodingError.{DecodingError}
 use Rattle.shared_core.specs.declared.encoding.raw_message.RawMessage.{RawMessage}
-use Rattle.shared_core.specs.Decoded.{AnswersWritten}
-use Rattle.shared_core.specs.Items.{AnswersNext}
+use Rattle.shared_core.specs.Decoded.{ReturnsWritten}
+use Rattle.shared_core.specs.Items.{ReturnsNext}
 use Rattle.shared_core.specs.Unread.{Unread}
 
 -- whatever follows a frame, what a decoder answers before which it stands is what was written
 abbrev pub ComesOut : Version → MessageType → WireForm → List ℕ → Type 0
-ComesOut version ty form frame = levels form.parts ≤ 100 → (rest new : List ℕ) (answer : Result (Option RawMessage) DecodingError) → AnswersNext version (frame ++ rest) answer new → AnswersWritten ty form (frame ++ rest) answer rest new
+ComesOut version ty form frame = levels form.parts ≤ 100 → (rest new : List ℕ) (answer : Result (Option RawMessage) DecodingError) → ReturnsNext version (frame ++ rest) answer new → ReturnsWritten ty form (frame ++ rest) answer rest new
 
 -- so does one that holds the frame alone
 pub alone : (ty : MessageType) (form : Version → WireForm) (frame : List ℕ) (spoken version : Version) → spoken ≡ version → levels (form version).parts ≤ 100 → ComesOut spoken ty (form spoken) frame
     → (fresh : Unread) → fresh ≡ record { version = version; bytes = [] } → (held : Unread) → held ≡ record { version = fresh.version; bytes = fresh.bytes ++ frame }
-    → (answer : Result (Option RawMessage) DecodingError) (new : List ℕ) → AnswersNext held.version held.bytes answer new → AnswersWritten ty (form version) (frame ++ []) answer [] new
+    → (answer : Result (Option RawMessage) DecodingError) (new : List ℕ) → ReturnsNext held.version held.bytes answer new → ReturnsWritten ty (form version) (frame ++ []) answer [] new
 alone ty form frame spoken version same low comes fresh new_decoder held pushed answer new next =
     let out : ComesOut version ty (form version) frame = subst (λ (v : Version). ComesOut v ty (form v) frame) same comes in
     let is : held ≡ record { version = version; bytes = frame } = pushed ∙ ap (λ (f : Unread). record { version = f.version; bytes = f.bytes ++ frame }) new_decoder in
-    out low [] new answer (subst (λ (bytes : List ℕ). AnswersNext version bytes answer new) (sym (append-nil frame)) (subst (λ (h : Unread). AnswersNext h.version h.bytes answer new) is next))
+    out low [] new answer (subst (λ (bytes : List ℕ). ReturnsNext version bytes answer new) (sym (append-nil frame)) (subst (λ (h : Unread). ReturnsNext h.version h.bytes answer new) is next))

@@ -7,7 +7,7 @@ use Rattle.shared_core_wire.specs.Reader.{varint_at, record_at}
 use Rattle.shared_core_wire.proofs.Readers.{some_is, varint_again, record_long}
 use Rattle.shared_core_wire.proofs.ReadRecords.{read_again, read_only}
 
--- one reader reads two spellings again
+-- one reader reads two encodings again
 same_front : {A : Type 0} (f : List ℕ → Option (A × List ℕ)) (a b x y : List ℕ) (m n : A) → f (a ++ x) ≡ Some (m, x) → f (b ++ y) ≡ Some (n, y) → a ++ x ≡ b ++ y → (a ≡ b) × (m ≡ n)
 same_front {A} f a b x y m n p q e =
     let pairs = some_is (m, x) (n, y) (sym p ∙ ap f e ∙ q) in

@@ -28,17 +28,17 @@ value_fails left number rest after n w key is none =
     end_no_record (record_with (group_content_at left)) number rest after n w key is (record_no_value (group_content_at left) rest after n w key none)
 
 -- one record is passed
-pub record Turn (left number : ℕ) (rest behind : List ℕ) : Type 0 where
-  pub shorter : length behind < length rest
-  pub same : end_of left number rest ≡ end_of left number behind
+pub record Turn (left number : ℕ) (rest beyond : List ℕ) : Type 0 where
+  pub shorter : length beyond < length rest
+  pub same : end_of left number rest ≡ end_of left number beyond
 
-pub turn : (left number : ℕ) (rest after behind : List ℕ) (n w : ℕ) (v : RecordValue) → key_at rest ≡ Some (n, w, after) → (w ≡ 4 → ⊥) → value_with (group_content_at left) n w after ≡ Some (v, behind) → Turn left number rest behind
-turn left number rest after behind n w v key is value =
+pub turn : (left number : ℕ) (rest after beyond : List ℕ) (n w : ℕ) (v : RecordValue) → key_at rest ≡ Some (n, w, after) → (w ≡ 4 → ⊥) → value_with (group_content_at left) n w after ≡ Some (v, beyond) → Turn left number rest beyond
+turn left number rest after beyond n w v key is value =
     let r : FieldRecord = record { number = n; value = v } in
-    let one = record_is (group_content_at left) rest after behind n w v key value in
-    let f = record_reads (IsGroupContent left) (group_content_at left) (reads_groups left) rest (r, behind) one in
+    let one = record_is (group_content_at left) rest after beyond n w v key value in
+    let f = record_reads (IsGroupContent left) (group_content_at left) (reads_groups left) rest (r, beyond) one in
     let long = record_long (IsGroupContent left) f.text r f.is in
     record {
-      shorter = omega (arith, ap length f.parts, length-append f.text behind);
-      same = end_more (record_with (group_content_at left)) number rest f.text after behind n w r key is one f.parts (omega arith);
+      shorter = omega (arith, ap length f.parts, length-append f.text beyond);
+      same = end_more (record_with (group_content_at left)) number rest f.text after beyond n w r key is one f.parts (omega arith);
     }

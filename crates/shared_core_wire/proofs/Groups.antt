@@ -24,9 +24,9 @@ key_nil : (x : ℕ × ℕ × List ℕ) → key_at [] ≡ Some x → ⊥
 unfolding key_at varint_at varint_within
 key_nil x e = cc
 
-pub behind : (b : ℕ) (bs text rest : List ℕ) → b ∷ bs ≡ text ++ rest → 0 < length text → drop (length bs - length rest) bs ≡ rest
-behind b bs [] rest e h = absurd (omega arith)
-behind b bs (t ∷ ts) rest e h =
+pub beyond : (b : ℕ) (bs text rest : List ℕ) → b ∷ bs ≡ text ++ rest → 0 < length text → drop (length bs - length rest) bs ≡ rest
+beyond b bs [] rest e h = absurd (omega arith)
+beyond b bs (t ∷ ts) rest e h =
     let same : bs ≡ ts ++ rest = cc in
     rw same (drop_at ts rest (length (ts ++ rest) - length rest) (omega (arith, length-append ts rest)))
 
@@ -65,7 +65,7 @@ module _ (one : List ℕ → Option (FieldRecord × List ℕ)) (number : ℕ) wh
   unfolding group_end_at
   end_more [] text after rest n w r e is o parts h = absurd (key_nil (n, w, after) e)
   end_more (b ∷ bs) text after rest n w r e is o parts h =
-      rw (e, ne_eqb w 4 is, o) (end_past (length bs - length rest) bs ∙ ap (group_end_at one number 0) (behind b bs text rest parts h))
+      rw (e, ne_eqb w 4 is, o) (end_past (length bs - length rest) bs ∙ ap (group_end_at one number 0) (beyond b bs text rest parts h))
 
 not_end : (v : RecordValue) → wire_type v ≡ 4 → ⊥
 not_end (Varint n) e = omega arith
@@ -125,7 +125,7 @@ module _ (C : List ℕ → Type 0) (group : ℕ → List ℕ → Option (List �
             let v = bind_some (record_with group (b ∷ bs)) (λ r. group_end_at (record_with group) number (length bs - length r.1) bs) x w.1 in
             let f = record_reads C group groups (b ∷ bs) v.0 v.1 in
             let long = record_long C f.text v.0.0 f.is in
-            one_more (b ∷ bs) v.0 x f (subst (λ (w : List ℕ). Closed C number w x) (behind b bs f.text v.0.1 f.parts (omega arith)) (end_reads (length bs - length v.0.1) bs x v.2))
+            one_more (b ∷ bs) v.0 x f (subst (λ (w : List ℕ). Closed C number w x) (beyond b bs f.text v.0.1 f.parts (omega arith)) (end_reads (length bs - length v.0.1) bs x v.2))
       ]
 
 pub front_taken : (bytes front rest : List ℕ) → bytes ≡ front ++ rest → take (length bytes - length rest) bytes ≡ front

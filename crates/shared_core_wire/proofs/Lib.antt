@@ -10,7 +10,7 @@ pub mod Shortest
 pub mod VarintLoop
 pub mod Runs
 pub mod Merging
-pub mod SpellingLaws
+pub mod EncodingLaws
 pub mod ReadBack
 pub mod ReadBackLevels
 pub mod TemplateView

@@ -7,7 +7,7 @@ use Rattle.std.specs.List.{slice_range}
 use Rattle.shared_core_wire.specs.ReadRecords.{records_past, IsSliceWithin, IsValueWithin, AreRecordsFrom}
 use Rattle.shared_core_wire.specs.Places.{EndsAt, LiesBefore, EachLies}
 use Rattle.shared_core_wire.proofs.Readers.{none_some, record_long}
-use Rattle.shared_core_wire.proofs.ReadRecords.{cases_option, read_nil, read_stop, read_more, read_again, read_spelled}
+use Rattle.shared_core_wire.proofs.ReadRecords.{cases_option, read_nil, read_stop, read_more, read_again, read_encoded}
 
 middle : (a b c : List ℕ) (to : ℕ) → to ≡ length a + length b → EndsAt (a ++ (b ++ c)) to b
 middle a b c to e =
@@ -46,7 +46,7 @@ read_lie left (suc most) payload front (b ∷ bs) le e =
     elim (cases_option (record_at left (b ∷ bs))) [
       | inl none ↦ subst (EachLies payload) (sym (read_stop (record_at left) (length payload) (b ∷ bs) (omega arith) none)) tt
       | inr w ↦
-          let f = read_spelled left (b ∷ bs) w.0 w.1 in
+          let f = read_encoded left (b ∷ bs) w.0 w.1 in
           let long = record_long (IsGroupContent left) f.text w.0.0 f.is in
           let len : length (b ∷ bs) ≡ length f.text + length w.0.1 = ap length f.parts ∙ length-append f.text w.0.1 in
           let whole : length payload ≡ length front + length (b ∷ bs) = ap length e ∙ length-append front (b ∷ bs) in
@@ -110,7 +110,7 @@ read_are left (suc most) payload front (b ∷ bs) le e =
                 none_some (r, drop k (b ∷ bs)) (sym none ∙ ap (record_at left) (sym (take-append-drop k (b ∷ bs))) ∙ read_again left r (take k (b ∷ bs)) (drop k (b ∷ bs)) (subst (λ (w : List ℕ). IsRecordWithin left w r) cut h)),
           )
       | inr w ↦
-          let f = read_spelled left (b ∷ bs) w.0 w.1 in
+          let f = read_encoded left (b ∷ bs) w.0 w.1 in
           let long = record_long (IsGroupContent left) f.text w.0.0 f.is in
           let len : length (b ∷ bs) ≡ length f.text + length w.0.1 = ap length f.parts ∙ length-append f.text w.0.1 in
           let from = length payload - length (b ∷ bs) in

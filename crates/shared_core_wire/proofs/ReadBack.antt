@@ -7,9 +7,9 @@ use Rattle.std.proofs.Math.Bool.{or-true, or_assoc}
 use Rattle.std.proofs.lemmas.List.Elements.{filter-append}
 use Rattle.std.proofs.lemmas.List.Folds.{list_all-append, list_all-map}
 use Rattle.shared_core_wire.specs.Grammar.{RecordValue, Varint, Fixed64, Length, Group, Fixed32, FieldRecord, content}
-use Rattle.shared_core_wire.specs.Spelling.{shortest_varint, key_bytes, record_bytes, record_list_bytes, is_field_number}
+use Rattle.shared_core_wire.specs.Encoding.{shortest_varint, key_bytes, record_bytes, record_list_bytes, is_field_number}
 use Rattle.shared_core_wire.specs.Reader.{packed_numbers}
-use Rattle.shared_core_wire.proofs.SpellingLaws.{spellable, spellable_value, varints_spelled}
+use Rattle.shared_core_wire.proofs.EncodingLaws.{encodable, encodable_value, varints_encoded}
 use Rattle.shared_core_wire.specs.Schema.{Kind, Row, U32, U64, Boolean, Enumeration, Text, ByteString, Message, Plain, Optional, Repeated, OneOf, numbers, includes, member_kind, are_distinct, all_numbers, is_schema}
 use Rattle.shared_core_wire.specs.Value.{Part, Parts, Absent, Number, Bytes, Nested, Elements, Member, nil, cons, ◌+++◌, one_part, empty_value, empty_part, default_of}
 use Rattle.shared_core_wire.specs.Overlay.{values, own_records, NestedOverlay, number_part, low_numbers, singular_of, elements_of, all_elements, row_over, rows_over}
@@ -194,9 +194,9 @@ number_is (m ∷ ns) n h g = by_first (λ k. number_is ns n (and_split _ _ h).1 
     by_first later true e g = ap is_field_number (eqb-true n m e) ∙ (and_split _ _ h).0
     by_first later false e g = later g
 
-spell_all : (ns : List ℕ) (rs : List FieldRecord) → list_all is_field_number ns ≡ true → list_all (λ r. includes ns r.number) rs ≡ true → list_all (λ r. spellable_value r.value) rs ≡ true → list_all spellable rs ≡ true
-spell_all ns [] h m s = refl
-spell_all ns (r ∷ rs) h m s = let e = and_split _ _ m in let f = and_split _ _ s in and_join _ _ (and_join _ _ (number_is ns r.number h e.0) f.0) (spell_all ns rs h e.1 f.1)
+encode_all : (ns : List ℕ) (rs : List FieldRecord) → list_all is_field_number ns ≡ true → list_all (λ r. includes ns r.number) rs ≡ true → list_all (λ r. encodable_value r.value) rs ≡ true → list_all encodable rs ≡ true
+encode_all ns [] h m s = refl
+encode_all ns (r ∷ rs) h m s = let e = and_split _ _ m in let f = and_split _ _ s in and_join _ _ (and_join _ _ (number_is ns r.number h e.0) f.0) (encode_all ns rs h e.1 f.1)
 
 module _ (table : ℕ → List Row) (overlay_nested : NestedOverlay) (accepts_nested : NestedAcceptance) (left : ℕ)
     (back : (t : ℕ) (ps : Parts) → Fits table ps (table t) → suc (levels ps) ≤ left → ltb (length (canonical_payload table t ps)) (2 ^ 64) ≡ true → (accepts_nested t (canonical_payload table t ps) ≡ true) × (overlay_nested t (empty_value (table t)) (canonical_payload table t ps) ≡ ps)) where
@@ -204,7 +204,7 @@ module _ (table : ℕ → List Row) (overlay_nested : NestedOverlay) (accepts_ne
   record Single (p : Part) (k : Kind) : Type 0 where
     w : RecordValue
     is : part_values table p k ≡ w ∷ []
-    spells : spellable_value w ≡ true
+    encodes : encodable_value w ≡ true
     takes_it : accepts_value accepts_nested k w ≡ true
     each_takes_it : accepts_element accepts_nested k w ≡ true
     from_absent : singular_of table overlay_nested k Absent w [] ≡ p
@@ -213,10 +213,10 @@ module _ (table : ℕ → List Row) (overlay_nested : NestedOverlay) (accepts_ne
 
   single_number : (n : ℕ) (k : Kind) → NumberFits k n → Single (Number n) k
   unfolding part_values
-  single_number n U32 h = let e = number_back U32 n h in record { w = Varint (written_number U32 n); is = refl; spells = lt-ltb (written_number U32 n) (2 ^ 64) (number_small U32 n h); takes_it = refl; each_takes_it = refl; from_absent = e; from_default = e; adds = ap one_part e }
-  single_number n U64 h = let e = number_back U64 n h in record { w = Varint (written_number U64 n); is = refl; spells = lt-ltb (written_number U64 n) (2 ^ 64) (number_small U64 n h); takes_it = refl; each_takes_it = refl; from_absent = e; from_default = e; adds = ap one_part e }
-  single_number n Boolean h = let e = number_back Boolean n h in record { w = Varint (written_number Boolean n); is = refl; spells = lt-ltb (written_number Boolean n) (2 ^ 64) (number_small Boolean n h); takes_it = refl; each_takes_it = refl; from_absent = e; from_default = e; adds = ap one_part e }
-  single_number n Enumeration h = let e = number_back Enumeration n h in record { w = Varint (written_number Enumeration n); is = refl; spells = lt-ltb (written_number Enumeration n) (2 ^ 64) (number_small Enumeration n h); takes_it = refl; each_takes_it = refl; from_absent = e; from_default = e; adds = ap one_part e }
+  single_number n U32 h = let e = number_back U32 n h in record { w = Varint (written_number U32 n); is = refl; encodes = lt-ltb (written_number U32 n) (2 ^ 64) (number_small U32 n h); takes_it = refl; each_takes_it = refl; from_absent = e; from_default = e; adds = ap one_part e }
+  single_number n U64 h = let e = number_back U64 n h in record { w = Varint (written_number U64 n); is = refl; encodes = lt-ltb (written_number U64 n) (2 ^ 64) (number_small U64 n h); takes_it = refl; each_takes_it = refl; from_absent = e; from_default = e; adds = ap one_part e }
+  single_number n Boolean h = let e = number_back Boolean n h in record { w = Varint (written_number Boolean n); is = refl; encodes = lt-ltb (written_number Boolean n) (2 ^ 64) (number_small Boolean n h); takes_it = refl; each_takes_it = refl; from_absent = e; from_default = e; adds = ap one_part e }
+  single_number n Enumeration h = let e = number_back Enumeration n h in record { w = Varint (written_number Enumeration n); is = refl; encodes = lt-ltb (written_number Enumeration n) (2 ^ 64) (number_small Enumeration n h); takes_it = refl; each_takes_it = refl; from_absent = e; from_default = e; adds = ap one_part e }
   single_number n Text h = absurd h
   single_number n ByteString h = absurd h
   single_number n (Message s) h = absurd h
@@ -227,8 +227,8 @@ module _ (table : ℕ → List Row) (overlay_nested : NestedOverlay) (accepts_ne
   single_bytes bytes U64 h z = absurd h
   single_bytes bytes Boolean h z = absurd h
   single_bytes bytes Enumeration h z = absurd h
-  single_bytes bytes Text h z = record { w = Length bytes; is = refl; spells = (and_split _ _ z).0; takes_it = h; each_takes_it = h; from_absent = refl; from_default = refl; adds = refl }
-  single_bytes bytes ByteString h z = record { w = Length bytes; is = refl; spells = (and_split _ _ z).0; takes_it = refl; each_takes_it = refl; from_absent = refl; from_default = refl; adds = refl }
+  single_bytes bytes Text h z = record { w = Length bytes; is = refl; encodes = (and_split _ _ z).0; takes_it = h; each_takes_it = h; from_absent = refl; from_default = refl; adds = refl }
+  single_bytes bytes ByteString h z = record { w = Length bytes; is = refl; encodes = (and_split _ _ z).0; takes_it = refl; each_takes_it = refl; from_absent = refl; from_default = refl; adds = refl }
   single_bytes bytes (Message s) h z = absurd h
 
   single_message : (ps : Parts) (k : Kind) → PartFits table (Nested ps) k → suc (levels ps) ≤ left → list_all small (part_values table (Nested ps) k) ≡ true → Single (Nested ps) k
@@ -241,7 +241,7 @@ module _ (table : ℕ → List Row) (overlay_nested : NestedOverlay) (accepts_ne
   single_message ps ByteString h l s = absurd h
   single_message ps (Message t) h l s =
       let e = back t ps h l (and_split _ _ s).0 in
-      record { w = Length (canonical_payload table t ps); is = refl; spells = (and_split _ _ s).0; takes_it = e.0; each_takes_it = e.0; from_absent = ap Nested (ap (overlay_nested t (empty_value (table t))) (append-nil (canonical_payload table t ps)) ∙ e.1); from_default = ap Nested (ap (overlay_nested t (empty_value (table t))) (append-nil (canonical_payload table t ps)) ∙ e.1); adds = ap (λ m. one_part (Nested m)) e.1 }
+      record { w = Length (canonical_payload table t ps); is = refl; encodes = (and_split _ _ s).0; takes_it = e.0; each_takes_it = e.0; from_absent = ap Nested (ap (overlay_nested t (empty_value (table t))) (append-nil (canonical_payload table t ps)) ∙ e.1); from_default = ap Nested (ap (overlay_nested t (empty_value (table t))) (append-nil (canonical_payload table t ps)) ∙ e.1); adds = ap (λ m. one_part (Nested m)) e.1 }
 
   single : (p : Part) (k : Kind) → is_single p ≡ true → PartFits table p k → part_levels p ≤ left → list_all small (part_values table p k) ≡ true → Single p k
   unfolding part_values PartFits levels
@@ -257,11 +257,11 @@ module _ (table : ℕ → List Row) (overlay_nested : NestedOverlay) (accepts_ne
   record ElementsBack (ps : Parts) (k : Kind) : Type 0 where
     adds : all_elements table overlay_nested k (element_values table ps k) ≡ ps
     takes_them : list_all (accepts_element accepts_nested k) (element_values table ps k) ≡ true
-    spell_them : list_all spellable_value (element_values table ps k) ≡ true
+    encode_them : list_all encodable_value (element_values table ps k) ≡ true
 
   elements_back : (ps : Parts) (k : Kind) → ElementsFit table ps k → levels ps ≤ left → list_all small (element_values table ps k) ≡ true → ElementsBack ps k
   unfolding part_values PartFits levels
-  elements_back nil k h l s = record { adds = refl; takes_them = refl; spell_them = refl }
+  elements_back nil k h l s = record { adds = refl; takes_them = refl; encode_them = refl }
   elements_back (cons p ps) k h l s =
       let both = and_split _ _ (sym (list_all-append small (part_values table p k) (element_values table ps k)) ∙ s) in
       let x = single p k h.0 h.1 (omega arith) both.0 in
@@ -269,7 +269,7 @@ module _ (table : ℕ → List Row) (overlay_nested : NestedOverlay) (accepts_ne
       record {
         adds = rw x.is (ap (λ q. q +++ all_elements table overlay_nested k (element_values table ps k)) x.adds ∙ ap (cons p) xs.adds);
         takes_them = rw x.is (and_join _ _ x.each_takes_it xs.takes_them);
-        spell_them = rw x.is (and_join _ _ x.spells xs.spell_them);
+        encode_them = rw x.is (and_join _ _ x.encodes xs.encode_them);
       }
 
   -- ---- packed numbers
@@ -293,30 +293,30 @@ module _ (table : ℕ → List Row) (overlay_nested : NestedOverlay) (accepts_ne
     gives : row_over table overlay_nested row (empty_part row) rs ≡ p
     takes_all : list_all (accepts_in_row accepts_nested row) rs ≡ true
     mine : list_all (λ r. includes (numbers row) r.number) rs ≡ true
-    spells : list_all (λ r. spellable_value r.value) rs ≡ true
+    encodes : list_all (λ r. encodable_value r.value) rs ≡ true
 
   with_number : ℕ → List RecordValue → List FieldRecord
   with_number n ws = map (λ w. record { number = n; value = w }) ws
 
   plain_back : (n : ℕ) (k : Kind) (p : Part) → is_single p ≡ true → PartFits table p k → part_levels p ≤ left → (b : Bool) → is_default p ≡ b → list_all (λ r. small r.value) (with_number n (cond b [] (part_values table p k))) ≡ true → RowBack (Plain n k) p (with_number n (cond b [] (part_values table p k)))
   unfolding with_number
-  plain_back n k p i h l true d s = record { gives = default_back table p k i h d; takes_all = refl; mine = refl; spells = refl }
+  plain_back n k p i h l true d s = record { gives = default_back table p k i h d; takes_all = refl; mine = refl; encodes = refl }
   plain_back n k p i h l false d s =
       let x = single p k i h l (sym (list_all-map (λ (r : FieldRecord). small r.value) (λ (w : RecordValue). record { number = n; value = w }) (part_values table p k)) ∙ s) in
-      rw x.is (record { gives = x.from_default; takes_all = and_join _ _ x.takes_it refl; spells = and_join _ _ x.spells refl; mine = rw (eq-eqb n n refl) refl })
+      rw x.is (record { gives = x.from_default; takes_all = and_join _ _ x.takes_it refl; encodes = and_join _ _ x.encodes refl; mine = rw (eq-eqb n n refl) refl })
 
   optional_back : (n : ℕ) (k : Kind) (p : Part) → is_single p ≡ true → PartFits table p k → part_levels p ≤ left → list_all (λ r. small r.value) (with_number n (part_values table p k)) ≡ true → RowBack (Optional n k) p (with_number n (part_values table p k))
   unfolding with_number
   optional_back n k p i h l s =
       let x = single p k i h l (sym (list_all-map (λ (r : FieldRecord). small r.value) (λ (w : RecordValue). record { number = n; value = w }) (part_values table p k)) ∙ s) in
-      rw x.is (record { gives = x.from_absent; takes_all = and_join _ _ x.takes_it refl; spells = and_join _ _ x.spells refl; mine = rw (eq-eqb n n refl) refl })
+      rw x.is (record { gives = x.from_absent; takes_all = and_join _ _ x.takes_it refl; encodes = and_join _ _ x.encodes refl; mine = rw (eq-eqb n n refl) refl })
 
   variant_back : (ms : List (ℕ × Kind)) (n : ℕ) (p : Part) → includes (numbers (OneOf ms)) n ≡ true → is_single p ≡ true → PartFits table p (member_kind ms n) → part_levels p ≤ left → list_all (λ r. small r.value) (with_number n (part_values table p (member_kind ms n))) ≡ true → RowBack (OneOf ms) (Member n p) (with_number n (part_values table p (member_kind ms n)))
   unfolding with_number
   variant_back ms n p m i h l s =
       let k = member_kind ms n in
       let x = single p k i h l (sym (list_all-map (λ (r : FieldRecord). small r.value) (λ (w : RecordValue). record { number = n; value = w }) (part_values table p k)) ∙ s) in
-      rw x.is (record { gives = rw (eq-eqb n n refl) (ap (Member n) x.from_absent); takes_all = and_join _ _ x.takes_it refl; spells = and_join _ _ x.spells refl; mine = and_join _ _ m refl })
+      rw x.is (record { gives = rw (eq-eqb n n refl) (ap (Member n) x.from_absent); takes_all = and_join _ _ x.takes_it refl; encodes = and_join _ _ x.encodes refl; mine = and_join _ _ m refl })
 
   values_with : (n : ℕ) (ws : List RecordValue) → values (with_number n ws) ≡ ws
   unfolding with_number
@@ -334,25 +334,25 @@ module _ (table : ℕ → List Row) (overlay_nested : NestedOverlay) (accepts_ne
     gives = repeated_over_is table overlay_nested k (Elements nil) (values (with_number n (element_values table ps k))) ∙ ap (λ ws. Elements (all_elements table overlay_nested k ws)) (values_with n (element_values table ps k)) ∙ ap Elements e.adds;
     takes_all = list_all-map (λ (r : FieldRecord). accepts_element accepts_nested k r.value) (λ (w : RecordValue). record { number = n; value = w }) (element_values table ps k) ∙ e.takes_them;
     mine = mine_with n (element_values table ps k);
-    spells = list_all-map (λ (r : FieldRecord). spellable_value r.value) (λ (w : RecordValue). record { number = n; value = w }) (element_values table ps k) ∙ e.spell_them;
+    encodes = list_all-map (λ (r : FieldRecord). encodable_value r.value) (λ (w : RecordValue). record { number = n; value = w }) (element_values table ps k) ∙ e.encode_them;
   }
 
   packed_back : (n : ℕ) (ps : Parts) (bytes : List ℕ) (ns : List ℕ) → bytes ≡ flat_map shortest_varint ns → low_numbers ns ≡ ps → list_all (λ m. ltb m (2 ^ 64)) ns ≡ true → list_all small (Length bytes ∷ []) ≡ true → RowBack (Repeated n U32) (Elements ps) (record { number = n; value = Length bytes } ∷ [])
   packed_back n ps bytes ns b l h z =
-      let found : packed_numbers bytes ≡ Some ns = ap packed_numbers b ∙ varints_spelled ns h in
+      let found : packed_numbers bytes ≡ Some ns = ap packed_numbers b ∙ varints_encoded ns h in
       record {
         gives = rw found (ap Elements (parts_append_nil (low_numbers ns) ∙ l));
         takes_all = rw found refl;
-        spells = z;
+        encodes = z;
         mine = rw (eq-eqb n n refl) refl;
       }
 
   row_back : (row : Row) (p : Part) → has_shape row p ≡ true → PartFits table p (kind_of row p) → part_levels p ≤ left → list_all (λ r. small r.value) (row_records row p (part_values table p (kind_of row p))) ≡ true → RowBack row p (row_records row p (part_values table p (kind_of row p)))
   unfolding part_values PartFits levels with_number
   row_back (Plain n k) p i h l s = plain_back n k p i h l (is_default p) refl s
-  row_back (Optional n k) Absent i h l s = record { gives = refl; takes_all = refl; mine = refl; spells = refl }
+  row_back (Optional n k) Absent i h l s = record { gives = refl; takes_all = refl; mine = refl; encodes = refl }
   row_back (Optional n k) p i h l s = optional_back n k p i h l s
-  row_back (Repeated n U32) (Elements nil) i h l s = record { gives = refl; takes_all = refl; mine = refl; spells = refl }
+  row_back (Repeated n U32) (Elements nil) i h l s = record { gives = refl; takes_all = refl; mine = refl; encodes = refl }
   row_back (Repeated n U32) (Elements (cons (Number m) ps)) i h l s =
       let r = packed_run_back (cons (Number m) ps) h in
       packed_back n (cons (Number m) ps) (flat_map number_bytes (element_values table (cons (Number m) ps) U32)) (element_numbers (cons (Number m) ps)) r.0 r.1 r.2 s
@@ -363,7 +363,7 @@ module _ (table : ℕ → List Row) (overlay_nested : NestedOverlay) (accepts_ne
   row_back (Repeated n U32) (Elements (cons (Nested qs) ps)) i h l s = absurd h.1
   row_back (Repeated n k) (Elements ps) i h l s = repeated_back n k ps (elements_back ps k h l (sym (list_all-map (λ (r : FieldRecord). small r.value) (λ (w : RecordValue). record { number = n; value = w }) (element_values table ps k)) ∙ s))
   row_back (Repeated n k) p i h l s = absurd cc
-  row_back (OneOf ms) Absent i h l s = record { gives = refl; takes_all = refl; mine = refl; spells = refl }
+  row_back (OneOf ms) Absent i h l s = record { gives = refl; takes_all = refl; mine = refl; encodes = refl }
   row_back (OneOf ms) (Member n p) i h l s = let e = and_split _ _ i in variant_back ms n p e.0 e.1 h l s
   row_back (OneOf ms) p i h l s = absurd cc
 
@@ -412,27 +412,27 @@ module _ (table : ℕ → List Row) (overlay_nested : NestedOverlay) (accepts_ne
         allows = allow_more accepts_nested row rows (before ++ (own_part ++ rest)) (own_allows accepts_nested row (before ++ (own_part ++ rest)) (ap (list_all (accepts_in_row accepts_nested row)) mine ∙ x.takes_all)) next.allows;
       }
 
-  spells_all : (v : Parts) (rows : List Row) → Fits table v rows → levels v ≤ left → list_all (λ r. small r.value) (message_records table v rows) ≡ true → list_all (λ r. spellable_value r.value) (message_records table v rows) ≡ true
+  encodes_all : (v : Parts) (rows : List Row) → Fits table v rows → levels v ≤ left → list_all (λ r. small r.value) (message_records table v rows) ≡ true → list_all (λ r. encodable_value r.value) (message_records table v rows) ≡ true
   unfolding part_values PartFits levels
-  spells_all nil [] h l s = refl
-  spells_all nil (row ∷ rows) h l s = absurd h
-  spells_all (cons p ps) [] h l s = absurd h
-  spells_all (cons p ps) (row ∷ rows) h l s =
+  encodes_all nil [] h l s = refl
+  encodes_all nil (row ∷ rows) h l s = absurd h
+  encodes_all (cons p ps) [] h l s = absurd h
+  encodes_all (cons p ps) (row ∷ rows) h l s =
       let own_part = row_records row p (part_values table p (kind_of row p)) in
       let rest = message_records table ps rows in
       let e = and_split _ _ (sym (list_all-append (λ (r : FieldRecord). small r.value) own_part rest) ∙ s) in
       let x = row_back row p h.0 h.1 (omega arith) e.0 in
-      list_all-append (λ (r : FieldRecord). spellable_value r.value) own_part rest ∙ and_join _ _ x.spells (spells_all ps rows h.2 (omega arith) e.1)
+      list_all-append (λ (r : FieldRecord). encodable_value r.value) own_part rest ∙ and_join _ _ x.encodes (encodes_all ps rows h.2 (omega arith) e.1)
 
   -- what a value's records leave, and that they have an encoding
   pub record LevelBack (rows : List Row) (v : Parts) : Type 0 where
     pub gives : rows_over table overlay_nested rows (empty_value rows) (message_records table v rows) ≡ v
     pub allows : list_all (accepts_record accepts_nested rows) (message_records table v rows) ≡ true
-    pub spells : list_all spellable (message_records table v rows) ≡ true
+    pub encodes : list_all encodable (message_records table v rows) ≡ true
 
   pub level_back : (v : Parts) (rows : List Row) → is_schema rows ≡ true → Fits table v rows → levels v ≤ left → length (record_list_bytes (message_records table v rows)) < 2 ^ 64 → LevelBack rows v
   level_back v rows d h l z =
       let e = and_split _ _ d in
       let s = small_all (message_records table v rows) z in
       let w = whole_back v rows [] e.1 refl h l s in
-      record { gives = w.gives; allows = w.allows; spells = spell_all (all_numbers rows) (message_records table v rows) e.0 (numbers_in v rows h l s) (spells_all v rows h l s) }
+      record { gives = w.gives; allows = w.allows; encodes = encode_all (all_numbers rows) (message_records table v rows) e.0 (numbers_in v rows h l s) (encodes_all v rows h l s) }

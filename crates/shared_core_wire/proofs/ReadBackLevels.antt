@@ -5,8 +5,8 @@ use Rattle.std.specs.List.{list_all}
 use Rattle.shared_core_wire.specs.Grammar.{FieldRecord}
 use Rattle.shared_core_wire.specs.Reader.{record_list}
 use Rattle.shared_core_wire.proofs.RecordLists.{records_empty, records_append}
-use Rattle.shared_core_wire.proofs.SpellingLaws.{spellable, record_spelled}
-use Rattle.shared_core_wire.specs.Spelling.{record_bytes, record_list_bytes}
+use Rattle.shared_core_wire.proofs.EncodingLaws.{encodable, record_encoded}
+use Rattle.shared_core_wire.specs.Encoding.{record_bytes, record_list_bytes}
 use Rattle.shared_core_wire.specs.Schema.{Row, is_schema}
 use Rattle.shared_core_wire.specs.Value.{Parts, empty_value}
 use Rattle.shared_core_wire.specs.Acceptance.{some_passes, accepts_message, accepts_records, accepts_payload}
@@ -18,18 +18,18 @@ use Rattle.shared_core_wire.proofs.ReadBack.{level_back}
 
 module _ (table : ℕ → List Row) (schemas : (s : ℕ) → is_schema (table s) ≡ true) where
   -- what is encoded is read back
-  records_spelled : (left : ℕ) (rs : List FieldRecord) → list_all spellable rs ≡ true → record_list left (record_list_bytes rs) ≡ Some rs
-  records_spelled left [] h = records_empty left
-  records_spelled left (r ∷ rs) h =
+  records_encoded : (left : ℕ) (rs : List FieldRecord) → list_all encodable rs ≡ true → record_list left (record_list_bytes rs) ≡ Some rs
+  records_encoded left [] h = records_empty left
+  records_encoded left (r ∷ rs) h =
       let e = and_split _ _ h in
-      records_append left (record_bytes r) (record_list_bytes rs) (r ∷ []) rs (record_spelled left r e.0) (records_spelled left rs e.1)
+      records_append left (record_bytes r) (record_list_bytes rs) (r ∷ []) rs (record_encoded left r e.0) (records_encoded left rs e.1)
 
   read_back : (left s : ℕ) (v : Parts) → Fits table v (table s) → levels v ≤ left → length (canonical_payload table s v) < 2 ^ 64
       → ((t : ℕ) (ps : Parts) → Fits table ps (table t) → suc (levels ps) ≤ left → ltb (length (canonical_payload table t ps)) (2 ^ 64) ≡ true → (accepts_message table left t (canonical_payload table t ps) ≡ true) × (message_overlay table left t (empty_value (table t)) (canonical_payload table t ps) ≡ ps))
       → (accepts_payload table left s (canonical_payload table s v) ≡ true) × (meaning table left s (canonical_payload table s v) ≡ v)
   read_back left s v h l z back =
       let b = level_back table (message_overlay table left) (accepts_message table left) left back v (table s) (schemas s) h l z in
-      let found = records_spelled left (message_records table v (table s)) b.spells in
+      let found = records_encoded left (message_records table v (table s)) b.encodes in
       (ap (some_passes (accepts_records table left s)) found ∙ b.allows, ap (λ o. overlay table left s (empty_value (table s)) (or_empty o)) found ∙ b.gives)
 
   -- at any nesting depth

@@ -9,7 +9,7 @@ use Rattle.shared_core_wire.proofs.Readers.{BeginsWith}
 use Rattle.shared_core_wire.specs.Reader.{record_at, group_content_at}
 use Rattle.shared_core_wire.specs.ReadRecords.{PlacedRecord, records_past, without_place, record_count}
 use Rattle.shared_core_wire.proofs.Readers.{none_some, record_again, record_reads, record_long}
-use Rattle.shared_core_wire.proofs.Groups.{behind, reads_groups}
+use Rattle.shared_core_wire.proofs.Groups.{beyond, reads_groups}
 
 -- what the bytes from an offset of the payload on give, by their encodings
 abbrev pub ReadsInOrder : (List ℕ → FieldRecord → Type 0) → ℕ → List ℕ → List (Result PlacedRecord WireError) → Type 0
@@ -48,7 +48,7 @@ module _ (one : List ℕ → Option (FieldRecord × List ℕ)) (end : ℕ) where
   unfolding records_past
   read_more [] text rest r e parts h = absurd (omega (arith, ap length parts, length-append text rest))
   read_more (b ∷ bs) text rest r e parts h =
-      rw (e, records_past) (ap (λ (xs : List (Result PlacedRecord WireError)). Ok (place end (b ∷ bs) r rest) ∷ xs) (read_over (length bs - length rest) bs ∙ ap (records_past one end 0) (behind b bs text rest parts h)))
+      rw (e, records_past) (ap (λ (xs : List (Result PlacedRecord WireError)). Ok (place end (b ∷ bs) r rest) ∷ xs) (read_over (length bs - length rest) bs ∙ ap (records_past one end 0) (beyond b bs text rest parts h)))
 
 -- ---- with a nesting depth
 
@@ -60,9 +60,9 @@ module _ (left : ℕ) where
   unfolding record_at
   read_again r text rest h = record_again C (group_content_at left) (reads_groups left) r text rest h
 
-  pub read_spelled : (bytes : List ℕ) (x : FieldRecord × List ℕ) → record_at left bytes ≡ Some x → BeginsWith (IsRecordWithin left) bytes x
+  pub read_encoded : (bytes : List ℕ) (x : FieldRecord × List ℕ) → record_at left bytes ≡ Some x → BeginsWith (IsRecordWithin left) bytes x
   unfolding record_at
-  read_spelled bytes x e = record_reads C (group_content_at left) (reads_groups left) bytes x e
+  read_encoded bytes x e = record_reads C (group_content_at left) (reads_groups left) bytes x e
 
   pub read_reading : (most from end : ℕ) (bytes : List ℕ) → length bytes ≤ most → from + length bytes ≡ end → ReadsInOrder (IsRecordWithin left) from bytes (records_past (record_at left) end 0 bytes)
   read_reading most from end [] le e = rw read_nil refl
@@ -73,7 +73,7 @@ module _ (left : ℕ) where
             subst (ReadsInOrder (IsRecordWithin left) from (b ∷ bs)) (sym (read_stop (record_at left) end (b ∷ bs) (omega arith) none))
             (refl, refl, omega arith, λ first others r parts h. none_some (r, others) (sym none ∙ ap (record_at left) parts ∙ read_again r first others h))
         | inr w ↦
-            let f = read_spelled (b ∷ bs) w.0 w.1 in
+            let f = read_encoded (b ∷ bs) w.0 w.1 in
             let long = record_long C f.text w.0.0 f.is in
             let len : length (b ∷ bs) ≡ length f.text + length w.0.1 = ap length f.parts ∙ length-append f.text w.0.1 in
             subst (ReadsInOrder (IsRecordWithin left) from (b ∷ bs)) (sym (read_more (record_at left) end (b ∷ bs) f.text w.0.1 w.0.0 w.1 f.parts (omega arith)))
@@ -94,7 +94,7 @@ module _ (left : ℕ) where
       elim (cases_option (record_at left (b ∷ bs))) [
         | inl none ↦ rw (read_stop (record_at left) end (b ∷ bs) (omega arith) none) (omega arith)
         | inr w ↦
-            let f = read_spelled (b ∷ bs) w.0 w.1 in
+            let f = read_encoded (b ∷ bs) w.0 w.1 in
             let long = record_long C f.text w.0.0 f.is in
             let len : length (b ∷ bs) ≡ length f.text + length w.0.1 = ap length f.parts ∙ length-append f.text w.0.1 in
             let few = read_few most end w.0.1 (omega arith) in
@@ -123,7 +123,7 @@ module _ (left : ℕ) where
       elim (cases_option (record_at left (b ∷ bs))) [
         | inl none ↦ rw (read_stop (record_at left) end (b ∷ bs) (omega arith) none) (omega arith)
         | inr w ↦
-            let f = read_spelled (b ∷ bs) w.0 w.1 in
+            let f = read_encoded (b ∷ bs) w.0 w.1 in
             let long = record_long C f.text w.0.0 f.is in
             let len : length (b ∷ bs) ≡ length f.text + length w.0.1 = ap length f.parts ∙ length-append f.text w.0.1 in
             let few = read_count most end w.0.1 (omega arith) in
@@ -137,7 +137,7 @@ pub record Step (left end : ℕ) (bytes : List ℕ) (r : FieldRecord) (rest : Li
 
 pub step : (left end : ℕ) (bytes : List ℕ) (r : FieldRecord) (rest : List ℕ) → record_at left bytes ≡ Some (r, rest) → Step left end bytes r rest
 step left end bytes r rest e =
-    let f = read_spelled left bytes (r, rest) e in
+    let f = read_encoded left bytes (r, rest) e in
     let long = record_long (IsGroupContent left) f.text r f.is in
     record {
       shorter = omega (arith, ap length f.parts, length-append f.text rest);

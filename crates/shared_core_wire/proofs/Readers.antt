@@ -50,31 +50,31 @@ within_again (suc most) (b ∷ c ∷ bs) rest n h le =
     let more = within_again most (c ∷ bs) rest h.1 h.3 (omega arith) in
     rw (le-ltb b 128 h.0, more, h.2) refl
 
-spells_more : (b : ℕ) (text : List ℕ) (high : ℕ) → 128 ≤ b → IsBase128 text high → IsBase128 (b ∷ text) (b % 128 + 128 * high)
-spells_more b [] high le h = absurd h
-spells_more b (c ∷ bs) high le h = (le, high, refl, h)
+encodes_more : (b : ℕ) (text : List ℕ) (high : ℕ) → 128 ≤ b → IsBase128 text high → IsBase128 (b ∷ text) (b % 128 + 128 * high)
+encodes_more b [] high le h = absurd h
+encodes_more b (c ∷ bs) high le h = (le, high, refl, h)
 
-abbrev SpellsWithin : ℕ → List ℕ → ℕ → Type 0
-SpellsWithin most text n = IsBase128 text n × (length text ≤ most)
+abbrev EncodesWithin : ℕ → List ℕ → ℕ → Type 0
+EncodesWithin most text n = IsBase128 text n × (length text ≤ most)
 
-within_more : (most b : ℕ) (bs : List ℕ) (x : ℕ × List ℕ) → 128 ≤ b → BeginsWith (SpellsWithin most) bs x → BeginsWith (SpellsWithin (suc most)) (b ∷ bs) (b % 128 + 128 * x.0, x.1)
-within_more most b bs x le h = record { text = b ∷ h.text; parts = ap (λ (w : List ℕ). b ∷ w) h.parts; is = (spells_more b h.text x.0 le h.is.0, omega (arith, h.is.1)) }
+within_more : (most b : ℕ) (bs : List ℕ) (x : ℕ × List ℕ) → 128 ≤ b → BeginsWith (EncodesWithin most) bs x → BeginsWith (EncodesWithin (suc most)) (b ∷ bs) (b % 128 + 128 * x.0, x.1)
+within_more most b bs x le h = record { text = b ∷ h.text; parts = ap (λ (w : List ℕ). b ∷ w) h.parts; is = (encodes_more b h.text x.0 le h.is.0, omega (arith, h.is.1)) }
 
-pub within_reads : (most : ℕ) (bytes : List ℕ) (x : ℕ × List ℕ) → varint_within most bytes ≡ Some x → BeginsWith (SpellsWithin most) bytes x
+pub within_reads : (most : ℕ) (bytes : List ℕ) (x : ℕ × List ℕ) → varint_within most bytes ≡ Some x → BeginsWith (EncodesWithin most) bytes x
 unfolding varint_within
 within_reads zero bytes x e = absurd cc
 within_reads (suc most) [] x e = absurd cc
 within_reads (suc most) (b ∷ bs) x e =
     elim (chosen (ltb b 128) (Some (b, bs)) (varint_within most bs >>= λ x. Some (b % 128 + 128 * x.0, x.1)) (Some x) e) [
-      | inl w ↦ subst (BeginsWith (SpellsWithin (suc most)) (b ∷ bs)) (some_is (b, bs) x w.1) (record { text = b ∷ []; parts = refl; is = ((ltb-true _ _ w.0, refl), omega arith) })
+      | inl w ↦ subst (BeginsWith (EncodesWithin (suc most)) (b ∷ bs)) (some_is (b, bs) x w.1) (record { text = b ∷ []; parts = refl; is = ((ltb-true _ _ w.0, refl), omega arith) })
       | inr w ↦
           let v = bind_some (varint_within most bs) (λ x. Some (b % 128 + 128 * x.0, x.1)) x w.1 in
-          subst (BeginsWith (SpellsWithin (suc most)) (b ∷ bs)) (some_is (b % 128 + 128 * v.0.0, v.0.1) x v.2) (within_more most b bs v.0 (ltb-false _ _ w.0) (within_reads most bs v.0 v.1))
+          subst (BeginsWith (EncodesWithin (suc most)) (b ∷ bs)) (some_is (b % 128 + 128 * v.0.0, v.0.1) x v.2) (within_more most b bs v.0 (ltb-false _ _ w.0) (within_reads most bs v.0 v.1))
     ]
 
 pub varint_again : (text rest : List ℕ) (n : ℕ) → IsVarint text n → varint_at (text ++ rest) ≡ Some (n, rest)
 unfolding varint_at
-varint_again text rest n h = rw (within_again 10 text rest n h.spelling h.short, lt-ltb n (2 ^ 64) h.fits) refl
+varint_again text rest n h = rw (within_again 10 text rest n h.encoding h.short, lt-ltb n (2 ^ 64) h.fits) refl
 
 pub varint_reads : (bytes : List ℕ) (x : ℕ × List ℕ) → varint_at bytes ≡ Some x → BeginsWith IsVarint bytes x
 unfolding varint_at
@@ -82,10 +82,10 @@ varint_reads bytes x e =
     let v = bind_some (varint_within 10 bytes) (λ n. cond (ltb n.0 (2 ^ 64)) (Some n) None) x e in
     let w = passed (ltb v.0.0 (2 ^ 64)) (Some v.0) x v.2 in
     let t = within_reads 10 bytes v.0 v.1 in
-    subst (BeginsWith IsVarint bytes) (some_is v.0 x w.1) (record { text = t.text; parts = t.parts; is = record { spelling = t.is.0; short = t.is.1; fits = ltb-true _ _ w.0 } })
+    subst (BeginsWith IsVarint bytes) (some_is v.0 x w.1) (record { text = t.text; parts = t.parts; is = record { encoding = t.is.0; short = t.is.1; fits = ltb-true _ _ w.0 } })
 
 pub varint_pos : (text : List ℕ) (n : ℕ) → IsVarint text n → 0 < length text
-varint_pos [] n h = absurd h.spelling
+varint_pos [] n h = absurd h.encoding
 varint_pos (b ∷ bs) n h = omega arith
 
 -- ---- keys
@@ -98,7 +98,7 @@ key_again text rest number wire h =
     let typed = h.typed in
     let up : (8 * number + wire) / 8 ≡ number = omega arith in
     let low : (8 * number + wire) % 8 ≡ wire = omega arith in
-    rw (varint_again text rest (8 * number + wire) h.spelling, big, small, up, low) refl
+    rw (varint_again text rest (8 * number + wire) h.encoding, big, small, up, low) refl
 
 -- a key at the front
 pub record KeyFront (bytes : List ℕ) (x : ℕ × ℕ × List ℕ) : Type 0 where
@@ -109,7 +109,7 @@ pub record KeyFront (bytes : List ℕ) (x : ℕ × ℕ × List ℕ) : Type 0 whe
 key_of : (text : List ℕ) (n : ℕ) → IsVarint text n → 8 ≤ n → n ≤ 4294967295 → IsKey text (n / 8) (n % 8)
 key_of text n h low high =
     let whole : n ≡ 8 * (n / 8) + n % 8 = omega arith in
-    record { spelling = subst (IsVarint text) whole h; numbered = omega arith; typed = omega arith; fits = omega arith }
+    record { encoding = subst (IsVarint text) whole h; numbered = omega arith; typed = omega arith; fits = omega arith }
 
 pub key_reads : (bytes : List ℕ) (x : ℕ × ℕ × List ℕ) → key_at bytes ≡ Some x → KeyFront bytes x
 unfolding key_at
@@ -121,7 +121,7 @@ key_reads bytes x e =
     subst (KeyFront bytes) (some_is (v.0.0 / 8, v.0.0 % 8, v.0.1) x u.1) (record { text = t.text; parts = t.parts; is = key_of t.text v.0.0 t.is (ltb-false _ _ w.0) (ltb-false _ _ u.0) })
 
 pub key_pos : (text : List ℕ) (number wire : ℕ) → IsKey text number wire → 0 < length text
-key_pos text number wire h = varint_pos text _ h.spelling
+key_pos text number wire h = varint_pos text _ h.encoding
 
 -- ---- a number of bytes
 

@@ -4,14 +4,14 @@ use Rattle.std.specs.Prelude.{◌↔◌}
 use Rattle.shared_core_wire.specs.Grammar.{FieldRecord, IsGroupContent, IsRecordWithin, IsRecordListWithin}
 use Rattle.shared_core_wire.specs.Reader.{record_at, record_list}
 use Rattle.shared_core_wire.proofs.Readers.{record_long}
-use Rattle.shared_core_wire.proofs.ReadRecords.{read_again, read_spelled}
+use Rattle.shared_core_wire.proofs.ReadRecords.{read_again, read_encoded}
 use Rattle.shared_core_wire.proofs.GrammarLaws.{joined_lists}
 use Rattle.shared_core_wire.proofs.Sequences.{IsReader, all_again, all_reads}
 
 pub reader : (left : ℕ) → IsReader (IsRecordWithin left) (record_at left)
 reader left = record {
   again = λ text rest x h. read_again left x text rest h;
-  reads = read_spelled left;
+  reads = read_encoded left;
   long = λ text x h. let long = record_long (IsGroupContent left) text x h in omega arith;
 }
 

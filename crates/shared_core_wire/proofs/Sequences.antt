@@ -5,7 +5,7 @@ use Rattle.shared_core_wire.specs.Grammar.{IsSequence, IsVarint}
 use Rattle.shared_core_wire.proofs.Readers.{BeginsWith}
 use Rattle.shared_core_wire.specs.Reader.{◌>>=◌, varint_at, sequence_past, packed_numbers}
 use Rattle.shared_core_wire.proofs.Readers.{bind_some, some_is, varint_again, varint_reads, varint_pos}
-use Rattle.shared_core_wire.proofs.Groups.{behind}
+use Rattle.shared_core_wire.proofs.Groups.{beyond}
 
 -- one reads what R encodes, from the front
 pub record IsReader {A : Type 0} (R : List ℕ → A → Type 0) (one : List ℕ → Option (A × List ℕ)) : Type 0 where
@@ -36,7 +36,7 @@ module _ {A : Type 0} (one : List ℕ → Option (A × List ℕ)) where
   unfolding sequence_past
   all_more [] text rest x e parts h = absurd (omega (arith, ap length parts, length-append text rest))
   all_more (b ∷ bs) text rest x e parts h =
-      rw e (ap (λ (o : Option (List A)). o >>= λ xs. Some (x ∷ xs)) (all_over (length bs - length rest) bs ∙ ap (sequence_past one 0) (behind b bs text rest parts h)))
+      rw e (ap (λ (o : Option (List A)). o >>= λ xs. Some (x ∷ xs)) (all_over (length bs - length rest) bs ∙ ap (sequence_past one 0) (beyond b bs text rest parts h)))
 
 module _ {A : Type 0} (R : List ℕ → A → Type 0) (one : List ℕ → Option (A × List ℕ)) (reader : IsReader R one) where
   pub all_again : (xs : List A) (bytes : List ℕ) → IsSequence R bytes xs → sequence_past one 0 bytes ≡ Some xs
@@ -56,7 +56,7 @@ module _ {A : Type 0} (R : List ℕ → A → Type 0) (one : List ℕ → Option
       let v = bind_some (one (b ∷ bs)) (λ x. sequence_past one (length bs - length x.1) bs >>= λ xs. Some (x.0 ∷ xs)) xs e in
       let w = bind_some (sequence_past one (length bs - length v.0.1) bs) (λ xs. Some (v.0.0 ∷ xs)) xs v.2 in
       let f = reader.reads (b ∷ bs) v.0 v.1 in
-      let rest = behind b bs f.text v.0.1 f.parts (reader.long f.text v.0.0 f.is) in
+      let rest = beyond b bs f.text v.0.1 f.parts (reader.long f.text v.0.0 f.is) in
       let others = subst (λ (w' : List ℕ). IsSequence R w' w.0) rest (all_reads_past (length bs - length v.0.1) bs w.0 w.1) in
       subst (IsSequence R (b ∷ bs)) (some_is (v.0.0 ∷ w.0) xs w.2) (joined_one (b ∷ bs) f.text v.0.1 v.0.0 w.0 f.parts f.is others)
 

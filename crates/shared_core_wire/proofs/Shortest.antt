@@ -3,7 +3,7 @@ use Rattle.std.proofs.Common.{◌≡◌, ℕ, zero, suc, ◌+◌, ◌-◌, ◌*�
 use Rattle.std.proofs.Math.Nat.{pow-suc, pow-le-pow_right}
 use Rattle.std.proofs.lemmas.Bool.{lt-ltb, le-ltb, cases_lt}
 use Rattle.shared_core_wire.specs.Grammar.{IsBase128, IsVarint, IsKey}
-use Rattle.shared_core_wire.specs.Spelling.{shortest_within, shortest_varint, key_bytes}
+use Rattle.shared_core_wire.specs.Encoding.{shortest_within, shortest_varint, key_bytes}
 use Rattle.shared_core_wire.specs.Examples.{repeated_byte}
 
 enough : (more most n : ℕ) → n ≤ more → n ≤ most → shortest_within more n ≡ shortest_within most n
@@ -37,16 +37,16 @@ shortest_large n le = large_within n n (omega arith) le
 
 -- ---- it is an encoding
 
-spells_more : (b : ℕ) (text : List ℕ) (n high : ℕ) → 128 ≤ b → n ≡ b % 128 + 128 * high → IsBase128 text high → IsBase128 (b ∷ text) n
-spells_more b [] n high le e h = absurd h
-spells_more b (c ∷ bs) n high le e h = (le, high, e, h)
+encodes_more : (b : ℕ) (text : List ℕ) (n high : ℕ) → 128 ≤ b → n ≡ b % 128 + 128 * high → IsBase128 text high → IsBase128 (b ∷ text) n
+encodes_more b [] n high le e h = absurd h
+encodes_more b (c ∷ bs) n high le e h = (le, high, e, h)
 
-spells_within : (most n : ℕ) → n ≤ most → IsBase128 (shortest_varint n) n
-spells_within zero n le = rw (shortest_small n (omega arith)) (omega arith, refl)
-spells_within (suc most) n le =
+encodes_within : (most n : ℕ) → n ≤ most → IsBase128 (shortest_varint n) n
+encodes_within zero n le = rw (shortest_small n (omega arith)) (omega arith, refl)
+encodes_within (suc most) n le =
     elim (cases_lt n 128) [
       | inl lt ↦ rw (shortest_small n lt) (lt, refl)
-      | inr big ↦ rw (shortest_large n big) (spells_more (n % 128 + 128) (shortest_varint (n / 128)) n (n / 128) (omega arith) (omega arith) (spells_within most (n / 128) (omega arith)))
+      | inr big ↦ rw (shortest_large n big) (encodes_more (n % 128 + 128) (shortest_varint (n / 128)) n (n / 128) (omega arith) (omega arith) (encodes_within most (n / 128) (omega arith)))
     ]
 
 few_within : (k n : ℕ) → n < 128 * 128 ^ k → length (shortest_varint n) ≤ k + 1
@@ -64,10 +64,10 @@ pub ten_bytes : (n : ℕ) → n < 2 ^ 64 → length (shortest_varint n) ≤ 10
 ten_bytes n h = few_within 9 n (omega arith)
 
 pub shortest_is : (n : ℕ) → n < 2 ^ 64 → IsVarint (shortest_varint n) n
-shortest_is n h = record { spelling = spells_within n n (omega arith); short = ten_bytes n h; fits = h }
+shortest_is n h = record { encoding = encodes_within n n (omega arith); short = ten_bytes n h; fits = h }
 
 pub key_is : (number wire : ℕ) → 0 < number → number < 2 ^ 29 → wire < 8 → IsKey (key_bytes number wire) number wire
-key_is number wire p n w = record { spelling = shortest_is (8 * number + wire) (omega arith); numbered = p; typed = w; fits = omega arith }
+key_is number wire p n w = record { encoding = shortest_is (8 * number + wire) (omega arith); numbered = p; typed = w; fits = omega arith }
 
 pub fewest : (n : ℕ) (bytes : List ℕ) → IsBase128 bytes n → length (shortest_varint n) ≤ length bytes
 fewest n [] h = absurd h

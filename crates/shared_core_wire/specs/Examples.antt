@@ -1,6 +1,6 @@
 -- A small table of schemas, on which hand-checked payloads test the definitions.
 use Rattle.std.specs.Prelude.{◌≡◌, ℕ, zero, suc, true, false, List, [], ◌∷◌, ◌++◌, length, ◌+◌, ◌-◌, ◌*◌, nat_lt, if◌then◌else◌}
-use Rattle.shared_core_wire.specs.Spelling.{shortest_varint}
+use Rattle.shared_core_wire.specs.Encoding.{shortest_varint}
 use Rattle.shared_core_wire.specs.Schema.{Table, table_of, Row, U32, U64, Enumeration, Text, ByteString, Message, Plain, Optional, Repeated, OneOf}
 use Rattle.shared_core_wire.specs.Value.{Part, Parts, Number, Bytes, Elements, nil, cons, one_part}
 use Rattle.shared_core_wire.specs.Acceptance.{accepts_payload}

@@ -14,17 +14,17 @@ IsBase128 (b ∷ c ∷ bs) n = (128 ≤ b) × (high : ℕ) × (n ≡ b % 128 + 1
 -- A varint is one to ten such bytes, of a number of 64 bits (so a tenth byte is 0 or 1); it may have more bytes than
 -- necessary.
 pub record IsVarint (bytes : List ℕ) (n : ℕ) : Type 0 where
-  pub spelling : IsBase128 bytes n
+  pub encoding : IsBase128 bytes n
   pub short : length bytes ≤ 10
   pub fits : n < 2 ^ 64
 
 -- ---- sequences
 
--- The bytes are encodings, by Spells, of these items, one after the other.
+-- The bytes are encodings, by Encodes, of these items, one after the other.
 abbrev pub IsSequence : {A : Type 0} → (List ℕ → A → Type 0) → List ℕ → List A → Type 0
-IsSequence Spells bytes [] = bytes ≡ []
-IsSequence Spells bytes (x ∷ xs) = (first : List ℕ) × (others : List ℕ) × (bytes ≡ first ++ others)
-    × Spells first x × IsSequence Spells others xs
+IsSequence Encodes bytes [] = bytes ≡ []
+IsSequence Encodes bytes (x ∷ xs) = (first : List ℕ) × (others : List ℕ) × (bytes ≡ first ++ others)
+    × Encodes first x × IsSequence Encodes others xs
 
 -- ---- records
 
@@ -57,7 +57,7 @@ wire_type (Fixed32 bs) = 5
 
 -- A key is a field number, at least 1, and a wire type, as one varint of at most 32 bits.
 pub record IsKey (bytes : List ℕ) (number wire : ℕ) : Type 0 where
-  pub spelling : IsVarint bytes (8 * number + wire)
+  pub encoding : IsVarint bytes (8 * number + wire)
   pub numbered : 0 < number
   pub typed : wire < 8
   pub fits : 8 * number + wire < 2 ^ 32

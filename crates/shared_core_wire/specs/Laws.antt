@@ -51,6 +51,6 @@ ReadBackLaw table = (left s : ℕ) (v : Parts) → IsWritable table left s v
     × (meaning table left s (canonical_payload table s v) ≡ v)
 
 -- Two values are equal if and only if their canonical payloads are.
-abbrev pub OneSpellingLaw : Table → Type 0
-OneSpellingLaw table = (left s : ℕ) (v w : Parts) → IsWritable table left s v → IsWritable table left s w
+abbrev pub OneEncodingLaw : Table → Type 0
+OneEncodingLaw table = (left s : ℕ) (v w : Parts) → IsWritable table left s v → IsWritable table left s w
     → (v ≡ w) ↔ (canonical_payload table s v ≡ canonical_payload table s w)

@@ -4,7 +4,7 @@ pub mod View
 pub mod ReadRecords
 pub mod RecordsLeft
 pub mod Places
-pub mod Spelling
+pub mod Encoding
 pub mod Schema
 pub mod Value
 pub mod Acceptance

@@ -25,18 +25,18 @@ IsValueWithin payload from to (Length bytes) = IsSliceWithin payload from to byt
 IsValueWithin payload from to (Group bytes) = IsSliceWithin payload from to bytes
 IsValueWithin payload from to (Fixed32 bytes) = IsSliceWithin payload from to bytes
 
--- The items that the bytes of the payload from an offset on give, where Spells says which bytes encode a record.
+-- The items that the bytes of the payload from an offset on give, where Encodes says which bytes encode a record.
 -- Records come in order, and the span of each begins where the one before ended; the slice of its span encodes it, and
 -- its value's slice is part of that. The list ends without Malformed at the payload's end. Malformed comes where bytes
 -- are left that do not begin with a record, and it is the last item.
 abbrev pub AreRecordsFrom : (List ℕ → FieldRecord → Type 0) → List ℕ → ℕ → List (Result PlacedRecord WireError) → Type 0
-AreRecordsFrom Spells payload place [] = place ≡ length payload
-AreRecordsFrom Spells payload place (Ok r ∷ items) = (r.from ≡ place) × (r.from < r.to) × (r.to ≤ length payload)
-    × Spells (slice_range payload r.from r.to) r.field_record
+AreRecordsFrom Encodes payload place [] = place ≡ length payload
+AreRecordsFrom Encodes payload place (Ok r ∷ items) = (r.from ≡ place) × (r.from < r.to) × (r.to ≤ length payload)
+    × Encodes (slice_range payload r.from r.to) r.field_record
     × IsValueWithin payload r.from r.to r.field_record.value
-    × AreRecordsFrom Spells payload r.to items
-AreRecordsFrom Spells payload place (Err e ∷ items) = (e ≡ Malformed) × (items ≡ []) × (place < length payload)
-    × ((to : ℕ) (r : FieldRecord) → Spells (slice_range payload place to) r → ⊥)
+    × AreRecordsFrom Encodes payload r.to items
+AreRecordsFrom Encodes payload place (Err e ∷ items) = (e ≡ Malformed) × (items ≡ []) × (place < length payload)
+    × ((to : ℕ) (r : FieldRecord) → Encodes (slice_range payload place to) r → ⊥)
 
 -- A record without its offsets.
 abbrev pub without_place : Result PlacedRecord WireError → Result FieldRecord WireError

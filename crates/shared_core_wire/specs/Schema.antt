@@ -1,7 +1,7 @@
 -- What fields a message has.
 use Rattle.std.specs.Prelude.{ℕ, zero, suc, Bool, true, ◌&&◌, not, List, [], ◌∷◌, ◌++◌, map, nat_eq, if◌then◌else◌}
 use Rattle.std.specs.List.{list_all, list_any}
-use Rattle.shared_core_wire.specs.Spelling.{is_field_number}
+use Rattle.shared_core_wire.specs.Encoding.{is_field_number}
 
 -- The kind of a field: uint32, uint64, bool, an enum, string, bytes, or a message of the schema that the table has at a
 -- number.

@@ -4,10 +4,10 @@
 ghost use Rattle.std.specs.Prelude.{◌≡◌, ◌≤◌, ◌<◌, ◌↔◌, ◌+◌, ◌*◌, ◌^◌, ℕ, IsTrue, List, ◌++◌, length, Some};
 ghost use Rattle.shared_core_wire.specs.Grammar.{FieldRecord, IsBase128, IsVarint, IsKey, IsSequence, IsRecordWithin, IsRecordListWithin};
 ghost use Rattle.shared_core_wire.specs.Reader.{packed_numbers, record_list};
-ghost use Rattle.shared_core_wire.specs.Laws.{AreSchemas, ListedSchemasLaw, AcceptanceLaw, StepLaw, MergeLaw, ReadBackLaw, OneSpellingLaw};
+ghost use Rattle.shared_core_wire.specs.Laws.{AreSchemas, ListedSchemasLaw, AcceptanceLaw, StepLaw, MergeLaw, ReadBackLaw, OneEncodingLaw};
 ghost use Rattle.shared_core_wire.specs.Schema.{Row, Table};
 ghost use Rattle.shared_core_wire.specs.Template.{ViewLaw};
-ghost use Rattle.shared_core_wire.specs.Spelling.{shortest_varint, key_bytes};
+ghost use Rattle.shared_core_wire.specs.Encoding.{shortest_varint, key_bytes};
 ghost use Rattle.shared_core_wire.specs.RecordsLeft.{placed_of};
 
 use crate::error::WireError;
@@ -59,7 +59,7 @@ pub fn packed_numbers_is_exact()
 /// `shortest_varint` encodes its number, and no encoding of the number has fewer bytes. `key_bytes` encodes a field
 /// number and a wire type.
 pub fn shortest_varint_is_shortest()
-    ensures spells { (n : ℕ) → n < 2 ^ 64 → IsVarint (shortest_varint n) n }
+    ensures encodes { (n : ℕ) → n < 2 ^ 64 → IsVarint (shortest_varint n) n }
     ensures fewest { (n : ℕ) (bytes : List ℕ) → IsBase128 bytes n → length (shortest_varint n) ≤ length bytes }
     ensures key { (number wire : ℕ) → 0 < number → number < 2 ^ 29 → wire < 8
         → IsKey (key_bytes number wire) number wire }
@@ -89,7 +89,7 @@ pub fn canonical_payload_is_read_back()
 
 /// Two values are equal if and only if their canonical payloads are.
 pub fn canonical_payload_is_unique()
-    ensures { (table : Table) → AreSchemas table → OneSpellingLaw table }
+    ensures { (table : Table) → AreSchemas table → OneEncodingLaw table }
 {}
 
 /// Let a schema's rows be rows of a template, and let no record that the schema skips have a number of the template.

@@ -107,8 +107,8 @@ fn read_group<'a>(number: u32, bytes: &'a [u8], left: u32) -> Option<(&'a [u8], 
             let content = &bytes[..bytes.len() - rest.len()];
             return Some((content, after));
         }
-        let (_, behind) = read_value(inner, wire, after, left)?;
-        rest = behind;
+        let (_, beyond) = read_value(inner, wire, after, left)?;
+        rest = beyond;
     }
     None
 }

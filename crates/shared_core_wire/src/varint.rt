@@ -2,7 +2,7 @@
 
 ghost use Rattle.std.specs.Prelude.{◌≡◌, ◌≤◌, ◌<◌, ◌+◌, ◌*◌, ◌%◌, ◌^◌, length};
 ghost use Rattle.shared_core_wire.specs.Reader.{Gives, varint_at};
-ghost use Rattle.shared_core_wire.specs.Spelling.{shortest_varint};
+ghost use Rattle.shared_core_wire.specs.Encoding.{shortest_varint};
 
 /// Reads a varint. Returns its number and the bytes after it, or `None` if the bytes do not begin with a varint.
 #[inline(always)]

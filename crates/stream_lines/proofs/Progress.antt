@@ -46,10 +46,10 @@ items_long version bytes (item ∷ items) h =
     ap length h.4 ∙ length-append h.0 h.1 ∙ omega (arith, item_long version h.0 item h.2, items_long version h.1 items h.3)
 
 pub then_long : (version : Version) (stream rest : List ℕ) (items : List Item) → IsItemsThen version stream items rest → length stream ≡ items_size items + length rest
-then_long version stream rest items h = ap length h.whole ∙ length-append h.front rest ∙ omega (arith, items_long version h.front items h.spelled)
+then_long version stream rest items h = ap length h.whole ∙ length-append h.front rest ∙ omega (arith, items_long version h.front items h.encoded)
 
-begins_behind : {A : Type 0} (front text whole : List A) → Begins text whole → Begins (front ++ text) (front ++ whole)
-begins_behind front text whole (more, is) = (more, ap (λ l. front ++ l) is ∙ sym (append_assoc front text more))
+begins_after : {A : Type 0} (front text whole : List A) → Begins text whole → Begins (front ++ text) (front ++ whole)
+begins_after front text whole (more, is) = (more, ap (λ l. front ++ l) is ∙ sym (append_assoc front text more))
 
 begins_longer : {A : Type 0} (text whole more : List A) → Begins text whole → Begins text (whole ++ more)
 begins_longer text whole more (left, is) = (left ++ more, ap (λ l. l ++ more) is ∙ append_assoc text left more)
@@ -84,22 +84,22 @@ module _ (line : ℕ → Item → List ℕ) (last : ℕ → ℕ → List ℕ) (i
   -- the first items of a stream, whatever follows them, are the first that it splits into
   printed_output : (stream rest written : List ℕ) (items : List Item) (left : Option (List ℕ)) → IsItemsThen version stream items rest → Begins written (lines line 0 items) → ArePrinted line last is_long version (Err Output) stream written left
   printed_output stream rest written items left front begun =
-      let (all, behind, split) = split_of version stream in
-      let (others, is) = split_begins version stream behind all split items rest front in
+      let (all, after, split) = split_of version stream in
+      let (others, is) = split_begins version stream after all split items rest front in
       let longer = begins_longer written (lines line 0 items) (lines line (0 + items_size items) others) begun in
-      record { items = all; rest = behind; split = split; stands = inl (subst (Begins written) (lines_join line 0 items others ∙ ap (lines line 0) (sym is)) longer) }
+      record { items = all; rest = after; split = split; stands = inl (subst (Begins written) (lines_join line 0 items others ∙ ap (lines line 0) (sym is)) longer) }
 
   printed_lack : (error : PrintError) (stream rest : List ℕ) (items : List Item) (left : Option (List ℕ)) → IsLack (IsLongIn is_long version rest) error → IsItemsThen version stream items rest → ArePrinted line last is_long version (Err error) stream (lines line 0 items) left
   printed_lack Input stream rest items left lack front = absurd lack
   printed_lack Output stream rest items left lack front = absurd lack
   printed_lack OutOfMemory stream rest items left lack front =
-      let (all, behind, split) = split_of version stream in
-      record { items = all; rest = behind; split = split; stands = (items, split_begins version stream behind all split items rest front, refl) }
+      let (all, after, split) = split_of version stream in
+      record { items = all; rest = after; split = split; stands = (items, split_begins version stream after all split items rest front, refl) }
   printed_lack TooLong stream rest items left (more, item, others, then_item, long) front =
-      let (all, behind, split) = split_of version stream in
+      let (all, after, split) = split_of version stream in
       let until = items ++ (more ++ item ∷ []) in
       let then_long_one = then_join version stream rest others items (more ++ item ∷ []) front then_item in
-      record { items = all; rest = behind; split = split; stands = (items, more, item, split_begins version stream behind all split until others then_long_one, long, refl) }
+      record { items = all; rest = after; split = split; stands = (items, more, item, split_begins version stream after all split until others then_long_one, long, refl) }
 
   pub starts : GoesOn line version first start first start 0 []
   starts = record {
@@ -160,7 +160,7 @@ module _ (line : ℕ → Item → List ℕ) (last : ℕ → ℕ → List ℕ) (i
           Appends-trans start out grown (lines line 0 so_far.items) written so_far.wrote wrote,
           printed_output (so_far.read ++ piece) rest (lines line 0 so_far.items ++ written) (so_far.items ++ more) now then_items
               (subst (Begins (lines line 0 so_far.items ++ written)) (ap (λ (n : ℕ). lines line 0 so_far.items ++ lines line n more) (zero_more (items_size so_far.items)) ∙ lines_join line 0 so_far.items more)
-              (begins_behind (lines line 0 so_far.items) written (lines line (items_size so_far.items) more) is)),
+              (begins_after (lines line 0 so_far.items) written (lines line (items_size so_far.items) more) is)),
         )
 
       -- the input has ended, and the last line is written, or cut short
@@ -178,7 +178,7 @@ module _ (line : ℕ → Item → List ℕ) (last : ℕ → ℕ → List ℕ) (i
         ended_whole done is = then_last (Ok done) (end, ap (λ (l : List ℕ). lines line 0 so_far.items ++ l) is)
 
         pub ended_cut : Begins written (last (items_size so_far.items) (length pending)) → HasEnded line last is_long version first start now grown (Err Output)
-        ended_cut is = then_last (Err Output) (inr (end, begins_behind (lines line 0 so_far.items) written (last (items_size so_far.items) (length pending)) is))
+        ended_cut is = then_last (Err Output) (inr (end, begins_after (lines line 0 so_far.items) written (last (items_size so_far.items) (length pending)) is))
 
     -- a read failed
     pub ended_read : (now : Option (List ℕ)) (error : PrintError) → IsRead (Err error) left now → HasEnded line last is_long version first start now out (Err error)
@@ -193,7 +193,7 @@ module _ (line : ℕ → Item → List ℕ) (last : ℕ → ℕ → List ℕ) (i
     ended_read now OutOfMemory (lost, taken) = ended_lack now lost taken OutOfMemory tt
     ended_read now TooLong is = absurd is
 
--- the pending bytes begin where they began, with a chunk behind them
+-- the pending bytes begin where they began, with a chunk after them
 pub still_there : (size total : ℕ) (pending piece : List ℕ) → total ≡ size + length pending → (total + length piece) - length (pending ++ piece) ≡ size
 still_there size total pending piece e = omega (arith, length-append pending piece)
 

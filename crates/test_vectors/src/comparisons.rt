@@ -2,7 +2,7 @@
 
 use crate::message_types::type_of_name;
 use crate::payloads::decoded;
-use crate::verdict::{Failed, Verdict, spelled};
+use crate::verdict::{Failed, Verdict, encoded};
 use bytes::Bytes;
 use shared_core::fmt::Difference;
 use shared_core::messages::{CommandMessage, CommandVisitor, visit_command};
@@ -59,7 +59,7 @@ fn check_as<M: CommandMessage>(
         expected: &expected,
     };
     let difference = format!(in alloc; "{difference}")?;
-    let difference = spelled(alloc, difference.as_bytes())?;
+    let difference = encoded(alloc, difference.as_bytes())?;
     let given = format!(in alloc; "{with_payloads} {without_payloads} {difference}")?;
     verdict.answer(given.as_str())
 }

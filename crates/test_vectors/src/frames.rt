@@ -23,9 +23,9 @@ pub fn check_frame_of<M: RestateEncodableMessage, D: RestateMessage>(
     let Some(message) = only_message(alloc, version, frame.as_slice())? else {
         return verdict.refuse("no single message comes out of the frame");
     };
-    let behind = frame.as_slice().get(8..);
+    let after = frame.as_slice().get(8..);
     verdict.require(
-        behind == Some(message.payload().as_slice()),
+        after == Some(message.payload().as_slice()),
         "another payload comes out of the frame",
     )?;
     check_decoded::<D>(&message, verdict)

@@ -76,7 +76,7 @@ impl<'a> Verdict<'a> {
 
     /// Checks the library's result, which is bytes.
     pub fn answer_bytes(&mut self, given: &[u8]) -> Result<(), Failed> {
-        let given = spelled(self.alloc, given)?;
+        let given = encoded(self.alloc, given)?;
         self.answer(given.as_str())
     }
 
@@ -113,7 +113,7 @@ pub fn copied(alloc: Global, bytes: &[u8]) -> Result<Bytes, Failed> {
 }
 
 /// Bytes in the form of a line: hex digits in lower case, two a byte, or `-` for no bytes.
-pub fn spelled(alloc: Global, bytes: &[u8]) -> Result<String, AllocError> {
+pub fn encoded(alloc: Global, bytes: &[u8]) -> Result<String, AllocError> {
     if bytes.is_empty() {
         return String::from_str(alloc, "-");
     }

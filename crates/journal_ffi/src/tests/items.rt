@@ -54,13 +54,13 @@ fn reads(version: u32, bytes: &[u8], items: &[[u64; 6]], missing: i64) -> bool {
         let Ok(size) = usize::try_from(size) else {
             return false;
         };
-        let Some(behind) = rest.get(size..) else {
+        let Some(after) = rest.get(size..) else {
             return false;
         };
         if item != *expected {
             return false;
         }
-        rest = behind;
+        rest = after;
     }
     let mut item = [0xEE; 6];
     journal_next(version, rest, &mut item) == missing && item == [0xEE; 6]

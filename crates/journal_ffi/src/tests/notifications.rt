@@ -18,10 +18,10 @@ fn reads(alloc: Global, code: u16, payload: &[u8], numbers: [u64; 4], bytes: &[u
         let Some(rest) = out.strip_prefix(front) else {
             return false;
         };
-        let [id, number, name_length, outcome, behind] = found;
+        let [id, number, name_length, outcome, after] = found;
         if usize::try_from(answer) != Ok(bytes.len())
             || [id, number, name_length, outcome] != numbers
-            || behind != 0xEE
+            || after != 0xEE
             || rest.iter().any(|byte| *byte != 0xEE)
         {
             return false;

@@ -81,7 +81,7 @@ impl Decoder {
     ghost use Rattle.std.specs.Prelude.{◌≡◌, ◌+◌, ◌≤◌, ◌++◌, [], length, OnOk, OnErr, IfOk, IfErr, IsOk, MatchOption};
     ghost use Rattle.std.specs.Prelude.{None, Ok, false};
     ghost use Rattle.shared_core_base.specs.Version.{version_number};
-    ghost use Rattle.shared_core.specs.Items.{AnswersNext, NoItemBegins, PayloadIsNext, RefusesPiece, TakesEight};
+    ghost use Rattle.shared_core.specs.Items.{ReturnsNext, NoItemBegins, PayloadIsNext, RefusesPiece, TakesEight};
     ghost use Rattle.shared_core.specs.Items.{TakesItem, item_taken};
 
     /// Returns a decoder of this version, which is at least V5, before any byte has come. Does not allocate.
@@ -135,7 +135,7 @@ impl Decoder {
     /// takes the header and its payload, once that has come. `OutOfMemory` comes only where a whole payload is to be
     /// taken, and takes nothing: a later call returns as if this one had not been made.
     pub fn consume_next(&mut self) -> Result<Option<RawMessage>, DecodingError>
-        ensures next { AnswersNext self.old.version self.old.bytes result self.new.bytes }
+        ensures next { ReturnsNext self.old.version self.old.bytes result self.new.bytes }
         ensures version { self.new.version ≡ self.old.version }
         ensures short { result ≡ Ok None → length self.new.bytes ≤ 4294967302 }
         // what is taken is eight bytes at least, so a loop over the messages ends

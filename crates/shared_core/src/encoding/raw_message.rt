@@ -27,7 +27,7 @@ pub struct RawMessage {
 
 impl RawMessage {
     ghost use Rattle.shared_core.specs.Typed.{MeansParts, IsCanonical, RefusesPayload, RefusesTyped, mismatch_of};
-    ghost use Rattle.shared_core.specs.View.{notification_parts, lacking_field, AgreesWithType, AnswersLacking};
+    ghost use Rattle.shared_core.specs.View.{notification_parts, lacking_field, AgreesWithType, ReturnsLacking};
     ghost use Rattle.shared_core.specs.View.{IsMissing, IsOfNotification, RefusesNotification};
     ghost use Rattle.shared_core.specs.declared.encoding.error.DecodingError.TheVariants as error;
     ghost use Rattle.shared_core_wire.specs.declared.error.WireError.TheVariants as wire;
@@ -129,7 +129,7 @@ impl RawMessage {
             → IsOfNotification s self.now.payload → AgreesWithType s self.now.payload (notification_parts found)) }
         // a field is missing exactly where no record is one
         ensures lacking { IsAccepted notification_template self.now.payload
-            → AnswersLacking self.now (lacking_field self.now.payload) result }
+            → ReturnsLacking self.now (lacking_field self.now.payload) result }
     {
         let NotificationTemplate { id, result } = self.decode_payload(alloc)?;
         let Some(id) = id else {

@@ -7,9 +7,9 @@ use Rattle.json.specs.Json.{Members}
 use Rattle.json.specs.Tree.{json_tokens, members_tokens}
 use Rattle.shared_core_codec.specs.Payloads.{payload_meaning}
 use Rattle.shared_core_json.specs.Form.{value_json}
-use Rattle.shared_core_json.specs.Payloads.{IsSpelling, WritesJson}
+use Rattle.shared_core_json.specs.Payloads.{IsEncoding, WritesJson}
 use Rattle.shared_core_json.specs.declared.error.JsonError.TheVariants.{Malformed}
-use Rattle.journal_dump.specs.Canonical.{AnswersSpelling}
+use Rattle.journal_dump.specs.Canonical.{ReturnsEncoding}
 use Rattle.shared_core.specs.Visiting.{schema_at}
 use Rattle.journal_dump.proofs.Tokens.{then_tokens, shown_message, shown_malformed}
 use Rattle.journal_dump.proofs.lines.write_payload.Goals as goal
@@ -18,19 +18,19 @@ pub returns-in_ok-write_message-in-Ok-Some-clause-tokens : goal.returns-in_ok-wr
 returns-in_ok-write_message-in-Ok-Some-clause-tokens c =
     let s = c.in-Ok-Some.schema in
     let payload = c.args.payload.now in
-    let found : AnswersSpelling (schema_at c.args.version c.args.ty) payload c.canonical_of.new.canonical.items (Ok (Some s)) = search rules in
+    let found : ReturnsEncoding (schema_at c.args.version c.args.ty) payload c.canonical_of.new.canonical.items (Ok (Some s)) = search rules in
     let written : WritesJson s c.as_slice.result.now c.key.new.self.tokens c.write_message.new.out.tokens = search rules in
     let name : c.key.new.self.tokens ≡ c.args.out.now.tokens ++ (key (codes "message") ∷ []) = search rules in
-    let spelling : IsSpelling s (payload_meaning s payload) c.as_slice.result.now = rw c.as_slice.ensures.value found.2 in
+    let encoding : IsEncoding s (payload_meaning s payload) c.as_slice.result.now = rw c.as_slice.ensures.value found.2 in
     let json = json_tokens (value_json s (payload_meaning s payload)) in
-    then_tokens c.key.new.self.tokens c.write_message.new.out.tokens json (end_object ∷ []) (written (payload_meaning s payload) spelling)
+    then_tokens c.key.new.self.tokens c.write_message.new.out.tokens json (end_object ∷ []) (written (payload_meaning s payload) encoding)
     ∙ then_tokens c.args.out.now.tokens c.key.new.self.tokens (key (codes "message") ∷ []) (json ++ (end_object ∷ [])) name
     ∙ ap (λ (ms : Members). c.args.out.now.tokens ++ members_tokens ms) (sym (shown_message (schema_at c.args.version c.args.ty) s payload found.0 found.1))
 
 pub returns-in_ok-write_bytes-in-Err-Malformed-clause-tokens : goal.returns-in_ok-write_bytes-in-Err-Malformed-clause-tokens
 returns-in_ok-write_bytes-in-Err-Malformed-clause-tokens c =
     let payload = c.args.payload.now in
-    let found : AnswersSpelling (schema_at c.args.version c.args.ty) payload c.canonical_of.new.canonical.items (Err Malformed) = search rules in
+    let found : ReturnsEncoding (schema_at c.args.version c.args.ty) payload c.canonical_of.new.canonical.items (Err Malformed) = search rules in
     let shown = c.deref-in-Err-Malformed.result.now in
     let front = λ (bytes : List ℕ). key (codes "bytes") ∷ string (encode_of standard bytes) ∷ [] in
     then_tokens c.write_flag.new.out.tokens c.write_bytes-in-Err-Malformed.new.out.tokens (front shown) (end_object ∷ []) c.in_ok-write_bytes-in-Err-Malformed.ensures.tokens

@@ -5,7 +5,7 @@ use Rattle.shared_core_base.specs.declared.version.Version.{Version}
 use Rattle.replay_bench.specs.declared.verdicts.Verdict.TheVariants.{Same, RecordedEnded, ReplayedEnded}
 use Rattle.replay_bench.specs.Answers.{answer_of}
 use Rattle.replay_bench.specs.Taking.{HasNoCommand, TakesFirst}
-use Rattle.replay_bench.proofs.Endings.{IsNext, answers_refusal, answers_verdict, are_alike, ends_first, ends_found, ends_replayed, ends_together, goes_behind, is_found}
+use Rattle.replay_bench.proofs.Endings.{IsNext, answers_refusal, answers_verdict, are_alike, ends_first, ends_found, ends_replayed, ends_together, goes_after, is_found}
 use Rattle.replay_bench.proofs.Lengths.{keeps_on}
 use Rattle.replay_bench.proofs.comparison.compare_sources.Goals as goal
 
@@ -139,7 +139,7 @@ loop-replayed-preserved-in_default-found g c =
       other_fits = c.in_ok-expected.ensures.fits;
       counted = keeps_on _ _ _ inv.counted counted;
       other_counted = keeps_on _ _ _ inv.other_counted other_counted;
-      goes_on = goes_behind v ignore index actual expected first second left others now then inv.goes_on one other alike;
+      goes_on = goes_after v ignore index actual expected first second left others now then inv.goes_on one other alike;
     }
 
 pub loop-replayed-preserved : goal.loop-replayed-preserved
@@ -174,5 +174,5 @@ loop-replayed-preserved g c =
       other_fits = c.in_ok-expected.ensures.fits;
       counted = keeps_on _ _ _ inv.counted counted;
       other_counted = keeps_on _ _ _ inv.other_counted other_counted;
-      goes_on = goes_behind v ignore index actual expected first second left others now then inv.goes_on one other alike;
+      goes_on = goes_after v ignore index actual expected first second left others now then inv.goes_on one other alike;
     }

@@ -1,6 +1,6 @@
 use Rattle.std.proofs.Common.{arith, ◌+◌, ap, ◌∙◌}
 use Rattle.shared_core_codec.proofs.ElementLoops.{packed_step}
-use Rattle.shared_core_codec.specs.RowSpelling.{capped}
+use Rattle.shared_core_codec.specs.RowEncoding.{capped}
 use Rattle.shared_core_codec.proofs.packed.run_size.Goals as goal
 
 pub loop-number-preserved : goal.loop-number-preserved

@@ -1,7 +1,7 @@
 use Rattle.std.proofs.Common.{◌≡◌, ◌+◌, ◌≤◌, ◌^◌, length}
 use Rattle.shared_core_codec.proofs.FittingRows.{FitFrom}
 use Rattle.shared_core_codec.proofs.Measuring.{packed_from}
-use Rattle.shared_core_codec.specs.RowSpelling.{capped}
+use Rattle.shared_core_codec.specs.RowEncoding.{capped}
 use Rattle.shared_core_wire.specs.Schema.{U32}
 use Rattle.shared_core_wire.specs.Value.{Number}
 use Rattle.shared_core_codec.proofs.packed.run_size.Given as goal

@@ -1,5 +1,5 @@
 use Rattle.std.proofs.Common.{drop, arith, ◌∙◌}
-use Rattle.shared_core_codec.proofs.Backwards.{packed_behind, packed_behind_all, packed_room, packed_start}
+use Rattle.shared_core_codec.proofs.Backwards.{packed_after, packed_after_all, packed_room, packed_start}
 use Rattle.shared_core_codec.proofs.packed.write_run.Goals as goal
 
 pub loop-i-init : goal.loop-i-init
@@ -9,9 +9,9 @@ pub write_varint-start-requires-clause-room : goal.write_varint-start-requires-c
 write_varint-start-requires-clause-room c = packed_room c.args.numbers.now.items c.loop-i.i c.from.result c.index.result.now c.args.end c.loop-i.start (omega arith) (omega arith) (c.from.ensures ∙ c.index.ensures) c.loop-i.invariant.0 c.requires.room
 
 pub loop-i-preserved : goal.loop-i-preserved
-loop-i-preserved c = packed_behind c.args.numbers.now.items c.loop-i.i c.from.result c.index.result.now c.args.end c.loop-i.start c.write_varint-start.result (drop c.args.end c.args.out.now) (drop c.loop-i.start c.loop-i.out) (drop c.write_varint-start.result c.write_varint-start.new.out) (omega arith) (omega arith) (c.from.ensures ∙ c.index.ensures) c.write_varint-start.ensures.start c.write_varint-start.ensures.written c.loop-i.invariant
+loop-i-preserved c = packed_after c.args.numbers.now.items c.loop-i.i c.from.result c.index.result.now c.args.end c.loop-i.start c.write_varint-start.result (drop c.args.end c.args.out.now) (drop c.loop-i.start c.loop-i.out) (drop c.write_varint-start.result c.write_varint-start.new.out) (omega arith) (omega arith) (c.from.ensures ∙ c.index.ensures) c.write_varint-start.ensures.start c.write_varint-start.ensures.written c.loop-i.invariant
 
 pub returns : goal.returns
 returns c =
-    let b = packed_behind_all c.args.numbers.now.items c.loop-i.i c.args.end c.loop-i.start (drop c.args.end c.args.out.now) (drop c.loop-i.start c.loop-i.out) (omega arith) c.loop-i.invariant in
+    let b = packed_after_all c.args.numbers.now.items c.loop-i.i c.args.end c.loop-i.start (drop c.args.end c.args.out.now) (drop c.loop-i.start c.loop-i.out) (omega arith) c.loop-i.invariant in
     record { start = b.0; written = b.1 }

@@ -4,7 +4,7 @@ use Rattle.shared_core_codec.proofs.ElementLoops.{measure_step}
 use Rattle.shared_core_codec.proofs.FittingRows.{fit_end}
 use Rattle.shared_core_codec.proofs.Measuring.{count_from}
 use Rattle.shared_core_codec.specs.RowFitting.{FieldFits}
-use Rattle.shared_core_codec.specs.RowSpelling.{measured_row}
+use Rattle.shared_core_codec.specs.RowEncoding.{measured_row}
 use Rattle.shared_core_codec.specs.Table.{future}
 use Rattle.shared_core_wire.specs.Schema.{Message, Repeated}
 use Rattle.shared_core_wire.specs.Value.{Part}

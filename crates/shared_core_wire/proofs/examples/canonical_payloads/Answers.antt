@@ -1,6 +1,6 @@
 use Rattle.std.proofs.Common.{refl, arith}
 use Rattle.shared_core_wire.specs.Canonical.{part_values}
-use Rattle.shared_core_wire.specs.Spelling.{shortest_within, shortest_varint}
+use Rattle.shared_core_wire.specs.Encoding.{shortest_within, shortest_varint}
 use Rattle.shared_core_wire.proofs.Shortest.{shortest_small, shortest_greatest}
 use Rattle.shared_core_wire.proofs.examples.canonical_payloads.Goals as goal
 

@@ -1,5 +1,5 @@
 use Rattle.std.proofs.Common.{◌≡◌, ◌+◌, length}
-use Rattle.shared_core_wire.specs.Spelling.{shortest_varint}
+use Rattle.shared_core_wire.specs.Encoding.{shortest_varint}
 use Rattle.shared_core_wire.proofs.varint.varint_len.Given as goal
 
 abbrev pub invariant-loop-rest : goal.invariant-loop-rest

@@ -1,7 +1,7 @@
 use Rattle.std.proofs.Common.{◌≡◌, ◌+◌, List, ℕ, ◌++◌, ◌∙◌, None, length, length-append, ap, arith, subst, sym}
 use Rattle.std.specs.Io.KnownBytes.{prepend_known}
 use Rattle.replay_bench.specs.Taking.{TakesFirst}
-use Rattle.replay_bench.proofs.Fronts.{nothing_behind, nothing_left, takes_behind, takes_held, takes_piece}
+use Rattle.replay_bench.proofs.Fronts.{nothing_after, nothing_left, takes_after, takes_held, takes_piece}
 use Rattle.replay_bench.proofs.Lengths.{keeps_on, piece_counts}
 use Rattle.replay_bench.proofs.commands.Commands.next_command.Goals as goal
 
@@ -10,7 +10,7 @@ returns-in-Some-clause-taken g c =
     let inv = c.loop-command.invariant in
     let version = c.args.self.now.decoder.version in
     let leads = rw (c.in-Some.is, inv.version) at c.in_ok-command.ensures.leads in
-    takes_behind version _ _ _ _ inv.passed (takes_held version _ _ (g.S.Source.coming c.loop-command.self.source) _ leads)
+    takes_after version _ _ _ _ inv.passed (takes_held version _ _ (g.S.Source.coming c.loop-command.self.source) _ leads)
 
 pub returns-in-Ok-None-clause-taken : goal.returns-in-Ok-None-clause-taken
 returns-in-Ok-None-clause-taken g c =
@@ -20,7 +20,7 @@ returns-in-Ok-None-clause-taken g c =
     let leads = rw (c.in_default.is, inv.version) at c.in_ok-command.ensures.leads in
     let none = rw inv.version at (c.in_ok-command.ensures.none c.in_default.is) in
     let end = rw c.in-Ok-None.field-0-is at c.in-Ok-None.ensures.piece in
-    nothing_behind version _ _ (takes_behind version _ _ _ _ inv.passed (takes_held version _ _ coming _ leads)) (nothing_left version _ coming end none)
+    nothing_after version _ _ (takes_after version _ _ _ _ inv.passed (takes_held version _ _ coming _ leads)) (nothing_left version _ coming end none)
 
 pub loop-command-preserved : goal.loop-command-preserved
 loop-command-preserved g c =
@@ -41,7 +41,7 @@ loop-command-preserved g c =
       held = omega (arith, inv.held, short, c.in_ok-self.ensures.counted, long);
       fits = c.in_ok-self.ensures.fits;
       shorter = omega (arith, inv.shorter, short, c.in_ok-self.ensures.counted, long);
-      passed = takes_behind version _ _ _ _ (takes_behind version _ _ _ _ inv.passed (takes_held version _ _ old _ leads))
+      passed = takes_after version _ _ _ _ (takes_after version _ _ _ _ inv.passed (takes_held version _ _ old _ leads))
           (subst (λ (held : List ℕ). TakesFirst version (prepend_known before old) None (prepend_known held new)) (sym bytes) (takes_piece version before piece old new gives));
       counted = keeps_on _ _ _ inv.counted (piece_counts _ _ piece old new gives c.in_ok-self.ensures.counted);
     }

@@ -1,6 +1,6 @@
 -- The canonical payload row by row, as it is written and measured.
 use Rattle.std.specs.Prelude.{Bool, true, false, ℕ, ◌+◌, ◌^◌, List, ◌∷◌, ◌++◌, map, flat_map, length, min}
-use Rattle.shared_core_wire.specs.Spelling.{shortest_varint, key_bytes, record_list_bytes}
+use Rattle.shared_core_wire.specs.Encoding.{shortest_varint, key_bytes, record_list_bytes}
 use Rattle.shared_core_wire.specs.Schema.{Kind, Row, U32, U64, Boolean, Enumeration, Text, ByteString, Message, Plain, Optional, Repeated, OneOf, member_kind}
 use Rattle.shared_core_wire.specs.Value.{Part, Parts, Absent, Member, cons}
 use Rattle.shared_core_wire.specs.Canonical.{row_records, part_values, kind_of}
@@ -26,18 +26,18 @@ row_bytes row p = record_list_bytes (row_records row p (part_values table p (kin
 
 -- The bytes after a row's part, with the part before them.
 abbrev pub before_row : Row → Part → List ℕ → List ℕ
-before_row (Plain n k) p behind = row_bytes (Plain n k) p ++ behind
-before_row (Repeated n k) p behind = row_bytes (Repeated n k) p ++ behind
-before_row (Optional n k) Absent behind = behind
-before_row (Optional n k) p behind = value_bytes n k p ++ behind
-before_row (OneOf members) Absent behind = behind
-before_row (OneOf members) (Member n p) behind = value_bytes n (member_kind members n) p ++ behind
-before_row (OneOf members) p behind = row_bytes (OneOf members) p ++ behind
+before_row (Plain n k) p after = row_bytes (Plain n k) p ++ after
+before_row (Repeated n k) p after = row_bytes (Repeated n k) p ++ after
+before_row (Optional n k) Absent after = after
+before_row (Optional n k) p after = value_bytes n k p ++ after
+before_row (OneOf members) Absent after = after
+before_row (OneOf members) (Member n p) after = value_bytes n (member_kind members n) p ++ after
+before_row (OneOf members) p after = row_bytes (OneOf members) p ++ after
 
 -- The bytes after a message, with its rows before them.
 abbrev pub before_rows : List Row → Parts → List ℕ → List ℕ
-before_rows (row ∷ rows) (cons p ps) behind = before_row row p (before_rows rows ps behind)
-before_rows _ _ behind = behind
+before_rows (row ∷ rows) (cons p ps) after = before_row row p (before_rows rows ps after)
+before_rows _ _ after = after
 
 -- The varints of numbers.
 unfoldable pub varints_of : List ℕ → List ℕ
