@@ -223,7 +223,7 @@ for python in python3 /usr/bin/python3; do
     judge=$python
   fi
 done
-if [ -n "$judge" ] && command -v protoc > /dev/null; then
+if [ -n "$judge" ] && protoc -Iproto --descriptor_set_out=/dev/null journal.proto 2> "$err"; then
   PYTHONDONTWRITEBYTECODE=1 $judge tools/generators/protobuf_dumps.py --random 1 300 "$program" > "$work/log" 2>&1
   if ! add "$(tail -n 1 "$work/log")"; then
     failed=$((failed + 1))
@@ -233,7 +233,7 @@ if [ -n "$judge" ] && command -v protoc > /dev/null; then
     cat "$work/log"
   fi
 else
-  left_out "protobuf's own printer" 'there is no protoc or no protobuf for python3'
+  left_out "protobuf's own printer" 'there is no protoc with descriptor.proto, or no protobuf for python3'
 fi
 
 finish

@@ -7,6 +7,7 @@ import sys
 import tempfile
 
 from . import ROOT
+from .proto import without_protoc
 
 ABOUT = "The stored run of journal_dump, and the JSON of each message."
 SOURCE = "conformance/records.txt, by protobuf"
@@ -24,9 +25,10 @@ def interpreter():
 
 
 def missing():
-    if not shutil.which("protoc"):
-        return "there is no protoc"
-    return None if interpreter() else "there is no protobuf for Python (python3-protobuf)"
+    reason = without_protoc()
+    if reason is None and interpreter() is None:
+        reason = "there is no protobuf for Python (python3-protobuf)"
+    return reason
 
 
 def paths():

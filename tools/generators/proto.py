@@ -4,6 +4,8 @@ their options, which proto/options.proto declares.
 Only what that file uses of the language is read: messages of fields, oneofs and options, one a line, and enums. What cannot be so is refused.
 """
 import re
+import shutil
+import subprocess
 import sys
 
 from . import ROOT
@@ -21,6 +23,16 @@ NOTIFICATIONS = range(0x8000, 0xFC00)
 def refuse(text):
     """Says what is wrong with the description, and ends the program."""
     sys.exit(f"generate.py: {SOURCE}: {text}")
+
+
+def without_protoc():
+    """Why protoc cannot read the description here, or None: options.proto imports protobuf's own descriptor.proto."""
+    if not shutil.which("protoc"):
+        return "there is no protoc (protobuf-compiler)"
+    reading = ["protoc", f"--proto_path={PROTO.parent}", "--descriptor_set_out=/dev/null", PROTO.name]
+    if subprocess.run(reading, capture_output=True).returncode != 0:
+        return "protoc does not read the description; it needs google/protobuf/descriptor.proto (libprotobuf-dev)"
+    return None
 
 
 class Options:

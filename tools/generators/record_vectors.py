@@ -8,11 +8,10 @@ the same values, where the message is that of a type: at version 8, and where an
 each; a type's code is read from conformance/frames.txt. Nothing of this project's own code takes part.
 """
 import re
-import shutil
 import subprocess
 
 from . import ROOT
-from .proto import PROTO, OneOf, camel, messages
+from .proto import PROTO, OneOf, camel, messages, without_protoc
 
 ABOUT = "Test vectors of each message, by protoc."
 SOURCE = "proto/journal.proto, by protoc"
@@ -175,7 +174,7 @@ def records():
 
 
 def missing():
-    return None if shutil.which("protoc") else "there is no protoc"
+    return without_protoc()
 
 
 def paths():
