@@ -18,12 +18,12 @@ pub measure_step : {M : Type 0} (view : M → Part) (at : ℕ) (k : Kind) (xs : 
 measure_step view at k xs i x first old now h e s f w =
     (rw s (sym (count_next view at k xs i x old h e) ∙ w.0), omega (arith, s), λ g. w.2 (fit_next view k xs i x h e f g))
 
-abbrev pub IsPacked : List ℕ → ℕ → ℕ → Type 0
-IsPacked ns i now =
-    (capped (now + length (packed_from ns i)) ≡ capped (length (packed_from ns 0)))
+abbrev pub IsPacked : List ℕ → ℕ → ℕ → ℕ → Type 0
+IsPacked ns first i now =
+    (capped (now + length (packed_from ns i)) ≡ capped (first + length (packed_from ns 0)))
     × (now ≤ 2 ^ 32) × (FitFrom Number U32 ns i → FitFrom Number U32 ns 0)
 
-pub packed_step : (ns : List ℕ) (i n old now : ℕ) → i < length ns → n ≡ get_or ns i 0 → n < 2 ^ 32
-    → now ≡ capped (old + length (shortest_varint n)) → IsPacked ns i old → IsPacked ns (i + 1) now
-packed_step ns i n old now h e l s w =
+pub packed_step : (ns : List ℕ) (i n first old now : ℕ) → i < length ns → n ≡ get_or ns i 0 → n < 2 ^ 32
+    → now ≡ capped (old + length (shortest_varint n)) → IsPacked ns first i old → IsPacked ns first (i + 1) now
+packed_step ns i n first old now h e l s w =
     (rw s (sym (packed_count ns i n old h e) ∙ w.0), omega (arith, s), λ g. w.2 (fit_number ns i n h e l g))

@@ -163,9 +163,11 @@ pub packed_count : (ns : List ℕ) (i n now : ℕ) → i < length ns → n ≡ g
     → capped (now + length (packed_from ns i)) ≡ capped (capped (now + length (shortest_varint n)) + length (packed_from ns (i + 1)))
 packed_count ns i n now h e = rw (packed_next ns i n h e) (capped_append now _ _)
 
-pub packed_whole : (ns : List ℕ) (i now : ℕ) → now ≤ 2 ^ 32 → length ns ≤ i → capped (now + length (packed_from ns i)) ≡ capped (length (packed_from ns 0))
-    → now ≡ capped (length (varints_of ns))
-packed_whole ns i now f h e = let g : now ≡ capped (length (packed_from ns 0)) = omega (arith, e, ap length (packed_end ns i h)) in g ∙ ap (λ (t : List ℕ). capped (length t)) (packed_all ns)
+pub packed_whole : (ns : List ℕ) (i first now : ℕ) → now ≤ 2 ^ 32 → length ns ≤ i → capped (now + length (packed_from ns i)) ≡ capped (first + length (packed_from ns 0))
+    → now ≡ capped (first + length (varints_of ns))
+packed_whole ns i first now f h e =
+    let g : now ≡ capped (first + length (packed_from ns 0)) = omega (arith, e, ap length (packed_end ns i h)) in
+    g ∙ ap (λ (t : List ℕ). capped (first + length t)) (packed_all ns)
 
 pub count_packed : (at old inner : ℕ) (ns : List ℕ) → inner ≡ capped (length (varints_of ns)) → 0 < length ns → measured_message at inner old ≡ measured_row (Repeated at U32) (elements_part Number ns) old
 count_packed at old inner ns e h = measured_bytes at old inner (varints_of ns) e ∙ ap (λ (t : List ℕ). capped (old + length t)) (sym (some_packed at ns h))

@@ -12,7 +12,7 @@ ghost use Rattle.shared_core_codec.specs.RowFitting.{FieldFits};
 ghost use Rattle.shared_core_wire.specs.declared.error.WireError.TheVariants as error;
 
 use crate::occurrence::Occurrence;
-use crate::size::{Size, varint_size};
+use crate::size::Size;
 use crate::write::{write_length, write_varint};
 use shared_core_wire::error::WireError;
 use shared_core_wire::record::WireValue;
@@ -56,23 +56,23 @@ pub fn measure(size: &mut Size, number: u32, field: &Vec<u32>)
     ensures fit { FieldFits (Repeated number U32) (elements_part Number field.now.items) }
 {
     let _ = size.total();
-    let run = run_size(field);
+    let mut run = Size::new();
+    measure_run(&mut run, field);
     if !field.is_empty() {
         size.add_sized(number, &run);
     }
 }
 
-/// The size of numbers as varints.
+/// Adds the sizes of numbers as varints, without a key and a length.
 #[tactic(auto, using(crate::proofs::Measuring::packed_count, crate::proofs::Measuring::packed_whole, crate::proofs::FittingRows::fit_next, crate::proofs::FittingRows::fit_end, crate::proofs::FittingRows::fit_u32))]
-fn run_size(numbers: &Vec<u32>) -> Size
-    ensures sum { result ≡ capped (length (varints_of numbers.now.items)) }
+pub fn measure_run(size: &mut Size, numbers: &Vec<u32>)
+    ensures sum { size.new ≡ capped (size.old + length (varints_of numbers.now.items)) }
     ensures fit { (n : ℕ) → FieldFits (Repeated n U32) (elements_part Number numbers.now.items) }
 {
-    let mut size = Size::new();
+    let _ = size.total();
     for number in numbers {
-        size.add(varint_size(u64::from(*number)));
+        size.add_varint(u64::from(*number));
     }
-    size
 }
 
 /// Writes the run before `end`, if there is an element, and returns where it begins.
@@ -90,8 +90,8 @@ pub fn write(out: &mut [u8], end: usize, number: u32, field: &Vec<u32>) -> usize
     write_length(out, start, number, end - start)
 }
 
-/// Writes the varints of numbers.
-fn write_run(out: &mut [u8], end: usize, numbers: &Vec<u32>) -> usize
+/// Writes the varints of numbers before `end`, without a key and a length, and returns where they begin.
+pub fn write_run(out: &mut [u8], end: usize, numbers: &Vec<u32>) -> usize
     requires within { end ≤ length out.old }
     requires room { length (varints_of numbers.now.items) ≤ end }
     ensures start { result + length (varints_of numbers.now.items) ≡ end }

@@ -95,12 +95,7 @@ pub trait WireRecord: Sized + Drop + PartialEq {
     {
         let mut size = Size::new();
         self.measure(&mut size);
-        let total = size.total();
-        if total < Size::LIMIT {
-            Some(total as u32)
-        } else {
-            None
-        }
+        size.payload_len()
     }
 
     /// Writes the canonical payload into a slice of exactly its length. (For the code of records.)

@@ -1,6 +1,6 @@
 //! The size of a canonical payload: a sum, capped at 2^32, and what each kind of record adds to it.
 
-ghost use Rattle.std.specs.Prelude.{◌≡◌, ◌+◌, ◌*◌, ◌^◌, ◌<◌, ◌≤◌, length};
+ghost use Rattle.std.specs.Prelude.{◌≡◌, ◌+◌, ◌*◌, ◌^◌, ◌<◌, ◌≤◌, length, MatchOption};
 ghost use Rattle.shared_core_wire.specs.Encoding.{shortest_varint, key_bytes};
 ghost use Rattle.shared_core_codec.specs.RowEncoding.{length_record, capped, measured_message};
 
@@ -40,7 +40,7 @@ pub fn key(number: u32, wire_type: u64) -> u64
 
 /// The number of bytes of the shortest varint of a number.
 #[inline]
-#[tactic(auto, using(crate::proofs::Varints::one_byte))]
+#[tactic(auto, using(crate::proofs::Varints::one_byte, crate::proofs::Backwards::two_bytes_size))]
 pub(crate) fn varint_size(number: u64) -> u64
     ensures len { result ≡ length (shortest_varint number) }
     ensures bound { result ≤ 10 }
@@ -48,6 +48,9 @@ pub(crate) fn varint_size(number: u64) -> u64
     // most varints are keys, lengths and small numbers of one byte
     if number < 128 {
         return 1;
+    }
+    if number < 16384 {
+        return 2;
     }
     varint_len(number)
 }
@@ -73,12 +76,25 @@ impl Size {
         self.total
     }
 
-    /// Adds a number of bytes.
+    /// The number of bytes of a payload, or None if it is more than 4,294,967,295.
     #[inline]
-    pub(crate) fn add(&mut self, more: u64)
-        ensures { self.new ≡ capped (self.old + more) }
+    pub fn payload_len(&self) -> Option<u32>
+        ensures { MatchOption result (2 ^ 32 ≤ self.now) (λ len. (len ≡ self.now) × (len < 2 ^ 32)) }
     {
-        self.total = self.total.saturating_add(more).min(Size::LIMIT);
+        let total = self.total();
+        if total < Size::LIMIT {
+            Some(total as u32)
+        } else {
+            None
+        }
+    }
+
+    /// Adds a varint without a key.
+    #[inline]
+    pub(crate) fn add_varint(&mut self, number: u64)
+        ensures { self.new ≡ capped (self.old + length (shortest_varint number)) }
+    {
+        self.total = (self.total + varint_size(number)).min(Size::LIMIT);
     }
 
     /// Adds a length-delimited record of these bytes.
@@ -86,9 +102,10 @@ impl Size {
     pub(crate) fn add_length_record(&mut self, number: u32, content: &[u8])
         ensures { self.new ≡ capped (self.old + length (length_record number content.now)) }
     {
-        self.add(varint_size(key(number, LENGTH)));
-        self.add(varint_size(content.len() as u64));
-        self.add(content.len() as u64);
+        let len = content.len() as u64;
+        let head = varint_size(key(number, LENGTH)) + varint_size(len);
+        // one cap for the three: a slice has less than 2^63 bytes
+        self.total = (self.total + head + len).min(Size::LIMIT);
     }
 
     /// Adds a record of a varint.
@@ -96,8 +113,8 @@ impl Size {
     pub(crate) fn add_varint_record(&mut self, number: u32, value: u64)
         ensures { self.new ≡ capped (capped (self.old + length (key_bytes number 0)) + length (shortest_varint value)) }
     {
-        self.add(varint_size(key(number, VARINT)));
-        self.add(varint_size(value));
+        let len = varint_size(key(number, VARINT)) + varint_size(value);
+        self.total = (self.total + len).min(Size::LIMIT);
     }
 
     /// Adds a length-delimited record of this length.
@@ -106,8 +123,8 @@ impl Size {
     pub fn add_sized(&mut self, number: u32, content: &Size)
         ensures { self.new ≡ measured_message number content.now self.old }
     {
-        self.add(varint_size(key(number, LENGTH)));
-        self.add(varint_size(content.total()));
-        self.add(content.total());
+        let len = content.total();
+        let head = varint_size(key(number, LENGTH)) + varint_size(len);
+        self.total = (self.total + head + len).min(Size::LIMIT);
     }
 }
