@@ -129,7 +129,7 @@ impl PendingBytes {
             }
             let segment = self.after[i].as_slice();
             let part = wanted.min(segment.len());
-            bytes.extend_from_slice(&segment[..part])?;
+            append(&mut bytes, &segment[..part])?;
             wanted -= part;
         }
         Ok(Bytes::from_vec(bytes)?)
@@ -147,6 +147,19 @@ impl PendingBytes {
         drop_used_up(&mut self.front, &mut self.after);
         taken
     }
+}
+
+/// Appends bytes. For a single byte, as in a stream that comes byte by byte, a call of `memcpy` would cost more than the
+/// rest.
+#[inline(always)]
+fn append(bytes: &mut Vec<u8>, part: &[u8]) -> Result<(), AllocError>
+    ensures { OnOk result (bytes.new.items ≡ bytes.old.items ++ part.now) }
+{
+    if part.len() == 1 {
+        bytes.push(part[0])?;
+        return Ok(());
+    }
+    bytes.extend_from_slice(part)
 }
 
 /// Replaces a used front segment by the next one.

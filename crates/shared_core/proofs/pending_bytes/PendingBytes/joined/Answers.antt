@@ -7,7 +7,7 @@ pub loop-i-preserved : goal.loop-i-preserved
 loop-i-preserved c =
     let segment = c.index.result.now in
     let part : c.min-part-in-loop-i.result ≡ min c.loop-i.wanted (length segment) = search rules in
-    let next : c.extend_from_slice-in-loop-i.new.self.items ≡ c.loop-i.bytes.items ++ take c.min-part-in-loop-i.result segment = search rules in
+    let next : c.append.new.bytes.items ≡ c.loop-i.bytes.items ++ take c.min-part-in-loop-i.result segment = search rules in
     copied_next c.self.inside.front c.self.inside.after.items c.loop-i.i c.args.count c.loop-i.wanted c.min-part-in-loop-i.result segment c.loop-i.bytes.items _
     (search rules) c.index.ensures c.loop-i.invariant.0 c.loop-i.invariant.1 (omega arith) part next
 
