@@ -10,7 +10,7 @@
 #include "../include/pendratsoa.h"
 
 /*
- * Reads a stream of a version from 5 to 9, which comes in chunks of so many bytes (0: in one chunk), and writes a word for each item: the
+ * Reads a stream of a version from 5 to 9, which comes in chunks of this many bytes (0: in one chunk), and writes a word for each item: the
  * word of the message's header, or the unknown code in bits 48 to 63. At version 9 a message of an unknown type is skipped with its payload,
  * and its word has the payload's length in bits 0 to 31. Answers the number of items; JOURNAL_NO_ROOM where there is room for fewer words. The
  * stream is copied once, and then read `rounds` times over by a new decoder each (0 counts as 1); the words are those of the last.
@@ -49,7 +49,7 @@ int64_t measure_frame_spare(uint32_t version, uint16_t code, const uint8_t *payl
 int64_t measure_frame_shared(uint32_t version, uint16_t code, const uint8_t *payload, size_t payload_length,
                              size_t rounds, uint8_t *out, size_t room);
 
-/* As journal_is_well_formed, but `rounds` times over (0 counts as 1): beside so many calls, what a call from C costs. */
+/* As journal_is_well_formed, but `rounds` times over (0 counts as 1): beside as many calls, what a call from C costs. */
 int64_t measure_well_formed(uint32_t schema, const uint8_t *payload, size_t payload_length, size_t rounds);
 
 #endif

@@ -2,7 +2,7 @@
 # scripts/check.sh [NAME..|all]
 #
 # Runs the checks that are named, each a file of scripts/checks/; all of them with 'all', as scripts/test.sh does
-# behind the proofs; with no name it lists them. Those of the programs and of the library for C take what 'rt ci' or
+# after the proofs; with no name it lists them. Those of the programs and of the library for C take what 'rt ci' or
 # 'rt run' has proved and built, and say 'not run' where there is none. The last line is 'N passed, M failed', of all.
 set -u
 cd "$(dirname "$0")/.." || exit 1

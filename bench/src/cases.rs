@@ -97,7 +97,7 @@ pub fn any_handy(random: &mut Random) -> Case {
     within(random, most, any)
 }
 
-/// A case of so many bytes at most.
+/// A case of at most this many bytes.
 fn within(random: &mut Random, most: usize, make: impl Fn(&mut Random) -> Case) -> Case {
     loop {
         let case = make(random);
@@ -247,7 +247,7 @@ struct Group(&'static str, &'static str, Option<(u16, u16)>);
 const GROUPS: [Group; 5] = [
     Group(
         "random_parts.txt",
-        "Messages that stand in other messages, and those that no message type has.",
+        "Messages that are nested in others, and those that no message type has.",
         None,
     ),
     Group(
@@ -350,7 +350,7 @@ fn frames() -> Result<File, Failed> {
 fn random_streams() -> Result<File, Failed> {
     let mut file = File::new(
         "random_streams.txt",
-        "Streams in pieces, with types of all kinds, codes that stand for none, and bits that say nothing.",
+        "Streams in pieces, with types of all kinds, codes of none, and bits that say nothing.",
     );
     file.section("Whole, cut short and damaged");
     for place in 0..OF_STREAMS {

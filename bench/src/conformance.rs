@@ -36,7 +36,7 @@ pub const MALFORMED: &str = "malformed";
 const NOT_CANONICAL: &str = "not canonical";
 
 impl Case {
-    /// Reads what stands before the ` = ` of a line.
+    /// Reads what is before the ` = ` of a line.
     pub fn read(text: &str) -> Option<Case> {
         let mut words = text.split(' ');
         let case = match words.next()? {

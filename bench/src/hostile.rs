@@ -86,7 +86,7 @@ impl Hostile {
         }
     }
 
-    /// The message with so many elements. Of those that are nested in one another there are as many as make up whole nests, so up to 97 less.
+    /// The message with this many elements. Of those that are nested in one another there are as many as make up whole nests, so up to 97 less.
     pub fn frame(&self, count: usize) -> Frame {
         Frame {
             code: self.code,

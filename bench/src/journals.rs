@@ -11,7 +11,7 @@ use crate::reading::Reading;
 use crate::streams;
 use crate::table::with_message;
 
-/// Writes a journal of at least so many bytes, the same each time: what a handler did, again and again.
+/// Writes a journal of at least this many bytes, the same each time: what a handler did, again and again.
 pub fn write(length: usize, output: &mut impl Write) -> io::Result<()> {
     let mut random = Random::new(2, 0);
     let mut written = 0;
@@ -26,7 +26,7 @@ pub fn write(length: usize, output: &mut impl Write) -> io::Result<()> {
 /// How two journals compare.
 #[derive(Clone, Copy, Debug, PartialEq, Eq)]
 pub enum Verdict {
-    /// Both have so many commands, and each is the same as the other's at its index.
+    /// Both have the same number of commands, and each is the same as the other's at its index.
     Same(u64),
     /// They differ at this index, or one of them ends there.
     DifferAt(u64),

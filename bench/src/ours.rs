@@ -191,7 +191,7 @@ pub fn is_well_formed(schema: usize, payload: &[u8]) -> Result<usize, Refusal> {
     )?))
 }
 
-/// The same, so many times over.
+/// The same, this many times.
 pub fn is_well_formed_in_rounds(
     schema: usize,
     payload: &[u8],

@@ -36,7 +36,7 @@ impl From<DecodeError> for Refusal {
     }
 }
 
-/// What stands before a payload.
+/// What comes before a payload.
 #[derive(Clone, Copy, Debug, PartialEq, Eq)]
 pub struct Header {
     pub code: u16,
@@ -64,7 +64,7 @@ fn is_custom(code: u16) -> bool {
 #[derive(Clone, Copy, Debug)]
 enum Head {
     Message(Header),
-    /// The code stands for no type.
+    /// The code is that of no type.
     Unknown {
         code: u16,
         length: u32,
@@ -96,7 +96,7 @@ impl Head {
 #[derive(Clone, Debug, PartialEq, Eq)]
 pub enum Item {
     Message(Header, Bytes),
-    /// A header whose code stands for no type.
+    /// A header whose code is that of no type.
     Unknown(u16),
     /// The same with its payload.
     Skipped(u16, Bytes),
@@ -119,7 +119,7 @@ pub struct Decoder {
     /// What came and was not taken; none of the pieces is empty.
     pieces: VecDeque<Bytes>,
     pending: usize,
-    /// The eight bytes behind which the payload has not come yet.
+    /// The eight bytes after which the payload has not come yet.
     head: Option<Head>,
     /// Whether a message of an unknown type is skipped with its payload.
     skips: bool,

@@ -66,7 +66,7 @@ impl Random {
 pub enum Style {
     /// Shortest varints, and the fields of the schema alone.
     Tidy,
-    /// Any spelling, and records that the schema skips.
+    /// Any encoding, and records that the schema skips.
     Free,
     /// As free, but here and there a record that makes the payload malformed.
     Spoilt,

@@ -17,7 +17,7 @@ const LAST_LEVEL: u32 = 100;
 /// The version from which on a suspension is sent as a tree, and the proposal of a run's result asks for an acknowledgement.
 const TREES: u32 = 7;
 
-/// The version from which on a message whose code stands for no type is skipped with its payload.
+/// The version from which on a message whose code is that of no type is skipped with its payload.
 const SKIPS: u32 = 9;
 
 const HEADER: usize = 8;
@@ -343,7 +343,7 @@ fn merge_scalar(
     Some(())
 }
 
-/// An item of a stream: the code of its header, whether it asks for an acknowledgement, and the payload; or a code that stands for no type,
+/// An item of a stream: the code of its header, whether it asks for an acknowledgement, and the payload; or a code of no type,
 /// alone or with its payload.
 #[derive(Clone, Debug, PartialEq, Eq)]
 pub enum Item {

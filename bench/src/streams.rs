@@ -49,7 +49,7 @@ pub fn any(random: &mut Random, damaged: bool) -> Vec<u8> {
                 put_frame(code << 48 | ignored, &random.bytes(length), &mut out);
             }
             1 => {
-                // a code that stands for no type, half of the time with a payload
+                // a code of no type, half of the time with a payload
                 let code = 0x0008 + random.below(8) as u64;
                 let length = random.below(2) * random.below(24);
                 put_frame(code << 48 | ignored, &random.bytes(length), &mut out);
@@ -73,8 +73,8 @@ pub fn any(random: &mut Random, damaged: bool) -> Vec<u8> {
     out
 }
 
-/// Messages of all types in turn, in any spelling and here and there malformed, and between them custom entries and codes that stand for no type; at
-/// the end a part of a header. The payload of a code that stands for no type is one at version 9 alone.
+/// Messages of all types in turn, in any encoding and here and there malformed, and between them custom entries and codes that stand for no type; at
+/// the end a part of a header. The payload of a code of no type is one at version 9 alone.
 pub fn varied(random: &mut Random, version: u32) -> Vec<u8> {
     let mut out = Vec::new();
     for _ in 0..60 {

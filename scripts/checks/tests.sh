@@ -54,7 +54,7 @@ for folder in "$@"; do
   [ "$all" -gt 0 ] || failed=$((failed + 1))
   echo "$folder: $ok of $all tests passed"
 done
-# a test that failed, with the lines behind it
+# a test that failed, with the lines after it
 awk '/^test / { shown = / \.\.\. / && !/ \.\.\. ok$/ && !/^test result: / } shown' "$out"
 [ "$status" -eq 0 ] || [ "$failed" -gt 0 ] || outcome 'rt try --test' 1
 finish

@@ -634,14 +634,14 @@ static void put_text(struct source *source, const char *text, size_t length) {
 #define A_CALL "\x22\x06\x0A\x01k\x12\x01v"
 #define NO_PAYLOAD "\x07"
 
-/* Puts a message of a payload behind a stream. */
+/* Appends a message of a payload to a stream. */
 static void put_message(struct source *stream, uint16_t code, const char *payload, size_t length) {
     const uint8_t header[8] = {(uint8_t)(code >> 8), (uint8_t)code, 0, 0, 0, 0, 0, (uint8_t)length};
     put(stream, header, sizeof header);
     put(stream, payload, length);
 }
 
-/* Two journals whose verdict is of a kind, behind commands that are the same. */
+/* Two journals whose verdict is of a kind, after commands that are the same. */
 static void put_journals(struct work *work, struct source *sources, int kind) {
     struct source *recorded = &sources[0], *replayed = &sources[1];
 
@@ -807,7 +807,7 @@ static void try_case(struct work *work, struct request *request) {
     }
 }
 
-/* Bytes that have a page before them and one behind that nothing may touch. */
+/* Bytes that have a page before them and one after that nothing may touch. */
 static uint8_t *region(void) {
     size_t page = (size_t)sysconf(_SC_PAGESIZE);
     uint8_t *first = mmap(NULL, REGION + 2 * page, PROT_NONE, MAP_PRIVATE | MAP_ANONYMOUS, -1, 0);

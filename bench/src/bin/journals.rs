@@ -38,7 +38,7 @@ fn run(command: &mut Command) -> io::Result<Run> {
     Ok(Run { line, cost })
 }
 
-/// Writes a journal of at least so many bytes, and says how many it has.
+/// Writes a journal of at least this many bytes, and says how many it has.
 fn write(length: usize, path: &Path) -> io::Result<u64> {
     let mut file = BufWriter::new(File::create(path)?);
     journals::write(length, &mut file)?;

@@ -2,7 +2,7 @@
 //! programs DUMP LIST FOLDER [LENGTH]
 //!
 //! DUMP and LIST are this project's programs, FOLDER is where streams and lines are written, of which it keeps the streams that are measured, by their
-//! names, and LENGTH is how many bytes one of these has at least. The peer's programs `dump` and `list` stand beside this one. Before a row is
+//! names, and LENGTH is how many bytes one of these has at least. The peer's programs `dump` and `list` are beside this one. Before a row is
 //! measured, both sides have to write the same lines, byte for byte.
 
 use std::env;
@@ -109,7 +109,7 @@ fn run(command: &mut Command, stream: &Path, output: impl Into<Stdio>) -> Result
     Ok(runs::wait(child).map_err(|error| format!("{command:?}: {error}"))?)
 }
 
-/// Writes a stream of at least so many bytes, the same each time, and says how many it has.
+/// Writes a stream of at least this many bytes, the same each time, and says how many it has.
 fn write(make: Make, length: usize, path: &Path) -> Result<u64> {
     let mut file = BufWriter::new(File::create(path)?);
     let mut random = Random::new(2, 0);

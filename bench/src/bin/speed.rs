@@ -2,8 +2,8 @@
 //! speed [--check] [--only WORKLOAD] [--side ours|peer] [--what items|messages|encode|encode_into|encode_spare|encode_shared|payloads|headers] [--piece N] [--row NAME] [--size N]
 //! [--rounds N] [--protocol 5..9]
 //!
-//! With --side nothing is compared or printed: that side alone goes over the workload so many times, for a profiler. Before a table is printed,
-//! and by `speed --check` alone, the allocations show that the rounds are made and the pieces used that are asked for. The workload `calls`
+//! With --side nothing is compared or printed: that side alone goes over the workload that many times, for a profiler. Before a table is printed,
+//! and by `speed --check` alone, the allocations show that the rounds are made and the chunks used that are requested. The workload `calls`
 //! has no peer: it is what a call from C costs over the same work inside the library.
 
 use std::env;
@@ -260,7 +260,7 @@ impl<'a> Bench<'a> {
         }
     }
 
-    /// Goes over the workload so many times.
+    /// Goes over the workload this many times.
     fn go(&mut self, side: Side, rounds: usize) -> Result<(), Failed> {
         let stream = &self.workload.stream;
         let version = self.workload.version;
@@ -287,7 +287,7 @@ impl<'a> Bench<'a> {
         Ok(())
     }
 
-    /// What so many rounds count: the items that are seen, or the comparisons that hold.
+    /// What this many rounds count: the items that are seen, or the comparisons that hold.
     fn expected(&self, rounds: usize) -> usize {
         let frames = self.workload.frames.len();
         if What::COMMANDS.contains(&self.what) {
@@ -297,7 +297,7 @@ impl<'a> Bench<'a> {
         }
     }
 
-    /// Encodes each frame so many times.
+    /// Encodes each frame this many times.
     fn encode(&mut self, side: Side, rounds: usize) -> Result<usize, Failed> {
         let version = self.workload.version;
         for Frame { code, payload } in &self.workload.frames {
@@ -346,7 +346,7 @@ impl<'a> Bench<'a> {
         Ok(rounds)
     }
 
-    /// The best times of a round, of both sides in turn, in so many measurements of a length.
+    /// The best times of a round, of both sides in turn, in this many measurements of a length.
     fn best(
         &mut self,
         measurements: usize,
@@ -502,7 +502,7 @@ struct Crossing {
 enum Work {
     /// Whether a payload is well-formed for a schema.
     WellFormed(usize, &'static [u8]),
-    /// The items of a stream, of which there are so many: a call for each from here, and inside a decoder, which hands out each payload.
+    /// The items of a stream, of which there is this number: a call for each from here, and inside a decoder, which hands out each payload.
     Items(Workload),
 }
 
@@ -533,7 +533,7 @@ impl Crossing {
         }
     }
 
-    /// Makes the calls of so many rounds.
+    /// Makes the calls of this many rounds.
     fn outside(&self, rounds: usize) -> Result<(), Failed> {
         for _round in 0..rounds {
             let calls = match &self.work {
@@ -636,7 +636,7 @@ fn items_by_next(workload: &Workload) -> Result<usize, Failed> {
     Ok(count)
 }
 
-/// Numbers with so many places, one after the other.
+/// Numbers with this many decimal places, one after the other.
 fn joined(numbers: &[f64], places: usize) -> String {
     let words = numbers.iter().map(|number| format!("{number:.places$}"));
     words.collect::<Vec<_>>().join(", ")
@@ -663,8 +663,8 @@ fn check_comparisons(workload: &Workload, what: What, side: Side) -> Result<(), 
     }
 }
 
-/// That a side makes the rounds that it is asked for, each with the same allocations, which are none where a buffer is used again; and that
-/// it takes the stream in the pieces that it is asked for: each payload that lies across pieces has to be joined.
+/// That a side makes the rounds that are requested of it, each with the same allocations, which are none where a buffer is used again; and that
+/// it takes the stream in the chunks that are requested of it: each payload that straddles chunks has to be joined.
 fn check_rounds(workload: &Workload, what: What, side: Side) -> Result<(), Failed> {
     let failed = |why| {
         Failed(format!(
@@ -726,7 +726,7 @@ fn protocol(word: &str) -> Option<u32> {
         .filter(|version| (5..=9).contains(version))
 }
 
-/// What is asked for on the command line.
+/// What the command line requests.
 #[derive(Debug, Default)]
 struct Options {
     only: Option<String>,
@@ -781,12 +781,12 @@ impl Options {
             .collect()
     }
 
-    /// Whether a workload is asked for.
+    /// Whether a workload is requested.
     fn takes(&self, workload: &str) -> bool {
         self.only.as_ref().map_or(true, |name| name == workload)
     }
 
-    /// The other workloads that are asked for. They are made only where one of them is.
+    /// The other workloads that are requested. They are made only where one of them is.
     fn workloads(&self) -> Vec<Workload> {
         if self.row.is_some() || matches!(self.only.as_deref(), Some(HOSTILE | CALLS)) {
             return Vec::new();
@@ -797,7 +797,7 @@ impl Options {
             .collect()
     }
 
-    /// The adversarial messages that are asked for.
+    /// The adversarial messages that are requested.
     fn hostile(&self) -> Vec<Growing> {
         let is_measured = self.what.map_or(true, |what| what == What::Messages);
         if !is_measured || !self.takes(HOSTILE) {
@@ -810,7 +810,7 @@ impl Options {
             .collect()
     }
 
-    /// The calls from C that are asked for. They have no peer, and nothing of theirs can be chosen.
+    /// The calls from C that are requested. They have no peer, and nothing of theirs can be chosen.
     fn crossings(&self) -> Vec<Crossing> {
         let is_chosen = self.side.is_some() || self.what.is_some() || self.row.is_some();
         if is_chosen || !self.takes(CALLS) {

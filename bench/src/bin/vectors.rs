@@ -1,6 +1,6 @@
 //! Writes test vectors: random cases with the answers of the peer and of the rules.
 //!
-//! - vectors [SEED [COUNT]]: to standard output, so many;
+//! - vectors [SEED [COUNT]]: to standard output, COUNT of them;
 //! - vectors --write FOLDER: the files of random cases that conformance/ has, for tools/generate.py.
 //!
 //! Where the two readers differ, and not as is known, the case is printed on standard error and the status is 1. The number of known
@@ -49,7 +49,7 @@ impl fmt::Display for Failed {
     }
 }
 
-/// Writes so many random cases to standard output.
+/// Writes this many random cases to standard output.
 fn print(seed: u64, count: u64) -> Result<(), Failed> {
     let mut out = BufWriter::new(io::stdout().lock());
     let mut departures = 0;

@@ -236,7 +236,7 @@ fn equal(tally: &mut Tally, kind: &'static str, case: &Case, ours: &str, expecte
 /// The numbers that are refused, and room that is one too short, of which the words are refused, and the bytes not.
 fn compare_refusals(tally: &mut Tally) {
     use Refusal::{NoRoom, Unknown};
-    // an end, and then a code that stands for no type
+    // an end, and then a code of no type
     const STREAM: [u8; 16] = [0, 3, 0, 0, 0, 0, 0, 0, 0, 8, 0, 0, 0, 0, 0, 0];
     const END: u16 = 0x0003;
     const CUSTOM: u16 = 0xFC01;

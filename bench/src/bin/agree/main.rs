@@ -1,6 +1,6 @@
 //! Compares answers with those of the peer and of the rules:
 //!
-//! - agree --vectors FILE..: the answers that stand in files of test vectors;
+//! - agree --vectors FILE..: the results that are in files of test vectors;
 //! - agree [SEED [COUNT [FIRST]]]: the answers of the library to random cases, where this was built with it. A case is made of the seed and the
 //!   case's number alone, so `agree SEED 1 FIRST` does one case again.
 //!

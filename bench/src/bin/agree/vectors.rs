@@ -1,4 +1,4 @@
-//! The answers that stand in files.
+//! The results that are in files.
 
 use std::fs;
 
