@@ -22,6 +22,7 @@ from generators import ROOT  # noqa: E402
 NAMES = (
     "message_types",
     "tables",
+    "row_table",
     "lists",
     "bindings",
     "records",

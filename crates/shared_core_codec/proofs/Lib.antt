@@ -10,4 +10,5 @@ pub mod PackedRuns
 pub mod Varints
 pub mod Tables
 pub mod PayloadLaws
+pub mod Checked
 pub mod Positions

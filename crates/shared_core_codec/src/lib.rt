@@ -7,6 +7,7 @@
 
 pub mod boolean;
 pub mod byte_string;
+pub mod check;
 pub mod enumeration;
 pub mod error;
 pub mod kind;
@@ -20,6 +21,8 @@ pub mod packed;
 pub mod plain;
 pub mod record;
 pub mod repeated;
+mod rows;
+mod schemas;
 pub mod size;
 pub mod text;
 pub mod uint32;

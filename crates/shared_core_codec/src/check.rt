@@ -1,0 +1,132 @@
+//! Checking payloads by the rows of their schema: in one pass, without a record and without allocating.
+
+ghost use Rattle.std.specs.Prelude.{◌≡◌, ◌↔◌, IsTrue, map, true};
+ghost use Rattle.std.specs.Option.{is_some};
+ghost use Rattle.std.specs.Str.{is_utf8};
+ghost use Rattle.shared_core_wire.specs.Acceptance.{accepts_payload, accepts_message, accepts_record, accepts_element, accepts_value, accepts_number};
+ghost use Rattle.shared_core_wire.specs.Reader.{packed_numbers};
+ghost use Rattle.shared_core_wire.specs.Schema.{are_distinct, all_numbers};
+ghost use Rattle.shared_core_wire.specs.View.{value_of};
+ghost use Rattle.shared_core_codec.specs.Table.{table};
+ghost use Rattle.shared_core_codec.specs.Payloads.{IsAccepted};
+ghost use Rattle.shared_core_codec.specs.Checking.{field_record_of};
+ghost use Rattle.shared_core_codec.specs.ProgramRows.{kind_view, row_view};
+
+pub use crate::rows::is_schema;
+use crate::rows::{Kind, Row, find_field, rows_of};
+use shared_core_wire::record::WireValue;
+use shared_core_wire::records::{Record, Records};
+use shared_core_wire::varint::read_varint;
+
+/// How deep messages and groups may be nested (this project's own limit).
+const LEVELS: u32 = 100;
+
+/// Whether a payload is well-formed for the schema at an index of the table and at most one hundred levels deep, so
+/// that `WireRecord::decode` takes it. Past the table's end a schema has no fields. Does not allocate, and makes one
+/// pass over the bytes.
+pub fn is_well_formed(schema: u32, payload: &[u8]) -> bool
+    ensures { IsTrue result ↔ IsAccepted schema payload.now }
+{
+    accepts_payload(schema, payload, LEVELS)
+}
+
+/// Whether a payload is well-formed for a schema; its records may be nested `left` deep.
+#[cycle(payload)]
+#[tactic(auto, using(crate::proofs::Checked::distinct_rows))]
+fn accepts_payload(schema: u32, payload: &[u8], left: u32) -> bool
+    ensures { result ≡ accepts_payload table left schema payload.now }
+{
+    let rows = rows_of(schema);
+    for item in Records::within(payload, left) {
+        let Ok(found) = item else {
+            return false;
+        };
+        if !accepts_record(rows, &found, left) {
+            return false;
+        }
+    }
+    true
+}
+
+/// Whether a payload with these rows may have a record.
+#[cycle(payload)]
+fn accepts_record(rows: &[Row], found: &Record<'_>, left: u32) -> bool
+    requires { are_distinct (all_numbers (map row_view rows.now)) ≡ true }
+    ensures { result ≡ accepts_record (accepts_message table left) (map row_view rows.now) (field_record_of found.now) }
+{
+    let Some(field) = find_field(rows, found.number) else {
+        return true;
+    };
+    if field.is_repeated {
+        accepts_element(field.kind, found.value, left)
+    } else {
+        accepts_value(field.kind, found.value, left)
+    }
+}
+
+/// Whether a repeated field of a kind accepts the value of a record.
+#[cycle(payload)]
+fn accepts_element(kind: Kind, value: WireValue<'_>, left: u32) -> bool
+    ensures { result ≡ accepts_element (accepts_message table left) (kind_view kind) (value_of value.entry) }
+{
+    if let Kind::U32 = kind {
+        if let WireValue::Length(run) = value {
+            return is_run(run);
+        }
+    }
+    accepts_value(kind, value, left)
+}
+
+/// Whether a field of a kind accepts the value of a record.
+#[cycle(payload)]
+fn accepts_value(kind: Kind, value: WireValue<'_>, left: u32) -> bool
+    ensures { result ≡ accepts_value (accepts_message table left) (kind_view kind) (value_of value.entry) }
+{
+    match value {
+        WireValue::Varint(_number) => is_number(kind),
+        WireValue::Length(bytes) => match kind {
+            Kind::Text => is_text(bytes),
+            Kind::ByteString => true,
+            Kind::Message(schema) => left > 0 && accepts_payload(schema, bytes, left - 1),
+            _ => false,
+        },
+        _ => false,
+    }
+}
+
+/// Whether values of a kind are written as varints.
+fn is_number(kind: Kind) -> bool
+    ensures { result ≡ accepts_number (kind_view kind) }
+{
+    match kind {
+        Kind::U32 => true,
+        Kind::U64 => true,
+        Kind::Boolean => true,
+        Kind::Enumeration => true,
+        _ => false,
+    }
+}
+
+/// Whether bytes are UTF-8.
+fn is_text(bytes: &[u8]) -> bool
+    ensures { result ≡ is_utf8 bytes.now }
+{
+    match std::str::from_utf8(bytes) {
+        Ok(_text) => true,
+        Err(_) => false,
+    }
+}
+
+/// Whether bytes are a packed run: varints that fill them exactly.
+fn is_run(run: &[u8]) -> bool
+    ensures { result ≡ is_some (packed_numbers run.now) }
+{
+    let mut rest = run;
+    while !rest.is_empty() {
+        let Some((_number, after)) = read_varint(rest) else {
+            return false;
+        };
+        rest = after;
+    }
+    true
+}

@@ -1,0 +1,54 @@
+"""The rows of each schema by which the program goes over payloads, in the order of the schemas of shared_core_codec. The rows are proved to be
+those of the schemas.
+"""
+from . import laid_out
+from .json_names import KINDS
+from .proto import OneOf, schemas
+from .records import missing  # noqa: F401
+from .tables import least
+
+ABOUT = "The rows of schemas, for the program."
+SOURCE = "proto/journal.proto"
+
+PATH = "crates/shared_core_codec/src/schemas.rt"
+
+SCHEMAS = """\
+//! The rows of each schema, in the order of the table.
+
+use crate::rows::{Field, Kind, Row};
+
+/// The rows of each schema: of each field its number and its kind, by its presence.
+"""
+
+
+def field_text(field, places):
+    """A field: its number and its kind."""
+    kind = f"Kind::Message({places[field.message]})" if field.kind == "message" else f"Kind::{KINDS[field.kind]}"
+    return f"Field({field.number}, {kind})"
+
+
+def row_text(row, places):
+    """A row. Each message field is an optional one."""
+    if isinstance(row, OneOf):
+        return f"Row::OneOf(&[{', '.join(field_text(field, places) for field in row.members)}])"
+    presence = {"plain": "Plain", "repeated": "Repeated"}.get(row.presence, "Optional")
+    return f"Row::{presence}({field_text(row, places)})"
+
+
+def text():
+    """The table, not yet laid out."""
+    order = schemas()
+    places = {message.name: message.schema for message in order}
+    rows = ""
+    for message in order:
+        listed = ", ".join(row_text(row, places) for row in sorted(message.rows, key=least))
+        rows += f"    // {message.name}\n    &[{listed}],\n"
+    return f"{SCHEMAS}pub static SCHEMAS: [&[Row]; {len(order)}] = [\n{rows}];\n"
+
+
+def paths():
+    return [PATH]
+
+
+def files():
+    return laid_out({PATH: text()})
