@@ -3,8 +3,10 @@
 One file a command, one for each oneof that several commands share, the root file of the crate, and for a command with two or more printed
 lines the proof that they follow each other.
 """
+import collections
+
 from . import laid_out
-from .proto import OneOf, camel, messages, numbers, refuse, snake
+from .proto import OneOf, camel, fields_of, messages, numbers, refuse, snake
 from .records import COMMAND_CRATES, CRATES, missing, shared_oneofs  # noqa: F401
 
 CRATE = "shared_core_compare"
@@ -32,10 +34,14 @@ COMPARED = {(presence, kind) for presence in ("plain", "optional") for kind in (
 
 def name_number():
     """The number of the field that names a command, one for all commands."""
-    found = {row.number for message in messages() if message.is_command() for row in message.rows if row.name == "name"}
-    if len(found) != 1:
-        refuse(f"commands have their names at several numbers: {sorted(found)}")
-    return found.pop()
+    named = [(row.number, message) for message in messages() if message.is_command() for row in message.rows if row.name == "name"]
+    if not named:
+        refuse("no command has a text name")
+    number = collections.Counter(number for number, _ in named).most_common(1)[0][0]
+    for other, message in named:
+        if other != number:
+            refuse(f"{message.name} has its name at {other}, where that of other commands is {number}", message.line)
+    return number
 
 
 class Entry:
@@ -43,12 +49,16 @@ class Entry:
     names of the printed fields, in order."""
 
     def __init__(self, message):
-        fields = [field for row in message.rows for field in (row.members if isinstance(row, OneOf) else [row])]
+        fields = fields_of(message)
         self.not_compared = sorted(field.number for field in fields if field.not_compared)
         self.payloads = sorted(field.number for field in fields if field.payload)
         lines = sorted((row.printed, min(numbers(row)), row.name) for row in message.rows if row.printed is not None)
         if [place for place, _, _ in lines] != list(range(1, len(lines) + 1)):
-            refuse(f"the lines of {message.name} are not numbered from 1 on")
+            refuse(
+                f"the lines that {message.name} prints are {', '.join(str(place) for place, _, _ in lines)}: they are numbered "
+                "from 1 on by (printed), each once",
+                message.line,
+            )
         self.printed = [(number, name) for _, number, name in lines]
 
 
@@ -66,10 +76,10 @@ class Command:
         """Refuses a command without a name, and a field that is compared and neither printed nor the name."""
         name = self.row(name_number())
         if name is None or isinstance(name, OneOf) or (name.presence, name.kind) != ("plain", "text"):
-            refuse(f"{self.message.name} has no text {name_number()}, its name")
+            refuse(f"{self.message.name} has no text {name_number()}, its name", self.message.line)
         for row in self.compared():
             if row is not name and row not in self.printed():
-                refuse(f"{row.name} of {self.message.name} is compared, and so has to be printed")
+                refuse(f"{row.name} of {self.message.name} is compared, and so has to be printed: it lacks (printed)", row.line)
 
     def row(self, number):
         """The field of this number, or the oneof whose least number it is."""
@@ -173,7 +183,7 @@ def same(source, command, row):
         return source.use("crate::equality", "same_messages") + lent
     elif (row.presence, row.kind) in COMPARED:
         return equal
-    refuse(f"there is no form yet that compares {row.name} of {command.message.name}")
+    refuse(f"there is no form yet that compares {row.name} of {command.message.name}", row.line)
 
 
 def write_equality(source, command):
@@ -210,7 +220,7 @@ def write_printed_oneof(source, path, oneof):
         elif member.kind in ("u32", "text"):
             print_member = f'write!(f, "{{{member.name}}}")'
         else:
-            refuse(f"there is no form yet that prints {member.name} of a oneof")
+            refuse(f"there is no form yet that prints {member.name} of a oneof", member.line)
         arms += f"            {enum}::{camel(member.name)}({member.name}) => {print_member},\n"
     source.body.append(
         f"impl PrintedOneOf for {enum} {{\n"
@@ -226,7 +236,7 @@ def writer(command, row):
     if (row.presence, row.message) == ("repeated", "Header"):
         return "write_headers"
     if (row.presence, row.kind) not in WRITERS:
-        refuse(f"there is no form yet that prints {row.name} of {command.message.name}")
+        refuse(f"there is no form yet that prints {row.name} of {command.message.name}", row.line)
     return WRITERS[row.presence, row.kind]
 
 

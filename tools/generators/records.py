@@ -1,14 +1,14 @@
 """The records of proto/journal.proto as Rattle source, as prost-build writes them for Rust.
 
 One file a message, in the crates below, laid out as `rt fmt` does. Future alone is written by hand, since it leads back to itself and so has a
-form of its own.
+form of its own; its fields and numbers are compared with the description.
 """
 import re
 import shutil
 import textwrap
 
-from . import laid_out
-from .proto import OneOf, camel, earlier, messages, schema_name, snake
+from . import ROOT, laid_out
+from .proto import HAND_WRITTEN, OneOf, camel, earlier, fields_of, messages, refuse, schema_name, snake
 
 ABOUT = "The records of the messages in Rattle."
 SOURCE = "proto/journal.proto"
@@ -36,9 +36,6 @@ STATE_COMMANDS = {
     "GetEagerStateKeysCommandMessage",
 }
 
-# The message whose record is written by hand, since it leads back to itself.
-HAND_WRITTEN = "Future"
-
 
 def crate_of(message):
     """The crate of a message's record."""
@@ -51,7 +48,7 @@ def crate_of(message):
 
 # The crates, each with that line and its messages.
 CRATES = {
-    crate: (about, [message.name for message in messages() if crate_of(message) == crate and message.name != HAND_WRITTEN])
+    crate: (about, [message.name for message in messages() if crate_of(message) == crate and message.name not in HAND_WRITTEN])
     for crate, about in ABOUT_CRATES.items()
 }
 
@@ -101,7 +98,7 @@ DERIVED = {("NotificationTemplate", "id"): ["Eq", "Hash"]}
 
 # Modules that are written by hand, those that other crates see and those that they do not, and what is shown of them beside records.
 BY_HAND = {
-    PARTS_CRATE: ["conversions", "future", "laws", "notification", "texts"],
+    PARTS_CRATE: ["conversions", "laws", "notification", "texts", *(snake(name) for name in HAND_WRITTEN)],
     "shared_core_runtime": ["versions"],
 }
 INNER = {PARTS_CRATE: ["escape"]}
@@ -501,15 +498,39 @@ def crate_files(crate):
         modules.append(module)
     modules = [(module, "pub ") for module in modules + BY_HAND.get(crate, [])] + [(module, "") for module in INNER.get(crate, [])]
     lib = f"//! {about}\n#![tactic(auto)]\n\n" + "".join(f"{seen}mod {module};\n" for module, seen in sorted(modules))
-    names = names + ([HAND_WRITTEN] if crate == PARTS_CRATE else [])
+    names = names + (list(HAND_WRITTEN) if crate == PARTS_CRATE else [])
     shown = [f"{snake(name)}::{name}" for name in names] + SHOWN.get(crate, [])
     lib += "\n" + "".join(f"pub use crate::{path};\n" for path in sorted(shown))
     files[f"{folder}/lib.rt"] = lib
     return files
 
 
+def check_hand_written():
+    """Refuses a description whose hand-written record has other fields, at other numbers or of other kinds."""
+    table = {message.name: message for message in messages()}
+    for name in HAND_WRITTEN:
+        path = f"crates/{PARTS_CRATE}/src/{snake(name)}.rt"
+        source = (ROOT / path).read_text(encoding="utf-8")
+        held = re.search(rf"^pub struct {name} \{{\n(.*?)^\}}", source, re.M | re.S)
+        found = set(re.findall(r"^    pub (\w+): (.+),$", held[1], re.M)) if held else set()
+        numbered = set(re.findall(r"^        (\d+) => \w+(?:::merge)?\(&mut \w+\.(\w+), field\)\?,$", source, re.M))
+        for field in fields_of(table[name]):
+            if (field.name, held_type(field)) not in found or (str(field.number), field.name) not in numbered:
+                refuse(f"{path} is hand-written, and has no {field.name} at {field.number}, a {held_type(field)}", field.line)
+        for about, names in (("field", found), ("number", {(name, number) for number, name in numbered})):
+            if other := {name for name, _ in names} - {field.name for field in fields_of(table[name])}:
+                refuse(f"{path} is hand-written, and has a {about} for {', '.join(sorted(other))}, which {name} has not", table[name].line)
+
+
+def held_type(field):
+    """The type of a field of a struct."""
+    held = field.message or TYPES[field.kind]
+    return {"repeated": f"Vec<{held}>", "plain": held}.get(field.presence, f"Option<{held}>")
+
+
 def texts():
     """The files of all crates, not yet laid out."""
+    check_hand_written()
     return {path: text for crate in CRATES for path, text in crate_files(crate).items()}
 
 
