@@ -9,7 +9,14 @@ ABOUT = "Lists of types, commands and schemas for programs and tests."
 SOURCE = "proto/journal.proto"
 
 # What a member of a oneof holds, by its kind: the name of the parameter, and its type.
-HELD = {"u32": ("id", "u32"), "text": ("name", "String"), "bytes": ("bytes", "Bytes")}
+HELD = {
+    "u32": ("id", "u32"),
+    "u64": ("number", "u64"),
+    "bool": ("flag", "bool"),
+    "enum": ("constant", "i32"),
+    "text": ("name", "String"),
+    "bytes": ("bytes", "Bytes"),
+}
 
 
 def schema_names():

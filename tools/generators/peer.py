@@ -34,12 +34,6 @@ def enums(text):
         yield name, re.findall(r"^  (\w+) = (\d+);", body, re.M)
 
 
-def enum_names(text):
-    """The type of each field that is an enum, by the field's name."""
-    names = "|".join(name for name, _ in enums(text))
-    return {field: name for name, field in re.findall(rf"^ +({names}) (\w+) = \d+(?: \[.*\])?;", text, re.M)}
-
-
 def enumeration(name, constants):
     """An enum as Rust, its constants without the enum's name before them."""
     prefix = snake(name).upper() + "_"
@@ -51,15 +45,12 @@ def enumeration(name, constants):
 class Records:
     """Writes messages as prost-build does."""
 
-    def __init__(self, enum_of):
-        self.enum_of = enum_of
-
     def kind(self, field):
         """prost's word for what a field holds, and its type."""
         if field.kind == "message":
             return "message", field.message
         if field.kind == "enum":
-            return f'enumeration = "{self.enum_of[field.name]}"', "i32"
+            return f'enumeration = "{field.enum}"', "i32"
         return SCALARS[field.kind]
 
     def field(self, field):
@@ -87,6 +78,8 @@ class Records:
         word, type_name = self.kind(member)
         if member.kind == "message":
             type_name = f"super::{type_name}"
+        if member.kind == "enum":
+            word = f'enumeration = "super::{member.enum}"'
         return f'        #[prost({word}, tag = "{member.number}")]\n        {camel(member.name)}({type_name}),\n'
 
     def one_of(self, row):
@@ -107,7 +100,7 @@ class Records:
 
 def records(text):
     """The source of src/records.rs."""
-    writer = Records(enum_names(text))
+    writer = Records()
     parts = ["//! The records of proto/journal.proto for prost.\n"]
     parts += [enumeration(name, constants) for name, constants in enums(text)]
     parts += [writer.message(message) for message in messages(text)]
