@@ -3,7 +3,7 @@ The rows are proved to be those of the schemas, with the names that the contract
 """
 from . import laid_out
 from .json_names import KINDS, json_name
-from .proto import OneOf, enums, schemas
+from .proto import OneOf, enums, fields_of, schemas
 from .records import missing  # noqa: F401
 
 ABOUT = "The rows by which JSON is read, with the names of fields and of the values of enums."
@@ -11,11 +11,17 @@ SOURCE = "proto/journal.proto"
 
 VALUES = """\
 -- The names that the values of the protocol's enums have: those of proto/journal.proto.
-use Rattle.std.specs.Prelude.{ℕ, List, [], ◌∷◌, codes, ◌&&◌, ◌==◌, if◌then◌else◌}
+use Rattle.std.specs.Prelude.{ℕ, List, [], ◌∷◌, codes}
 
--- The names and numbers of the values of a field's enum, the field by its schema and its number; none for another field.
-abbrev pub enum_values : ℕ → ℕ → List (List ℕ × ℕ)
-enum_values s n =
+-- A field with an enum: its schema, its number, and the names and the numbers of the enum's values.
+pub record EnumField : Type 0 where
+  pub schema : ℕ
+  pub number : ℕ
+  pub values : List (List ℕ × ℕ)
+
+-- The fields with an enum.
+abbrev pub enum_fields : List EnumField
+enum_fields =
 """
 
 SCHEMAS = """\
@@ -58,12 +64,15 @@ def texts():
     values = []
     for message in order:
         rows.append(f"    // {message.name}\n    &[{', '.join(row_text(row, places) for row in message.rows)}],\n")
-        for row in message.rows:
-            if not isinstance(row, OneOf) and row.kind == "enum":
-                names = "".join(f'(codes "{name}", {number}) ∷ ' for name, number in enums()[row.enum])
-                values.append(f"    -- {row.enum}\n    if (s == {message.schema}) && (n == {row.number}) then {names}[] else (\n")
+        for field in fields_of(message):
+            if field.kind == "enum":
+                names = "".join(f'(codes "{name}", {number}) ∷ ' for name, number in enums()[field.enum])
+                values.append(
+                    f"    -- {field.name} of {message.name}, a {field.enum}\n"
+                    f"    {'∷ ' if values else ''}record {{ schema = {message.schema}; number = {field.number}; values = {names}[] }}\n"
+                )
     return {
-        "crates/shared_core_json_reader/specs/EnumValues.antt": VALUES + "".join(values) + f"    []{')' * len(values)}\n",
+        "crates/shared_core_json_reader/specs/EnumValues.antt": VALUES + "".join(values) + f"    {'∷ ' if values else ''}[]\n",
         "crates/shared_core_json_reader/src/schemas.rt": f"{SCHEMAS}pub static SCHEMAS: [&[Row]; {len(order)}] = [\n" + "".join(rows) + "];\n",
     }
 

@@ -1,6 +1,5 @@
 -- What is read fits its schema, and is no deeper than it may be.
 use Rattle.std.proofs.Common.{◌≡◌, ℕ, zero, suc, ◌-◌, ◌%◌, ◌^◌, ◌<◌, ◌≤◌, List, [], ◌∷◌, map, Bool, true, false, cond, not, ◌&&◌, ◌||◌, Option, Some, None, option_map, option_and_then, refl, sym, ap, subst, ◌∙◌, arith, eqb, ltb, leb}
-use Rattle.std.specs.Prelude.{codes}
 use Rattle.std.specs.Option.{option_or}
 use Rattle.std.specs.List.{list_all}
 use Rattle.std.specs.Str.{is_utf8, bytes_eq}
@@ -16,8 +15,8 @@ use Rattle.shared_core_wire.specs.Fitting.{is_single, has_shape, NumberFits, Par
 use Rattle.shared_core_wire.proofs.Runs.{and_split, and_join}
 use Rattle.shared_core_codec.specs.Table.{schemas, table}
 use Rattle.shared_core_codec.proofs.Tables.{are_schemas}
-use Rattle.shared_core_json_reader.specs.EnumValues.{enum_values}
-use Rattle.shared_core_json_reader.specs.Rows.{NamedField, NamedRow, Plain, Optional, Repeated, OneOf, named_field, named_row, named_rows}
+use Rattle.shared_core_json_reader.specs.EnumValues.{EnumField, enum_fields}
+use Rattle.shared_core_json_reader.specs.Rows.{NamedField, NamedRow, Plain, Optional, Repeated, OneOf, named_field, named_row, named_rows, enum_values, values_in}
 use Rattle.shared_core_json_reader.specs.Scalars.{Whole, whole_read, unsigned_below, signed_bits, unsigned_read, boolean_read, value_named, enum_read, utf8_text, text_read, bytes_read}
 use Rattle.shared_core_json_reader.specs.Reading.{are_known, given, single_read, field_read, elements_read, list_read, or_absent, member_read, oneof_read, row_read, rows_read, object_read, message_read}
 use Rattle.shared_core_json_reader.proofs.Agreeing.{plain_row, plain_rows, Knows, RowKnows, RowsKnow, rows_know}
@@ -281,13 +280,17 @@ have_scalars : (s : ℕ) → plain_scalars (table s) ≡ true
 unfolding plain_scalars
 have_scalars s = each_has schemas refl s
 
-low_values : (s n : ℕ) → are_low (enum_values s n) ≡ true
-low_values s n = by_tests ((eqb s 7) && (eqb n 5)) ((eqb s 13) && (eqb n 9))
+low_in : (fields : List EnumField) → list_all (λ f. are_low f.values) fields ≡ true → (s n : ℕ) → are_low (values_in fields s n) ≡ true
+low_in [] h s n = refl
+low_in (f ∷ fs) h s n = by_test (low_in fs (and_split _ _ h).1 s n) ((eqb s f.schema) && (eqb n f.number))
   where
-    by_tests : (b d : Bool) → are_low (cond b ((codes "COMBINATOR_TYPE_ZERO", 0) ∷ []) (cond d ((codes "RETRY", 0) ∷ (codes "PAUSE", 1) ∷ []) [])) ≡ true
-    by_tests true d = refl
-    by_tests false true = refl
-    by_tests false false = refl
+    by_test : are_low (values_in fs s n) ≡ true → (b : Bool) → are_low (cond b f.values (values_in fs s n)) ≡ true
+    by_test later true = (and_split _ _ h).0
+    by_test later false = later
+
+-- each value of each enum
+low_values : (s n : ℕ) → are_low (enum_values s n) ≡ true
+low_values s n = low_in enum_fields refl s n
 
 low_members : (s : ℕ) (members : List (ℕ × Kind)) → FieldsLow (map (λ m. named_field s m.0 m.1) members)
 low_members s [] = tt

@@ -1,7 +1,7 @@
 -- The rows of the program's table are those of the schemas.
 use Rattle.std.proofs.Common.{◌≡◌, ℕ, zero, suc, ◌+◌, ◌<◌, ◌≤◌, List, [], ◌∷◌, map, length, get_or, refl, sym, ap, ◌∙◌, arith}
 use Rattle.shared_core_wire.specs.Schema.{Row, table_of}
-use Rattle.shared_core_codec.specs.Table.{table, schemas}
+use Rattle.shared_core_codec.specs.Table.{table, schemas, schema_count}
 use Rattle.shared_core_json_reader.specs.Rows.{NamedRow, named_row, named_rows, rows_from, all_rows}
 
 -- the list at a place, or none
@@ -38,12 +38,12 @@ table_past (rows ∷ lists) (suc s) h = table_past lists s (omega arith)
 pub listed : (xss : List (List NamedRow)) (s : ℕ) → xss ≡ all_rows → s < length xss → at xss s ≡ named_rows s
 unfolding named_rows
 listed xss s e h =
-    let long : s < 53 = omega (arith, ap length e, rows_count 53 0, h) in
+    let long : s < schema_count = omega (arith, ap length e, rows_count schema_count 0, h) in
     let e0 : 0 + s ≡ s = omega arith in
-    ap (λ (l : List (List NamedRow)). at l s) e ∙ rows_at 53 0 s long ∙ ap (λ (i : ℕ). map (named_row i) (table i)) e0
+    ap (λ (l : List (List NamedRow)). at l s) e ∙ rows_at schema_count 0 s long ∙ ap (λ (i : ℕ). map (named_row i) (table i)) e0
 
 pub past : (xss : List (List NamedRow)) (s : ℕ) → xss ≡ all_rows → length xss ≤ s → [] ≡ named_rows s
 unfolding named_rows
 past xss s e h =
-    let long : 53 ≤ s = omega (arith, ap length e, rows_count 53 0, h) in
+    let long : schema_count ≤ s = omega (arith, ap length e, rows_count schema_count 0, h) in
     ap (map (named_row s)) (sym (table_past schemas s long))

@@ -1,10 +1,10 @@
 -- The rows of a schema, with the names that JSON may have for its fields.
-use Rattle.std.specs.Prelude.{ℕ, zero, suc, List, [], ◌∷◌, map}
+use Rattle.std.specs.Prelude.{ℕ, zero, suc, List, [], ◌∷◌, map, ◌&&◌, ◌==◌, if◌then◌else◌}
 use Rattle.std.specs.Borrow.{Bor}
 use Rattle.shared_core_wire.specs.Schema as schema
-use Rattle.shared_core_codec.specs.Table.{table}
+use Rattle.shared_core_codec.specs.Table.{table, schema_count}
 use Rattle.shared_core_json.specs.Fields.{names_of, name_of}
-use Rattle.shared_core_json_reader.specs.EnumValues.{enum_values}
+use Rattle.shared_core_json_reader.specs.EnumValues.{EnumField, enum_fields}
 use Rattle.shared_core_json_reader.specs.declared.rows.EnumValue.{EnumValue}
 use Rattle.shared_core_json_reader.specs.declared.rows.Kind.{Kind}
 use Rattle.shared_core_json_reader.specs.declared.rows.Kind.TheVariants as kind
@@ -25,6 +25,15 @@ pub data NamedRow : Type 0 where
   Optional : NamedField → NamedRow
   Repeated : NamedField → NamedRow
   OneOf : List NamedField → NamedRow
+
+-- The names and the numbers of an enum's values, by the schema and the number of its field; none for any other field.
+abbrev pub values_in : List EnumField → ℕ → ℕ → List (List ℕ × ℕ)
+values_in [] s n = []
+values_in (field ∷ fields) s n = if (s == field.schema) && (n == field.number) then field.values else values_in fields s n
+
+-- The names and the numbers of the values of a field's enum.
+abbrev pub enum_values : ℕ → ℕ → List (List ℕ × ℕ)
+enum_values s n = values_in enum_fields s n
 
 -- The field of the schema s that has a number and a kind.
 abbrev pub named_field : ℕ → ℕ → schema.Kind → NamedField
@@ -48,7 +57,7 @@ rows_from (suc n) s = map (named_row s) (table s) ∷ rows_from n (suc s)
 
 -- The rows of all schemas.
 abbrev pub all_rows : List (List NamedRow)
-all_rows = rows_from 53 0
+all_rows = rows_from schema_count 0
 
 -- ---- the program's table
 
