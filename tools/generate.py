@@ -16,33 +16,7 @@ import sys
 
 sys.dont_write_bytecode = True
 
-from generators import ROOT  # noqa: E402
-
-# The generators, each a module of the package, in the order in which they take from each other.
-NAMES = (
-    "message_types",
-    "tables",
-    "row_table",
-    "lists",
-    "bindings",
-    "records",
-    "dispatch",
-    "commands",
-    "json_names",
-    "json_rows",
-    "comparisons",
-    "record_vectors",
-    "long_vectors",
-    "random_vectors",
-    "dumps",
-    "peer",
-    "rust",
-    "page_fields",
-    "pages",
-    "man_pages",
-    "completions",
-    "attributes",
-)
+from generators import NAMES, ROOT  # noqa: E402
 
 # How a file says what is in no language.
 COMMENTS = {

@@ -11,6 +11,32 @@ import tempfile
 
 ROOT = pathlib.Path(__file__).resolve().parents[2]
 
+# The generators, each a module of the package, in the order in which they take from each other.
+NAMES = (
+    "message_types",
+    "tables",
+    "row_table",
+    "lists",
+    "bindings",
+    "records",
+    "dispatch",
+    "commands",
+    "json_names",
+    "json_rows",
+    "comparisons",
+    "record_vectors",
+    "long_vectors",
+    "random_vectors",
+    "dumps",
+    "peer",
+    "rust",
+    "page_fields",
+    "pages",
+    "man_pages",
+    "completions",
+    "attributes",
+)
+
 
 def missing():
     """Nothing has to be there but Python."""

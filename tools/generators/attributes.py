@@ -1,7 +1,7 @@
 """Which files git takes as they are, and which are generated, .gitattributes."""
 import importlib
 
-from . import missing  # noqa: F401
+from . import NAMES, missing  # noqa: F401
 
 ABOUT = "What git knows of files."
 SOURCE = "the lists of generated files"
@@ -9,28 +9,8 @@ SOURCE = "the lists of generated files"
 # Streams are bytes, and their listings stand beside them.
 AS_THEY_ARE = ("examples/streams/*", "crates/*/stdin")
 
-GENERATORS = (
-    "message_types",
-    "tables",
-    "row_table",
-    "lists",
-    "bindings",
-    "records",
-    "dispatch",
-    "commands",
-    "json_names",
-    "json_rows",
-    "comparisons",
-    "record_vectors",
-    "long_vectors",
-    "random_vectors",
-    "dumps",
-    "peer",
-    "rust",
-    "page_fields",
-    "man_pages",
-    "completions",
-)
+# The generators whose files are hand-written but for some numbers, and this one.
+LEFT_OUT = ("pages", "attributes")
 
 
 def paths():
@@ -39,7 +19,9 @@ def paths():
 
 def files():
     lines = [f"{path} -text\n" for path in AS_THEY_ARE]
-    for name in GENERATORS:
+    for name in NAMES:
+        if name in LEFT_OUT:
+            continue
         maker = importlib.import_module(f"{__package__}.{name}")
         made = maker.paths() if hasattr(maker, "paths") else maker.files()
         lines += [f"{path} linguist-generated\n" for path in sorted(made)]

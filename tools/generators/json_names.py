@@ -2,7 +2,7 @@
 contracts of shared_core_json cite, and the table that the program goes by, which is proved to be the same.
 """
 from . import laid_out
-from .proto import OneOf, schemas
+from .proto import fields_of, schemas
 from .records import missing  # noqa: F401
 
 ABOUT = "The names of fields in JSON, for contracts and for the program."
@@ -33,12 +33,6 @@ def json_name(name):
     """A field's name in lower camel case."""
     first, *others = name.split("_")
     return first + "".join(word[:1].upper() + word[1:] for word in others)
-
-
-def fields_of(message):
-    """The fields of a message, members of oneofs among them, by their numbers."""
-    rows = [row.members if isinstance(row, OneOf) else [row] for row in message.rows]
-    return sorted((field for row in rows for field in row), key=lambda field: field.number)
 
 
 def kind_of(field, places):
