@@ -226,7 +226,8 @@ work() {
 
 mkdir -p "$room/taken" "$tree/crates"
 cp -a crates.txt HANDLES "$tree/"
-for crate in crates/*; do
+for crate in crates/*/; do
+  crate=${crate%/}
   mkdir "$tree/$crate"
   for file in "$crate"/*; do
     case ${file##*/} in

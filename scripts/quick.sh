@@ -1,12 +1,13 @@
 #!/bin/sh
 # What can be known within two minutes, without a proof: the tables, the pages and the generated files, the test vectors that are not random, and
-# the tests of the folders of tests/ and of the crates that are named, else all of tests/; by programs that are built unproved.
+# the tests of the folders of tests/ and of the crates that are named, else those of the library; by programs that are built unproved.
 # sh scripts/test.sh --quick [FOLDER|CRATE..] calls it. What a test says that it did not run is shown and does not count as passed. The last line is 'N passed, M failed'.
 set -u
 cd "$(dirname "$0")/.." || exit 1
 
 echo 'quick.sh: built without the proofs; sh scripts/test.sh proves all of it, runs every test and every test vector'
-[ $# -gt 0 ] || set -- $(ls tests/*/mod.rt.in | cut -d/ -f2)
+# those of programs and of the calls for C need more libraries, and those of sizes minutes to run
+[ $# -gt 0 ] || set -- $(ls tests/*/mod.rt.in | cut -d/ -f2 | grep -vxE 'diff|ffi|list|measures|sizes')
 folders=''
 crates=''
 for name in "$@"; do

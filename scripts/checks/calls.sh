@@ -131,8 +131,8 @@ done < "$work/names" > "$work/absent"
 outcome "the names of docs/LANGUAGES.md: not in the sources: $(tr '\n' ' ' < "$work/absent")" $?
 
 # It has tests, is called by nobody who means well, and stands in the table of promises.
-grep -oh 'journal_[a-z_]*(' crates/journal_ffi/src/tests/*.rt | sed 's/(//' | sort -u > "$work/lines"
-same "the calls and the tests of journal_ffi" "$work/values" "$work/lines"
+grep -oh 'journal_[a-z_]*(' tests/ffi/*.rt.in | sed 's/(//' | sort -u > "$work/lines"
+same "the calls and the tests of tests/ffi" "$work/values" "$work/lines"
 sed -n 's/^    \[[A-Z_]*\] = {"\(journal_[a-z_]*\)".*/\1/p' tests/c/hostile_calls.c | sort > "$work/lines"
 same "the calls and the list of tests/c/hostile_calls.c" "$work/values" "$work/lines"
 awk -F'|' '/^## / { inside = /^## journal_ffi:/ } inside && /^\| / { print $(NF - 1) }' docs/PROOFS.md | grep -o '`journal_[a-z_]*`' | tr -d '`' | grep -v '^journal_c_api$' | sort -u > "$work/lines"

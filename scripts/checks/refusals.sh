@@ -1,8 +1,8 @@
 #!/bin/sh
 # Each allocation of tests and of programs fails in turn.
 #
-# Each test of crates/shared_core_out_of_memory_tests and of crates/replay_bench_tests, and the programs journal_list and
-# journal_diff, run once for each allocation that they make, with that one failing, and at last with none.
+# Each test of crates/shared_core_out_of_memory_tests, and the programs journal_list and journal_diff, run once for each
+# allocation that they make, with that one failing, and at last with none.
 # A test has to pass. journal_list has to write its listing, or whole lines at the beginning of it and that memory is
 # short, and journal_diff its verdict, or nothing and that memory is short; both succeed if no allocation fails.
 #
@@ -12,7 +12,7 @@ set -u
 cd "$(dirname "$0")/../.." || exit 1
 . scripts/checks/lib.sh
 
-test_crates='shared_core_out_of_memory_tests replay_bench_tests'
+test_crate=shared_core_out_of_memory_tests
 journal_list=crates/journal_list/out/journal_list
 journal_diff=crates/journal_diff/out/journal_diff
 
@@ -105,17 +105,15 @@ refuse_each() {
   fi
 }
 
-for crate in $test_crates; do
-  tests=crates/$crate/out/${crate}_tests
-  if [ -x "$tests" ]; then
-    "$tests" --list > "$work/list"
-    for test in $(sed -n 's/: test$//p' "$work/list"); do
-      refuse_each "$test" is_right_test /dev/null "$tests" "$test"
-    done
-  else
-    without "the tests of $crate" "$tests"
-  fi
-done
+tests=crates/$test_crate/out/${test_crate}_tests
+if [ -x "$tests" ]; then
+  "$tests" --list > "$work/list"
+  for test in $(sed -n 's/: test$//p' "$work/list"); do
+    refuse_each "$test" is_right_test /dev/null "$tests" "$test"
+  done
+else
+  without "the tests of $test_crate" "$tests"
+fi
 
 if [ -x "$journal_list" ]; then
   # refuse_listing STREAM LISTING WORD..: runs journal_list on a stream, which is to write this listing

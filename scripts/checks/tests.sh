@@ -21,9 +21,16 @@ for folder in "$@"; do
   fi
 done
 
+# Those of a program and of the library for C, which need more libraries, alone where they are named alone.
+more='journal_c_api measured_c_api command_line clap either thiserror'
+case " $* " in
+  *' ffi '* | *' measures '* | *' list '* | *' diff '*) ;;
+  *) more='' ;;
+esac
+# shellcheck disable=SC2086 # the names are split
 unproved_crate tests replay_bench shared_core_json shared_core_json_reader stream_lines shared_core shared_core_base \
   shared_core_wire shared_core_codec shared_core_message shared_core_parts shared_core_runtime \
-  shared_core_state_commands shared_core_call_commands shared_core_notifications bytes hex
+  shared_core_state_commands shared_core_call_commands shared_core_notifications bytes hex $more
 {
   echo '//! Tests.'
   echo '#![tactic(auto)]'
@@ -35,10 +42,29 @@ for folder in "$@"; do
   sources "tests/$folder" "$crate/src/$folder"
 done
 
+# as_module CRATE FOLDER: copies the sources of a crate that no other can use, as a module whose items are all public,
+# where the tests of this folder are among them
+as_module() {
+  [ -d "$crate/src/$2" ] || return 0
+  mkdir "$crate/src/$1"
+  for file in crates/"$1"/src/*.rt; do
+    name=${file##*/}
+    case $name in
+      lib.rt | main.rt) name=mod.rt ;;
+    esac
+    sed "/^ *#/!s/crate::/crate::$1::/g; s/^mod /pub mod /; /^#!\[tactic(auto)]$/d" "$file" > "$crate/src/$1/$name"
+  done
+  printf '#[cfg(test)]\nmod %s;\n' "$1" >> "$crate/src/lib.rt"
+}
+
 # the steps that proved tests of the same subject share with them
 proved=crates/shared_core_tests/src
 [ ! -d "$crate/src/streams" ] || cp "$proved/frames.rt" "$proved/steps.rt" "$crate/src/streams/"
-[ ! -d "$crate/src/comparisons" ] || cp crates/shared_core_compare_tests/src/steps.rt "$crate/src/comparisons/"
+
+as_module journal_ffi ffi
+as_module bench_ffi measures
+as_module journal_list list
+as_module journal_diff diff
 
 (cd "$crate" && rt try --test --steps 1 --seconds 600) > "$out" 2> "$err"
 status=$?

@@ -95,7 +95,7 @@ def texts():
     """The files, not yet laid out."""
     return {
         "crates/test_vectors/src/schema_names.rt": schema_names(),
-        "crates/journal_ffi/src/tests/codes.rt": codes(),
+        "tests/ffi/codes.rt.in": codes(),
         "tests/public_api/surface_messages.rt.in": surface(),
         "tests/wire/listed_types.rt.in": listed_types(),
     }

@@ -12,9 +12,6 @@ use measured_c_api::frames::{Buffer, Rounds};
 use measured_c_api::{commands, frames, payloads, streams};
 use std::alloc::Global;
 
-#[cfg(test)]
-mod tests;
-
 /// Reads a stream of a version from 5 to 9, which comes in chunks of this many bytes (0: in one chunk), and writes a
 /// number for each item: the message's header, or the unknown code in bits 48 to 63 and, at version 9, in bits 0 to 31
 /// the length of the payload that is skipped with it. Returns the number of items.

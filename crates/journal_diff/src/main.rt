@@ -7,8 +7,6 @@ ghost use Rattle.shared_core_base.specs.Version.{version_number};
 mod arguments;
 mod diff;
 mod inputs;
-#[cfg(test)]
-mod tests;
 
 use crate::arguments::{Arguments, parse_arguments};
 use crate::diff::diff;

@@ -13,5 +13,3 @@ pub mod journals;
 pub mod names;
 pub mod notifications;
 pub mod payloads;
-#[cfg(test)]
-mod tests;

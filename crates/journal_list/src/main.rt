@@ -2,17 +2,9 @@
 #![tactic(auto)]
 
 mod error;
-#[cfg(test)]
-mod fault_tests;
-#[cfg(test)]
-mod faults;
 mod list;
-#[cfg(test)]
-mod list_tests;
 mod options;
 mod run;
-#[cfg(test)]
-mod test_words;
 
 use crate::error::ListError;
 use crate::run::{Outcome, exit_code, message, run};
