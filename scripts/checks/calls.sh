@@ -3,8 +3,9 @@
 #
 # The last version is the same in the library, in the programs, in the tools and on pages. A call for C is the same in
 # journal_ffi, the header, the package for Python and the crate for Rust, and has tests, adversarial calls and a
-# promise. Each crate has a sentence in crates/README.md. It reads the code as it stands. What differs is shown above the
-# last line.
+# promise. Each crate has a sentence in crates/README.md and a line in docs/ARCHITECTURE.md, each folder of tests/ one in
+# its page, and each public call of shared_core is in the tests of the public API. It reads the code as it stands. What
+# differs is shown above the last line.
 set -u
 cd "$(dirname "$0")/../.." || exit 1
 . scripts/checks/lib.sh
@@ -142,5 +143,30 @@ same "the calls and the promises of docs/PROOFS.md" "$work/values" "$work/lines"
 sed -n 's/^\([a-z_]*\)[a-z ]*:.*/\1/p' crates.txt > "$work/values"
 sed -n 's/^| `\([a-z_]*\)` |.*/\1/p' crates/README.md > "$work/lines"
 same "crates.txt and crates/README.md" "$work/values" "$work/lines"
+sort "$work/values" > "$work/crates"
+# The page on the architecture has a line of each, and of folders.
+grep '^| `[a-z_]*`' docs/ARCHITECTURE.md | cut -d'|' -f2 | grep -o '`[a-z_]*`' | tr -d '`' | sort -u > "$work/names"
+comm -23 "$work/crates" "$work/names" > "$work/absent"
+comm -13 "$work/crates" "$work/names" | while read -r name; do [ -d "$name" ] || echo "$name"; done >> "$work/absent"
+[ ! -s "$work/absent" ]
+outcome "crates.txt and the tables of docs/ARCHITECTURE.md: $(tr '\n' ' ' < "$work/absent")" $?
+
+# Each folder of tests/ has a line in its page.
+ls -d tests/*/ | cut -d/ -f2 | sort > "$work/values"
+grep '^| `' tests/README.md | cut -d'|' -f2 | grep -o '`[a-z_]*`' | tr -d '`' | sort > "$work/lines"
+same "the folders of tests/ and tests/README.md" "$work/values" "$work/lines"
+
+# Each public call of shared_core is in the tests of the public API. Those that it does not pass on, and those of
+# the private module pending_bytes, are none of it.
+grep -hoE '^ *pub fn [a-z_0-9]+' crates/shared_core/src/*.rt crates/shared_core/src/encoding/*.rt \
+  crates/shared_core/src/messages/*.rt crates/shared_core_errors/src/*.rt crates/shared_core_parts/src/conversions.rt \
+  crates/shared_core_parts/src/notification.rt crates/shared_core_base/src/error.rt crates/shared_core_base/src/header.rt \
+  crates/shared_core_base/src/message_header.rt crates/shared_core_base/src/type_kinds.rt \
+  crates/shared_core_base/src/values.rt crates/shared_core_base/src/version.rt |
+  awk '{ print $NF }' | sort -u | grep -vxE 'error_of|split_to|take_head|clone_each|order_depends_on_the_set' > "$work/values"
+grep -hoE '[a-z_0-9]+' tests/public_api/*.rt.in | sort -u > "$work/names"
+comm -23 "$work/values" "$work/names" > "$work/absent"
+[ -s "$work/values" ] && [ ! -s "$work/absent" ]
+outcome "public calls that tests/public_api has not: $(tr '\n' ' ' < "$work/absent")" $?
 
 finish
