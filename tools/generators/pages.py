@@ -1,5 +1,6 @@
 """What pages repeat of proto/journal.proto: how many schemas, types and commands there are, wherever a page or the
-header for C says so, and the list of schemas in docs/C.md. All else of these files is written by hand.
+header for C says so, the kinds of types in docs/FORMAT.md, and the list of schemas in docs/C.md. All else of these
+files is written by hand.
 """
 import re
 import textwrap
@@ -21,6 +22,11 @@ DEFINED = {
     "include/pendratsoa.h": re.compile(r"^(#define JOURNAL_SCHEMAS )(\d+)()$", re.M),
 }
 
+# The page on what bytes are: the row of the types with their kinds, and how many lines give a type's code.
+FORMAT = "docs/FORMAT.md"
+TYPES_ROW = re.compile(r"^(\| one of the )\d+( in \[conformance/frames\.txt\]\(\S+\) \| the type of that name: ).*( \|)$", re.M)
+CODE_LINES = re.compile(r"^(    frames\.txt, )\d+(: The code of each message type)$", re.M)
+
 LISTED = "docs/C.md"
 LIST = "\n## Numbers of schemas\n"
 LIST_MARK = "\n<!-- Written by tools/generate.py pages from here on. -->\n\n"
@@ -35,6 +41,23 @@ def counted():
 def numbered(text, counts):
     """A page with its numbers of schemas, types and commands."""
     return SAID.sub(lambda match: f"{match[1]}{counts[match[4]]}{match[3]}", text)
+
+
+def kinds_of_types():
+    """How many types there are of each kind, and from which code to which."""
+    commands = [message.code for message in typed() if message.is_command()]
+    notifications = [message.code for message in typed() if message.is_notification()]
+    others = len(typed()) - len(commands) - len(notifications)
+    return f"{others} for the start, the end and what is between" + "".join(
+        f", {len(codes)} {kind} (from `{codes[0]:04x}` to `{codes[-1]:04x}`)"
+        for kind, codes in (("commands", commands), ("notifications", notifications))
+    )
+
+
+def format_page(text):
+    """The page on what bytes are."""
+    text = TYPES_ROW.sub(lambda match: f"{match[1]}{len(typed())}{match[2]}{kinds_of_types()}{match[3]}", text)
+    return CODE_LINES.sub(lambda match: f"{match[1]}{len(typed())}{match[2]}", text)
 
 
 def list_of_schemas():
@@ -59,6 +82,8 @@ def files():
             found[path] = DEFINED[path].sub(lambda match: f"{match[1]}{counts['schemas']}", text)
             continue
         text = numbered(text, counts)
+        if path == FORMAT:
+            text = format_page(text)
         if path == LISTED:
             text = text.partition(LIST)[0] + LIST + LIST_MARK + list_of_schemas()
         found[path] = text
