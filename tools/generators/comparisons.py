@@ -652,6 +652,9 @@ def optional_cases(command, base, name, other):
 
 def field_cases():
     for command, (actual, expected, _) in PAIRS.items():
+        for row in rows_of(command):
+            if row.name not in actual or row.name not in expected:
+                sys.exit(f"generate.py: comparisons: PAIRS has no {row.name} for {command}, and it has every field of each")
         yield f"{command}: each field alone."
         for row in rows_of(command):
             if isinstance(row, OneOf):
