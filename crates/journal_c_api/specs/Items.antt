@@ -1,15 +1,14 @@
 -- The result of the call on the items of a stream.
-use Rattle.std.specs.Prelude.{◌≡◌, ℕ, ◌+◌, ◌-◌, ◌<◌, ◌≤◌, nat_lt, List, [], ◌∷◌, ◌++◌, length, Some, None, Result, Ok, Err, if◌then◌else◌}
-use Rattle.std.specs.Int.{from_bool}
+use Rattle.std.specs.Prelude.{◌≡◌, ℕ, ◌+◌, ◌-◌, ◌<◌, ◌≤◌, List, [], ◌∷◌, ◌++◌, length, Some, None, Result, Ok, Err}
 use Rattle.shared_core_base.specs.declared.version.Version.{Version}
 use Rattle.shared_core_base.specs.MessageHeader.{ack_bit}
 use Rattle.shared_core_base.specs.MessageType.{code_of}
 use Rattle.shared_core.specs.declared.encoding.item.Item.{Item}
 use Rattle.shared_core.specs.declared.encoding.item.Item.TheVariants.{Message, Unknown as UnknownCode, Skipped}
-use Rattle.shared_core.specs.Items.{front_word, body_length, item_of, IsItem, NoItemBegins}
+use Rattle.shared_core.specs.Items.{front_word, IsItem, NoItemBegins}
+use Rattle.shared_core.specs.Borrowed.{missing_bytes}
 use Rattle.journal_c_api.specs.declared.answer.Refusal.{Refusal}
 use Rattle.journal_c_api.specs.declared.answer.Refusal.TheVariants.{NoRoom, Unknown}
-use Rattle.journal_c_api.specs.declared.items.Announced.{Announced}
 use Rattle.journal_c_api.specs.Answers.{supported_version, written_over}
 
 -- Which of the three kinds an item is.
@@ -39,20 +38,6 @@ item_payload (Skipped code payload) = payload
 abbrev pub item_numbers : ℕ → ℕ → Item → List ℕ
 item_numbers word size item =
     item_kind item ∷ word ∷ item_code item ∷ item_ack item ∷ size ∷ (size - length (item_payload item)) ∷ []
-
--- What a word says of the item that it begins, whatever bytes are after it: what it is, and how many of them belong to
--- it.
-pub record Announces (version : Version) (word : ℕ) (announced : Announced) : Type 0 where
-  pub kind_is : (body : List ℕ) → item_kind (item_of version word body) ≡ announced.kind
-  pub code_is : (body : List ℕ) → item_code (item_of version word body) ≡ announced.code
-  pub ack_is : (body : List ℕ) → item_ack (item_of version word body) ≡ from_bool announced.asks_ack
-  pub length_is : announced.length ≡ body_length version word
-
--- How many bytes are missing at least: of a header that is not whole, or else of what the header says; none where an
--- item is whole.
-abbrev pub missing_bytes : Version → List ℕ → ℕ
-missing_bytes version bytes =
-    if nat_lt (length bytes) 8 then 8 - length bytes else (8 + body_length version (front_word bytes)) - length bytes
 
 -- An item is at the front of the bytes, and its numbers are written over the slice.
 abbrev pub WritesItem : Version → List ℕ → List ℕ → List ℕ → Type 0

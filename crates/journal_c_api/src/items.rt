@@ -1,9 +1,11 @@
-//! The items of a stream, found where they lie.
+//! The items of a stream, as numbers.
 
-ghost use Rattle.std.specs.Prelude.{◌≡◌};
-ghost use Rattle.journal_c_api.specs.Items.{Announces, FindsItem, WritesNext};
+ghost use Rattle.std.specs.Prelude.{◌≡◌, ◌+◌, ◌∷◌, [], length};
+ghost use Rattle.shared_core.specs.Borrowed.{item_borrowed};
+ghost use Rattle.journal_c_api.specs.Items.{FindsItem, WritesNext, item_ack, item_code, item_kind};
 
 use crate::answer::{Refusal, version_of, write_over};
+use shared_core::encoding::{ItemKind, ItemRef};
 use shared_core::header::MessageHeader;
 use shared_core::version::Version;
 
@@ -18,19 +20,6 @@ const UNKNOWN_CODE: u64 = 1;
 
 /// The kind of a message of an unknown type, which is skipped with its payload.
 const SKIPPED: u64 = 2;
-
-/// What the first eight bytes of an item say of it.
-#[derive(Clone, Copy)]
-struct Announced {
-    /// Which of the three kinds it is.
-    kind: u64,
-    /// The code of its type, or the one that denotes none.
-    code: u16,
-    /// Whether it asks for an acknowledgement.
-    asks_ack: bool,
-    /// The length of its payload.
-    length: u32,
-}
 
 /// Finds the item that the bytes begin with, and writes its six numbers: what it is, its first eight bytes as a number,
 /// its code, its flag, its size in bytes, and where its payload begins. Returns 0, or how many more bytes there are to
@@ -50,57 +39,39 @@ pub fn write_next(version: u32, bytes: &[u8], item: &mut [u64]) -> Result<usize,
 }
 
 /// Writes the numbers of the item that the bytes begin with, or returns how many bytes are missing.
+#[tactic(auto, using(crate::proofs::FoundItems::item_found, crate::proofs::FoundItems::item_missing))]
 fn write_item(version: Version, bytes: &[u8], item: &mut [u64]) -> usize
     ensures { FindsItem version bytes.now item.old item.new result }
 {
-    let Some((head, body)) = bytes.split_first_chunk::<8>() else {
-        return MessageHeader::SIZE - bytes.len();
-    };
-    let word = u64::from_be_bytes(*head);
-    let announced = announced_by(version, word);
-    let length = announced.length as usize;
-    if body.len() < length {
-        return length - body.len();
+    match ItemRef::first(version, bytes) {
+        Ok((found, _)) => {
+            write_over(&numbers_of(&found), item);
+            0
+        }
+        Err(missing) => missing.count,
     }
-    let numbers = [
-        announced.kind,
-        word,
-        u64::from(announced.code),
-        u64::from(announced.asks_ack),
-        (MessageHeader::SIZE + length) as u64,
-        MessageHeader::SIZE as u64,
-    ];
-    write_over(&numbers, item);
-    0
 }
 
-/// What a word says of the item that it begins.
-fn announced_by(version: Version, word: u64) -> Announced
-    ensures { Announces version word result }
+/// The numbers of an item.
+fn numbers_of(item: &ItemRef<'_>) -> [u64; ITEM_NUMBERS]
+    ensures { result ≡ item_kind (item_borrowed item.now) ∷ item.now.word ∷ item_code (item_borrowed item.now)
+        ∷ item_ack (item_borrowed item.now) ∷ (8 + length item.now.payload.now) ∷ 8 ∷ [] }
 {
-    let unknown = match MessageHeader::try_from(word) {
-        Ok(header) => {
-            return Announced {
-                kind: MESSAGE,
-                code: u16::from(header.message_type()),
-                asks_ack: header.requested_ack().unwrap_or(false),
-                length: header.message_length(),
-            };
-        }
-        Err(unknown) => unknown,
+    let (kind, code, asks_ack) = match item.kind {
+        ItemKind::Message(header) => (
+            MESSAGE,
+            u16::from(header.message_type()),
+            header.requested_ack().unwrap_or(false),
+        ),
+        ItemKind::Unknown(code) => (UNKNOWN_CODE, code, false),
+        ItemKind::Skipped(code) => (SKIPPED, code, false),
     };
-    if version.skips_unknown_messages() {
-        return Announced {
-            kind: SKIPPED,
-            code: unknown.code(),
-            asks_ack: false,
-            length: (word & 0xFFFF_FFFF) as u32,
-        };
-    }
-    Announced {
-        kind: UNKNOWN_CODE,
-        code: unknown.code(),
-        asks_ack: false,
-        length: 0,
-    }
+    [
+        kind,
+        item.word,
+        u64::from(code),
+        u64::from(asks_ack),
+        item.size(),
+        MessageHeader::SIZE as u64,
+    ]
 }

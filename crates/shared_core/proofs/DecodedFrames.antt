@@ -1,5 +1,5 @@
 -- What was written decodes to what was written.
-use Rattle.std.proofs.Common.{◌≡◌, ◌≢◌, ℕ, List, ◌++◌, Option, Result, Ok, Err, OnOk, ◌^◌, ◌<◌, ◌≤◌, Bool, true, false, not, Some, None, cond, eqb, refl, sym, ap, subst, arith}
+use Rattle.std.proofs.Common.{◌≡◌, ◌≢◌, ℕ, List, ◌++◌, Option, Result, Ok, Err, OnOk, ◌^◌, ◌<◌, ◌≤◌, Bool, true, false, Some, None, cond, eqb, refl, sym, ap, subst, arith}
 use Rattle.shared_core_base.specs.declared.header.MessageType.{MessageType}
 use Rattle.shared_core_base.specs.declared.header.MessageType.TheVariants.{ProposeRunCompletion, Suspension}
 use Rattle.shared_core_base.specs.declared.version.Version.{Version}

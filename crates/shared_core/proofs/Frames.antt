@@ -65,7 +65,7 @@ frame_is_item version ty form bytes named fits is =
     let again = read_again ty form.requested_ack (length payload) named fits in
     let reads : front_word (head ++ payload) ≡ word = front_word_head head payload eight ∙ from_be_bytes-to_be_bytes_8 word again.1 in
     let typed : header_of (front_word (head ++ payload)) ≡ Some (header_read ty form) = ap header_of reads ∙ again.0 in
-    let announced = announces_message version (front_word (head ++ payload)) (header_read ty form) (length payload) typed refl in
+    let announced = announces_message version (front_word (head ++ payload)) (header_read ty form) typed in
     rw is (record {
       whole = length-append head payload ∙ ap (λ n. n + length payload) eight ∙ ap (λ n. 8 + n) announced.length_is;
       means = announced.item_is payload ∙ ap (item_of version (front_word (head ++ payload))) (sym (drop_exact 8 head payload eight));

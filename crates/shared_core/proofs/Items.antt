@@ -7,9 +7,13 @@ use Rattle.std.proofs.lemmas.List.{take-append-le, take-append-drop, length-take
 use Rattle.std.proofs.Math.Seq.{take-append_seam, drop-append_seam}
 use Rattle.shared_core_base.specs.declared.message_header.MessageHeader.{MessageHeader}
 use Rattle.shared_core_base.specs.declared.version.Version.{Version}
+use Rattle.shared_core_base.specs.declared.type_kinds.UnknownMessageType.{UnknownMessageType}
 use Rattle.shared_core_base.specs.MessageHeader.{header_of, word_code, word_length}
+use Rattle.shared_core.specs.declared.encoding.announced.Announced.{Announced}
+use Rattle.shared_core.specs.declared.encoding.announced.Announced.TheVariants as announced
+use Rattle.shared_core.specs.Borrowed.{Announces, announced_length, kind_announced, item_with}
 use Rattle.shared_core.specs.declared.encoding.item.Item.{Item}
-use Rattle.shared_core.specs.declared.encoding.item.Item.TheVariants.{Message, Unknown, Skipped}
+use Rattle.shared_core.specs.declared.encoding.item.Item.TheVariants.{Unknown, Skipped}
 use Rattle.shared_core.specs.Items.{front_word, skips_unknown_messages, body_length, item_of, IsItem, AreItems, TakesItem, NoItemBegins, IsItemsThen, SplitsInto, BeginsWithWritten}
 
 take_exact : (n : ℕ) (front rest : List ℕ) → length front ≡ n → take n (front ++ rest) ≡ front
@@ -23,7 +27,7 @@ unfolding front_word
 front_word_head head rest eight = ap (from_be_bytes w64) (take_exact 8 head rest eight)
 
 -- the word at the front stays, whatever comes after
-front_word_more : (front more : List ℕ) → 8 ≤ length front → front_word (front ++ more) ≡ front_word front
+pub front_word_more : (front more : List ℕ) → 8 ≤ length front → front_word (front ++ more) ≡ front_word front
 unfolding front_word
 front_word_more front more fits = ap (from_be_bytes w64) (take-append-le 8 front more fits)
 
@@ -50,23 +54,18 @@ module _ (version : Version) where
       let long : length first ≤ length bytes = omega (arith, ap length splits, length-append first others) in
       omega (arith, is.whole, ap (body_length version) same)
 
-  -- What a word says of the item that it begins: how many bytes belong to it after the eight, and what it is with
-  -- them. Only what follows right here looks into how the version decides that.
-  pub record Announces (word size : ℕ) (item : List ℕ → Item) : Type 0 where
-    pub length_is : size ≡ body_length version word
-    pub item_is : (body : List ℕ) → item body ≡ item_of version word body
-
-  pub announces_message : (word : ℕ) (header : MessageHeader) (size : ℕ) → header_of word ≡ Some header → size ≡ header.length → Announces word size (λ payload. Message (record { header = header; payload = payload }))
+  -- What a word announces. Only what follows right here looks into how the version decides that.
+  pub announces_message : (word : ℕ) (header : MessageHeader) → header_of word ≡ Some header → Announces version word (announced.Message header)
   unfolding body_length item_of
-  announces_message word header size typed sized = record { length_is = rw typed sized; item_is = λ body. rw typed refl }
+  announces_message word header typed = record { length_is = rw typed refl; item_is = λ body. rw typed refl }
 
-  pub announces_unknown : (word code : ℕ) → header_of word ≡ None → code ≡ word_code word → skips_unknown_messages version ≡ false → Announces word 0 (λ _. Unknown code)
+  pub announces_unknown : (word : ℕ) (unknown : UnknownMessageType) → header_of word ≡ None → unknown.0 ≡ word_code word → skips_unknown_messages version ≡ false → Announces version word (announced.Unknown unknown)
   unfolding body_length item_of
-  announces_unknown word code untyped is_code alone = record { length_is = rw (untyped, alone) refl; item_is = λ body. rw (untyped, alone, is_code) refl }
+  announces_unknown word unknown untyped is_code alone = record { length_is = rw (untyped, alone) refl; item_is = λ body. rw (untyped, alone, is_code) refl }
 
-  pub announces_skipped : (word code size : ℕ) → header_of word ≡ None → code ≡ word_code word → skips_unknown_messages version ≡ true → size ≡ word_length word → Announces word size (Skipped code)
+  pub announces_skipped : (word size : ℕ) (unknown : UnknownMessageType) → header_of word ≡ None → unknown.0 ≡ word_code word → skips_unknown_messages version ≡ true → size ≡ word_length word → Announces version word (announced.Skipped unknown size)
   unfolding body_length item_of
-  announces_skipped word code size untyped is_code skips sized = record { length_is = rw (untyped, skips) sized; item_is = λ body. rw (untyped, skips, is_code) refl }
+  announces_skipped word size unknown untyped is_code skips sized = record { length_is = rw (untyped, skips) sized; item_is = λ body. rw (untyped, skips, is_code) refl }
 
   -- the version of an item of an untyped code
   pub unknown_item_version : (bytes : List ℕ) (code : ℕ) → IsItem version bytes (Unknown code) → skips_unknown_messages version ≡ false
@@ -95,14 +94,14 @@ module _ (version : Version) where
 
   -- the two answers to bytes whose first eight are `head`
   module _ (bytes head rest : List ℕ) (word : ℕ) (eight : length head ≡ 8) (whole : bytes ≡ head ++ rest) (reads : word ≡ from_be_bytes w64 head) where
-    pub takes_announced : (size : ℕ) (item : List ℕ → Item) (body after : List ℕ) → Announces word size item → size ≤ length rest → body ≡ take size rest → after ≡ drop size rest → TakesItem version bytes (item body) after
-    takes_announced size item body after announced fits is_body is_after =
-        let found = takes_front head rest word size eight reads announced.length_is fits in
-        rw (whole, announced.item_is body, is_body, is_after) found
+    pub takes_announced : (announced : Announced) (body after : List ℕ) → Announces version word announced → announced_length announced ≤ length rest → body ≡ take (announced_length announced) rest → after ≡ drop (announced_length announced) rest → TakesItem version bytes (item_with (kind_announced announced) body) after
+    takes_announced announced body after says fits is_body is_after =
+        let found = takes_front head rest word (announced_length announced) eight reads says.length_is fits in
+        rw (whole, says.item_is body, is_body, is_after) found
 
-    pub none_partial : (size : ℕ) (item : List ℕ → Item) → Announces word size item → length rest < size → NoItemBegins version bytes
-    none_partial size item announced short =
-        none_short bytes (omega (arith, ap length whole, length-append head rest, ap (body_length version) (ap front_word whole ∙ front_word_head head rest eight ∙ sym reads), announced.length_is))
+    pub none_partial : (announced : Announced) → Announces version word announced → length rest < announced_length announced → NoItemBegins version bytes
+    none_partial announced says short =
+        none_short bytes (omega (arith, ap length whole, length-append head rest, ap (body_length version) (ap front_word whole ∙ front_word_head head rest eight ∙ sym reads), says.length_is))
 
   -- an item takes eight bytes at least
   pub item_is_long : (old new : List ℕ) (item : Item) → TakesItem version old item new → length new + 8 ≤ length old

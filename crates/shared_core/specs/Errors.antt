@@ -10,6 +10,7 @@ use Rattle.shared_core.specs.declared.encoding.error.PiecesError.{PiecesError}
 use Rattle.shared_core.specs.declared.encoding.error.PiecesError.TheVariants as pieces
 use Rattle.shared_core.specs.declared.encoding.error.PushError.{PushError}
 use Rattle.shared_core.specs.declared.encoding.error.PushError.TheVariants as push
+use Rattle.shared_core.specs.declared.encoding.item_ref.MissingBytes.{MissingBytes}
 use Rattle.shared_core.specs.declared.encoding.error.DecodingError.TheVariants.{DecodeMessage, UnexpectedMessageType, MissingField, UnknownMessageType, SkippedMessage, OutOfMemory}
 
 -- The text of a mismatch of two commands of a type at a command index, with their difference.
@@ -52,3 +53,8 @@ push_error_text (push.TooLong back) = codes "more than 2^64 - 1 bytes are pendin
 abbrev pub pieces_error_text : PiecesError → List ℕ
 pieces_error_text pieces.TooLong = codes "the pieces have more than 2^64 - 1 bytes"
 pieces_error_text pieces.OutOfMemory = codes "out of memory"
+
+-- The text of bytes that do not begin with a whole item.
+abbrev pub missing_bytes_text : MissingBytes → List ℕ
+missing_bytes_text missing =
+    codes "at least " ++ (decimal missing.count ++ codes " bytes are missing of an item")

@@ -1,5 +1,5 @@
 -- What a contract sees of an iterator over the items that a decoder holds.
-use Rattle.std.specs.Prelude.{◌≡◌, ℕ, ◌+◌, Bool, true, false, List, length, Option, Some, None, Result, Ok, Err, if◌then◌else◌}
+use Rattle.std.specs.Prelude.{◌≡◌, ℕ, ◌+◌, true, false, length, Option, Some, None, Result, Ok, Err, if◌then◌else◌}
 use Rattle.std.specs.declared.alloc.AllocError.{AllocError}
 use Rattle.shared_core.specs.Items.{NoItemBegins, PayloadIsNext, TakesItem}
 use Rattle.shared_core.specs.Unread.{Unread}

@@ -1,5 +1,5 @@
 -- The result where a record is found by a type or by a schema that is known at run time.
-use Rattle.std.specs.Prelude.{ℕ, nat_lt, List, length, Option, Some, None, if◌then◌else◌}
+use Rattle.std.specs.Prelude.{ℕ, nat_lt, length, Option, Some, None, if◌then◌else◌}
 use Rattle.shared_core_base.specs.declared.command_type.CommandType.{CommandType}
 use Rattle.shared_core_base.specs.declared.header.MessageType.{MessageType}
 use Rattle.shared_core_base.specs.declared.header.MessageType.TheVariants.{Suspension, ProposeRunCompletion}

@@ -1,10 +1,13 @@
-//! The stream of frames: a decoder that takes it in chunks, its items, the messages among them as records; and the
-//! encoder.
+//! The stream of frames: a decoder that takes it in chunks, its items, the messages among them as records; its items in
+//! a slice; and the encoder.
 
+mod announced;
 mod decoder;
 mod encoder;
 mod error;
 mod item;
+mod item_ref;
+mod item_refs;
 mod items;
 mod pieces;
 mod raw_message;
@@ -13,6 +16,8 @@ pub use crate::encoding::decoder::Decoder;
 pub use crate::encoding::encoder::Encoder;
 pub use crate::encoding::error::{DecodingError, PiecesError, PushError};
 pub use crate::encoding::item::Item;
+pub use crate::encoding::item_ref::{ItemKind, ItemRef, MissingBytes};
+pub use crate::encoding::item_refs::ItemRefs;
 pub use crate::encoding::items::Items;
 pub use crate::encoding::pieces::decode_pieces;
 pub use crate::encoding::raw_message::RawMessage;

@@ -3,11 +3,11 @@ ghost use Rattle.std.specs.Prelude.{◌≡◌, ◌+◌, ◌<◌, ◌≤◌, ◌+
 ghost use Rattle.std.specs.Prelude.{MatchOption, Some, None};
 ghost use Rattle.shared_core.specs.Unread.{held_bytes, held_length};
 
+use crate::encoding::announced::Announced;
 use crate::encoding::item::Taken;
 use crate::encoding::{DecodingError, Item, Items, PushError, RawMessage};
 use crate::pending_bytes::PendingBytes;
 use bytes::Bytes;
-use shared_core_base::header::MessageHeader;
 use shared_core_base::version::Version;
 use std::alloc::{AllocError, Global};
 use std::marker::Model;
@@ -201,28 +201,26 @@ impl Decoder {
         let Some(head) = hold_head(&mut self.head, &mut self.pending) else {
             return Ok(None);
         };
-        let word = u64::from_be_bytes(head);
-        let header = match MessageHeader::try_from(word) {
-            Ok(header) => header,
-            Err(unknown) => {
-                if !self.version.skips_unknown_messages() {
-                    self.head = None;
-                    return Ok(Some(Taken::Unknown(unknown)));
-                }
-                let code = unknown.code();
-                let length = (word & 0xFFFF_FFFF) as usize;
-                let skipped = take_payload(&mut self.head, &mut self.pending, length)?;
+        match Announced::by(self.version, u64::from_be_bytes(head)) {
+            Announced::Message(header) => {
+                let length = header.message_length() as usize;
+                let taken = take_payload(&mut self.head, &mut self.pending, length)?;
+                let Some(payload) = taken else {
+                    return Ok(None);
+                };
+                Ok(Some(Taken::Message(RawMessage::new(header, payload))))
+            }
+            Announced::Skipped(unknown, length) => {
+                let skipped = take_payload(&mut self.head, &mut self.pending, length as usize)?;
                 let Some(payload) = skipped else {
                     return Ok(None);
                 };
-                return Ok(Some(Taken::Skipped(code, payload)));
+                Ok(Some(Taken::Skipped(unknown.code(), payload)))
             }
-        };
-        let length = header.message_length() as usize;
-        let taken = take_payload(&mut self.head, &mut self.pending, length)?;
-        let Some(payload) = taken else {
-            return Ok(None);
-        };
-        Ok(Some(Taken::Message(RawMessage::new(header, payload))))
+            Announced::Unknown(unknown) => {
+                self.head = None;
+                Ok(Some(Taken::Unknown(unknown)))
+            }
+        }
     }
 }
