@@ -1,5 +1,5 @@
 -- What two commands answer.
-use Rattle.std.proofs.Common.{Global, ◌≡◌, ◌≢◌, ℕ, pos, Bool, Some, None, Ok, Err, refl, sym, ap, ◌∙◌, subst, ⊎_elim}
+use Rattle.std.proofs.Common.{Global, ◌≡◌, ◌≢◌, ℕ, pos, Bool, List, Option, Some, None, Ok, Err, refl, sym, ap, ◌∙◌, subst, ⊎_elim}
 use Rattle.std.specs.Prelude.{codes, IsSome, String}
 use Rattle.std.specs.Option.{IsSomeAnd}
 use Rattle.std.specs.String.{string_bytes}
@@ -38,6 +38,16 @@ module _ (ignore : Bool) (index : ℕ) (actual expected : RawMessage) where
   pub pair_memory : ReturnsPair ignore index actual expected (Err OutOfMemory)
   unfolding ReturnsPair
   pair_memory = tt
+
+  -- the payloads are the same bytes, which are well-formed
+  pub pair_same_bytes : actual.header.ty ≡ expected.header.ty → actual.payload ≡ expected.payload
+      → IsSomeAnd (message_schema actual.header.ty) (λ s. IsAccepted s actual.payload) → ReturnsPair ignore index actual expected (Ok None)
+  unfolding ReturnsPair
+  pair_same_bytes typed same accepted = (typed, by_schema (message_schema actual.header.ty) accepted)
+    where
+      by_schema : (schema : Option ℕ) → IsSomeAnd schema (λ s. IsAccepted s actual.payload) → IsSomeAnd schema (MeanTheSame ignore actual.payload expected.payload)
+      by_schema None h = h
+      by_schema (Some s) h = subst (λ (other : List ℕ). MeanTheSame ignore actual.payload other s) same (h, h, refl)
 
   -- the types differ
   pub pair_types : (text : String Global) → actual.header.ty ≢ expected.header.ty → string_bytes text ≡ command_type_mismatch_text (pos index) actual.header.ty expected.header.ty → ReturnsPair ignore index actual expected (Ok (Some (TypeMismatch index text)))

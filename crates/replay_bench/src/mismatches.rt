@@ -1,14 +1,18 @@
 //! Two commands compared.
 
-ghost use Rattle.std.specs.Prelude.{◌≡◌, ◌<◌, ◌^◌};
+ghost use Rattle.std.specs.Prelude.{◌≡◌, ◌<◌, ◌^◌, IsTrue};
+ghost use Rattle.std.specs.Option.{IsSomeAnd};
+ghost use Rattle.shared_core_codec.specs.Payloads.{IsAccepted};
+ghost use Rattle.shared_core_message.specs.Messages.{message_schema};
 ghost use Rattle.replay_bench.specs.Journals.{IsCommand};
 ghost use Rattle.replay_bench.specs.Verdicts.{ReturnsPair, IsPair, bench_error_of};
 
 use crate::verdicts::{BenchError, Side, Verdict};
 use shared_core::encoding::RawMessage;
 use shared_core::errors::{CommandMismatchError, CommandTypeMismatchError};
-use shared_core::messages::{CommandMessage, CommandVisitor, visit_command};
-use shared_core::wire::WireError;
+use shared_core::messages::{CommandMessage, CommandVisitor, schema_at, visit_command};
+use shared_core::version::Version;
+use shared_core::wire::{WireError, is_well_formed};
 use std::alloc::Global;
 
 /// The result for two commands at an index, or `None` if they are the same.
@@ -33,7 +37,7 @@ pub(crate) fn compare_commands(
     Ok(Some(Verdict::TypeMismatch { index, text }))
 }
 
-/// The same of two commands of one type.
+/// The same of two commands of one type. Those whose payloads are the same bytes are the same commands.
 fn compare_typed(
     alloc: Global,
     index: u64,
@@ -46,6 +50,10 @@ fn compare_typed(
     requires typed { recorded.now.header.ty ≡ replayed.now.header.ty }
     ensures { ReturnsPair ignore index recorded.now replayed.now result }
 {
+    // most commands of a replay have the same bytes: then neither is decoded
+    if recorded.payload() == replayed.payload() && is_well_formed_command(recorded) {
+        return Ok(None);
+    }
     let pair = Pair {
         alloc,
         index,
@@ -57,6 +65,17 @@ fn compare_typed(
         Some(answer) => answer,
         // the type is a command's
         None => unreachable!(),
+    }
+}
+
+/// Whether the payload of a command is well-formed for its type.
+fn is_well_formed_command(command: &RawMessage) -> bool
+    ensures { IsTrue result → IsSomeAnd (message_schema command.now.header.ty) (λ s. IsAccepted s command.now.payload) }
+{
+    // a command has one schema at all versions
+    match schema_at(Version::V7, command.ty()) {
+        Some(schema) => is_well_formed(schema, command.payload().as_slice()),
+        None => false,
     }
 }
 
