@@ -1,2 +1,2 @@
-pub mod AwaitedLists
+pub mod FlattenedFutures
 pub mod FlattenedFits

@@ -1,3 +1,2 @@
-pub mod AwaitedLists
 pub mod Flattening
 pub mod Versions
