@@ -252,21 +252,16 @@ def write_oneof(source, module, name, oneof, about, derived=()):
             source.kinds.add(KINDS[member.kind])
             kind = KINDS[member.kind]
             held = TYPES[member.kind]
+        new = f"*oneof = Some({name}::{variant}(FieldKind::read_value(field)?)),\n"
         if member.kind in ("message", "text"):
             merge = (
                 f"            {number} => match oneof {{\n"
                 f"                Some({name}::{variant}({member.name})) => {member.name}.merge_value(field)?,\n"
-                "                _ => {\n"
-                f"                    let member = oneof.insert({name}::{variant}(FieldKind::empty_value(field.alloc)));\n"
-                f"                    let {name}::{variant}(held) = member else {{\n"
-                "                        unreachable!()\n"
-                "                    };\n"
-                "                    held.merge_value(field)?\n"
-                "                }\n"
+                f"                _ => {new}"
                 "            },\n"
             )
         else:
-            merge = f"            {number} => *oneof = Some({name}::{variant}(FieldKind::read_value(field)?)),\n"
+            merge = f"            {number} => {new}"
         declared += comment(member.comment, "    ") + f"    {variant}({held}),\n"
         members.append(f"({number}, {kind})")
         parts.append(f"      | {variants}.{variant} x ↦ Member {number} ({source.part(member.kind, member.message, 'x')})\n")

@@ -56,28 +56,12 @@ impl OneOf for Completion {
                 Some(Completion::CompletionValue(completion_value)) => completion_value.merge_value(
                     field,
                 )?,
-                _ => {
-                    let member = oneof.insert(Completion::CompletionValue(FieldKind::empty_value(
-                        field.alloc,
-                    )));
-                    let Completion::CompletionValue(held) = member else {
-                        unreachable!()
-                    };
-                    held.merge_value(field)?
-                }
+                _ => *oneof = Some(Completion::CompletionValue(FieldKind::read_value(field)?)),
             },
             3 => match oneof {
                 Some(Completion::CompletionFailure(completion_failure)) =>
                     completion_failure.merge_value(field)?,
-                _ => {
-                    let member = oneof.insert(Completion::CompletionFailure(FieldKind::empty_value(
-                        field.alloc,
-                    )));
-                    let Completion::CompletionFailure(held) = member else {
-                        unreachable!()
-                    };
-                    held.merge_value(field)?
-                }
+                _ => *oneof = Some(Completion::CompletionFailure(FieldKind::read_value(field)?)),
             },
             _ => unreachable!(),
         }

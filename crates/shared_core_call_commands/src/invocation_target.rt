@@ -48,41 +48,19 @@ impl OneOf for InvocationTarget {
                 Some(InvocationTarget::InvocationId(invocation_id)) => invocation_id.merge_value(
                     field,
                 )?,
-                _ => {
-                    let member = oneof.insert(InvocationTarget::InvocationId(FieldKind::empty_value(
-                        field.alloc,
-                    )));
-                    let InvocationTarget::InvocationId(held) = member else {
-                        unreachable!()
-                    };
-                    held.merge_value(field)?
-                }
+                _ => *oneof = Some(InvocationTarget::InvocationId(FieldKind::read_value(field)?)),
             },
             3 => match oneof {
                 Some(InvocationTarget::IdempotentRequestTarget(idempotent_request_target)) =>
                     idempotent_request_target.merge_value(field)?,
-                _ => {
-                    let member = oneof.insert(InvocationTarget::IdempotentRequestTarget(
-                        FieldKind::empty_value(field.alloc),
-                    ));
-                    let InvocationTarget::IdempotentRequestTarget(held) = member else {
-                        unreachable!()
-                    };
-                    held.merge_value(field)?
-                }
+                _ => *oneof = Some(InvocationTarget::IdempotentRequestTarget(FieldKind::read_value(
+                    field,
+                )?)),
             },
             4 => match oneof {
                 Some(InvocationTarget::WorkflowTarget(workflow_target)) =>
                     workflow_target.merge_value(field)?,
-                _ => {
-                    let member = oneof.insert(InvocationTarget::WorkflowTarget(
-                        FieldKind::empty_value(field.alloc),
-                    ));
-                    let InvocationTarget::WorkflowTarget(held) = member else {
-                        unreachable!()
-                    };
-                    held.merge_value(field)?
-                }
+                _ => *oneof = Some(InvocationTarget::WorkflowTarget(FieldKind::read_value(field)?)),
             },
             _ => unreachable!(),
         }

@@ -57,13 +57,7 @@ impl OneOf for SignalId {
             2 => *oneof = Some(SignalId::Idx(FieldKind::read_value(field)?)),
             3 => match oneof {
                 Some(SignalId::Name(name)) => name.merge_value(field)?,
-                _ => {
-                    let member = oneof.insert(SignalId::Name(FieldKind::empty_value(field.alloc)));
-                    let SignalId::Name(held) = member else {
-                        unreachable!()
-                    };
-                    held.merge_value(field)?
-                }
+                _ => *oneof = Some(SignalId::Name(FieldKind::read_value(field)?)),
             },
             _ => unreachable!(),
         }
@@ -121,33 +115,15 @@ impl OneOf for Result {
         match field.number {
             4 => match oneof {
                 Some(Result::Void(void)) => void.merge_value(field)?,
-                _ => {
-                    let member = oneof.insert(Result::Void(FieldKind::empty_value(field.alloc)));
-                    let Result::Void(held) = member else {
-                        unreachable!()
-                    };
-                    held.merge_value(field)?
-                }
+                _ => *oneof = Some(Result::Void(FieldKind::read_value(field)?)),
             },
             5 => match oneof {
                 Some(Result::Value(value)) => value.merge_value(field)?,
-                _ => {
-                    let member = oneof.insert(Result::Value(FieldKind::empty_value(field.alloc)));
-                    let Result::Value(held) = member else {
-                        unreachable!()
-                    };
-                    held.merge_value(field)?
-                }
+                _ => *oneof = Some(Result::Value(FieldKind::read_value(field)?)),
             },
             6 => match oneof {
                 Some(Result::Failure(failure)) => failure.merge_value(field)?,
-                _ => {
-                    let member = oneof.insert(Result::Failure(FieldKind::empty_value(field.alloc)));
-                    let Result::Failure(held) = member else {
-                        unreachable!()
-                    };
-                    held.merge_value(field)?
-                }
+                _ => *oneof = Some(Result::Failure(FieldKind::read_value(field)?)),
             },
             _ => unreachable!(),
         }

@@ -47,37 +47,15 @@ impl OneOf for AnyResult {
         match field.number {
             4 => match oneof {
                 Some(AnyResult::Void(void)) => void.merge_value(field)?,
-                _ => {
-                    let member = oneof.insert(AnyResult::Void(FieldKind::empty_value(field.alloc)));
-                    let AnyResult::Void(held) = member else {
-                        unreachable!()
-                    };
-                    held.merge_value(field)?
-                }
+                _ => *oneof = Some(AnyResult::Void(FieldKind::read_value(field)?)),
             },
             5 => match oneof {
                 Some(AnyResult::Value(value)) => value.merge_value(field)?,
-                _ => {
-                    let member = oneof.insert(AnyResult::Value(FieldKind::empty_value(
-                        field.alloc,
-                    )));
-                    let AnyResult::Value(held) = member else {
-                        unreachable!()
-                    };
-                    held.merge_value(field)?
-                }
+                _ => *oneof = Some(AnyResult::Value(FieldKind::read_value(field)?)),
             },
             6 => match oneof {
                 Some(AnyResult::Failure(failure)) => failure.merge_value(field)?,
-                _ => {
-                    let member = oneof.insert(AnyResult::Failure(FieldKind::empty_value(
-                        field.alloc,
-                    )));
-                    let AnyResult::Failure(held) = member else {
-                        unreachable!()
-                    };
-                    held.merge_value(field)?
-                }
+                _ => *oneof = Some(AnyResult::Failure(FieldKind::read_value(field)?)),
             },
             _ => unreachable!(),
         }

@@ -55,23 +55,11 @@ impl OneOf for Result {
         match field.number {
             4 => match oneof {
                 Some(Result::Void(void)) => void.merge_value(field)?,
-                _ => {
-                    let member = oneof.insert(Result::Void(FieldKind::empty_value(field.alloc)));
-                    let Result::Void(held) = member else {
-                        unreachable!()
-                    };
-                    held.merge_value(field)?
-                }
+                _ => *oneof = Some(Result::Void(FieldKind::read_value(field)?)),
             },
             6 => match oneof {
                 Some(Result::Failure(failure)) => failure.merge_value(field)?,
-                _ => {
-                    let member = oneof.insert(Result::Failure(FieldKind::empty_value(field.alloc)));
-                    let Result::Failure(held) = member else {
-                        unreachable!()
-                    };
-                    held.merge_value(field)?
-                }
+                _ => *oneof = Some(Result::Failure(FieldKind::read_value(field)?)),
             },
             _ => unreachable!(),
         }

@@ -55,13 +55,7 @@ impl OneOf for SignalId {
             2 => *oneof = Some(SignalId::Idx(FieldKind::read_value(field)?)),
             3 => match oneof {
                 Some(SignalId::Name(name)) => name.merge_value(field)?,
-                _ => {
-                    let member = oneof.insert(SignalId::Name(FieldKind::empty_value(field.alloc)));
-                    let SignalId::Name(held) = member else {
-                        unreachable!()
-                    };
-                    held.merge_value(field)?
-                }
+                _ => *oneof = Some(SignalId::Name(FieldKind::read_value(field)?)),
             },
             _ => unreachable!(),
         }

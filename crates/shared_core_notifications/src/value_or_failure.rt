@@ -43,27 +43,11 @@ impl OneOf for ValueOrFailure {
         match field.number {
             5 => match oneof {
                 Some(ValueOrFailure::Value(value)) => value.merge_value(field)?,
-                _ => {
-                    let member = oneof.insert(ValueOrFailure::Value(FieldKind::empty_value(
-                        field.alloc,
-                    )));
-                    let ValueOrFailure::Value(held) = member else {
-                        unreachable!()
-                    };
-                    held.merge_value(field)?
-                }
+                _ => *oneof = Some(ValueOrFailure::Value(FieldKind::read_value(field)?)),
             },
             6 => match oneof {
                 Some(ValueOrFailure::Failure(failure)) => failure.merge_value(field)?,
-                _ => {
-                    let member = oneof.insert(ValueOrFailure::Failure(FieldKind::empty_value(
-                        field.alloc,
-                    )));
-                    let ValueOrFailure::Failure(held) = member else {
-                        unreachable!()
-                    };
-                    held.merge_value(field)?
-                }
+                _ => *oneof = Some(ValueOrFailure::Failure(FieldKind::read_value(field)?)),
             },
             _ => unreachable!(),
         }

@@ -53,13 +53,7 @@ impl OneOf for Id {
             2 => *oneof = Some(Id::SignalId(FieldKind::read_value(field)?)),
             3 => match oneof {
                 Some(Id::SignalName(signal_name)) => signal_name.merge_value(field)?,
-                _ => {
-                    let member = oneof.insert(Id::SignalName(FieldKind::empty_value(field.alloc)));
-                    let Id::SignalName(held) = member else {
-                        unreachable!()
-                    };
-                    held.merge_value(field)?
-                }
+                _ => *oneof = Some(Id::SignalName(FieldKind::read_value(field)?)),
             },
             _ => unreachable!(),
         }
@@ -126,57 +120,23 @@ impl OneOf for Result {
         match field.number {
             4 => match oneof {
                 Some(Result::Void(void)) => void.merge_value(field)?,
-                _ => {
-                    let member = oneof.insert(Result::Void(FieldKind::empty_value(field.alloc)));
-                    let Result::Void(held) = member else {
-                        unreachable!()
-                    };
-                    held.merge_value(field)?
-                }
+                _ => *oneof = Some(Result::Void(FieldKind::read_value(field)?)),
             },
             5 => match oneof {
                 Some(Result::Value(value)) => value.merge_value(field)?,
-                _ => {
-                    let member = oneof.insert(Result::Value(FieldKind::empty_value(field.alloc)));
-                    let Result::Value(held) = member else {
-                        unreachable!()
-                    };
-                    held.merge_value(field)?
-                }
+                _ => *oneof = Some(Result::Value(FieldKind::read_value(field)?)),
             },
             6 => match oneof {
                 Some(Result::Failure(failure)) => failure.merge_value(field)?,
-                _ => {
-                    let member = oneof.insert(Result::Failure(FieldKind::empty_value(field.alloc)));
-                    let Result::Failure(held) = member else {
-                        unreachable!()
-                    };
-                    held.merge_value(field)?
-                }
+                _ => *oneof = Some(Result::Failure(FieldKind::read_value(field)?)),
             },
             16 => match oneof {
                 Some(Result::InvocationId(invocation_id)) => invocation_id.merge_value(field)?,
-                _ => {
-                    let member = oneof.insert(Result::InvocationId(FieldKind::empty_value(
-                        field.alloc,
-                    )));
-                    let Result::InvocationId(held) = member else {
-                        unreachable!()
-                    };
-                    held.merge_value(field)?
-                }
+                _ => *oneof = Some(Result::InvocationId(FieldKind::read_value(field)?)),
             },
             17 => match oneof {
                 Some(Result::StateKeys(state_keys)) => state_keys.merge_value(field)?,
-                _ => {
-                    let member = oneof.insert(Result::StateKeys(FieldKind::empty_value(
-                        field.alloc,
-                    )));
-                    let Result::StateKeys(held) = member else {
-                        unreachable!()
-                    };
-                    held.merge_value(field)?
-                }
+                _ => *oneof = Some(Result::StateKeys(FieldKind::read_value(field)?)),
             },
             _ => unreachable!(),
         }

@@ -51,13 +51,7 @@ impl OneOf for Result {
             14 => *oneof = Some(Result::Value(FieldKind::read_value(field)?)),
             15 => match oneof {
                 Some(Result::Failure(failure)) => failure.merge_value(field)?,
-                _ => {
-                    let member = oneof.insert(Result::Failure(FieldKind::empty_value(field.alloc)));
-                    let Result::Failure(held) = member else {
-                        unreachable!()
-                    };
-                    held.merge_value(field)?
-                }
+                _ => *oneof = Some(Result::Failure(FieldKind::read_value(field)?)),
             },
             _ => unreachable!(),
         }

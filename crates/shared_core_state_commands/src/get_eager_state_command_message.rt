@@ -55,23 +55,11 @@ impl OneOf for Result {
         match field.number {
             13 => match oneof {
                 Some(Result::Void(void)) => void.merge_value(field)?,
-                _ => {
-                    let member = oneof.insert(Result::Void(FieldKind::empty_value(field.alloc)));
-                    let Result::Void(held) = member else {
-                        unreachable!()
-                    };
-                    held.merge_value(field)?
-                }
+                _ => *oneof = Some(Result::Void(FieldKind::read_value(field)?)),
             },
             14 => match oneof {
                 Some(Result::Value(value)) => value.merge_value(field)?,
-                _ => {
-                    let member = oneof.insert(Result::Value(FieldKind::empty_value(field.alloc)));
-                    let Result::Value(held) = member else {
-                        unreachable!()
-                    };
-                    held.merge_value(field)?
-                }
+                _ => *oneof = Some(Result::Value(FieldKind::read_value(field)?)),
             },
             _ => unreachable!(),
         }

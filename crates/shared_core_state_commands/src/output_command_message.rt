@@ -55,23 +55,11 @@ impl OneOf for Result {
         match field.number {
             14 => match oneof {
                 Some(Result::Value(value)) => value.merge_value(field)?,
-                _ => {
-                    let member = oneof.insert(Result::Value(FieldKind::empty_value(field.alloc)));
-                    let Result::Value(held) = member else {
-                        unreachable!()
-                    };
-                    held.merge_value(field)?
-                }
+                _ => *oneof = Some(Result::Value(FieldKind::read_value(field)?)),
             },
             15 => match oneof {
                 Some(Result::Failure(failure)) => failure.merge_value(field)?,
-                _ => {
-                    let member = oneof.insert(Result::Failure(FieldKind::empty_value(field.alloc)));
-                    let Result::Failure(held) = member else {
-                        unreachable!()
-                    };
-                    held.merge_value(field)?
-                }
+                _ => *oneof = Some(Result::Failure(FieldKind::read_value(field)?)),
             },
             _ => unreachable!(),
         }
