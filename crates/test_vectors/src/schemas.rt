@@ -5,7 +5,7 @@ use crate::schema_names::SCHEMAS;
 use crate::verdict::{Failed, Verdict};
 use bytes::Bytes;
 use shared_core::messages::{RecordVisitor, visit_record};
-use shared_core::wire::WireRecord;
+use shared_core::wire::{WireRecord, is_well_formed};
 use std::fmt::Debug;
 
 /// What is checked for payloads of a schema.
@@ -19,22 +19,29 @@ pub enum RecordQuestion {
     Record,
 }
 
-/// Checks payloads of the schema with this name.
+/// Checks payloads of the schema with this name: first that they are malformed exactly where the check of payloads,
+/// which decodes nothing, says so.
 pub fn check_record(
-    schema: &str,
+    name: &str,
     question: RecordQuestion,
     payloads: &[Bytes],
     verdict: &mut Verdict<'_>,
 ) -> Result<(), Failed> {
-    let Some(place) = SCHEMAS.iter().position(|name| *name == schema) else {
+    let Some(place) = SCHEMAS.iter().position(|known| *known == name) else {
         return Err(Failed::Unreadable);
     };
+    let schema = place as u32;
+    let well_formed = payloads
+        .iter()
+        .all(|payload| is_well_formed(schema, payload.as_slice()));
+    let same = well_formed == (verdict.wanted != "malformed");
+    verdict.require(same, "the check of payloads says otherwise")?;
     let check = RecordCheck {
         question,
         payloads,
         verdict,
     };
-    visit_record(place as u32, check).unwrap_or(Err(Failed::Unreadable))
+    visit_record(schema, check).unwrap_or(Err(Failed::Unreadable))
 }
 
 /// The check of payloads of a record.
