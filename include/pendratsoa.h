@@ -121,7 +121,7 @@ int64_t journal_frame(uint32_t version, uint16_t code, const uint8_t *payload, s
  * Payloads, by their schemas. JOURNAL_UNKNOWN if no schema has the number; JOURNAL_OUT_OF_MEMORY.
  */
 
-/* Returns 1 if a payload is well-formed for a schema, otherwise 0. Does not allocate. */
+/* Returns 1 if a payload is well-formed for a schema, otherwise 0. */
 int64_t journal_is_well_formed(uint32_t schema, const uint8_t *payload, size_t payload_length);
 
 /*

@@ -107,7 +107,7 @@ static const struct {
     [NEXT] = {"journal_next", 1, JOURNAL_ITEM_NUMBERS, 0, UNKNOWN | NO_ROOM, 4},
     [HEADER] = {"journal_header", 0, 0, 1, UNKNOWN, 1},
     [FRAME] = {"journal_frame", 1, 0, 1, UNKNOWN | MALFORMED | MEMORY | TOO_LONG, 1},
-    [IS_WELL_FORMED] = {"journal_is_well_formed", 1, 0, 0, UNKNOWN, 2},
+    [IS_WELL_FORMED] = {"journal_is_well_formed", 1, 0, 0, UNKNOWN | MEMORY, 2},
     [CANONICAL] = {"journal_canonical", 1, 0, 1, UNKNOWN | MALFORMED | MEMORY | TOO_LONG, 1},
     [MERGE] = {"journal_merge", 2, 0, 1, UNKNOWN | MALFORMED | MEMORY | TOO_LONG, 1},
     [JSON] = {"journal_json", 1, 0, 1, UNKNOWN | MALFORMED | MEMORY | TOO_LONG, 1},

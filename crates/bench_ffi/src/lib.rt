@@ -146,8 +146,13 @@ pub extern "C" fn measure_frame_shared(
 
 /// As `journal_is_well_formed`, but repeated `rounds` times (0 counts as 1).
 #[unsafe(no_mangle)]
-pub extern "C" fn measure_well_formed(schema: u32, payload: &[u8], rounds: usize) -> i64
+pub extern "C" fn measure_well_formed(
+    alloc: Global,
+    schema: u32,
+    payload: &[u8],
+    rounds: usize,
+) -> i64
     ensures { Answers result (ReturnsWellFormed schema payload.now) }
 {
-    answer_of(payloads::is_well_formed(schema, payload, rounds))
+    answer_of(payloads::is_well_formed(alloc, schema, payload, rounds))
 }

@@ -64,9 +64,10 @@ PrintsPayload s payload (Err refusal) = ⊥
 abbrev pub ReturnsJson : ℕ → List ℕ → Result (List ℕ) Refusal → Type 0
 ReturnsJson s payload answer = MatchBool (nat_lt s (length schemas)) (PrintsPayload s payload answer) (answer ≡ Err Unknown)
 
--- The result is 1 where the payload is well-formed for the schema, and 0 where it is not.
+-- The result is 1 where the payload is well-formed for the schema, and 0 where it is not. An allocation may fail.
 abbrev pub ChecksPayload : ℕ → List ℕ → Result ℕ Refusal → Type 0
 ChecksPayload s payload (Ok answer) = ((answer ≡ 1) × IsAccepted s payload) ⊎ ((answer ≡ 0) × ¬ (IsAccepted s payload))
+ChecksPayload s payload (Err OutOfMemory) = Unit {0}
 ChecksPayload s payload (Err refusal) = ⊥
 
 -- The result of journal_is_well_formed: Unknown where no schema has the number.

@@ -2,14 +2,13 @@
 
 ghost use Rattle.std.specs.Prelude.{[], ◌∷◌, List};
 ghost use Rattle.journal_c_api.specs.Answers.{Writes, bytes_of};
-ghost use Rattle.journal_c_api.specs.Payloads.{ReturnsCanonical, ReturnsJson, ReturnsMeaning, ReturnsWellFormed, MeansRecord, EncodesPayload};
+ghost use Rattle.journal_c_api.specs.Payloads.{ReturnsCanonical, ReturnsJson, ReturnsMeaning, ReturnsWellFormed, ChecksPayload, MeansRecord, EncodesPayload};
 
 use crate::answer::{Refusal, write_answer};
 use bytes::Bytes;
 use json::Writer;
 use shared_core::messages::{RecordVisitor, visit_record};
 use shared_core::wire::{WireRecord, decode_parts};
-use shared_core_codec::check;
 use shared_core_json::{write_canonical as encode_canonical, write_message};
 use std::alloc::Global;
 use std::fmt::Debug;
@@ -54,18 +53,11 @@ pub fn write_json(
     write_answer(json(alloc, schema, payload), out)
 }
 
-/// 1 where a payload is well-formed for a schema, and otherwise 0. Does not allocate.
-pub fn is_well_formed(schema: u32, payload: &[u8]) -> Result<usize, Refusal>
+/// 1 where a payload is well-formed for a schema, and otherwise 0.
+pub fn is_well_formed(alloc: Global, schema: u32, payload: &[u8]) -> Result<usize, Refusal>
     ensures { ReturnsWellFormed schema payload.now result }
 {
-    if !check::is_schema(schema) {
-        return Err(Refusal::Unknown);
-    }
-    if check::is_well_formed(schema, payload) {
-        Ok(1)
-    } else {
-        Ok(0)
-    }
+    visit_record(schema, Checking { alloc, payload }).ok_or(Refusal::Unknown)?
 }
 
 /// The canonical payload of what a payload means.
@@ -159,6 +151,27 @@ impl<'a> RecordVisitor for CanonicalPayload<'a> {
         let mut canonical = Vec::new(self.alloc);
         encode_canonical::<M>(self.alloc, &payload, &mut canonical)?;
         Ok(canonical)
+    }
+}
+
+/// Decodes a payload, and returns whether it could: 1 or 0.
+#[derive(Drop)]
+struct Checking<'a> {
+    alloc: Global,
+    payload: &'a [u8],
+}
+
+impl<'a> RecordVisitor for Checking<'a> {
+    type Output = Result<usize, Refusal>;
+
+    ghost answers = { λ self schema answer. ChecksPayload schema self.payload.now answer };
+
+    fn visit<M: WireRecord + Debug>(self) -> Result<usize, Refusal> {
+        match decoded::<M>(self.alloc, self.payload) {
+            Ok(_record) => Ok(1),
+            Err(Refusal::Malformed) => Ok(0),
+            Err(refusal) => Err(refusal),
+        }
     }
 }
 

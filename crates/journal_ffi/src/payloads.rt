@@ -9,12 +9,12 @@ use journal_c_api::payloads;
 use std::alloc::Global;
 
 /// Returns 1 if a payload is well-formed for a schema, by its number (its index in the table), otherwise 0. `Unknown`
-/// if no schema has the number. Does not allocate.
+/// if no schema has the number.
 #[unsafe(no_mangle)]
-pub extern "C" fn journal_is_well_formed(schema: u32, payload: &[u8]) -> i64
+pub extern "C" fn journal_is_well_formed(alloc: Global, schema: u32, payload: &[u8]) -> i64
     ensures { Answers result (ReturnsWellFormed schema payload.now) }
 {
-    answer_of(payloads::is_well_formed(schema, payload))
+    answer_of(payloads::is_well_formed(alloc, schema, payload))
 }
 
 /// Decodes a payload for a schema, and writes the canonical payload of what it means.

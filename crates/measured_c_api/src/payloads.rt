@@ -5,14 +5,20 @@ ghost use Rattle.journal_c_api.specs.Payloads.{ReturnsWellFormed};
 use crate::rounds::repeated;
 use journal_c_api::answer::Refusal;
 use journal_c_api::payloads;
+use std::alloc::Global;
 
 /// Checks this many times (0 counts as 1) whether a payload is well-formed for a schema, and returns 1, otherwise 0.
-pub fn is_well_formed(schema: u32, payload: &[u8], rounds: usize) -> Result<usize, Refusal>
+pub fn is_well_formed(
+    alloc: Global,
+    schema: u32,
+    payload: &[u8],
+    rounds: usize,
+) -> Result<usize, Refusal>
     ensures { ReturnsWellFormed schema payload.now result }
 {
     repeated(
         rounds,
         &mut [],
-        |_words| payloads::is_well_formed(schema, payload),
+        |_words| payloads::is_well_formed(alloc, schema, payload),
     )
 }
