@@ -14,7 +14,6 @@ use Rattle.shared_core.specs.declared.encoding.raw_message.RawMessage.{RawMessag
 use Rattle.shared_core.specs.Errors.{command_mismatch_text}
 use Rattle.replay_bench.specs.declared.verdicts.Side.{Side}
 use Rattle.replay_bench.specs.declared.verdicts.Side.TheVariants.{Recorded, Replayed}
-use Rattle.replay_bench.specs.declared.verdicts.Comparison.{Comparison}
 use Rattle.replay_bench.specs.declared.verdicts.Verdict.{Verdict}
 use Rattle.replay_bench.specs.declared.verdicts.BenchError.{BenchError}
 use Rattle.replay_bench.specs.declared.verdicts.BenchError.TheVariants.{Malformed, TooLong, OutOfMemory}
@@ -22,7 +21,6 @@ use Rattle.replay_bench.specs.declared.verdicts.ReaderError.{ReaderError}
 use Rattle.replay_bench.specs.declared.verdicts.ReaderError.TheVariants.{Read, Bench}
 use Rattle.replay_bench.specs.Answers.{Answer, SameCommands, RecordedEnds, ReplayedEnds, OtherType, OtherCommand, NotWellFormed, answer_of}
 use Rattle.replay_bench.specs.Journals.{IsCommand, IsJournal}
-use Rattle.replay_bench.specs.Reading.{IsKnownSurvey}
 
 -- ---- the result for two commands at an index
 
@@ -132,21 +130,3 @@ abbrev pub MayFailOn : Bool → Bool → Result Verdict ReaderError → Type 0
 MayFailOn recorded replayed (Err (Read Recorded)) = recorded ≡ true
 MayFailOn recorded replayed (Err (Read Replayed)) = replayed ≡ true
 MayFailOn recorded replayed answer = Unit {0}
-
--- ---- both journals surveyed
-
--- What a comparison that surveys both journals returns: the verdict, if the bytes of both are known, and the survey of
--- each whose bytes are known; or why there is no verdict.
-abbrev pub SurveysRead : Version → Bool → Bool → List ℕ → List ℕ → Result Comparison ReaderError → Type 0
-SurveysRead version ignore is_strict recorded replayed (Ok found) =
-    ComparesRead version ignore recorded replayed (Ok found.verdict)
-    × IsSurvey version is_strict recorded found.recorded × IsSurvey version is_strict replayed found.replayed
-SurveysRead version ignore is_strict recorded replayed (Err error) = ComparesRead version ignore recorded replayed (Err error)
-
--- The same of the bytes that two sources will give: a survey says something where those of its side are known, and the
--- verdict where those of both are.
-abbrev pub Surveys : Version → Bool → Bool → Option (List ℕ) → Option (List ℕ) → Result Comparison ReaderError → Type 0
-Surveys version ignore is_strict recorded replayed (Ok found) =
-    ComparesKnown version ignore recorded replayed (Ok found.verdict)
-    × IsKnownSurvey version is_strict recorded found.recorded × IsKnownSurvey version is_strict replayed found.replayed
-Surveys version ignore is_strict recorded replayed (Err error) = ComparesKnown version ignore recorded replayed (Err error)

@@ -1,11 +1,10 @@
 //! The commands of one journal.
 
-ghost use Rattle.std.specs.Prelude.{◌≡◌, ◌+◌, ◌≤◌, ◌<◌, ◌^◌, ◌++◌, ℕ, Bool, List, Option, [], length, IfErr, IfOk, IfSome, MatchOption, OnOk, IsErrOf, None};
-ghost use Rattle.std.specs.Io.KnownBytes.{prepend_known, IsAtEnd};
+ghost use Rattle.std.specs.Prelude.{◌≡◌, ◌+◌, ◌≤◌, ◌<◌, ◌^◌, ◌++◌, [], length, IfErr, IfOk, IfSome, MatchOption, OnOk, IsErrOf, None};
+ghost use Rattle.std.specs.Io.KnownBytes.{prepend_known};
 ghost use Rattle.shared_core_base.specs.Version.{version_number};
 ghost use Rattle.shared_core.specs.Items.{NoItemBegins};
 ghost use Rattle.replay_bench.specs.Journals.{command_of, IsCommand};
-ghost use Rattle.replay_bench.specs.Reading.{HasItems, HasRead, HasReadSome, IsKnownSurvey, IsNew};
 ghost use Rattle.replay_bench.specs.Taking.{known_length, HasNoCommand, LeadsTo, KeepsLength, MayRefuse, RefusesLength, TakesFirst};
 
 use crate::sources::{Source, SourceError};
@@ -15,45 +14,29 @@ use shared_core::CommandType;
 use shared_core::encoding::{Decoder, Item, PushError, RawMessage};
 use shared_core::version::Version;
 use std::alloc::{AllocError, Global};
-use stream_survey::Survey;
 
 /// The commands of a journal that comes in chunks, one after the other. Of the journal it holds the chunks that no item
 /// has used up.
 #[derive(Drop)]
 pub(crate) struct Commands<S> {
-    alloc: Global,
     side: Side,
-    version: Version,
     decoder: Decoder,
     source: S,
     /// How many bytes have come in all.
     taken: u64,
-    /// The survey of the items that were taken.
-    survey: Survey,
 }
 
 impl<S: Source> Commands<S> {
-    /// The commands of the journal on this side, whose version is at least V5. The survey finds faults if it is
-    /// strict.
-    pub(crate) fn new(
-        alloc: Global,
-        version: Version,
-        side: Side,
-        source: S,
-        is_strict: bool,
-    ) -> Commands<S>
+    /// The commands of the journal on this side, whose version is at least V5.
+    pub(crate) fn new(alloc: Global, version: Version, side: Side, source: S) -> Commands<S>
         requires { 5 ≤ version_number version }
-        ensures new { IsNew version is_strict side result.side result.version result.decoder.version result.decoder.bytes result.taken result.survey }
-        ensures source { result.source ≡ source }
+        ensures { result ≡ record { side = side; decoder = record { version = version; bytes = [] }; source = source; taken = 0 } }
     {
         Commands {
-            alloc,
             side,
-            version,
             decoder: Decoder::new(alloc, version),
             source,
             taken: 0,
-            survey: Survey::new(is_strict),
         }
     }
 
@@ -62,8 +45,6 @@ impl<S: Source> Commands<S> {
     pub(crate) fn next_command(&mut self) -> Result<Option<RawMessage>, ReaderError>
         requires held { length self.old.decoder.bytes ≤ self.old.taken }
         requires fits { self.old.taken < 2 ^ 64 }
-        requires same { self.old.decoder.version ≡ self.old.version }
-        requires read { HasReadSome self.old.version self.old.decoder.bytes self.old.taken self.old.survey }
         ensures taken { IfOk result (λ found. MatchOption found
             (HasNoCommand self.old.decoder.version (prepend_known self.old.decoder.bytes (S.coming self.old.source)))
             (λ command. TakesFirst self.old.decoder.version (prepend_known self.old.decoder.bytes (S.coming self.old.source)) (Some command)
@@ -78,22 +59,9 @@ impl<S: Source> Commands<S> {
         ensures fits { OnOk result (self.new.taken < 2 ^ 64) }
         ensures version { OnOk result (self.new.decoder.version ≡ self.old.decoder.version) }
         ensures side { OnOk result (self.new.side ≡ self.old.side) }
-        ensures same { OnOk result (self.new.version ≡ self.old.version) }
-        // the items so far are surveyed, whatever was to come at first
-        ensures read { OnOk result ((is_strict : Bool) (first : Option (List ℕ))
-            → HasRead self.old.version is_strict first (S.coming self.old.source) self.old.decoder.bytes self.old.taken self.old.survey
-            → HasRead self.old.version is_strict first (S.coming self.new.source) self.new.decoder.bytes self.new.taken self.new.survey) }
-        ensures ended { IfOk result (λ found. found ≡ None
-            → NoItemBegins self.old.version self.new.decoder.bytes × IsAtEnd (S.coming self.new.source)) }
     {
         loop {
-            let found = buffered_command(
-                self.alloc,
-                self.version,
-                &mut self.decoder,
-                &mut self.survey,
-            )?;
-            if let Some(command) = found {
+            if let Some(command) = buffered_command(&mut self.decoder)? {
                 return Ok(Some(command));
             }
             let piece = match self.source.next_piece() {
@@ -106,21 +74,6 @@ impl<S: Source> Commands<S> {
             };
             self.taken = push(&mut self.decoder, self.taken, piece)?;
         }
-    }
-
-    /// Reads the journal to its end, and returns the survey of all of it.
-    pub(crate) fn finish(mut self) -> Result<Survey, ReaderError>
-        requires held { length self.decoder.bytes ≤ self.taken }
-        requires fits { self.taken < 2 ^ 64 }
-        requires same { self.decoder.version ≡ self.version }
-        requires read { HasReadSome self.version self.decoder.bytes self.taken self.survey }
-        ensures survey { IfOk result (λ survey. (is_strict : Bool) (first : Option (List ℕ))
-            → HasRead self.version is_strict first (S.coming self.source) self.decoder.bytes self.taken self.survey
-            → IsKnownSurvey self.version is_strict first survey) }
-        ensures refused { IfErr result (MayRefuse self.side S.may_fail (known_length self.taken (S.coming self.source))) }
-    {
-        while self.next_command()?.is_some() {}
-        Ok(self.survey.with_rest(self.decoder.pending()))
     }
 }
 
@@ -144,17 +97,8 @@ fn push(decoder: &mut Decoder, taken: u64, piece: Bytes) -> Result<u64, BenchErr
 }
 
 /// The next command among the whole items that a decoder holds, or `None` where no whole item is left. Other items are
-/// passed over. All of them are surveyed.
-fn buffered_command(
-    alloc: Global,
-    version: Version,
-    decoder: &mut Decoder,
-    survey: &mut Survey,
-) -> Result<Option<RawMessage>, AllocError>
-    requires same { decoder.old.version ≡ version }
-    requires read { (came : List ℕ) × (is_strict : Bool) × HasItems version is_strict came decoder.old.bytes survey.old × (length came < 2 ^ 64) }
-    ensures read { OnOk result ((came : List ℕ) (is_strict : Bool) → HasItems version is_strict came decoder.old.bytes survey.old
-        → HasItems version is_strict came decoder.new.bytes survey.new) }
+/// passed over.
+fn buffered_command(decoder: &mut Decoder) -> Result<Option<RawMessage>, AllocError>
     ensures leads { IfOk result (λ found. LeadsTo decoder.old.version decoder.old.bytes found decoder.new.bytes) }
     ensures command { IfOk result (λ found. IfSome found IsCommand) }
     ensures none { IfOk result (λ found. found ≡ None → NoItemBegins decoder.old.version decoder.new.bytes) }
@@ -164,7 +108,6 @@ fn buffered_command(
     ensures version { decoder.new.version ≡ decoder.old.version }
 {
     while let Some(item) = decoder.next_item()? {
-        survey.note(alloc, version, &item)?;
         if let Some(command) = as_command(item) {
             return Ok(Some(command));
         }

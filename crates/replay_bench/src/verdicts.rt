@@ -3,7 +3,6 @@
 use std::alloc::AllocError;
 use std::error::Error;
 use std::fmt;
-use stream_survey::Survey;
 
 /// One of the two journals that are compared.
 #[derive(Clone, Copy, Debug, PartialEq, Eq)]
@@ -51,17 +50,6 @@ pub enum Verdict {
         /// The type, and a line for each printed field in which they differ, the recorded command's first.
         text: String,
     },
-}
-
-/// Two journals, compared and surveyed.
-#[derive(Debug, PartialEq, Drop)]
-pub struct Comparison {
-    /// How they compare.
-    pub verdict: Verdict,
-    /// What the recorded journal has.
-    pub recorded: Survey,
-    /// What the replayed journal has.
-    pub replayed: Survey,
 }
 
 /// Why two journals have no verdict.

@@ -35,12 +35,7 @@ loop-command-preserved g c =
     let bytes : c.push.new.decoder.bytes ≡ before ++ piece = ap (λ d. d.bytes) c.in_ok-self.ensures.pushed in
     let long : length c.push.new.decoder.bytes ≡ length before + length piece = ap length bytes ∙ length-append before piece in
     let short = rw c.in_default.is at c.in_ok-command.ensures.shorter in
-    let read = λ is_strict first has. read_piece c.args.self.now.version is_strict first old new before piece _ _ _ gives c.in_ok-self.ensures.counted
-    (read_held c.args.self.now.version is_strict first old _ _ _ _ _ (λ came strict. rw inv.same at (c.in_ok-command.ensures.read came strict)) (inv.read is_strict first has)) in
     record {
-      same = inv.same;
-      read = ?;
-      some = ?;
       version = ap (λ d. d.version) c.in_ok-self.ensures.pushed ∙ c.in_ok-command.ensures.version ∙ inv.version;
       side = inv.side;
       held = omega (arith, inv.held, short, c.in_ok-self.ensures.counted, long);

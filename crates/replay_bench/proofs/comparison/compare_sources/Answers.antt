@@ -7,7 +7,7 @@ use Rattle.replay_bench.specs.Answers.{answer_of}
 use Rattle.replay_bench.specs.Taking.{HasNoCommand, TakesFirst}
 use Rattle.replay_bench.proofs.Endings.{IsNext, answers_refusal, answers_verdict, are_alike, ends_first, ends_found, ends_replayed, ends_together, goes_after, is_found}
 use Rattle.replay_bench.proofs.Lengths.{keeps_on}
-use Rattle.replay_bench.proofs.comparison.find_verdict.Goals as goal
+use Rattle.replay_bench.proofs.comparison.compare_sources.Goals as goal
 
 pub returns-then-is_some-clause-compared : goal.returns-then-is_some-clause-compared
 returns-then-is_some-clause-compared g c =

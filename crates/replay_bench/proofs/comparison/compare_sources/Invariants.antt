@@ -3,7 +3,7 @@ use Rattle.std.specs.Io.KnownBytes.{prepend_known}
 use Rattle.replay_bench.specs.declared.verdicts.Side.TheVariants.{Recorded, Replayed}
 use Rattle.replay_bench.specs.Taking.{KeepsLength, known_length}
 use Rattle.replay_bench.proofs.Endings.{GoesOn}
-use Rattle.replay_bench.proofs.comparison.find_verdict.Given as goal
+use Rattle.replay_bench.proofs.comparison.compare_sources.Given as goal
 
 abbrev pub invariant-loop-replayed : goal.invariant-loop-replayed
 invariant-loop-replayed g l = record {
