@@ -86,9 +86,8 @@ class Command:
         return next((row for row in self.message.rows if min(numbers(row)) == number), None)
 
     def compared(self):
-        """The fields that are compared, those with payloads last."""
-        rows = [row for row in self.message.rows if not set(numbers(row)) & set(self.entry.not_compared)]
-        return sorted(rows, key=self.is_payload)
+        """The fields that are compared, in the order of the rows, by which the proof of the comparison goes."""
+        return [row for row in self.message.rows if not set(numbers(row)) & set(self.entry.not_compared)]
 
     def is_payload(self, row):
         return bool(set(numbers(row)) & set(self.entry.payloads))
@@ -198,7 +197,8 @@ def write_equality(source, command):
     else:
         if any(command.is_payload(row) for row in rows):
             ignored = ignored.removeprefix("_")
-        test = " && ".join(same(source, command, row) for row in rows)
+        tests = [same(source, command, row) for row in rows]
+        test = " && ".join([*(f"({one})" if one.startswith("if ") else one for one in tests[:-1]), tests[-1]])
     source.body.append(
         f"impl {trait} for {command.message.name} {{\n"
         f"    fn header_eq(&self, {other}: &Self, {ignored}: bool) -> bool {{\n        {test}\n    }}\n}}\n"

@@ -3,7 +3,7 @@ what of a command is compared and printed. And the list of types for the scripts
 """
 from . import laid_out
 from .commands import Entry, name_number
-from .proto import OneOf, earlier, messages, schema_name, schemas, typed
+from .proto import OneOf, earlier, fields_of, messages, refuse, schema_name, schemas, typed
 from .records import KINDS, missing  # noqa: F401
 
 ABOUT = "The tables of schemas, of message types and of compared commands, for contracts."
@@ -18,6 +18,11 @@ TABLE = """\
 -- index in the table. Rows are in the order of their numbers, a oneof at its least number.
 use Rattle.std.specs.Prelude.{ℕ, List, [], ◌∷◌}
 use Rattle.shared_core_wire.specs.Schema.{Row, Table, U32, U64, Boolean, Enumeration, Text, ByteString, Message, Plain, Optional, Repeated, OneOf, table_of}
+"""
+
+FIELDS = """\
+-- The numbers of the fields of the messages that have no type of their own, each named after its message and itself.
+use Rattle.std.specs.Prelude.{ℕ}
 """
 
 MESSAGES = """\
@@ -85,6 +90,22 @@ def table():
     return "".join(parts)
 
 
+def part_fields():
+    """The numbers of the fields of messages without a code, by their names."""
+    parts = [FIELDS]
+    known = {}
+    for message in schemas():
+        if message.code is not None:
+            continue
+        for field in fields_of(message):
+            name = f"{schema_name(message.name)}_{field.name}"
+            if name in known:
+                refuse(f"{field.name} of {message.name} and {known[name]} have one name in the table of fields, {name}")
+            known[name] = f"{field.name} of {message.name}"
+            parts.append(f"\n-- The number of {known[name]}.\nabbrev pub {name} : ℕ\n{name} = {field.number}\n")
+    return "".join(parts)
+
+
 def variants(and_custom=True):
     """The names of the types as a list in braces."""
     return ", ".join([message.type_name() for message in typed()] + (["CustomEntry"] if and_custom else []))
@@ -133,6 +154,7 @@ def texts():
     """The tables, not yet laid out."""
     return {
         "crates/shared_core_codec/specs/Table.antt": table(),
+        "crates/shared_core_codec/specs/PartFields.antt": part_fields(),
         "crates/shared_core_message/specs/Messages.antt": message_schemas(),
         "crates/shared_core_compare/specs/CommandTable.antt": commands(),
     }

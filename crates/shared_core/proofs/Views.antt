@@ -20,6 +20,8 @@ use Rattle.shared_core_codec.specs.Payloads.{IsAccepted}
 use Rattle.shared_core_codec.proofs.Tables.{are_schemas}
 use Rattle.shared_core_message.specs.Messages.{message_schema}
 use Rattle.shared_core_parts.specs.declared.notification.Notification.{Notification}
+use Rattle.shared_core_parts.specs.contracts.notification_template.IdOneOf.TheImpl as ids
+use Rattle.shared_core_parts.specs.contracts.notification_template.ResultOneOf.TheImpl as results
 use Rattle.shared_core.specs.declared.encoding.raw_message.RawMessage.{RawMessage}
 use Rattle.shared_core.specs.declared.encoding.error.DecodingError.{DecodingError}
 use Rattle.shared_core.specs.declared.encoding.error.DecodingError.TheVariants.{DecodeMessage, OutOfMemory}
@@ -93,8 +95,8 @@ unfolding first_holds second_holds
 records_held payload id result means =
     let rs = payload_records 100 payload in
     let nested = message_overlay table 100 in (
-      sym (ap first_holds means.1 ∙ oneof_holds ((1, U32) ∷ (2, U32) ∷ (3, Text) ∷ []) nested rs),
-      sym (ap second_holds means.1 ∙ oneof_holds ((4, Message tables.void) ∷ (5, Message tables.value) ∷ (6, Message tables.failure) ∷ (16, Text) ∷ (17, Message tables.state_keys) ∷ []) nested rs),
+      sym (ap first_holds means.1 ∙ oneof_holds ids.members-value.it nested rs),
+      sym (ap second_holds means.1 ∙ oneof_holds results.members-value.it nested rs),
     )
 
 -- the field that is lacking where the template holds these

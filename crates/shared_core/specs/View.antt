@@ -1,7 +1,7 @@
 -- The view of a notification, whatever its type.
 use Rattle.std.specs.Prelude.{◌≡◌, ◌≢◌, ◌⊎◌, ℕ, Bool, List, [], ◌∷◌, Option, Some, None, Result, Ok, Err, true, codes, nat_eq, if◌then◌else◌}
 use Rattle.std.specs.List.{list_any}
-use Rattle.shared_core_wire.specs.Schema.{includes, all_numbers}
+use Rattle.shared_core_wire.specs.Schema.{OneOf, includes, all_numbers, numbers}
 use Rattle.shared_core_wire.specs.Overlay.{payload_records}
 use Rattle.shared_core_wire.specs.Template.{are_apart, part_at}
 use Rattle.shared_core_wire.specs.Value.{Part, Parts, Absent, nil, cons}
@@ -38,11 +38,11 @@ RefusesNotification message refusal = RefusesPayload notification_template messa
 
 -- The numbers of an id in the template.
 abbrev pub id_numbers : List ℕ
-id_numbers = 1 ∷ 2 ∷ 3 ∷ []
+id_numbers = numbers (OneOf ids.members-value.it)
 
 -- The numbers of a result in the template.
 abbrev pub result_numbers : List ℕ
-result_numbers = 4 ∷ 5 ∷ 6 ∷ 16 ∷ 17 ∷ []
+result_numbers = numbers (OneOf results.members-value.it)
 
 -- Whether a record of the payload has one of these numbers.
 abbrev pub has_record : List ℕ → List ℕ → Bool

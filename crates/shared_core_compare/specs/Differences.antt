@@ -8,6 +8,7 @@ use Rattle.shared_core_wire.specs.Value.{Part, Parts, Number, Bytes, Nested, Ele
 use Rattle.shared_core_wire.specs.Template.{part_at}
 use Rattle.shared_core_codec.specs.Table.{table}
 use Rattle.shared_core_codec.specs.Table as schema
+use Rattle.shared_core_codec.specs.PartFields.{value_content, failure_code, failure_message, header_key, header_value, state_keys_keys}
 use Rattle.shared_core_codec.specs.Equality.{is_present, part_equal}
 use Rattle.shared_core_parts.specs.Texts.{value_text, failure_text, header_text, state_keys_text}
 use Rattle.shared_core_compare.specs.Commands.{command_fields, first_part, rest_parts, name_number}
@@ -40,10 +41,10 @@ abbrev pub message_text : ℕ → Parts → List ℕ
 message_text s v =
     let at = part_at (table s) v in
     if nat_eq s schema.void then codes "void"
-    else (if nat_eq s schema.value then value_text (bytes_of (at 1))
-    else (if nat_eq s schema.failure then failure_text (number_of (at 1)) (bytes_of (at 2))
-    else (if nat_eq s schema.header then header_text (bytes_of (at 1)) (bytes_of (at 2))
-    else (if nat_eq s schema.state_keys then state_keys_text (map bytes_of (elements_of (at 1)))
+    else (if nat_eq s schema.value then value_text (bytes_of (at value_content))
+    else (if nat_eq s schema.failure then failure_text (number_of (at failure_code)) (bytes_of (at failure_message))
+    else (if nat_eq s schema.header then header_text (bytes_of (at header_key)) (bytes_of (at header_value))
+    else (if nat_eq s schema.state_keys then state_keys_text (map bytes_of (elements_of (at state_keys_keys)))
     else (if nat_eq s schema.idempotent_request_target then codes "IdempotentRequestTarget"
     else (if nat_eq s schema.workflow_target then codes "WorkflowTarget"
     else []))))))

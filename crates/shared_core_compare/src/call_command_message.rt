@@ -23,6 +23,7 @@ impl CommandMessageHeaderEq for CallCommandMessage {
     fn header_eq(&self, other: &Self, ignore_payload_equality: bool) -> bool {
         self.service_name == other.service_name
             && self.handler_name == other.handler_name
+            && (ignore_payload_equality || self.parameter == other.parameter)
             && same_messages(&self.headers, &other.headers)
             && self.key == other.key
             && self.idempotency_key == other.idempotency_key
@@ -31,7 +32,6 @@ impl CommandMessageHeaderEq for CallCommandMessage {
             && self.invocation_id_notification_idx == other.invocation_id_notification_idx
             && self.result_completion_id == other.result_completion_id
             && self.name == other.name
-            && (ignore_payload_equality || self.parameter == other.parameter)
     }
 }
 

@@ -36,12 +36,12 @@ impl NamedCommandMessage for CompleteAwakeableCommandMessage {
 impl CommandMessageHeaderEq for CompleteAwakeableCommandMessage {
     fn header_eq(&self, other: &Self, ignore_payload_equality: bool) -> bool {
         self.awakeable_id == other.awakeable_id
-            && self.name == other.name
-            && if ignore_payload_equality {
+            && (if ignore_payload_equality {
                 same_but_payload(&self.result, &other.result)
             } else {
                 same_oneof(&self.result, &other.result)
-            }
+            })
+            && self.name == other.name
     }
 }
 

@@ -36,13 +36,13 @@ impl NamedCommandMessage for CompletePromiseCommandMessage {
 impl CommandMessageHeaderEq for CompletePromiseCommandMessage {
     fn header_eq(&self, other: &Self, ignore_payload_equality: bool) -> bool {
         self.key == other.key
-            && self.result_completion_id == other.result_completion_id
-            && self.name == other.name
-            && if ignore_payload_equality {
+            && (if ignore_payload_equality {
                 same_but_payload(&self.completion, &other.completion)
             } else {
                 same_oneof(&self.completion, &other.completion)
-            }
+            })
+            && self.result_completion_id == other.result_completion_id
+            && self.name == other.name
     }
 }
 

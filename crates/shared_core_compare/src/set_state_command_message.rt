@@ -19,12 +19,12 @@ impl NamedCommandMessage for SetStateCommandMessage {
 impl CommandMessageHeaderEq for SetStateCommandMessage {
     fn header_eq(&self, other: &Self, ignore_payload_equality: bool) -> bool {
         self.key == other.key
-            && self.name == other.name
-            && if ignore_payload_equality {
+            && (if ignore_payload_equality {
                 self.value.is_some() == other.value.is_some()
             } else {
                 self.value == other.value
-            }
+            })
+            && self.name == other.name
     }
 }
 
