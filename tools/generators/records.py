@@ -99,7 +99,7 @@ DERIVED = {("NotificationTemplate", "id"): ["Eq", "Hash"]}
 # Modules that are written by hand, those that other crates see and those that they do not, and what is shown of them beside records.
 BY_HAND = {
     PARTS_CRATE: ["conversions", "laws", "notification", "texts", *(snake(name) for name in HAND_WRITTEN)],
-    "shared_core_runtime": ["versions"],
+    "shared_core_runtime": ["flat_suspension", "versions"],
 }
 INNER = {PARTS_CRATE: ["escape"]}
 SHOWN = {PARTS_CRATE: ["texts::{HeadersText, StateKeysText}"]}
@@ -421,7 +421,6 @@ def write_message(source, message):
     )
     if message.differs_by_version:
         return
-    source.prelude.add("false")
     source.ghosts.add("Rattle.shared_core_message.specs.Frames.{plain_form}")
     source.uses |= {
         "bytes::BytesMut",
@@ -434,7 +433,6 @@ def write_message(source, message):
     source.body.append(
         f"\nimpl RestateEncodableMessage for {name} {{\n"
         f"    ghost wire_form = {{ λ message _. plain_form tables.{schema_name(name)} (⟦<{name} as WireRecord>⟧.parts message) }};\n\n"
-        "    ghost is_rewritten = { λ _. false };\n\n"
         f"    fn encode_into(&self, _version: Version, out: &mut Vec<u8>) -> {result}<(), EncodingError> {{\n"
         "        encode_frame_into(self, None, out)\n    }\n\n"
         f"    fn encode_into_bytes(&self, _version: Version, out: &mut BytesMut) -> {result}<(), EncodingError> {{\n"

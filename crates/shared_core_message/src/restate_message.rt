@@ -1,6 +1,6 @@
 //! The traits of messages: `RestateMessage` for the type, `RestateEncodableMessage` for encoding.
 
-ghost use Rattle.std.specs.Prelude.{◌≡◌, ◌≤◌, ◌<◌, ◌+◌, ◌^◌, ◌++◌, Bool, IfOk, OnOk, OnErr, IsErr, Err, false, MatchBool, vec_len, vec_capacity};
+ghost use Rattle.std.specs.Prelude.{◌≡◌, ◌≤◌, ◌<◌, ◌+◌, ◌^◌, ◌++◌, IfOk, OnOk, OnErr, Err, vec_len, vec_capacity};
 ghost use Rattle.std.specs.Result.{IsErrOf};
 ghost use Rattle.shared_core_base.specs.declared.header.MessageType.{MessageType as AnyType};
 ghost use Rattle.shared_core_base.specs.MessageType.{IsNamed};
@@ -37,13 +37,10 @@ pub trait RestateEncodableMessage: RestateMessage {
     /// What it is written as at a version.
     ghost wire_form: { Self → AnyVersion → WireForm };
 
-    /// Whether it is written as another record at a version, which allocates first.
-    ghost is_rewritten: { AnyVersion → Bool };
-
     /// Appends the frame: the header's eight bytes and the canonical payload of what it is written as.
     ///
-    /// The errors are those of `encode`; `OutOfMemory` comes only if the buffer has too little room, or if the message
-    /// is rewritten first. After an error the buffer is unchanged. Its capacity never shrinks.
+    /// The errors are those of `encode`; `OutOfMemory` comes only if the buffer has too little room. After an error the
+    /// buffer is unchanged. Its capacity never shrinks.
     fn encode_into(&self, version: Version, out: &mut Vec<u8>) -> Result<(), EncodingError>
         ensures ok { OnOk result (out.new.items ≡ out.old.items ++ wire_frame Self.message_type (wire_form self.now version)) }
         ensures short { OnOk result (wire_size (wire_form self.now version) < 2 ^ 32) }
@@ -51,10 +48,9 @@ pub trait RestateEncodableMessage: RestateMessage {
         ensures fits { OnOk result (WireFits (wire_form self.now version)) }
         ensures unchanged { OnErr result (out.new.items ≡ out.old.items) }
         ensures capacity { vec_capacity out.old ≤ vec_capacity out.new }
-        ensures full { is_rewritten version ≡ false → IsErrOf result OutOfMemory → vec_capacity out.old < vec_len out.old + (8 + wire_size (wire_form self.now version)) }
+        ensures full { IsErrOf result OutOfMemory → vec_capacity out.old < vec_len out.old + (8 + wire_size (wire_form self.now version)) }
         ensures too_long { IsErrOf result PayloadTooLong → 2 ^ 32 ≤ wire_size (wire_form self.now version) }
-        ensures refused { 2 ^ 32 ≤ wire_size (wire_form self.now version)
-            → MatchBool (is_rewritten version) (IsErr result) (result ≡ Err PayloadTooLong) };
+        ensures refused { 2 ^ 32 ≤ wire_size (wire_form self.now version) → result ≡ Err PayloadTooLong };
 
     /// Appends the frame, as `encode_into` does, to a buffer whose spare room is initialized, so that no byte is
     /// written twice.
@@ -64,25 +60,23 @@ pub trait RestateEncodableMessage: RestateMessage {
         // what is written fits its schema
         ensures fits { OnOk result (WireFits (wire_form self.now version)) }
         ensures unchanged { OnErr result (out.new.items ≡ out.old.items) }
-        ensures full { is_rewritten version ≡ false → IsErrOf result OutOfMemory → out.old.spare < 8 + wire_size (wire_form self.now version) }
+        ensures full { IsErrOf result OutOfMemory → out.old.spare < 8 + wire_size (wire_form self.now version) }
         ensures spare { OnOk result (out.old.spare ≤ out.new.spare + (8 + wire_size (wire_form self.now version))) }
         ensures kept { OnErr result (out.old.spare ≤ out.new.spare) }
         ensures too_long { IsErrOf result PayloadTooLong → 2 ^ 32 ≤ wire_size (wire_form self.now version) }
-        ensures refused { 2 ^ 32 ≤ wire_size (wire_form self.now version)
-            → MatchBool (is_rewritten version) (IsErr result) (result ≡ Err PayloadTooLong) };
+        ensures refused { 2 ^ 32 ≤ wire_size (wire_form self.now version) → result ≡ Err PayloadTooLong };
 
     /// Returns the frame: the header's eight bytes and the canonical payload of what it is written as.
     ///
-    /// `PayloadTooLong` if and only if that payload has more than 4,294,967,295 bytes, before anything is allocated,
-    /// unless the message is rewritten first. `OutOfMemory` if an allocation fails.
+    /// `PayloadTooLong` if and only if that payload has more than 4,294,967,295 bytes, before anything is allocated.
+    /// `OutOfMemory` if an allocation fails.
     final fn encode(&self, alloc: Global, version: Version) -> Result<Bytes, EncodingError>
         ensures ok { IfOk result (λ bytes. bytes ≡ wire_frame Self.message_type (wire_form self.now version)) }
         ensures short { IfOk result (λ bytes. wire_size (wire_form self.now version) < 2 ^ 32) }
         // what is written fits its schema
         ensures fits { IfOk result (λ bytes. WireFits (wire_form self.now version)) }
         ensures too_long { IsErrOf result PayloadTooLong → 2 ^ 32 ≤ wire_size (wire_form self.now version) }
-        ensures refused { 2 ^ 32 ≤ wire_size (wire_form self.now version)
-            → MatchBool (is_rewritten version) (IsErr result) (result ≡ Err PayloadTooLong) }
+        ensures refused { 2 ^ 32 ≤ wire_size (wire_form self.now version) → result ≡ Err PayloadTooLong }
     {
         let mut frame = Vec::new(alloc);
         self.encode_into(version, &mut frame)?;

@@ -1,2 +1,2 @@
-pub mod FlattenedFutures
+pub mod AwaitedLists
 pub mod FlattenedFits

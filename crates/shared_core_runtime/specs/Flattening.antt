@@ -1,8 +1,6 @@
 -- A tree of futures as the three lists of what it awaits.
-use Rattle.std.specs.Prelude.{◌≡◌, ℕ, zero, suc, List, [], ◌∷◌, ◌++◌}
+use Rattle.std.specs.Prelude.{ℕ, zero, suc, List, [], ◌∷◌, ◌++◌}
 use Rattle.shared_core_wire.specs.Value.{Part, Parts, Absent, Number, Bytes, Nested, Elements, Member, nil, cons, ◌+++◌}
-use Rattle.shared_core_codec.specs.FieldParts.{parts_of, text_part}
-use Rattle.shared_core_runtime.specs.declared.suspension_message_v6.SuspensionMessageV6.{SuspensionMessageV6}
 
 unfoldable mutual
   -- The messages in a part: its message and those nested in it, or those in its elements, in order.
@@ -48,9 +46,3 @@ awaited_lists futures = cons (Elements (joined_lists 0 futures)) (cons (Elements
 -- it awaits nothing.
 abbrev pub flattened : Parts → Parts
 flattened suspension = awaited_lists (messages_in suspension)
-
--- A flattened suspension with some futures appended: their joined lists are after the lists that were there.
-pub record AppendsFutures (old new : SuspensionMessageV6) (futures : List Parts) : Type 0 where
-  pub completions : parts_of Number new.waiting_completions.items ≡ parts_of Number old.waiting_completions.items +++ joined_lists 0 futures
-  pub signals : parts_of Number new.waiting_signals.items ≡ parts_of Number old.waiting_signals.items +++ joined_lists 1 futures
-  pub named_signals : parts_of text_part new.waiting_named_signals.items ≡ parts_of text_part old.waiting_named_signals.items +++ joined_lists 2 futures

@@ -1,2 +1,3 @@
+pub mod AwaitedLists
 pub mod Flattening
 pub mod Versions

@@ -5,6 +5,7 @@
 pub mod awaiting_on_message;
 pub mod end_message;
 pub mod error_message;
+pub mod flat_suspension;
 pub mod get_state_ephemeral_command_message;
 pub mod get_state_ephemeral_notification_message;
 pub mod propose_run_completion_ack_message;

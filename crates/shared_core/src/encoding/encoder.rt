@@ -1,6 +1,5 @@
 //! Messages into frames.
-ghost use Rattle.std.specs.Prelude.{◌≡◌, ◌+◌, ◌<◌, ◌≤◌, ◌^◌, IfOk, OnOk, OnErr, IsErr, Err, MatchBool, false, vec_len};
-ghost use Rattle.std.specs.Prelude.{vec_capacity};
+ghost use Rattle.std.specs.Prelude.{◌≡◌, ◌+◌, ◌<◌, ◌≤◌, ◌^◌, IfOk, OnOk, OnErr, Err, vec_len, vec_capacity};
 ghost use Rattle.std.specs.Result.{IsErrOf};
 ghost use Rattle.shared_core_base.specs.Version.{version_number};
 ghost use Rattle.shared_core_codec.specs.declared.error.EncodingError.TheVariants.{PayloadTooLong, OutOfMemory};
@@ -33,8 +32,8 @@ impl Encoder {
     /// Returns the frame of a message: the header's eight bytes and the canonical encoding of what the message is
     /// written as at this version. It encodes one item, with the message's type.
     ///
-    /// `PayloadTooLong` if and only if that payload has more than 4,294,967,295 bytes, before anything is allocated,
-    /// unless the message is rewritten first, as a suspension is before V7. `OutOfMemory` if an allocation fails.
+    /// `PayloadTooLong` if and only if that payload has more than 4,294,967,295 bytes, before anything is allocated.
+    /// `OutOfMemory` if an allocation fails.
     #[tactic(auto, using(crate::proofs::DecodedFrames::is_frame_of))]
     pub fn encode<M: RestateEncodableMessage>(
         &self,
@@ -47,7 +46,7 @@ impl Encoder {
         ensures too_long { IsErrOf result PayloadTooLong
             → 2 ^ 32 ≤ wire_size (M.wire_form message.now self.now.version) }
         ensures refused { 2 ^ 32 ≤ wire_size (M.wire_form message.now self.now.version)
-            → MatchBool (M.is_rewritten self.now.version) (IsErr result) (result ≡ Err PayloadTooLong) }
+            → result ≡ Err PayloadTooLong }
     {
         message.encode(alloc, self.version)
     }
@@ -55,8 +54,8 @@ impl Encoder {
     /// Appends the frame of a message, as `encode` returns it, to a buffer.
     ///
     /// The errors are those of `encode`, and after one the buffer is unchanged. Its capacity never shrinks. It
-    /// allocates only if the buffer has too little room, or if the message is rewritten first, as a suspension is
-    /// before V7; so a buffer that is cleared and reused does not allocate once it has had room for the longest frame.
+    /// allocates only if the buffer has too little room, so a buffer that is cleared and reused does not allocate once
+    /// it has had room for the longest frame.
     #[tactic(auto, using(crate::proofs::DecodedFrames::appended_is_frame_of))]
     pub fn encode_into<M: RestateEncodableMessage>(
         &self,
@@ -70,12 +69,11 @@ impl Encoder {
             (wire_frame M.message_type (M.wire_form message.now self.now.version))) }
         ensures unchanged { OnErr result (out.new.items ≡ out.old.items) }
         ensures capacity { vec_capacity out.old ≤ vec_capacity out.new }
-        ensures full { M.is_rewritten self.now.version ≡ false → IsErrOf result OutOfMemory
-            → vec_capacity out.old < vec_len out.old + (8 + wire_size (M.wire_form message.now self.now.version)) }
+        ensures full { IsErrOf result OutOfMemory → vec_capacity out.old < vec_len out.old + (8 + wire_size (M.wire_form message.now self.now.version)) }
         ensures too_long { IsErrOf result PayloadTooLong
             → 2 ^ 32 ≤ wire_size (M.wire_form message.now self.now.version) }
         ensures refused { 2 ^ 32 ≤ wire_size (M.wire_form message.now self.now.version)
-            → MatchBool (M.is_rewritten self.now.version) (IsErr result) (result ≡ Err PayloadTooLong) }
+            → result ≡ Err PayloadTooLong }
     {
         message.encode_into(self.version, out)
     }
@@ -85,7 +83,7 @@ impl Encoder {
     /// block, so that many frames need few allocations.
     ///
     /// The errors are those of `encode`, and after one the buffer has the same bytes. It allocates only if the buffer
-    /// has too little spare room, or if the message is rewritten first, as a suspension is before V7.
+    /// has too little spare room.
     #[tactic(auto, using(crate::proofs::DecodedFrames::appended_is_frame_of))]
     pub fn encode_into_bytes<M: RestateEncodableMessage>(
         &self,
@@ -98,15 +96,14 @@ impl Encoder {
             (IsFrameOf self.now.version M.message_type (M.wire_form message.now self.now.version)
             (wire_frame M.message_type (M.wire_form message.now self.now.version))) }
         ensures unchanged { OnErr result (out.new.items ≡ out.old.items) }
-        ensures full { M.is_rewritten self.now.version ≡ false → IsErrOf result OutOfMemory
-            → out.old.spare < 8 + wire_size (M.wire_form message.now self.now.version) }
+        ensures full { IsErrOf result OutOfMemory → out.old.spare < 8 + wire_size (M.wire_form message.now self.now.version) }
         ensures spare { OnOk result
             (out.old.spare ≤ out.new.spare + (8 + wire_size (M.wire_form message.now self.now.version))) }
         ensures kept { OnErr result (out.old.spare ≤ out.new.spare) }
         ensures too_long { IsErrOf result PayloadTooLong
             → 2 ^ 32 ≤ wire_size (M.wire_form message.now self.now.version) }
         ensures refused { 2 ^ 32 ≤ wire_size (M.wire_form message.now self.now.version)
-            → MatchBool (M.is_rewritten self.now.version) (IsErr result) (result ≡ Err PayloadTooLong) }
+            → result ≡ Err PayloadTooLong }
     {
         message.encode_into_bytes(self.version, out)
     }
