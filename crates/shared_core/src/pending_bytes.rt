@@ -52,6 +52,22 @@ impl PendingBytes {
         self.len
     }
 
+    /// The allocator of the segments.
+    pub fn alloc(&self) -> Global {
+        self.alloc
+    }
+
+    /// Appends a copy of the bytes.
+    pub fn copy_to(&self, bytes: &mut Vec<u8>) -> Result<(), AllocError>
+        ensures { OnOk result (bytes.new.items ≡ bytes.old.items ++ self.now) }
+    {
+        bytes.extend_from_slice(self.front.as_slice())?;
+        for i in 0..self.after.len() {
+            bytes.extend_from_slice(self.after[i].as_slice())?;
+        }
+        Ok(())
+    }
+
     /// Puts a chunk after the bytes, without copying any. An empty chunk is not kept, and does not allocate; nor does a
     /// chunk that comes where there are no bytes.
     pub fn push(&mut self, piece: Bytes) -> Result<(), AllocFailed<Bytes>>

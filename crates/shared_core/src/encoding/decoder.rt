@@ -82,7 +82,8 @@ impl Decoder {
     ghost use Rattle.std.specs.Prelude.{None, Ok, false};
     ghost use Rattle.shared_core_base.specs.Version.{version_number};
     ghost use Rattle.shared_core.specs.Items.{ReturnsNext, NoItemBegins, PayloadIsNext, RefusesPiece, TakesEight};
-    ghost use Rattle.shared_core.specs.Items.{TakesItem, item_taken};
+    ghost use Rattle.std.specs.Prelude.{◌<◌};
+    ghost use Rattle.shared_core.specs.Items.{TakesItem, front_word, item_taken};
 
     /// Returns a decoder of this version, which is at least V5, before any byte has come. Does not allocate.
     pub fn new(alloc: Global, version: Version) -> Decoder
@@ -102,6 +103,31 @@ impl Decoder {
     {
         let held = if self.head.is_some() { 8 } else { 0 };
         held + self.pending.len() as u64
+    }
+
+    /// Returns a copy of the bytes that no call has taken yet, as of those that are left at the end of a stream.
+    pub fn copy_pending(&self) -> Result<Vec<u8>, AllocError>
+        ensures { IfOk result (λ bytes. bytes.items ≡ self.now.bytes) }
+    {
+        let mut bytes = Vec::new(self.pending.alloc());
+        if let Some(head) = &self.head {
+            bytes.extend_from_slice(head)?;
+        }
+        self.pending.copy_to(&mut bytes)?;
+        Ok(bytes)
+    }
+
+    /// The word of the next header, or `None` where its eight bytes have not all come. Takes nothing.
+    ///
+    /// An item does not hold all of its word: of a known type bits that say nothing are left out, of a code that is no
+    /// type's all but the code.
+    pub fn next_word(&mut self) -> Option<u64>
+        ensures kept { self.new ≡ self.old }
+        ensures word { MatchOption result (length self.old.bytes < 8)
+            (λ word. (8 ≤ length self.old.bytes) × (word ≡ front_word self.old.bytes)) }
+    {
+        let head = hold_head(&mut self.head, &mut self.pending)?;
+        Some(u64::from_be_bytes(head))
     }
 
     /// Appends a chunk of the stream, of any length, to the pending bytes, without copying it.
