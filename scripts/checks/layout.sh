@@ -22,6 +22,12 @@ else
   without 'the layout' rt
 fi
 
+# Lines have at most 120 characters, but for what `rt fmt` keeps on one line: a path, an attribute, a text.
+find crates tests examples \( -name '*.rt' -o -name '*.rt.in' \) ! -path '*/out/*' \
+  -exec env LC_ALL=C.UTF-8 grep -nE '^.{121,}' /dev/null {} + | grep -vE ':[0-9]+: *(ghost use|#\[)|"' > "$out" 2> "$err"
+[ ! -s "$out" ]
+outcome 'lines of at most 120 characters' $?
+
 # Each pair of texts is replaced before the next one is looked for, as the prover's tool does.
 find crates -name '*.edit' ! -path '*/out/*' | sort > "$work/edits"
 while read -r edit; do

@@ -6,6 +6,7 @@ file by its path from the root, without the first line that says who made it. Wh
 the tools is said by paths().
 """
 import pathlib
+import re
 import subprocess
 import tempfile
 
@@ -49,6 +50,62 @@ def rattle():
     return pathlib.Path(page).parent / "bin" / "rattle"
 
 
+WIDTH = 120
+
+
+def broken_import(line):
+    """A long list of ghost imports in several lines; a path that is too long by itself stays as it is."""
+    listed = re.fullmatch(r"( *ghost use [\w.]+\.\{)(.*)\};", line)
+    if not listed:
+        return [line]
+    start, names = listed[1], listed[2].split(", ")
+    for count in range(2, len(names) + 1):
+        # in so many lines of one length, as far as names have one
+        rows = [names[len(names) * i // count:len(names) * (i + 1) // count] for i in range(count)]
+        broken = [f"{start}{', '.join(row)}}};" for row in rows]
+        if all(len(part) <= WIDTH for part in broken):
+            return broken
+    return [line]
+
+
+def broken_clause(line):
+    """A long line of a clause in several, each of which begins where the brackets are least deep, at an operator."""
+    lines = []
+    indent = len(line) - len(line.lstrip())
+    further = indent + (0 if line.lstrip()[0] in "×→≡↔(" else 4)
+    while len(line) > WIDTH:
+        depth, best = 0, None
+        for at, char in enumerate(line[:WIDTH + 1]):
+            depth += (char in "([{") - (char in ")]}")
+            if char != " " or at < indent + 40 or line[at + 1] == "}":
+                continue
+            after = line[at + 1]
+            rank = 0 if after in "|→×≡↔+∷" else 1 if after == "(" else 2
+            score = (depth - 2 * (after in "|→") - (after == "×"), rank, -at)
+            if best is None or score < best[0]:
+                best = score, at
+        if best is None:
+            break
+        at = best[1]
+        lines.append(line[:at])
+        line = " " * further + line[at + 1:]
+        indent = further
+    return [*lines, line]
+
+
+def shortened(text):
+    """Rattle whose lines of imports and clauses have at most 120 characters; `rt fmt` leaves both as they are."""
+    lines = []
+    for line in text.split("\n"):
+        if len(line) <= WIDTH or '"' in line or line.lstrip().startswith(("//", "#")):
+            lines.append(line)
+        elif "ghost use" in line:
+            lines += broken_import(line)
+        else:
+            lines += broken_clause(line)
+    return "\n".join(lines)
+
+
 def laid_out(texts):
     """Files in the layout of `rt fmt`, by their paths. It takes files whose names end with `.rt` alone."""
     with tempfile.TemporaryDirectory() as work:
@@ -56,5 +113,10 @@ def laid_out(texts):
         for path, place in places.items():
             place.parent.mkdir(parents=True, exist_ok=True)
             place.write_text(texts[path])
-        subprocess.run([rattle(), "fmt", "--write", *places.values()], check=True)
+        format_command = [rattle(), "fmt", "--write", *places.values()]
+        subprocess.run(format_command, check=True)
+        for place in places.values():
+            if place.suffix == ".rt":
+                place.write_text(shortened(place.read_text()))
+        subprocess.run(format_command, check=True)
         return {path: place.read_text() for path, place in places.items()}

@@ -35,8 +35,8 @@ pub fn fail<T: Display + Drop>(rt: &HostRuntime, program: &str, why: T, status: 
 }
 
 /// Prints what a command line asks for: the help or the version, with the status 0. Otherwise prints on the standard
-/// error which argument is wrong, why, and what is taken, with the status 2. `failure` is the status of an allocation or
-/// an output that fails.
+/// error which argument is wrong, why, and what is taken, with the status 2. `failure` is the status of an allocation
+/// or an output that fails.
 pub fn report(rt: &HostRuntime, program: &str, error: &Error, failure: u8) -> ExitCode {
     if error.kind() == ErrorKind::OutOfMemory {
         return fail(rt, program, "out of memory", failure);

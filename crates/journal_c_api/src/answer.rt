@@ -1,7 +1,8 @@
 //! The results of the calls.
 
 ghost use Rattle.std.specs.Prelude.{◌≡◌, MatchOption};
-ghost use Rattle.journal_c_api.specs.Answers.{answer_number, bytes_of, supported_version, written_over, IsSpoken, Writes};
+ghost use Rattle.journal_c_api.specs.Answers.{answer_number, bytes_of, supported_version};
+ghost use Rattle.journal_c_api.specs.Answers.{written_over, IsSpoken, Writes};
 
 use shared_core::header::UnknownMessageType;
 use shared_core::messages::EncodingError;

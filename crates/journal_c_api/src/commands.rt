@@ -1,7 +1,8 @@
 //! Commands compared, by their payloads.
 
 ghost use Rattle.journal_c_api.specs.Answers.{Writes, bytes_of};
-ghost use Rattle.journal_c_api.specs.Commands.{ReturnsDifference, ReturnsSameness, ComparesPayloads, IsDifference, IsOneWhereSame};
+ghost use Rattle.journal_c_api.specs.Commands.{ReturnsDifference, ReturnsSameness};
+ghost use Rattle.journal_c_api.specs.Commands.{ComparesPayloads, IsDifference, IsOneWhereSame};
 
 use crate::answer::{Refusal, write_answer};
 use crate::payloads::decoded;
@@ -75,7 +76,8 @@ struct Comparing<'a> {
 impl<'a> CommandVisitor for Comparing<'a> {
     type Output = Result<usize, Refusal>;
 
-    ghost answers = { λ self ty schema answer. ComparesPayloads (IsOneWhereSame schema self.ignore_payloads) schema self.first.now self.second.now answer };
+    ghost answers = { λ self ty schema answer. ComparesPayloads
+        (IsOneWhereSame schema self.ignore_payloads) schema self.first.now self.second.now answer };
 
     fn visit<M: CommandMessage>(self) -> Result<usize, Refusal> {
         let first = decoded::<M>(self.alloc, self.first)?;
@@ -95,7 +97,8 @@ struct Printing<'a> {
 impl<'a> CommandVisitor for Printing<'a> {
     type Output = Result<Vec<u8>, Refusal>;
 
-    ghost answers = { λ self ty schema answer. ComparesPayloads (IsDifference schema) schema self.first.now self.second.now (bytes_of answer) };
+    ghost answers = { λ self ty schema answer. ComparesPayloads
+        (IsDifference schema) schema self.first.now self.second.now (bytes_of answer) };
 
     fn visit<M: CommandMessage>(self) -> Result<Vec<u8>, Refusal> {
         let actual = decoded::<M>(self.alloc, self.first)?;

@@ -63,7 +63,8 @@ struct Framing<'a> {
 impl<'a> MessageVisitor for Framing<'a> {
     type Output = Result<Vec<u8>, Refusal>;
 
-    ghost answers = { λ self ty schema answer. EncodesFrame ty schema self.encoder.version self.payload.now (bytes_of answer) };
+    ghost answers = { λ self ty schema answer. EncodesFrame ty schema self.encoder.version self.payload.now
+        (bytes_of answer) };
 
     fn visit<M: RestateEncodableMessage + Debug>(self) -> Result<Vec<u8>, Refusal> {
         let message = decoded::<M>(self.alloc, self.payload)?;

@@ -1,7 +1,9 @@
 //! Notifications of any type: their ids and their results.
 
 ghost use Rattle.std.specs.Prelude.{◌≡◌, ◌↔◌, ◌++◌, IsTrue, IfErr, IfOk, OnOk};
-ghost use Rattle.journal_c_api.specs.Notifications.{IsNotificationCode, ReadsNotification, RefusesResult, WritesNotification, id_name, notification_bytes, notification_numbers, result_bytes, result_kind};
+ghost use Rattle.journal_c_api.specs.Notifications.{IsNotificationCode, ReadsNotification, RefusesResult};
+ghost use Rattle.journal_c_api.specs.Notifications.{WritesNotification, id_name, notification_bytes};
+ghost use Rattle.journal_c_api.specs.Notifications.{notification_numbers, result_bytes, result_kind};
 
 use crate::answer::{Refusal, write_over};
 use crate::payloads::decoded;

@@ -2,7 +2,8 @@
 
 ghost use Rattle.std.specs.Prelude.{[], ◌∷◌, List};
 ghost use Rattle.journal_c_api.specs.Answers.{Writes, bytes_of};
-ghost use Rattle.journal_c_api.specs.Payloads.{ReturnsCanonical, ReturnsJson, ReturnsMeaning, ReturnsWellFormed, ChecksPayload, MeansRecord, EncodesPayload};
+ghost use Rattle.journal_c_api.specs.Payloads.{ReturnsCanonical, ReturnsJson, ReturnsMeaning};
+ghost use Rattle.journal_c_api.specs.Payloads.{ReturnsWellFormed, ChecksPayload, MeansRecord, EncodesPayload};
 
 use crate::answer::{Refusal, write_answer};
 use bytes::Bytes;
@@ -110,7 +111,8 @@ struct Merging<'a> {
 impl<'a> RecordVisitor for Merging<'a> {
     type Output = Result<Vec<u8>, Refusal>;
 
-    ghost answers = { λ self schema answer. ReturnsMeaning schema self.first.now (self.second.now ∷ []) (bytes_of answer) };
+    ghost answers = { λ self schema answer. ReturnsMeaning schema self.first.now (self.second.now ∷ [])
+        (bytes_of answer) };
 
     fn visit<M: WireRecord + Debug>(self) -> Result<Vec<u8>, Refusal> {
         let first = Bytes::copy_from_slice(self.alloc, self.first)?;

@@ -12,7 +12,8 @@ ghost use Rattle.journal_dump.specs.Canonical.{IsLongFor};
 ghost use Rattle.stream_lines.specs.Printing.{IsLack};
 ghost use Rattle.journal_dump.specs.Dump.{HasLongPayload};
 ghost use Rattle.shared_core.specs.Visiting.{schema_at};
-ghost use Rattle.journal_dump.specs.Lines.{payload_members, ack_tokens, item_members, item_json, item_code as code_of_item, is_asked_for, line_of, rest_line};
+ghost use Rattle.journal_dump.specs.Lines.{payload_members, ack_tokens, item_members, item_json};
+ghost use Rattle.journal_dump.specs.Lines.{item_code as code_of_item, is_asked_for, line_of, rest_line};
 
 use crate::messages::canonical_of;
 use crate::options::Options;
@@ -116,7 +117,8 @@ fn write_item(
     scratch: &mut Scratch,
     out: &mut Writer,
 ) -> Result<(), PrintError>
-    ensures tokens { OnOk result (out.new.tokens ≡ out.old.tokens ++ json_tokens (item_json options.now offset item.now)) }
+    ensures tokens { OnOk result (out.new.tokens ≡ out.old.tokens
+        ++ json_tokens (item_json options.now offset item.now)) }
     ensures before { out.new.before ≡ out.old.before }
     ensures lack { IfErr result (IsLack (HasLongPayload options.now item.now)) }
 {
@@ -148,9 +150,11 @@ fn write_message_members(
     scratch: &mut Scratch,
     out: &mut Writer,
 ) -> Result<(), PrintError>
-    ensures tokens { OnOk result (out.new.tokens ++ end_object ∷ [] ≡ out.old.tokens ++ members_tokens (item_members options.now (variant.Message message.now))) }
+    ensures tokens { OnOk result (out.new.tokens ++ end_object ∷ [] ≡ out.old.tokens
+        ++ members_tokens (item_members options.now (variant.Message message.now))) }
     ensures before { out.new.before ≡ out.old.before }
-    ensures lack { IfErr result (IsLack ((options.now.payloads ≡ true) × IsLongFor (schema_at options.now.version message.now.header.ty) message.now.payload)) }
+    ensures lack { IfErr result (IsLack ((options.now.payloads ≡ true)
+        × IsLongFor (schema_at options.now.version message.now.header.ty) message.now.payload)) }
 {
     let ty = message.ty();
     write_type(out, ty, &mut scratch.text)?;
@@ -172,7 +176,8 @@ fn write_payload(
     scratch: &mut Scratch,
     out: &mut Writer,
 ) -> Result<(), PrintError>
-    ensures tokens { OnOk result (out.new.tokens ++ end_object ∷ [] ≡ out.old.tokens ++ members_tokens (payload_members (schema_at version ty) payload.now)) }
+    ensures tokens { OnOk result (out.new.tokens ++ end_object ∷ [] ≡ out.old.tokens
+        ++ members_tokens (payload_members (schema_at version ty) payload.now)) }
     ensures before { out.new.before ≡ out.old.before }
     ensures lack { IfErr result (IsLack (IsLongFor (schema_at version ty) payload.now)) }
 {
@@ -227,7 +232,8 @@ fn write_offset(out: &mut Writer, offset: u128, text: &mut String) -> Result<(),
 
 /// Writes a number as a member.
 fn write_number(out: &mut Writer, name: &str, number: u64) -> Result<(), AllocError>
-    ensures tokens { OnOk result (out.new.tokens ≡ out.old.tokens ++ (key name.now ∷ token.number (decimal number) ∷ [])) }
+    ensures tokens { OnOk result (out.new.tokens ≡ out.old.tokens
+        ++ (key name.now ∷ token.number (decimal number) ∷ [])) }
     ensures before { out.new.before ≡ out.old.before }
 {
     out.key(name)?;

@@ -59,7 +59,8 @@ impl<'a> RecordVisitor for Writing<'a> {
     type Output = Result<Vec<u8>, JsonError>;
 
     ghost answers = { λ self schema answer.
-        IfOk answer (λ buffer. IsAccepted schema self.payload.now × IsEncoding schema (payload_meaning schema self.payload.now) buffer.items)
+        IfOk answer (λ buffer. IsAccepted schema self.payload.now
+        × IsEncoding schema (payload_meaning schema self.payload.now) buffer.items)
         × (IsErrOf answer Malformed → ¬ (IsAccepted schema self.payload.now))
         × (IsErrOf answer TooLong → IsTooLong schema self.payload.now) };
 

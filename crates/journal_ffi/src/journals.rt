@@ -23,7 +23,8 @@ pub extern "C" fn journal_verdict(
     numbers: &mut [u64],
     out: &mut [u8],
 ) -> i64
-    ensures { Answers result (WritesVerdict (ReturnsVerdict version (length numbers.old) (nat_lt 0 ignore_payloads) recorded.now replayed.now)
+    ensures { Answers result (WritesVerdict (ReturnsVerdict version (length numbers.old)
+        (nat_lt 0 ignore_payloads) recorded.now replayed.now)
         numbers.old numbers.new out.old out.new) }
 {
     let ignore_payloads = ignore_payloads != 0;

@@ -15,7 +15,8 @@ const MAX_PIECE: usize = 65536;
 /// arguments.
 pub fn options(args: &[String]) -> Option<(Version, usize)>
     ensures some { IfSome result (λ found. AreOptions (map string_bytes args.now) found.0 found.1) }
-    ensures none { IsNone result → (version : AnyVersion) → (piece : ℕ) → AreOptions (map string_bytes args.now) version piece → ⊥ }
+    ensures none { IsNone result → (version : AnyVersion) → (piece : ℕ)
+        → AreOptions (map string_bytes args.now) version piece → ⊥ }
     ensures low { IfSome result (λ found. 1 ≤ found.1) }
     ensures high { IfSome result (λ found. found.1 ≤ 65536) }
     ensures spoken { IfSome result (λ found. 5 ≤ version_number found.0) }

@@ -33,7 +33,8 @@ pub fn run<R: Read, W: Write>(
     input: &mut R,
     output: &mut W,
 ) -> Outcome
-    ensures refused { IsRefused result → (version : AnyVersion) → (piece : ℕ) → AreOptions (map string_bytes words.now) version piece → ⊥ }
+    ensures refused { IsRefused result → (version : AnyVersion) → (piece : ℕ)
+        → AreOptions (map string_bytes words.now) version piece → ⊥ }
     ensures unread { IsRefused result → input.new ≡ input.old }
     ensures unwritten { IsRefused result → output.new ≡ output.old }
     ensures listed { IfListed result (λ answer.

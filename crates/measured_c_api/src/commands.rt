@@ -4,7 +4,8 @@ ghost use Rattle.std.specs.Prelude.{◌≡◌, ◌≤◌, Some};
 ghost use Rattle.shared_core_base.specs.Version.{version_number};
 ghost use Rattle.shared_core_compare.specs.Erasure.{AreSame};
 ghost use Rattle.shared_core.specs.Visiting.{command_schema};
-ghost use Rattle.measured_c_api.specs.Comparisons.{ReturnsComparisons, ComparesAll, ComparesItem, ComparesPayload, HoldsInRounds};
+ghost use Rattle.measured_c_api.specs.Comparisons.{ReturnsComparisons, ComparesAll};
+ghost use Rattle.measured_c_api.specs.Comparisons.{ComparesItem, ComparesPayload, HoldsInRounds};
 
 use crate::pieced_stream::PiecedStream;
 use bytes::Bytes;
@@ -105,7 +106,8 @@ impl<'a> CommandVisitor for Comparing<'a> {
 
     ghost may_visit = { λ self ty. self.message.now.header.ty ≡ ty };
 
-    ghost answers = { λ self ty schema answer. ComparesPayload self.rounds (Some schema) self.message.now.payload answer };
+    ghost answers = { λ self ty schema answer. ComparesPayload self.rounds
+        (Some schema) self.message.now.payload answer };
 
     fn visit<M: CommandMessage>(self) -> Result<usize, Refusal> {
         let first = self.message.decode_as::<M>(self.alloc)?;

@@ -24,7 +24,12 @@ impl Model for PiecedStream {
 
     ghost Value = { Pieced };
 
-    ghost view = { λ stream. record { version = stream.decoder.version; arrived = stream.decoder.bytes; awaited = stream.unpushed; piece = stream.piece } };
+    ghost view = { λ stream. record {
+      version = stream.decoder.version;
+      arrived = stream.decoder.bytes;
+      awaited = stream.unpushed;
+      piece = stream.piece;
+    } };
 
     ghost invariant = { λ stream. (length (stream.decoder.bytes ++ stream.unpushed) < 2 ^ 64) × (0 < stream.piece) };
 }
@@ -67,7 +72,8 @@ impl PiecedStream {
 /// Pushes the next chunk: this many bytes, or all if fewer are left.
 fn push_piece(decoder: &mut Decoder, unpushed: &mut Bytes, piece: usize) -> Result<(), AllocError>
     requires { length (decoder.old.bytes ++ unpushed.old) < 2 ^ 64 }
-    ensures pushed { OnOk result (decoder.new ≡ record decoder.old { bytes = decoder.old.bytes ++ take piece unpushed.old }) }
+    ensures pushed { OnOk result (decoder.new
+        ≡ record decoder.old { bytes = decoder.old.bytes ++ take piece unpushed.old }) }
     ensures left { OnOk result (unpushed.new ≡ drop piece unpushed.old) }
     ensures bounded { length (decoder.new.bytes ++ unpushed.new) < 2 ^ 64 }
 {

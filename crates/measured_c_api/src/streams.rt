@@ -2,7 +2,8 @@
 
 ghost use Rattle.std.specs.Prelude.{◌≡◌, ◌≤◌};
 ghost use Rattle.shared_core_base.specs.Version.{version_number};
-ghost use Rattle.measured_c_api.specs.Streams.{ReturnsItems, ReturnsMessages, WritesWords, DecodesAll, DecodesItem, HasWord, item_word};
+ghost use Rattle.measured_c_api.specs.Streams.{ReturnsItems, ReturnsMessages, WritesWords};
+ghost use Rattle.measured_c_api.specs.Streams.{DecodesAll, DecodesItem, HasWord, item_word};
 
 use crate::messages::decode;
 use crate::pieced_stream::PiecedStream;

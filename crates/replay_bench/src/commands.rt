@@ -1,11 +1,13 @@
 //! The commands of one journal.
 
-ghost use Rattle.std.specs.Prelude.{◌≡◌, ◌+◌, ◌≤◌, ◌<◌, ◌^◌, ◌++◌, [], length, IfErr, IfOk, IfSome, MatchOption, OnOk, IsErrOf, None};
+ghost use Rattle.std.specs.Prelude.{◌≡◌, ◌+◌, ◌≤◌, ◌<◌, ◌^◌, ◌++◌, []};
+ghost use Rattle.std.specs.Prelude.{length, IfErr, IfOk, IfSome, MatchOption, OnOk, IsErrOf, None};
 ghost use Rattle.std.specs.Io.KnownBytes.{prepend_known};
 ghost use Rattle.shared_core_base.specs.Version.{version_number};
 ghost use Rattle.shared_core.specs.Items.{NoItemBegins};
 ghost use Rattle.replay_bench.specs.Journals.{command_of, IsCommand};
-ghost use Rattle.replay_bench.specs.Taking.{known_length, HasNoCommand, LeadsTo, KeepsLength, MayRefuse, RefusesLength, TakesFirst};
+ghost use Rattle.replay_bench.specs.Taking.{known_length, HasNoCommand, LeadsTo};
+ghost use Rattle.replay_bench.specs.Taking.{KeepsLength, MayRefuse, RefusesLength, TakesFirst};
 
 use crate::sources::{Source, SourceError};
 use crate::verdicts::{BenchError, ReaderError, Side};
@@ -30,7 +32,12 @@ impl<S: Source> Commands<S> {
     /// The commands of the journal on this side, whose version is at least V5.
     pub(crate) fn new(alloc: Global, version: Version, side: Side, source: S) -> Commands<S>
         requires { 5 ≤ version_number version }
-        ensures { result ≡ record { side = side; decoder = record { version = version; bytes = [] }; source = source; taken = 0 } }
+        ensures { result ≡ record {
+          side = side;
+          decoder = record { version = version; bytes = [] };
+          source = source;
+          taken = 0;
+        } }
     {
         Commands {
             side,
@@ -47,15 +54,18 @@ impl<S: Source> Commands<S> {
         requires fits { self.old.taken < 2 ^ 64 }
         ensures taken { IfOk result (λ found. MatchOption found
             (HasNoCommand self.old.decoder.version (prepend_known self.old.decoder.bytes (S.coming self.old.source)))
-            (λ command. TakesFirst self.old.decoder.version (prepend_known self.old.decoder.bytes (S.coming self.old.source)) (Some command)
+            (λ command. TakesFirst self.old.decoder.version
+            (prepend_known self.old.decoder.bytes (S.coming self.old.source)) (Some command)
             (prepend_known self.new.decoder.bytes (S.coming self.new.source)))) }
         ensures command { IfOk result (λ found. IfSome found IsCommand) }
         // what is taken is eight bytes at least
         ensures shorter { IfOk result (λ found. IfSome found (λ command.
             8 + length self.new.decoder.bytes + self.old.taken ≤ length self.old.decoder.bytes + self.new.taken)) }
         ensures counted { IfOk result (λ found. IfSome found (λ command. KeepsLength
-            (known_length self.old.taken (S.coming self.old.source)) (known_length self.new.taken (S.coming self.new.source)))) }
-        ensures refused { IfErr result (MayRefuse self.old.side S.may_fail (known_length self.old.taken (S.coming self.old.source))) }
+            (known_length self.old.taken (S.coming self.old.source))
+            (known_length self.new.taken (S.coming self.new.source)))) }
+        ensures refused { IfErr result (MayRefuse self.old.side S.may_fail
+            (known_length self.old.taken (S.coming self.old.source))) }
         ensures fits { OnOk result (self.new.taken < 2 ^ 64) }
         ensures version { OnOk result (self.new.decoder.version ≡ self.old.decoder.version) }
         ensures side { OnOk result (self.new.side ≡ self.old.side) }

@@ -10,5 +10,6 @@ pub fn verdict_exists_and_is_unique()
     ensures some { (version : Version) (ignore : Bool) (recorded replayed : List ℕ)
         → (answer : Answer) × HasAnswer version ignore recorded replayed answer }
     ensures one { (version : Version) (ignore : Bool) (recorded replayed : List ℕ) (answer other : Answer)
-        → HasAnswer version ignore recorded replayed answer → HasAnswer version ignore recorded replayed other → answer ≡ other }
+        → HasAnswer version ignore recorded replayed answer → HasAnswer version ignore recorded replayed other
+        → answer ≡ other }
 {}

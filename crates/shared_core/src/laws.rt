@@ -1,8 +1,10 @@
 //! What holds of every stream, whatever decodes it, and of equality. A law is the contract of a function that does
 //! nothing, or nothing but compare.
-ghost use Rattle.std.specs.Prelude.{◌≡◌, ◌≢◌, ◌≤◌, ◌<◌, ◌^◌, ◌↔◌, ℕ, [], ◌∷◌, ◌++◌, IsTrue, List, None, Some, false, true};
+ghost use Rattle.std.specs.Prelude.{◌≡◌, ◌≢◌, ◌≤◌, ◌<◌, ◌^◌, ◌↔◌, ℕ, []};
+ghost use Rattle.std.specs.Prelude.{◌∷◌, ◌++◌, IsTrue, List, None, Some, false, true};
 ghost use Rattle.shared_core_base.specs.declared.version.Version.{Version};
-ghost use Rattle.shared_core.specs.Items.{IsItem, IsItemsThen, TakesItem, NoItemBegins, SplitsInto, skips_unknown_messages};
+ghost use Rattle.shared_core.specs.Items.{IsItem, IsItemsThen, TakesItem};
+ghost use Rattle.shared_core.specs.Items.{NoItemBegins, SplitsInto, skips_unknown_messages};
 ghost use Rattle.shared_core.specs.Written.{AreFrames, items_written, joined_frames};
 ghost use Rattle.shared_core.specs.Decoded.{DecodesTo, FrameEncodes, requested_ack_of};
 ghost use Rattle.shared_core_base.specs.declared.header.MessageType.{MessageType as AnyType};
@@ -33,7 +35,8 @@ pub fn items_are_prefix_free()
 /// A stream splits in one way.
 pub fn split_is_unique()
     ensures { (version : Version) (stream : List ℕ) (items others : List AnyItem) (rest left : List ℕ)
-        → SplitsInto version stream items rest → SplitsInto version stream others left → (items ≡ others) × (rest ≡ left) }
+        → SplitsInto version stream items rest → SplitsInto version stream others left
+        → (items ≡ others) × (rest ≡ left) }
 {}
 
 /// Every stream splits.
@@ -63,13 +66,15 @@ pub fn next_item_is_stable()
 #[tactic(auto, using(crate::proofs::Splits::taken_comes_first))]
 pub fn taken_item_is_the_first()
     ensures { (version : Version) (old new rest : List ℕ) (item : AnyItem) (items : List AnyItem)
-        → TakesItem version old item new → SplitsInto version new items rest → SplitsInto version old (item ∷ items) rest }
+        → TakesItem version old item new → SplitsInto version new items rest
+        → SplitsInto version old (item ∷ items) rest }
 {}
 
 /// A stream that no whole item begins is all rest.
 #[tactic(auto, using(crate::proofs::Splits::none_is_all_rest))]
 pub fn stream_without_items_is_rest()
-    ensures { (version : Version) (stream : List ℕ) → NoItemBegins version stream → SplitsInto version stream [] stream }
+    ensures { (version : Version) (stream : List ℕ) → NoItemBegins version stream
+        → SplitsInto version stream [] stream }
 {}
 
 /// Frames written one after the other are, whatever follows them, items in this order, each a message of its type with

@@ -1,5 +1,6 @@
 //! The bytes that have come and that no item has taken.
-ghost use Rattle.std.specs.Prelude.{◌≡◌, ◌+◌, ◌^◌, ◌<◌, ◌≤◌, ◌++◌, [], length, take, drop, All, IfOk, IfErr, IsOk, OnOk, OnErr};
+ghost use Rattle.std.specs.Prelude.{◌≡◌, ◌+◌, ◌^◌, ◌<◌, ◌≤◌, ◌++◌, [], length};
+ghost use Rattle.std.specs.Prelude.{take, drop, All, IfOk, IfErr, IsOk, OnOk, OnErr};
 ghost use Rattle.std.specs.List.{concat};
 ghost use Rattle.shared_core.specs.Segments.{AreSegments};
 
@@ -165,8 +166,8 @@ impl PendingBytes {
     }
 }
 
-/// Appends bytes. For a single byte, as in a stream that comes byte by byte, a call of `memcpy` would cost more than the
-/// rest.
+/// Appends bytes. For a single byte, as in a stream that comes byte by byte, a call of `memcpy` would cost more than
+/// the rest.
 #[inline(always)]
 fn append(bytes: &mut Vec<u8>, part: &[u8]) -> Result<(), AllocError>
     ensures { OnOk result (bytes.new.items ≡ bytes.old.items ++ part.now) }

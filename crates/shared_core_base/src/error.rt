@@ -3,7 +3,9 @@ ghost use Rattle.std.specs.Prelude.{◌≡◌, ◌↔◌, IsTrue, IfOk, Some, No
 ghost use Rattle.std.specs.Option.{option_copied};
 ghost use Rattle.std.specs.Fmt.{decimal};
 ghost use Rattle.std.specs.Cow.{cow_str_bytes};
-ghost use Rattle.shared_core_base.specs.Error.{code_of_number, behavior_number, command_metadata_text, notification_metadata_text, error_text, related_command_text, error_parts, suspended_parts, IsErrorOf};
+ghost use Rattle.shared_core_base.specs.Error.{code_of_number, behavior_number, command_metadata_text};
+ghost use Rattle.shared_core_base.specs.Error.{notification_metadata_text, error_text, related_command_text};
+ghost use Rattle.shared_core_base.specs.Error.{error_parts, suspended_parts, IsErrorOf};
 
 use crate::header::MessageType;
 use std::alloc::{AllocError, Global};
@@ -318,7 +320,9 @@ impl Error {
     /// The error that pauses the invocation, or retries it where `should_pause` is false. A pause needs version 7 or
     /// later.
     pub fn with_should_pause(mut self, should_pause: bool) -> Error
-        ensures { result ≡ record self { behavior = if should_pause then ErrorBehavior.Pause else ErrorBehavior.Retry } }
+        ensures { result ≡ record self {
+          behavior = if should_pause then ErrorBehavior.Pause else ErrorBehavior.Retry;
+        } }
     {
         self.behavior = if should_pause {
             ErrorBehavior::Pause

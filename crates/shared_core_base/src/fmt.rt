@@ -54,7 +54,8 @@ impl<'a, W: Write> DiffFormatter<'a, W> {
         ensures same_reference { self.new.fmt.ghost_name ≡ self.old.fmt.ghost_name }
         ensures indentation { self.new.indentation.now ≡ self.old.indentation.now }
         ensures writes { WritesOnOk W.write_str_gives self.old.fmt.now result
-            (diff_line self.old.indentation.now field.now (bytes_text actual.now) (bytes_text expected.now)) self.new.fmt.now }
+            (diff_line self.old.indentation.now field.now (bytes_text actual.now) (bytes_text expected.now))
+            self.new.fmt.now }
     {
         self.write_diff(field, BytesText(actual), BytesText(expected))
     }
@@ -62,7 +63,8 @@ impl<'a, W: Write> DiffFormatter<'a, W> {
 
 /// The bytes as a text, where they are UTF-8.
 pub fn as_utf8(bytes: &[u8]) -> Option<&str>
-    ensures { MatchOption result (is_utf8 bytes.now ≡ false) (λ text. (text.now ≡ bytes.now) × (is_utf8 bytes.now ≡ true)) }
+    ensures { MatchOption result (is_utf8 bytes.now ≡ false) (λ text. (text.now ≡ bytes.now)
+        × (is_utf8 bytes.now ≡ true)) }
 {
     match str::from_utf8(bytes) {
         Ok(text) => Some(text),

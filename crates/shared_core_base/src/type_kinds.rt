@@ -1,7 +1,8 @@
 //! What kind of message a type is of, and how types and unknown codes print.
 ghost use Rattle.std.specs.Prelude.{◌≡◌, ◌≤◌, ◌<◌, IsTrue, Some, ◌↔◌};
 ghost use Rattle.shared_core_base.specs.declared.header.MessageType.{MessageType as AnyType};
-ghost use Rattle.shared_core_base.specs.MessageType.{IsNamed, allows_ack, code_of, named_types, type_in, variant_name_of};
+ghost use Rattle.shared_core_base.specs.MessageType.{IsNamed, allows_ack, code_of};
+ghost use Rattle.shared_core_base.specs.MessageType.{named_types, type_in, variant_name_of};
 
 use crate::command_type::CommandType;
 use crate::header::MessageType;

@@ -91,7 +91,8 @@ impl RestateMessage for AttachInvocationCommandMessage {
 }
 
 impl RestateEncodableMessage for AttachInvocationCommandMessage {
-    ghost wire_form = { λ message _. plain_form tables.attach_invocation_command (⟦<AttachInvocationCommandMessage as WireRecord>⟧.parts message) };
+    ghost wire_form = { λ message _. plain_form tables.attach_invocation_command
+        (⟦<AttachInvocationCommandMessage as WireRecord>⟧.parts message) };
 
     fn encode_into(&self, _version: Version, out: &mut Vec<u8>) -> Result<(), EncodingError> {
         encode_frame_into(self, None, out)

@@ -146,7 +146,8 @@ impl RestateMessage for CallCommandMessage {
 }
 
 impl RestateEncodableMessage for CallCommandMessage {
-    ghost wire_form = { λ message _. plain_form tables.call_command (⟦<CallCommandMessage as WireRecord>⟧.parts message) };
+    ghost wire_form = { λ message _. plain_form tables.call_command
+        (⟦<CallCommandMessage as WireRecord>⟧.parts message) };
 
     fn encode_into(&self, _version: Version, out: &mut Vec<u8>) -> Result<(), EncodingError> {
         encode_frame_into(self, None, out)

@@ -86,8 +86,14 @@ impl OneOf for Result {
     ghost present = { elim [ result_is.Value x ↦ refl | result_is.Failure x ↦ refl ] };
 
     ghost equality = { elim [
-      | result_is.Value x ↦ elim [ result_is.Value y ↦ Prim.search (equality_rules, value_equality) | _ ↦ different_members _ _ _ _ refl ]
-      | result_is.Failure x ↦ elim [ result_is.Failure y ↦ Prim.search (equality_rules, failure_equality) | _ ↦ different_members _ _ _ _ refl ]
+      | result_is.Value x ↦ elim [
+        | result_is.Value y ↦ Prim.search (equality_rules, value_equality)
+        | _ ↦ different_members _ _ _ _ refl
+      ]
+      | result_is.Failure x ↦ elim [
+        | result_is.Failure y ↦ Prim.search (equality_rules, failure_equality)
+        | _ ↦ different_members _ _ _ _ refl
+      ]
     ] };
 }
 
@@ -157,7 +163,8 @@ impl RestateMessage for CompleteAwakeableCommandMessage {
 }
 
 impl RestateEncodableMessage for CompleteAwakeableCommandMessage {
-    ghost wire_form = { λ message _. plain_form tables.complete_awakeable_command (⟦<CompleteAwakeableCommandMessage as WireRecord>⟧.parts message) };
+    ghost wire_form = { λ message _. plain_form tables.complete_awakeable_command
+        (⟦<CompleteAwakeableCommandMessage as WireRecord>⟧.parts message) };
 
     fn encode_into(
         &self,

@@ -96,8 +96,14 @@ impl OneOf for Completion {
     ghost present = { elim [ completion_is.CompletionValue x ↦ refl | completion_is.CompletionFailure x ↦ refl ] };
 
     ghost equality = { elim [
-      | completion_is.CompletionValue x ↦ elim [ completion_is.CompletionValue y ↦ Prim.search (equality_rules, value_equality) | _ ↦ different_members _ _ _ _ refl ]
-      | completion_is.CompletionFailure x ↦ elim [ completion_is.CompletionFailure y ↦ Prim.search (equality_rules, failure_equality) | _ ↦ different_members _ _ _ _ refl ]
+      | completion_is.CompletionValue x ↦ elim [
+        | completion_is.CompletionValue y ↦ Prim.search (equality_rules, value_equality)
+        | _ ↦ different_members _ _ _ _ refl
+      ]
+      | completion_is.CompletionFailure x ↦ elim [
+        | completion_is.CompletionFailure y ↦ Prim.search (equality_rules, failure_equality)
+        | _ ↦ different_members _ _ _ _ refl
+      ]
     ] };
 }
 
@@ -174,7 +180,8 @@ impl RestateMessage for CompletePromiseCommandMessage {
 }
 
 impl RestateEncodableMessage for CompletePromiseCommandMessage {
-    ghost wire_form = { λ message _. plain_form tables.complete_promise_command (⟦<CompletePromiseCommandMessage as WireRecord>⟧.parts message) };
+    ghost wire_form = { λ message _. plain_form tables.complete_promise_command
+        (⟦<CompletePromiseCommandMessage as WireRecord>⟧.parts message) };
 
     fn encode_into(&self, _version: Version, out: &mut Vec<u8>) -> Result<(), EncodingError> {
         encode_frame_into(self, None, out)

@@ -91,7 +91,8 @@ impl RestateMessage for GetInvocationOutputCommandMessage {
 }
 
 impl RestateEncodableMessage for GetInvocationOutputCommandMessage {
-    ghost wire_form = { λ message _. plain_form tables.get_invocation_output_command (⟦<GetInvocationOutputCommandMessage as WireRecord>⟧.parts message) };
+    ghost wire_form = { λ message _. plain_form tables.get_invocation_output_command
+        (⟦<GetInvocationOutputCommandMessage as WireRecord>⟧.parts message) };
 
     fn encode_into(&self, _version: Version, out: &mut Vec<u8>) -> Result<(), EncodingError> {
         encode_frame_into(self, None, out)

@@ -31,11 +31,13 @@ pub enum InvocationTarget {
 impl OneOf for InvocationTarget {
     ghost use Rattle.shared_core_call_commands.specs.declared.invocation_target.InvocationTarget.TheVariants as invocation_target_is;
 
-    ghost members = { (1, Text) ∷ (3, Message tables.idempotent_request_target) ∷ (4, Message tables.workflow_target) ∷ [] };
+    ghost members = { (1, Text) ∷ (3, Message tables.idempotent_request_target) ∷ (4, Message tables.workflow_target)
+        ∷ [] };
 
     ghost part = { elim [
       | invocation_target_is.InvocationId x ↦ Member 1 (text_part x)
-      | invocation_target_is.IdempotentRequestTarget x ↦ Member 3 (message_part ⟦<IdempotentRequestTarget as WireRecord>⟧.parts x)
+      | invocation_target_is.IdempotentRequestTarget x ↦ Member 3
+          (message_part ⟦<IdempotentRequestTarget as WireRecord>⟧.parts x)
       | invocation_target_is.WorkflowTarget x ↦ Member 4 (message_part ⟦<WorkflowTarget as WireRecord>⟧.parts x)
     ] };
 
@@ -92,11 +94,25 @@ impl OneOf for InvocationTarget {
     ghost use Rattle.shared_core_parts.specs.contracts.idempotent_request_target.IdempotentRequestTargetWireRecord.TheImpl.Laws.{equality-law as idempotent_request_target_equality};
     ghost use Rattle.shared_core_parts.specs.contracts.workflow_target.WorkflowTargetWireRecord.TheImpl.Laws.{equality-law as workflow_target_equality};
 
-    ghost present = { elim [ invocation_target_is.InvocationId x ↦ refl | invocation_target_is.IdempotentRequestTarget x ↦ refl | invocation_target_is.WorkflowTarget x ↦ refl ] };
+    ghost present = { elim [
+      | invocation_target_is.InvocationId x ↦ refl
+      | invocation_target_is.IdempotentRequestTarget x ↦ refl
+      | invocation_target_is.WorkflowTarget x ↦ refl
+    ] };
 
     ghost equality = { elim [
-      | invocation_target_is.InvocationId x ↦ elim [ invocation_target_is.InvocationId y ↦ Prim.search equality_rules | _ ↦ different_members _ _ _ _ refl ]
-      | invocation_target_is.IdempotentRequestTarget x ↦ elim [ invocation_target_is.IdempotentRequestTarget y ↦ Prim.search (equality_rules, idempotent_request_target_equality) | _ ↦ different_members _ _ _ _ refl ]
-      | invocation_target_is.WorkflowTarget x ↦ elim [ invocation_target_is.WorkflowTarget y ↦ Prim.search (equality_rules, workflow_target_equality) | _ ↦ different_members _ _ _ _ refl ]
+      | invocation_target_is.InvocationId x ↦ elim [
+        | invocation_target_is.InvocationId y ↦ Prim.search equality_rules
+        | _ ↦ different_members _ _ _ _ refl
+      ]
+      | invocation_target_is.IdempotentRequestTarget x ↦ elim [
+        | invocation_target_is.IdempotentRequestTarget y ↦ Prim.search
+            (equality_rules, idempotent_request_target_equality)
+        | _ ↦ different_members _ _ _ _ refl
+      ]
+      | invocation_target_is.WorkflowTarget x ↦ elim [
+        | invocation_target_is.WorkflowTarget y ↦ Prim.search (equality_rules, workflow_target_equality)
+        | _ ↦ different_members _ _ _ _ refl
+      ]
     ] };
 }

@@ -146,7 +146,8 @@ impl RestateMessage for OneWayCallCommandMessage {
 }
 
 impl RestateEncodableMessage for OneWayCallCommandMessage {
-    ghost wire_form = { λ message _. plain_form tables.one_way_call_command (⟦<OneWayCallCommandMessage as WireRecord>⟧.parts message) };
+    ghost wire_form = { λ message _. plain_form tables.one_way_call_command
+        (⟦<OneWayCallCommandMessage as WireRecord>⟧.parts message) };
 
     fn encode_into(&self, _version: Version, out: &mut Vec<u8>) -> Result<(), EncodingError> {
         encode_frame_into(self, None, out)

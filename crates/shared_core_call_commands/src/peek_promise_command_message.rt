@@ -87,7 +87,8 @@ impl RestateMessage for PeekPromiseCommandMessage {
 }
 
 impl RestateEncodableMessage for PeekPromiseCommandMessage {
-    ghost wire_form = { λ message _. plain_form tables.peek_promise_command (⟦<PeekPromiseCommandMessage as WireRecord>⟧.parts message) };
+    ghost wire_form = { λ message _. plain_form tables.peek_promise_command
+        (⟦<PeekPromiseCommandMessage as WireRecord>⟧.parts message) };
 
     fn encode_into(&self, _version: Version, out: &mut Vec<u8>) -> Result<(), EncodingError> {
         encode_frame_into(self, None, out)

@@ -80,7 +80,8 @@ impl RestateMessage for RunCommandMessage {
 }
 
 impl RestateEncodableMessage for RunCommandMessage {
-    ghost wire_form = { λ message _. plain_form tables.run_command (⟦<RunCommandMessage as WireRecord>⟧.parts message) };
+    ghost wire_form = { λ message _. plain_form tables.run_command
+        (⟦<RunCommandMessage as WireRecord>⟧.parts message) };
 
     fn encode_into(&self, _version: Version, out: &mut Vec<u8>) -> Result<(), EncodingError> {
         encode_frame_into(self, None, out)

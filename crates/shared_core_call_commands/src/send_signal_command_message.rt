@@ -81,8 +81,14 @@ impl OneOf for SignalId {
     ghost present = { elim [ signal_id_is.Idx x ↦ refl | signal_id_is.Name x ↦ refl ] };
 
     ghost equality = { elim [
-      | signal_id_is.Idx x ↦ elim [ signal_id_is.Idx y ↦ Prim.search equality_rules | _ ↦ different_members _ _ _ _ refl ]
-      | signal_id_is.Name x ↦ elim [ signal_id_is.Name y ↦ Prim.search equality_rules | _ ↦ different_members _ _ _ _ refl ]
+      | signal_id_is.Idx x ↦ elim [
+        | signal_id_is.Idx y ↦ Prim.search equality_rules
+        | _ ↦ different_members _ _ _ _ refl
+      ]
+      | signal_id_is.Name x ↦ elim [
+        | signal_id_is.Name y ↦ Prim.search equality_rules
+        | _ ↦ different_members _ _ _ _ refl
+      ]
     ] };
 }
 
@@ -153,9 +159,18 @@ impl OneOf for Result {
     ghost present = { elim [ result_is.Void x ↦ refl | result_is.Value x ↦ refl | result_is.Failure x ↦ refl ] };
 
     ghost equality = { elim [
-      | result_is.Void x ↦ elim [ result_is.Void y ↦ Prim.search (equality_rules, void_equality) | _ ↦ different_members _ _ _ _ refl ]
-      | result_is.Value x ↦ elim [ result_is.Value y ↦ Prim.search (equality_rules, value_equality) | _ ↦ different_members _ _ _ _ refl ]
-      | result_is.Failure x ↦ elim [ result_is.Failure y ↦ Prim.search (equality_rules, failure_equality) | _ ↦ different_members _ _ _ _ refl ]
+      | result_is.Void x ↦ elim [
+        | result_is.Void y ↦ Prim.search (equality_rules, void_equality)
+        | _ ↦ different_members _ _ _ _ refl
+      ]
+      | result_is.Value x ↦ elim [
+        | result_is.Value y ↦ Prim.search (equality_rules, value_equality)
+        | _ ↦ different_members _ _ _ _ refl
+      ]
+      | result_is.Failure x ↦ elim [
+        | result_is.Failure y ↦ Prim.search (equality_rules, failure_equality)
+        | _ ↦ different_members _ _ _ _ refl
+      ]
     ] };
 }
 
@@ -217,7 +232,13 @@ impl WireRecord for SendSignalCommandMessage {
     ghost use Rattle.shared_core_call_commands.specs.contracts.send_signal_command_message.SignalIdOneOf.TheImpl.Laws.{equality-law as signal_id_equality, present-law as signal_id_present};
     ghost use Rattle.shared_core_call_commands.specs.contracts.send_signal_command_message.ResultOneOf.TheImpl.Laws.{equality-law as result_equality, present-law as result_present};
 
-    ghost equality = { Prim.search (equality_rules, signal_id_equality, signal_id_present, result_equality, result_present) depth 20 };
+    ghost equality = { Prim.search (
+      equality_rules,
+      signal_id_equality,
+      signal_id_present,
+      result_equality,
+      result_present,
+    ) depth 20 };
 }
 
 impl RestateMessage for SendSignalCommandMessage {
@@ -233,7 +254,8 @@ impl RestateMessage for SendSignalCommandMessage {
 }
 
 impl RestateEncodableMessage for SendSignalCommandMessage {
-    ghost wire_form = { λ message _. plain_form tables.send_signal_command (⟦<SendSignalCommandMessage as WireRecord>⟧.parts message) };
+    ghost wire_form = { λ message _. plain_form tables.send_signal_command
+        (⟦<SendSignalCommandMessage as WireRecord>⟧.parts message) };
 
     fn encode_into(
         &self,

@@ -3,7 +3,8 @@
 ghost use Rattle.std.specs.Prelude.{◌≡◌, ◌↔◌, IsTrue, map, true};
 ghost use Rattle.std.specs.Option.{is_some};
 ghost use Rattle.std.specs.Str.{is_utf8};
-ghost use Rattle.shared_core_wire.specs.Acceptance.{accepts_payload, accepts_message, accepts_record, accepts_element, accepts_value, accepts_number};
+ghost use Rattle.shared_core_wire.specs.Acceptance.{accepts_payload, accepts_message, accepts_record};
+ghost use Rattle.shared_core_wire.specs.Acceptance.{accepts_element, accepts_value, accepts_number};
 ghost use Rattle.shared_core_wire.specs.Reader.{packed_numbers};
 ghost use Rattle.shared_core_wire.specs.Schema.{are_distinct, all_numbers};
 ghost use Rattle.shared_core_wire.specs.View.{value_of};

@@ -28,7 +28,8 @@ pub trait OneOf: Sized + Drop + PartialEq {
     /// otherwise into the empty one. After an error the oneof may have changed.
     fn merge_member(oneof: &mut Option<Self>, field: &Occurrence<'_>) -> Result<(), WireError>
         requires member { IsMember field.now members }
-        ensures ok { OnOk result (MemberBecomes field.now members (option_part part oneof.old) (option_part part oneof.new)) }
+        ensures ok { OnOk result (MemberBecomes field.now members (option_part part oneof.old)
+            (option_part part oneof.new)) }
         ensures malformed { IsErrOf result error.Malformed → member_accepts field.now members ≡ false };
 
     /// Adds the size of the member.
@@ -54,7 +55,8 @@ pub trait OneOf: Sized + Drop + PartialEq {
 #[inline]
 pub fn merge<O: OneOf>(field: &mut Option<O>, found: &Occurrence<'_>) -> Result<(), WireError>
     requires member { IsMember found.now O.members }
-    ensures ok { OnOk result (MemberBecomes found.now O.members (option_part O.part field.old) (option_part O.part field.new)) }
+    ensures ok { OnOk result (MemberBecomes found.now O.members (option_part O.part field.old)
+        (option_part O.part field.new)) }
     ensures malformed { IsErrOf result error.Malformed → member_accepts found.now O.members ≡ false }
 {
     O::merge_member(field, found)
@@ -77,7 +79,8 @@ pub fn write<O: OneOf>(out: &mut [u8], end: usize, field: &Option<O>) -> usize
     requires within { end ≤ length out.old }
     requires room { row_size (row.OneOf O.members) (option_part O.part field.now) ≤ end }
     ensures start { result + row_size (row.OneOf O.members) (option_part O.part field.now) ≡ end }
-    ensures written { drop result out.new ≡ before_row (row.OneOf O.members) (option_part O.part field.now) (drop end out.old) }
+    ensures written { drop result out.new ≡ before_row (row.OneOf O.members) (option_part O.part field.now)
+        (drop end out.old) }
 {
     match field {
         Some(member) => member.encode_back(out, end),

@@ -17,7 +17,8 @@ use shared_core_wire::error::WireError;
 /// Merges an occurrence into the value that is held, or into the empty one. After an error the field may have changed.
 #[inline]
 pub fn merge<V: FieldKind>(field: &mut Option<V>, found: &Occurrence<'_>) -> Result<(), WireError>
-    ensures ok { OnOk result (FieldBecomes found.now V.kind (option_part V.part field.old) (option_part V.part field.new)) }
+    ensures ok { OnOk result (FieldBecomes found.now V.kind (option_part V.part field.old)
+        (option_part V.part field.new)) }
     ensures malformed { IsErrOf result error.Malformed → field_accepts found.now V.kind ≡ false }
 {
     match field {
@@ -46,7 +47,8 @@ pub fn write<V: FieldKind>(out: &mut [u8], end: usize, number: u32, field: &Opti
     requires within { end ≤ length out.old }
     requires room { row_size (Optional number V.kind) (option_part V.part field.now) ≤ end }
     ensures start { result + row_size (Optional number V.kind) (option_part V.part field.now) ≡ end }
-    ensures written { drop result out.new ≡ before_row (Optional number V.kind) (option_part V.part field.now) (drop end out.old) }
+    ensures written { drop result out.new ≡ before_row (Optional number V.kind) (option_part V.part field.now)
+        (drop end out.old) }
 {
     match field {
         Some(value) => value.write_value(out, end, number),

@@ -20,7 +20,8 @@ use shared_core_wire::varint::{low_32, read_varint};
 
 /// Appends one number, or each of a packed run. After an error some numbers may have been appended.
 pub fn merge(field: &mut Vec<u32>, found: &Occurrence<'_>) -> Result<(), WireError>
-    ensures ok { OnOk result (FieldExtends found.now U32 (parts_of Number field.old.items) (parts_of Number field.new.items)) }
+    ensures ok { OnOk result (FieldExtends found.now U32 (parts_of Number field.old.items)
+        (parts_of Number field.new.items)) }
     ensures malformed { IsErrOf result error.Malformed → repeated_accepts found.now U32 ≡ false }
 {
     match found.value {
@@ -81,7 +82,8 @@ pub fn write(out: &mut [u8], end: usize, number: u32, field: &Vec<u32>) -> usize
     requires within { end ≤ length out.old }
     requires room { row_size (Repeated number U32) (elements_part Number field.now.items) ≤ end }
     ensures start { result + row_size (Repeated number U32) (elements_part Number field.now.items) ≡ end }
-    ensures written { drop result out.new ≡ before_row (Repeated number U32) (elements_part Number field.now.items) (drop end out.old) }
+    ensures written { drop result out.new ≡ before_row (Repeated number U32) (elements_part Number field.now.items)
+        (drop end out.old) }
 {
     if field.is_empty() {
         return end;

@@ -1,6 +1,7 @@
 //! The trait of records, and what it provides for all of them: decoding, merging and encoding whole payloads.
 
-ghost use Rattle.std.specs.Prelude.{◌≡◌, ◌≤◌, ◌<◌, ◌^◌, ◌++◌, ◌+◌, ℕ, drop, IfOk, OnOk, OnErr, vec_len, vec_capacity, MatchOption, Err, false, length};
+ghost use Rattle.std.specs.Prelude.{◌≡◌, ◌≤◌, ◌<◌, ◌^◌, ◌++◌, ◌+◌, ℕ, drop};
+ghost use Rattle.std.specs.Prelude.{IfOk, OnOk, OnErr, vec_len, vec_capacity, MatchOption, Err, false, length};
 ghost use Rattle.std.specs.List.{All, concat};
 ghost use Rattle.std.specs.Result.{IsErrOf};
 ghost use Rattle.shared_core_wire.specs.ReadRecords.{read_records};
@@ -90,7 +91,8 @@ pub trait WireRecord: Sized + Drop + PartialEq {
     /// allocate.
     #[tactic(auto, using(crate::proofs::Measuring::size_is, crate::proofs::FittingRows::fits_rows))]
     final fn encoded_len(&self) -> Option<u32>
-        ensures len { MatchOption result (2 ^ 32 ≤ size table schema (parts self.now)) (λ n. n ≡ size table schema (parts self.now)) }
+        ensures len { MatchOption result (2 ^ 32 ≤ size table schema (parts self.now))
+            (λ n. n ≡ size table schema (parts self.now)) }
         ensures fit { Fits table (parts self.now) (table schema) }
     {
         let mut size = Size::new();
@@ -114,10 +116,12 @@ pub trait WireRecord: Sized + Drop + PartialEq {
     final fn encode_payload_into(&self, out: &mut Vec<u8>) -> Result<(), EncodingError>
         ensures ok { OnOk result (out.new.items ≡ out.old.items ++ canonical_payload table schema (parts self.now)) }
         ensures short { OnOk result (size table schema (parts self.now) < 2 ^ 32) }
-        ensures reads_back { OnOk result (IsReadBack schema (parts self.now) (canonical_payload table schema (parts self.now))) }
+        ensures reads_back { OnOk result (IsReadBack schema (parts self.now)
+            (canonical_payload table schema (parts self.now))) }
         ensures unchanged { OnErr result (out.new.items ≡ out.old.items) }
         ensures capacity { vec_capacity out.old ≤ vec_capacity out.new }
-        ensures full { IsErrOf result OutOfMemory → vec_capacity out.old < vec_len out.old + size table schema (parts self.now) }
+        ensures full { IsErrOf result OutOfMemory
+            → vec_capacity out.old < vec_len out.old + size table schema (parts self.now) }
         ensures too_long { IsErrOf result PayloadTooLong → 2 ^ 32 ≤ size table schema (parts self.now) }
         ensures refused { 2 ^ 32 ≤ size table schema (parts self.now) → result ≡ Err PayloadTooLong }
     {
@@ -135,7 +139,8 @@ pub trait WireRecord: Sized + Drop + PartialEq {
     final fn encode_payload_into_bytes(&self, out: &mut BytesMut) -> Result<(), EncodingError>
         ensures ok { OnOk result (out.new.items ≡ out.old.items ++ canonical_payload table schema (parts self.now)) }
         ensures short { OnOk result (size table schema (parts self.now) < 2 ^ 32) }
-        ensures reads_back { OnOk result (IsReadBack schema (parts self.now) (canonical_payload table schema (parts self.now))) }
+        ensures reads_back { OnOk result (IsReadBack schema (parts self.now)
+            (canonical_payload table schema (parts self.now))) }
         ensures unchanged { OnErr result (out.new.items ≡ out.old.items) }
         ensures full { IsErrOf result OutOfMemory → out.old.spare < size table schema (parts self.now) }
         ensures spare { OnOk result (out.old.spare ≤ out.new.spare + size table schema (parts self.now)) }
@@ -175,7 +180,9 @@ pub(crate) fn merge_occurrences<M: WireRecord>(
     target: &mut M,
     message: &MessageBytes<'_>,
 ) -> Result<(), WireError>
-    ensures { IsComputed (λ _. M.parts target.new) result (fold_read (merged_with message.now.left M.schema) (M.parts target.old) (read_records message.now.left message.now.bytes.now)) }
+    ensures { IsComputed (λ _. M.parts target.new) result
+        (fold_read (merged_with message.now.left M.schema) (M.parts target.old)
+        (read_records message.now.left message.now.bytes.now)) }
 {
     for item in Records::within(message.bytes, message.left) {
         let found = item?;
@@ -218,7 +225,8 @@ pub fn decode_parts<M: WireRecord>(
 ) -> Result<M, WireError>
     ensures accepted { IfOk result (λ m. IsAccepted M.schema first × All (IsAccepted M.schema) rest.now) }
     ensures meaning { IfOk result (λ m. M.parts m ≡ payload_meaning M.schema (first ++ concat rest.now)) }
-    ensures malformed { IsErrOf result error.Malformed → ¬ (IsAccepted M.schema first × All (IsAccepted M.schema) rest.now) }
+    ensures malformed { IsErrOf result error.Malformed
+        → ¬ (IsAccepted M.schema first × All (IsAccepted M.schema) rest.now) }
 {
     let mut record = M::decode(alloc, first)?;
     for part in rest {

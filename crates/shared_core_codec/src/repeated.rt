@@ -17,7 +17,8 @@ use shared_core_wire::error::WireError;
 /// Appends an element, the meaning of the occurrence alone. It is read into its place in the list, and after an error
 /// it may be there.
 pub fn merge<V: Element>(field: &mut Vec<V>, found: &Occurrence<'_>) -> Result<(), WireError>
-    ensures ok { OnOk result (FieldExtends found.now V.kind (parts_of V.part field.old.items) (parts_of V.part field.new.items)) }
+    ensures ok { OnOk result (FieldExtends found.now V.kind (parts_of V.part field.old.items)
+        (parts_of V.part field.new.items)) }
     ensures malformed { IsErrOf result error.Malformed → repeated_accepts found.now V.kind ≡ false }
 {
     let element = field.push_mut(V::empty_value(found.alloc))?;
@@ -41,7 +42,8 @@ pub fn write<V: Element>(out: &mut [u8], end: usize, number: u32, field: &Vec<V>
     requires within { end ≤ length out.old }
     requires room { row_size (Repeated number V.kind) (elements_part V.part field.now.items) ≤ end }
     ensures start { result + row_size (Repeated number V.kind) (elements_part V.part field.now.items) ≡ end }
-    ensures written { drop result out.new ≡ before_row (Repeated number V.kind) (elements_part V.part field.now.items) (drop end out.old) }
+    ensures written { drop result out.new ≡ before_row (Repeated number V.kind) (elements_part V.part field.now.items)
+        (drop end out.old) }
 {
     let mut start = end;
     for i in (0..field.len()).rev() {

@@ -2,7 +2,8 @@
 
 ghost use Rattle.std.specs.Prelude.{◌≡◌, map, nat_lt, option_map};
 ghost use Rattle.shared_core_codec.specs.Table.{table, schemas, schema_count};
-ghost use Rattle.shared_core_codec.specs.ProgramRows.{row_view, rows_view, field_view, found_view, if_numbered, member_numbered, field_in_row, field_numbered};
+ghost use Rattle.shared_core_codec.specs.ProgramRows.{row_view, rows_view, field_view, found_view};
+ghost use Rattle.shared_core_codec.specs.ProgramRows.{if_numbered, member_numbered, field_in_row, field_numbered};
 
 use crate::schemas::SCHEMAS;
 

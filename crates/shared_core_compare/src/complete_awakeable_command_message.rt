@@ -18,8 +18,10 @@ use std::fmt::Formatter;
 
 /// Whether two results are the same but for the content of a value.
 fn same_but_payload(oneof: &Option<Result>, other: &Option<Result>) -> bool
-    ensures { IsTrue result ↔ (without_payloads (2 ∷ []) (row.OneOf ⟦<Result as OneOf>⟧.members) (option_part ⟦<Result as OneOf>⟧.part oneof.now)
-        ≡ without_payloads (2 ∷ []) (row.OneOf ⟦<Result as OneOf>⟧.members) (option_part ⟦<Result as OneOf>⟧.part other.now)) }
+    ensures { IsTrue result ↔ (without_payloads (2 ∷ []) (row.OneOf ⟦<Result as OneOf>⟧.members)
+        (option_part ⟦<Result as OneOf>⟧.part oneof.now)
+        ≡ without_payloads (2 ∷ []) (row.OneOf ⟦<Result as OneOf>⟧.members)
+        (option_part ⟦<Result as OneOf>⟧.part other.now)) }
 {
     match (oneof, other) {
         (Some(Result::Value(_)), Some(Result::Value(_))) => true,

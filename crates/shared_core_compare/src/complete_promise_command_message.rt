@@ -18,8 +18,10 @@ use std::fmt::Formatter;
 
 /// Whether two completions are the same but for the content of a completion value.
 fn same_but_payload(oneof: &Option<Completion>, other: &Option<Completion>) -> bool
-    ensures { IsTrue result ↔ (without_payloads (2 ∷ []) (row.OneOf ⟦<Completion as OneOf>⟧.members) (option_part ⟦<Completion as OneOf>⟧.part oneof.now)
-        ≡ without_payloads (2 ∷ []) (row.OneOf ⟦<Completion as OneOf>⟧.members) (option_part ⟦<Completion as OneOf>⟧.part other.now)) }
+    ensures { IsTrue result ↔ (without_payloads (2 ∷ []) (row.OneOf ⟦<Completion as OneOf>⟧.members)
+        (option_part ⟦<Completion as OneOf>⟧.part oneof.now)
+        ≡ without_payloads (2 ∷ []) (row.OneOf ⟦<Completion as OneOf>⟧.members)
+        (option_part ⟦<Completion as OneOf>⟧.part other.now)) }
 {
     match (oneof, other) {
         (Some(Completion::CompletionValue(_)), Some(Completion::CompletionValue(_))) => true,

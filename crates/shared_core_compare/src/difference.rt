@@ -8,7 +8,8 @@ ghost use Rattle.shared_core_wire.specs.Value.{Bytes as Content, Number};
 ghost use Rattle.shared_core_codec.specs.Equality.{part_equal};
 ghost use Rattle.shared_core_codec.specs.FieldParts.{elements_part, message_part, option_part, text_part};
 ghost use Rattle.shared_core_codec.specs.Table as schema;
-ghost use Rattle.shared_core_compare.specs.Differences.{difference, elements_text, field_line, is_printed_whole, kind_text, member_text, message_text, present_text};
+ghost use Rattle.shared_core_compare.specs.Differences.{difference, elements_text, field_line, is_printed_whole};
+ghost use Rattle.shared_core_compare.specs.Differences.{kind_text, member_text, message_text, present_text};
 
 use crate::equality::{same_message, same_messages, same_oneof};
 use crate::printed::{PrintedMessage, PrintedOneOf};
@@ -47,7 +48,8 @@ pub trait CommandMessageHeaderDiff: WireRecord {
         f: DiffFormatter<'_, W>,
     ) -> fmt::Result
         ensures { WritesOnOk W.write_str_gives f.entry.fmt.now result
-            (difference Self.schema f.entry.indentation.now (Self.parts self.now) (Self.parts expected.now)) f.exit.0.now }
+            (difference Self.schema f.entry.indentation.now (Self.parts self.now) (Self.parts expected.now))
+            f.exit.0.now }
     {
         let DiffFormatter { fmt, indentation } = f;
         self.write_lines(expected, fmt, indentation)
@@ -66,7 +68,8 @@ fn write_unless<W: fmt::Write, A: Display + Drop, E: Display + Drop>(
     requires actual { IsSome (A.output actual) }
     requires expected { IsSome (E.output expected) }
     ensures { WritesOnOk W.write_str_gives f.old result
-        (if same then [] else diff_line indentation.now field.now (unwrap_or (A.output actual) []) (unwrap_or (E.output expected) [])) f.new }
+        (if same then [] else diff_line indentation.now field.now (unwrap_or (A.output actual) [])
+        (unwrap_or (E.output expected) [])) f.new }
 {
     if same {
         Ok(())
@@ -84,7 +87,8 @@ pub(crate) fn write_number<W: fmt::Write>(
     actual: u32,
     expected: u32,
 ) -> fmt::Result
-    ensures { WritesOnOk W.write_str_gives f.old result (field_line indentation.now field.now (kind_text U32) (Number actual) (Number expected)) f.new }
+    ensures { WritesOnOk W.write_str_gives f.old result
+        (field_line indentation.now field.now (kind_text U32) (Number actual) (Number expected)) f.new }
 {
     write_unless(f, indentation, actual == expected, field, actual, expected)
 }
@@ -98,7 +102,8 @@ pub(crate) fn write_text<W: fmt::Write>(
     actual: &String,
     expected: &String,
 ) -> fmt::Result
-    ensures { WritesOnOk W.write_str_gives f.old result (field_line indentation.now field.now (kind_text Text) (text_part actual.now) (text_part expected.now)) f.new }
+    ensures { WritesOnOk W.write_str_gives f.old result
+        (field_line indentation.now field.now (kind_text Text) (text_part actual.now) (text_part expected.now)) f.new }
 {
     write_unless(f, indentation, actual == expected, field, actual, expected)
 }
@@ -112,7 +117,9 @@ pub(crate) fn write_bytes<W: fmt::Write>(
     actual: &Bytes,
     expected: &Bytes,
 ) -> fmt::Result
-    ensures { WritesOnOk W.write_str_gives f.old result (field_line indentation.now field.now (kind_text ByteString) (Content actual.now) (Content expected.now)) f.new }
+    ensures { WritesOnOk W.write_str_gives f.old result
+        (field_line indentation.now field.now (kind_text ByteString) (Content actual.now) (Content expected.now))
+        f.new }
 {
     write_unless(
         f,
@@ -148,7 +155,8 @@ impl<'a> Display for OptionalText<'a> {
 }
 
 impl<'a, M: PrintedMessage> Display for OptionalMessage<'a, M> {
-    ghost output = { λ message. Some (present_text (kind_text (Message M.schema)) (option_part (message_part M.parts) message.0.now)) };
+    ghost output = { λ message. Some (present_text (kind_text (Message M.schema))
+        (option_part (message_part M.parts) message.0.now)) };
 
     fn fmt<W: fmt::Write>(&self, f: &mut Formatter<W>) -> fmt::Result {
         match self.0 {
@@ -178,7 +186,9 @@ pub(crate) fn write_optional_text<W: fmt::Write>(
     actual: &Option<String>,
     expected: &Option<String>,
 ) -> fmt::Result
-    ensures { WritesOnOk W.write_str_gives f.old result (field_line indentation.now field.now (present_text (kind_text Text)) (option_part text_part actual.now) (option_part text_part expected.now)) f.new }
+    ensures { WritesOnOk W.write_str_gives f.old result
+        (field_line indentation.now field.now (present_text (kind_text Text)) (option_part text_part actual.now)
+        (option_part text_part expected.now)) f.new }
 {
     write_unless(
         f,
@@ -199,7 +209,9 @@ pub(crate) fn write_message<W: fmt::Write, M: PrintedMessage>(
     actual: &Option<M>,
     expected: &Option<M>,
 ) -> fmt::Result
-    ensures { WritesOnOk W.write_str_gives f.old result (field_line indentation.now field.now (present_text (kind_text (Message M.schema))) (option_part (message_part M.parts) actual.now) (option_part (message_part M.parts) expected.now)) f.new }
+    ensures { WritesOnOk W.write_str_gives f.old result
+        (field_line indentation.now field.now (present_text (kind_text (Message M.schema)))
+        (option_part (message_part M.parts) actual.now) (option_part (message_part M.parts) expected.now)) f.new }
 {
     write_unless(
         f,
@@ -220,7 +232,9 @@ pub(crate) fn write_oneof<W: fmt::Write, T: PrintedOneOf>(
     actual: &Option<T>,
     expected: &Option<T>,
 ) -> fmt::Result
-    ensures { WritesOnOk W.write_str_gives f.old result (field_line indentation.now field.now (present_text (member_text T.members)) (option_part T.part actual.now) (option_part T.part expected.now)) f.new }
+    ensures { WritesOnOk W.write_str_gives f.old result
+        (field_line indentation.now field.now (present_text (member_text T.members)) (option_part T.part actual.now)
+        (option_part T.part expected.now)) f.new }
 {
     write_unless(
         f,
@@ -241,7 +255,10 @@ pub(crate) fn write_headers<W: fmt::Write>(
     actual: &Vec<Header>,
     expected: &Vec<Header>,
 ) -> fmt::Result
-    ensures { WritesOnOk W.write_str_gives f.old result (field_line indentation.now field.now (elements_text (kind_text (Message schema.header))) (elements_part (message_part ⟦<Header as WireRecord>⟧.parts) actual.now.items) (elements_part (message_part ⟦<Header as WireRecord>⟧.parts) expected.now.items)) f.new }
+    ensures { WritesOnOk W.write_str_gives f.old result
+        (field_line indentation.now field.now (elements_text (kind_text (Message schema.header)))
+        (elements_part (message_part ⟦<Header as WireRecord>⟧.parts) actual.now.items)
+        (elements_part (message_part ⟦<Header as WireRecord>⟧.parts) expected.now.items)) f.new }
 {
     write_unless(
         f,

@@ -33,14 +33,16 @@ pub(crate) fn same_record<M: WireRecord>(message: &M, other: &M) -> bool
 
 /// Whether two optional messages are equal.
 pub(crate) fn same_message<M: WireRecord>(message: &Option<M>, other: &Option<M>) -> bool
-    ensures { IsTrue result ↔ (option_part (message_part M.parts) message.now ≡ option_part (message_part M.parts) other.now) }
+    ensures { IsTrue result ↔ (option_part (message_part M.parts) message.now
+        ≡ option_part (message_part M.parts) other.now) }
 {
     message == other
 }
 
 /// Whether two lists of messages are equal.
 pub(crate) fn same_messages<M: WireRecord>(messages: &Vec<M>, others: &Vec<M>) -> bool
-    ensures { IsTrue result ↔ (elements_part (message_part M.parts) messages.now.items ≡ elements_part (message_part M.parts) others.now.items) }
+    ensures { IsTrue result ↔ (elements_part (message_part M.parts) messages.now.items
+        ≡ elements_part (message_part M.parts) others.now.items) }
 {
     messages == others
 }

@@ -71,7 +71,8 @@ pub fn unequal_commands_print_a_difference<M: CommandMessageHeaderEq + CommandMe
     b: &M,
 ) -> bool
     ensures asked { IsTrue result ↔ AreSame M.schema false (M.parts a.now) (M.parts b.now) }
-    ensures law { IsFalse result → (indentation : List ℕ) → name_part M.schema (M.parts a.now) ≡ name_part M.schema (M.parts b.now)
+    ensures law { IsFalse result → (indentation : List ℕ)
+        → name_part M.schema (M.parts a.now) ≡ name_part M.schema (M.parts b.now)
         → difference M.schema indentation (M.parts a.now) (M.parts b.now) ≡ [] → ⊥ }
 {
     a.header_eq(b, false)

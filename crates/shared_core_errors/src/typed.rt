@@ -2,7 +2,9 @@
 ghost use Rattle.std.specs.Prelude.{◌≡◌, IfOk, Some};
 ghost use Rattle.std.specs.String.{string_bytes};
 ghost use Rattle.shared_core_base.specs.Error.{IsErrorOf};
-ghost use Rattle.shared_core_errors.specs.Typed.{unavailable_entry_text, unexpected_state_text, bad_state_key_text, unsupported_feature_text, unproposed_run_text, closed_input_text, long_duration_text};
+ghost use Rattle.shared_core_errors.specs.Typed.{unavailable_entry_text, unexpected_state_text};
+ghost use Rattle.shared_core_errors.specs.Typed.{bad_state_key_text, unsupported_feature_text};
+ghost use Rattle.shared_core_errors.specs.Typed.{unproposed_run_text, closed_input_text, long_duration_text};
 
 use shared_core_base::error::{Error, InvocationErrorCode, OutOfMemory, codes, error_of};
 use shared_core_base::header::MessageType;
@@ -173,7 +175,9 @@ impl UnsupportedFeatureForNegotiatedVersion {
 
     /// The error with this code and this text.
     pub fn to_error(&self, alloc: Global) -> Result<Error, OutOfMemory>
-        ensures { IfOk result (IsErrorOf 573 (Some (unsupported_feature_text self.now.feature.now self.now.current_version self.now.minimum_required_version))) }
+        ensures { IfOk result (IsErrorOf 573 (Some
+            (unsupported_feature_text self.now.feature.now self.now.current_version
+            self.now.minimum_required_version))) }
     {
         error_of(alloc, self.code(), self)
     }
@@ -181,7 +185,8 @@ impl UnsupportedFeatureForNegotiatedVersion {
 
 /// Prints the feature and both versions.
 impl fmt::Display for UnsupportedFeatureForNegotiatedVersion {
-    ghost output = { λ error. Some (unsupported_feature_text error.feature.now error.current_version error.minimum_required_version) };
+    ghost output = { λ error. Some (unsupported_feature_text error.feature.now error.current_version
+        error.minimum_required_version) };
 
     fn fmt<W: fmt::Write>(&self, f: &mut fmt::Formatter<W>) -> fmt::Result {
         let feature = self.feature;

@@ -56,7 +56,8 @@ impl UncompletedDoProgressDuringReplay {
     /// The error with this code and this text.
     pub fn to_error(&self, alloc: Global) -> Result<Error, OutOfMemory>
         ensures { IfOk result (IsErrorOf 570
-            (Some (uncompleted_text (get ⟦<NotificationId as PartialEq>⟧.eq self.now.metadata) self.now.notification_ids.items))) }
+            (Some (uncompleted_text (get ⟦<NotificationId as PartialEq>⟧.eq self.now.metadata)
+            self.now.notification_ids.items))) }
     {
         error_of(alloc, self.code(), self)
     }
@@ -136,7 +137,8 @@ fn write_lines<W: fmt::Write>(
 
 /// Prints that the await is not recorded, and a line for each awaited id.
 impl fmt::Display for UncompletedDoProgressDuringReplay {
-    ghost output = { λ error. Some (uncompleted_text (get ⟦<NotificationId as PartialEq>⟧.eq error.metadata) error.notification_ids.items) };
+    ghost output = { λ error. Some (uncompleted_text
+        (get ⟦<NotificationId as PartialEq>⟧.eq error.metadata) error.notification_ids.items) };
 
     fn fmt<W: fmt::Write>(&self, f: &mut fmt::Formatter<W>) -> fmt::Result {
         f.write_str(

@@ -66,7 +66,8 @@ pub fn json_of<M: WireRecord>(
     ensures text { IfOk result (λ text. text.items ≡ json_text M.schema (payload_meaning M.schema payload.now)) }
     ensures utf8 { IfOk result (λ text. IsUtf8 text.items) }
     // parsed as JSON, it is these tokens again
-    ensures reads_back { IfOk result (λ text. tokens text.items ≡ json_tokens (value_json M.schema (payload_meaning M.schema payload.now))) }
+    ensures reads_back { IfOk result (λ text. tokens text.items
+        ≡ json_tokens (value_json M.schema (payload_meaning M.schema payload.now))) }
     ensures malformed { IsErrOf result Malformed → ¬ (IsAccepted M.schema payload.now) }
     ensures too_long { IsErrOf result TooLong → IsTooLong M.schema payload.now }
 {

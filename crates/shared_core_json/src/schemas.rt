@@ -3,8 +3,8 @@
 
 use crate::fields::{Field, Kind};
 
-/// The number, the name in JSON and the kind of each field of each schema, and whether each of its records is an element
-/// of a list.
+/// The number, the name in JSON and the kind of each field of each schema, and whether each of its records is an
+/// element of a list.
 pub static SCHEMAS: [&[Field]; 53] = [
     // Void
     &[],

@@ -9,7 +9,9 @@ ghost use Rattle.shared_core_wire.specs.View.{value_of};
 ghost use Rattle.shared_core_json.specs.Form.{enum_digits};
 ghost use Rattle.shared_core_json.specs.Fields.{kind_view, field_view, schema_fields, field_numbered};
 ghost use Rattle.shared_core_json.specs.Payloads.{WritesJson};
-ghost use Rattle.shared_core_json.specs.Written.{low, varint_token, run_tokens, text_token, length_tokens, value_tokens, end_tokens, lead_tokens, record_tokens, next_begun, payload_tokens};
+ghost use Rattle.shared_core_json.specs.Written.{low, varint_token, run_tokens};
+ghost use Rattle.shared_core_json.specs.Written.{text_token, length_tokens, value_tokens, end_tokens};
+ghost use Rattle.shared_core_json.specs.Written.{lead_tokens, record_tokens, next_begun, payload_tokens};
 
 use crate::fields::{Field, Kind, find_field};
 use base64::engine::general_purpose::STANDARD;
@@ -74,8 +76,10 @@ fn write_record(
     left: u32,
 ) -> Result<u32, AllocError>
     ensures tokens { OnOk result (out.new.tokens ≡ out.old.tokens
-        ++ record_tokens (payload_tokens left) begun (field_numbered (schema_fields schema) found.now.number) (value_of found.now.value)) }
-    ensures begun { IfOk result (λ now. now ≡ next_begun begun (field_numbered (schema_fields schema) found.now.number)) }
+        ++ record_tokens (payload_tokens left) begun (field_numbered (schema_fields schema) found.now.number)
+        (value_of found.now.value)) }
+    ensures begun { IfOk result (λ now. now ≡ next_begun begun
+        (field_numbered (schema_fields schema) found.now.number)) }
     ensures before { out.new.before ≡ out.old.before }
 {
     let Some(field) = find_field(schema, found.number) else {
@@ -122,7 +126,8 @@ fn write_value(
     value: WireValue<'_>,
     left: u32,
 ) -> Result<(), AllocError>
-    ensures tokens { OnOk result (out.new.tokens ≡ out.old.tokens ++ value_tokens (payload_tokens left) (kind_view kind) (value_of value.entry)) }
+    ensures tokens { OnOk result (out.new.tokens ≡ out.old.tokens
+        ++ value_tokens (payload_tokens left) (kind_view kind) (value_of value.entry)) }
     ensures before { out.new.before ≡ out.old.before }
 {
     match value {

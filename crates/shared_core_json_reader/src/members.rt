@@ -6,7 +6,8 @@ ghost use Rattle.std.specs.Str.{bytes_eq};
 ghost use Rattle.json.specs.Value.{value_view as json_view, members_view};
 ghost use Rattle.shared_core_json_reader.specs.Rows.{field_view, row_view};
 ghost use Rattle.shared_core_json_reader.specs.Original.{after_byte, after_original};
-ghost use Rattle.shared_core_json_reader.specs.Reading.{original_name, is_named, names_field, row_names, names_row, are_known, given};
+ghost use Rattle.shared_core_json_reader.specs.Reading.{original_name, is_named, names_field};
+ghost use Rattle.shared_core_json_reader.specs.Reading.{row_names, names_row, are_known, given};
 
 use crate::error::Reason;
 use crate::rows::{Field, Row};

@@ -9,7 +9,9 @@ ghost use Rattle.shared_core_wire.specs.Canonical.{written_number};
 ghost use Rattle.json.specs.Value.{value_view as json_view, items_view, members_view};
 ghost use Rattle.shared_core_json_reader.specs.Rows.{field_view, row_view};
 ghost use Rattle.shared_core_json_reader.specs.Reading.{given};
-ghost use Rattle.shared_core_json_reader.specs.Appended.{length_record, field_bytes, items_bytes, run_bytes, list_bytes, given_bytes, oneof_bytes, row_bytes, members_bytes, object_bytes, message_bytes, Appends};
+ghost use Rattle.shared_core_json_reader.specs.Appended.{length_record, field_bytes, items_bytes, run_bytes};
+ghost use Rattle.shared_core_json_reader.specs.Appended.{list_bytes, given_bytes, oneof_bytes, row_bytes};
+ghost use Rattle.shared_core_json_reader.specs.Appended.{members_bytes, object_bytes, message_bytes, Appends};
 
 use crate::error::Reason;
 use crate::members::{find_unknown, given};

@@ -8,7 +8,9 @@ ghost use Rattle.std.specs.Prelude.{map};
 ghost use Rattle.std.specs.Result.{result_ok};
 ghost use Rattle.base64.specs.GeneralPurpose.{decode_of};
 ghost use Rattle.base64.specs.Engines.{url_safe_pad_indifferent};
-ghost use Rattle.shared_core_json_reader.specs.Scalars.{number_text, whole_of_text, whole_read, unsigned_read, boolean_read, signed_bits, value_named, enum_read, text_read, bytes_read};
+ghost use Rattle.shared_core_json_reader.specs.Scalars.{number_text, whole_of_text, whole_read};
+ghost use Rattle.shared_core_json_reader.specs.Scalars.{unsigned_read, boolean_read, signed_bits};
+ghost use Rattle.shared_core_json_reader.specs.Scalars.{value_named, enum_read, text_read, bytes_read};
 ghost use Rattle.shared_core_json_reader.specs.Views.{whole_view};
 
 use crate::error::Reason;

@@ -1,6 +1,7 @@
 //! Writing a record's frame: a header, and the canonical payload after it.
 
-ghost use Rattle.std.specs.Prelude.{◌≡◌, ◌≤◌, ◌<◌, ◌+◌, ◌^◌, ◌++◌, OnOk, OnErr, IfOk, IsErr, Err, MatchOption, ℕ, length, vec_len, vec_capacity};
+ghost use Rattle.std.specs.Prelude.{◌≡◌, ◌≤◌, ◌<◌, ◌+◌, ◌^◌, ◌++◌, OnOk, OnErr};
+ghost use Rattle.std.specs.Prelude.{IfOk, IsErr, Err, MatchOption, ℕ, length, vec_len, vec_capacity};
 ghost use Rattle.std.specs.Int.{w64, to_be_bytes};
 ghost use Rattle.std.specs.Result.{IsErrOf};
 ghost use Rattle.shared_core_base.specs.MessageHeader.{word_of};
@@ -35,7 +36,8 @@ pub trait FramePayload {
 
     /// The number of bytes of the canonical payload, or None if it is more than 4,294,967,295. Does not allocate.
     fn payload_len(&self) -> Option<u32>
-        ensures len { MatchOption result (2 ^ 32 ≤ size table payload_schema (payload_parts self.now)) (λ n. n ≡ size table payload_schema (payload_parts self.now)) }
+        ensures len { MatchOption result (2 ^ 32 ≤ size table payload_schema (payload_parts self.now))
+            (λ n. n ≡ size table payload_schema (payload_parts self.now)) }
         ensures fit { Fits table (payload_parts self.now) (table payload_schema) };
 
     /// Writes the canonical payload into a slice of exactly its length.
@@ -75,13 +77,16 @@ pub fn encode_frame_into<P: FramePayload>(
     requested_ack: Option<bool>,
     out: &mut Vec<u8>,
 ) -> Result<(), EncodingError>
-    ensures ok { OnOk result (out.new.items ≡ out.old.items ++ frame P.frame_type requested_ack (canonical_payload table P.payload_schema (P.payload_parts payload.now))) }
+    ensures ok { OnOk result (out.new.items ≡ out.old.items
+        ++ frame P.frame_type requested_ack (canonical_payload table P.payload_schema (P.payload_parts payload.now))) }
     ensures short { OnOk result (size table P.payload_schema (P.payload_parts payload.now) < 2 ^ 32) }
     ensures fits { OnOk result (Fits table (P.payload_parts payload.now) (table P.payload_schema)) }
     ensures unchanged { OnErr result (out.new.items ≡ out.old.items) }
     ensures capacity { vec_capacity out.old ≤ vec_capacity out.new }
-    ensures full { IsErrOf result OutOfMemory → vec_capacity out.old < vec_len out.old + (8 + size table P.payload_schema (P.payload_parts payload.now)) }
-    ensures too_long { IsErrOf result PayloadTooLong → 2 ^ 32 ≤ size table P.payload_schema (P.payload_parts payload.now) }
+    ensures full { IsErrOf result OutOfMemory
+        → vec_capacity out.old < vec_len out.old + (8 + size table P.payload_schema (P.payload_parts payload.now)) }
+    ensures too_long { IsErrOf result PayloadTooLong
+        → 2 ^ 32 ≤ size table P.payload_schema (P.payload_parts payload.now) }
     ensures refused { 2 ^ 32 ≤ size table P.payload_schema (P.payload_parts payload.now) → result ≡ Err PayloadTooLong }
 {
     let header = header_of(payload, requested_ack)?;
@@ -99,14 +104,18 @@ pub fn encode_frame_into_bytes<P: FramePayload>(
     requested_ack: Option<bool>,
     out: &mut BytesMut,
 ) -> Result<(), EncodingError>
-    ensures ok { OnOk result (out.new.items ≡ out.old.items ++ frame P.frame_type requested_ack (canonical_payload table P.payload_schema (P.payload_parts payload.now))) }
+    ensures ok { OnOk result (out.new.items ≡ out.old.items
+        ++ frame P.frame_type requested_ack (canonical_payload table P.payload_schema (P.payload_parts payload.now))) }
     ensures short { OnOk result (size table P.payload_schema (P.payload_parts payload.now) < 2 ^ 32) }
     ensures fits { OnOk result (Fits table (P.payload_parts payload.now) (table P.payload_schema)) }
     ensures unchanged { OnErr result (out.new.items ≡ out.old.items) }
-    ensures full { IsErrOf result OutOfMemory → out.old.spare < 8 + size table P.payload_schema (P.payload_parts payload.now) }
-    ensures spare { OnOk result (out.old.spare ≤ out.new.spare + (8 + size table P.payload_schema (P.payload_parts payload.now))) }
+    ensures full { IsErrOf result OutOfMemory
+        → out.old.spare < 8 + size table P.payload_schema (P.payload_parts payload.now) }
+    ensures spare { OnOk result (out.old.spare ≤ out.new.spare
+        + (8 + size table P.payload_schema (P.payload_parts payload.now))) }
     ensures kept { OnErr result (out.old.spare ≤ out.new.spare) }
-    ensures too_long { IsErrOf result PayloadTooLong → 2 ^ 32 ≤ size table P.payload_schema (P.payload_parts payload.now) }
+    ensures too_long { IsErrOf result PayloadTooLong
+        → 2 ^ 32 ≤ size table P.payload_schema (P.payload_parts payload.now) }
     ensures refused { 2 ^ 32 ≤ size table P.payload_schema (P.payload_parts payload.now) → result ≡ Err PayloadTooLong }
 {
     let header = header_of(payload, requested_ack)?;
@@ -130,7 +139,8 @@ fn header_of<P: FramePayload>(
     }) }
     ensures short { IfOk result (λ _. size table P.payload_schema (P.payload_parts payload.now) < 2 ^ 32) }
     ensures fits { Fits table (P.payload_parts payload.now) (table P.payload_schema) }
-    ensures too_long { IsErr result → (result ≡ Err PayloadTooLong) × (2 ^ 32 ≤ size table P.payload_schema (P.payload_parts payload.now)) }
+    ensures too_long { IsErr result → (result ≡ Err PayloadTooLong)
+        × (2 ^ 32 ≤ size table P.payload_schema (P.payload_parts payload.now)) }
 {
     let Some(length) = payload.payload_len() else {
         return Err(EncodingError::PayloadTooLong);
@@ -144,7 +154,8 @@ fn header_of<P: FramePayload>(
 /// Writes a header and the canonical payload of a record into a slice of exactly their length.
 fn fill_frame<P: FramePayload>(payload: &P, header: MessageHeader, out: &mut [u8])
     requires len { length out.old ≡ 8 + size table P.payload_schema (P.payload_parts payload.now) }
-    ensures { out.new ≡ to_be_bytes w64 (word_of header) ++ canonical_payload table P.payload_schema (P.payload_parts payload.now) }
+    ensures { out.new ≡ to_be_bytes w64 (word_of header)
+        ++ canonical_payload table P.payload_schema (P.payload_parts payload.now) }
 {
     let (head, rest) = out.split_at_mut(MessageHeader::SIZE);
     head.copy_from_slice(&header.to_bytes());

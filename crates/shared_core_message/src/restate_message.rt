@@ -42,20 +42,23 @@ pub trait RestateEncodableMessage: RestateMessage {
     /// The errors are those of `encode`; `OutOfMemory` comes only if the buffer has too little room. After an error the
     /// buffer is unchanged. Its capacity never shrinks.
     fn encode_into(&self, version: Version, out: &mut Vec<u8>) -> Result<(), EncodingError>
-        ensures ok { OnOk result (out.new.items ≡ out.old.items ++ wire_frame Self.message_type (wire_form self.now version)) }
+        ensures ok { OnOk result (out.new.items ≡ out.old.items
+            ++ wire_frame Self.message_type (wire_form self.now version)) }
         ensures short { OnOk result (wire_size (wire_form self.now version) < 2 ^ 32) }
         // what is written fits its schema
         ensures fits { OnOk result (WireFits (wire_form self.now version)) }
         ensures unchanged { OnErr result (out.new.items ≡ out.old.items) }
         ensures capacity { vec_capacity out.old ≤ vec_capacity out.new }
-        ensures full { IsErrOf result OutOfMemory → vec_capacity out.old < vec_len out.old + (8 + wire_size (wire_form self.now version)) }
+        ensures full { IsErrOf result OutOfMemory
+            → vec_capacity out.old < vec_len out.old + (8 + wire_size (wire_form self.now version)) }
         ensures too_long { IsErrOf result PayloadTooLong → 2 ^ 32 ≤ wire_size (wire_form self.now version) }
         ensures refused { 2 ^ 32 ≤ wire_size (wire_form self.now version) → result ≡ Err PayloadTooLong };
 
     /// Appends the frame, as `encode_into` does, to a buffer whose spare room is initialized, so that no byte is
     /// written twice.
     fn encode_into_bytes(&self, version: Version, out: &mut BytesMut) -> Result<(), EncodingError>
-        ensures ok { OnOk result (out.new.items ≡ out.old.items ++ wire_frame Self.message_type (wire_form self.now version)) }
+        ensures ok { OnOk result (out.new.items ≡ out.old.items
+            ++ wire_frame Self.message_type (wire_form self.now version)) }
         ensures short { OnOk result (wire_size (wire_form self.now version) < 2 ^ 32) }
         // what is written fits its schema
         ensures fits { OnOk result (WireFits (wire_form self.now version)) }

@@ -82,11 +82,24 @@ impl OneOf for AnyResult {
     ghost use Rattle.shared_core_parts.specs.contracts.value.ValueWireRecord.TheImpl.Laws.{equality-law as value_equality};
     ghost use Rattle.shared_core_parts.specs.contracts.failure.FailureWireRecord.TheImpl.Laws.{equality-law as failure_equality};
 
-    ghost present = { elim [ any_result_is.Void x ↦ refl | any_result_is.Value x ↦ refl | any_result_is.Failure x ↦ refl ] };
+    ghost present = { elim [
+      | any_result_is.Void x ↦ refl
+      | any_result_is.Value x ↦ refl
+      | any_result_is.Failure x ↦ refl
+    ] };
 
     ghost equality = { elim [
-      | any_result_is.Void x ↦ elim [ any_result_is.Void y ↦ Prim.search (equality_rules, void_equality) | _ ↦ different_members _ _ _ _ refl ]
-      | any_result_is.Value x ↦ elim [ any_result_is.Value y ↦ Prim.search (equality_rules, value_equality) | _ ↦ different_members _ _ _ _ refl ]
-      | any_result_is.Failure x ↦ elim [ any_result_is.Failure y ↦ Prim.search (equality_rules, failure_equality) | _ ↦ different_members _ _ _ _ refl ]
+      | any_result_is.Void x ↦ elim [
+        | any_result_is.Void y ↦ Prim.search (equality_rules, void_equality)
+        | _ ↦ different_members _ _ _ _ refl
+      ]
+      | any_result_is.Value x ↦ elim [
+        | any_result_is.Value y ↦ Prim.search (equality_rules, value_equality)
+        | _ ↦ different_members _ _ _ _ refl
+      ]
+      | any_result_is.Failure x ↦ elim [
+        | any_result_is.Failure y ↦ Prim.search (equality_rules, failure_equality)
+        | _ ↦ different_members _ _ _ _ refl
+      ]
     ] };
 }

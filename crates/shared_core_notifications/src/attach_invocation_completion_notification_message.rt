@@ -85,7 +85,8 @@ impl RestateMessage for AttachInvocationCompletionNotificationMessage {
 }
 
 impl RestateEncodableMessage for AttachInvocationCompletionNotificationMessage {
-    ghost wire_form = { λ message _. plain_form tables.attach_invocation_completion (⟦<AttachInvocationCompletionNotificationMessage as WireRecord>⟧.parts message) };
+    ghost wire_form = { λ message _. plain_form tables.attach_invocation_completion
+        (⟦<AttachInvocationCompletionNotificationMessage as WireRecord>⟧.parts message) };
 
     fn encode_into(
         &self,

@@ -85,7 +85,8 @@ impl RestateMessage for CallCompletionNotificationMessage {
 }
 
 impl RestateEncodableMessage for CallCompletionNotificationMessage {
-    ghost wire_form = { λ message _. plain_form tables.call_completion (⟦<CallCompletionNotificationMessage as WireRecord>⟧.parts message) };
+    ghost wire_form = { λ message _. plain_form tables.call_completion
+        (⟦<CallCompletionNotificationMessage as WireRecord>⟧.parts message) };
 
     fn encode_into(
         &self,

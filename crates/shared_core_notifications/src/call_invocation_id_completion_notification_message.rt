@@ -80,7 +80,8 @@ impl RestateMessage for CallInvocationIdCompletionNotificationMessage {
 }
 
 impl RestateEncodableMessage for CallInvocationIdCompletionNotificationMessage {
-    ghost wire_form = { λ message _. plain_form tables.call_invocation_id_completion (⟦<CallInvocationIdCompletionNotificationMessage as WireRecord>⟧.parts message) };
+    ghost wire_form = { λ message _. plain_form tables.call_invocation_id_completion
+        (⟦<CallInvocationIdCompletionNotificationMessage as WireRecord>⟧.parts message) };
 
     fn encode_into(&self, _version: Version, out: &mut Vec<u8>) -> Result<(), EncodingError> {
         encode_frame_into(self, None, out)

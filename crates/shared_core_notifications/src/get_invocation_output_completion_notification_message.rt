@@ -85,7 +85,8 @@ impl RestateMessage for GetInvocationOutputCompletionNotificationMessage {
 }
 
 impl RestateEncodableMessage for GetInvocationOutputCompletionNotificationMessage {
-    ghost wire_form = { λ message _. plain_form tables.get_invocation_output_completion (⟦<GetInvocationOutputCompletionNotificationMessage as WireRecord>⟧.parts message) };
+    ghost wire_form = { λ message _. plain_form tables.get_invocation_output_completion
+        (⟦<GetInvocationOutputCompletionNotificationMessage as WireRecord>⟧.parts message) };
 
     fn encode_into(
         &self,

@@ -85,7 +85,8 @@ impl RestateMessage for GetPromiseCompletionNotificationMessage {
 }
 
 impl RestateEncodableMessage for GetPromiseCompletionNotificationMessage {
-    ghost wire_form = { λ message _. plain_form tables.get_promise_completion (⟦<GetPromiseCompletionNotificationMessage as WireRecord>⟧.parts message) };
+    ghost wire_form = { λ message _. plain_form tables.get_promise_completion
+        (⟦<GetPromiseCompletionNotificationMessage as WireRecord>⟧.parts message) };
 
     fn encode_into(
         &self,

@@ -85,7 +85,8 @@ impl RestateMessage for PeekPromiseCompletionNotificationMessage {
 }
 
 impl RestateEncodableMessage for PeekPromiseCompletionNotificationMessage {
-    ghost wire_form = { λ message _. plain_form tables.peek_promise_completion (⟦<PeekPromiseCompletionNotificationMessage as WireRecord>⟧.parts message) };
+    ghost wire_form = { λ message _. plain_form tables.peek_promise_completion
+        (⟦<PeekPromiseCompletionNotificationMessage as WireRecord>⟧.parts message) };
 
     fn encode_into(
         &self,

@@ -85,7 +85,8 @@ impl RestateMessage for RunCompletionNotificationMessage {
 }
 
 impl RestateEncodableMessage for RunCompletionNotificationMessage {
-    ghost wire_form = { λ message _. plain_form tables.run_completion (⟦<RunCompletionNotificationMessage as WireRecord>⟧.parts message) };
+    ghost wire_form = { λ message _. plain_form tables.run_completion
+        (⟦<RunCompletionNotificationMessage as WireRecord>⟧.parts message) };
 
     fn encode_into(
         &self,

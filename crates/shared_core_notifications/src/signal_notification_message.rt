@@ -79,8 +79,14 @@ impl OneOf for SignalId {
     ghost present = { elim [ signal_id_is.Idx x ↦ refl | signal_id_is.Name x ↦ refl ] };
 
     ghost equality = { elim [
-      | signal_id_is.Idx x ↦ elim [ signal_id_is.Idx y ↦ Prim.search equality_rules | _ ↦ different_members _ _ _ _ refl ]
-      | signal_id_is.Name x ↦ elim [ signal_id_is.Name y ↦ Prim.search equality_rules | _ ↦ different_members _ _ _ _ refl ]
+      | signal_id_is.Idx x ↦ elim [
+        | signal_id_is.Idx y ↦ Prim.search equality_rules
+        | _ ↦ different_members _ _ _ _ refl
+      ]
+      | signal_id_is.Name x ↦ elim [
+        | signal_id_is.Name y ↦ Prim.search equality_rules
+        | _ ↦ different_members _ _ _ _ refl
+      ]
     ] };
 }
 
@@ -128,7 +134,13 @@ impl WireRecord for SignalNotificationMessage {
     ghost use Rattle.shared_core_notifications.specs.contracts.signal_notification_message.SignalIdOneOf.TheImpl.Laws.{equality-law as signal_id_equality, present-law as signal_id_present};
     ghost use Rattle.shared_core_notifications.specs.contracts.any_result.AnyResultOneOf.TheImpl.Laws.{equality-law as result_equality, present-law as result_present};
 
-    ghost equality = { Prim.search (equality_rules, signal_id_equality, signal_id_present, result_equality, result_present) depth 16 };
+    ghost equality = { Prim.search (
+      equality_rules,
+      signal_id_equality,
+      signal_id_present,
+      result_equality,
+      result_present,
+    ) depth 16 };
 }
 
 impl RestateMessage for SignalNotificationMessage {
@@ -144,7 +156,8 @@ impl RestateMessage for SignalNotificationMessage {
 }
 
 impl RestateEncodableMessage for SignalNotificationMessage {
-    ghost wire_form = { λ message _. plain_form tables.signal_notification (⟦<SignalNotificationMessage as WireRecord>⟧.parts message) };
+    ghost wire_form = { λ message _. plain_form tables.signal_notification
+        (⟦<SignalNotificationMessage as WireRecord>⟧.parts message) };
 
     fn encode_into(
         &self,

@@ -83,7 +83,8 @@ impl RestateMessage for SleepCompletionNotificationMessage {
 }
 
 impl RestateEncodableMessage for SleepCompletionNotificationMessage {
-    ghost wire_form = { λ message _. plain_form tables.sleep_completion (⟦<SleepCompletionNotificationMessage as WireRecord>⟧.parts message) };
+    ghost wire_form = { λ message _. plain_form tables.sleep_completion
+        (⟦<SleepCompletionNotificationMessage as WireRecord>⟧.parts message) };
 
     fn encode_into(&self, _version: Version, out: &mut Vec<u8>) -> Result<(), EncodingError> {
         encode_frame_into(self, None, out)

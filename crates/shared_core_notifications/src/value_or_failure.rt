@@ -74,7 +74,14 @@ impl OneOf for ValueOrFailure {
     ghost present = { elim [ value_or_failure_is.Value x ↦ refl | value_or_failure_is.Failure x ↦ refl ] };
 
     ghost equality = { elim [
-      | value_or_failure_is.Value x ↦ elim [ value_or_failure_is.Value y ↦ Prim.search (equality_rules, value_equality) | _ ↦ different_members _ _ _ _ refl ]
-      | value_or_failure_is.Failure x ↦ elim [ value_or_failure_is.Failure y ↦ Prim.search (equality_rules, failure_equality) | _ ↦ different_members _ _ _ _ refl ]
+      | value_or_failure_is.Value x ↦ elim [
+        | value_or_failure_is.Value y ↦ Prim.search (equality_rules, value_equality)
+        | _ ↦ different_members _ _ _ _ refl
+      ]
+      | value_or_failure_is.Failure x ↦ elim [
+        | value_or_failure_is.Failure y ↦ Prim.search
+            (equality_rules, failure_equality)
+        | _ ↦ different_members _ _ _ _ refl
+      ]
     ] };
 }

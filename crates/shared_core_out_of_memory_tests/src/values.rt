@@ -169,7 +169,8 @@ fn lookups(alloc: Global) -> Result<(), Failed> {
     )?;
     let word = 0x0005_8000_0000_0005u64;
     expect(
-        matches!(MessageHeader::try_from(word), Ok(header) if header.requested_ack() == Some(true) && u64::from(header) == word)
+        matches!(MessageHeader::try_from(word), Ok(header) if header.requested_ack() == Some(true) && u64::from(header)
+            == word)
             && MessageHeader::try_from(0x0008_0000_0000_0000u64).is_err(),
         Call::MessageHeader,
     )

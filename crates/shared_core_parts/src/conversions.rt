@@ -1,7 +1,9 @@
 //! Conversions between messages and the values of the SDK state machine.
 
 ghost use Rattle.std.specs.Prelude.{◌≡◌, [], IfOk, IsOk, map};
-ghost use Rattle.shared_core_parts.specs.Conversions.{failure_contents, terminal_contents, terminal_contents_of, root_header_of, IsOwnedTextOf, IsHeaderOf, NeedsNoCopy, NeedsNoCopies};
+ghost use Rattle.shared_core_parts.specs.Conversions.{failure_contents, terminal_contents};
+ghost use Rattle.shared_core_parts.specs.Conversions.{terminal_contents_of, root_header_of, IsOwnedTextOf};
+ghost use Rattle.shared_core_parts.specs.Conversions.{IsHeaderOf, NeedsNoCopy, NeedsNoCopies};
 
 use crate::failure::Failure;
 use crate::failure_metadata::FailureMetadata;

@@ -10,8 +10,10 @@ ghost use Rattle.shared_core_codec.specs.Table as tables;
 ghost use Rattle.shared_core_codec.specs.FieldParts.{message_part};
 ghost use Rattle.shared_core_codec.specs.Computed.{IsComputed};
 ghost use Rattle.shared_core_codec.specs.Folding.{fold_read};
-ghost use Rattle.shared_core_codec.specs.Occurrences.{schema_accepts, RecordMerges, repeated_accepts, FieldExtends, merged_with};
-ghost use Rattle.shared_core_codec.specs.RowEncoding.{capped, value_bytes, measured_row, measured_rows, before_row, before_rows, row_size, rows_size};
+ghost use Rattle.shared_core_codec.specs.Occurrences.{schema_accepts, RecordMerges};
+ghost use Rattle.shared_core_codec.specs.Occurrences.{repeated_accepts, FieldExtends, merged_with};
+ghost use Rattle.shared_core_codec.specs.RowEncoding.{capped, value_bytes, measured_row, measured_rows};
+ghost use Rattle.shared_core_codec.specs.RowEncoding.{before_row, before_rows, row_size, rows_size};
 ghost use Rattle.shared_core_codec.specs.RowFitting.{ValueFits, FieldFits, FieldsFit};
 ghost use Rattle.shared_core_codec.specs.Equality.{part_equal, parts_equal};
 ghost use Rattle.shared_core_wire.specs.declared.error.WireError.TheVariants as error;
@@ -101,7 +103,9 @@ fn empty_future(alloc: Global) -> Future
 /// Merges the records of a message into a future.
 #[cycle(merge_future)]
 fn merge_future(future: &mut Future, message: &MessageBytes<'_>) -> Result<(), WireError>
-    ensures { IsComputed (λ _. future_parts future.new) result (fold_read (merged_with message.now.left tables.future) (future_parts future.old) (read_records message.now.left message.now.bytes.now)) }
+    ensures { IsComputed (λ _. future_parts future.new) result
+        (fold_read (merged_with message.now.left tables.future) (future_parts future.old)
+        (read_records message.now.left message.now.bytes.now)) }
 {
     for item in Records::within(message.bytes, message.left) {
         let found = item?;
@@ -113,7 +117,8 @@ fn merge_future(future: &mut Future, message: &MessageBytes<'_>) -> Result<(), W
 /// Merges one occurrence into its field.
 #[cycle(merge_future)]
 fn merge_future_field(future: &mut Future, field: &Occurrence<'_>) -> Result<(), WireError>
-    ensures ok { OnOk result (RecordMerges tables.future field.now (future_parts future.old) (future_parts future.new)) }
+    ensures ok { OnOk result (RecordMerges tables.future field.now (future_parts future.old)
+        (future_parts future.new)) }
     ensures malformed { IsErrOf result error.Malformed → schema_accepts tables.future field.now ≡ false }
 {
     match field.number {
@@ -130,7 +135,8 @@ fn merge_future_field(future: &mut Future, field: &Occurrence<'_>) -> Result<(),
 /// Appends the future of an occurrence, which is read into its place in the list.
 #[cycle(merge_future)]
 fn extend_futures(futures: &mut Vec<Future>, field: &Occurrence<'_>) -> Result<(), WireError>
-    ensures ok { OnOk result (FieldExtends field.now (Message tables.future) (future_elements futures.old.items) (future_elements futures.new.items)) }
+    ensures ok { OnOk result (FieldExtends field.now (Message tables.future) (future_elements futures.old.items)
+        (future_elements futures.new.items)) }
     ensures malformed { IsErrOf result error.Malformed → repeated_accepts field.now (Message tables.future) ≡ false }
 {
     let Some(nested) = field.nested() else {
@@ -156,7 +162,8 @@ fn measure_future(future: &Future, size: &mut Size)
 
 #[cycle(measure_future)]
 fn measure_futures(futures: &Vec<Future>, size: &mut Size)
-    ensures sum { size.new ≡ measured_row (Repeated 4 (Message tables.future)) (futures_part futures.now.items) size.old }
+    ensures sum { size.new ≡ measured_row (Repeated 4 (Message tables.future))
+        (futures_part futures.now.items) size.old }
     ensures fit { FieldFits (Repeated 4 (Message tables.future)) (futures_part futures.now.items) }
 {
     let _ = size.total();
@@ -168,7 +175,8 @@ fn measure_futures(futures: &Vec<Future>, size: &mut Size)
 #[cycle(measure_future)]
 #[tactic(auto, using(shared_core_codec::proofs::Measuring::measured_message_is, shared_core_codec::proofs::FittingRows::fit_message))]
 fn measure_nested(future: &Future, size: &mut Size)
-    ensures sum { size.new ≡ capped (size.old + length (value_bytes 4 (Message tables.future) (message_part future_parts future.now))) }
+    ensures sum { size.new ≡ capped (size.old
+        + length (value_bytes 4 (Message tables.future) (message_part future_parts future.now))) }
     ensures fit { ValueFits (Message tables.future) (message_part future_parts future.now) }
 {
     let mut nested = Size::new();
@@ -181,7 +189,8 @@ fn encode_future(future: &Future, out: &mut [u8], end: usize) -> usize
     requires within { end ≤ length out.old }
     requires room { rows_size (table tables.future) (future_parts future.now) ≤ end }
     ensures start { result + rows_size (table tables.future) (future_parts future.now) ≡ end }
-    ensures written { drop result out.new ≡ before_rows (table tables.future) (future_parts future.now) (drop end out.old) }
+    ensures written { drop result out.new ≡ before_rows (table tables.future) (future_parts future.now)
+        (drop end out.old) }
 {
     let end = plain::write(out, end, 5, &future.combinator_type);
     let end = encode_futures(&future.nested_futures, out, end);
@@ -195,7 +204,8 @@ fn encode_futures(futures: &Vec<Future>, out: &mut [u8], end: usize) -> usize
     requires within { end ≤ length out.old }
     requires room { row_size (Repeated 4 (Message tables.future)) (futures_part futures.now.items) ≤ end }
     ensures start { result + row_size (Repeated 4 (Message tables.future)) (futures_part futures.now.items) ≡ end }
-    ensures written { drop result out.new ≡ before_row (Repeated 4 (Message tables.future)) (futures_part futures.now.items) (drop end out.old) }
+    ensures written { drop result out.new ≡ before_row (Repeated 4 (Message tables.future))
+        (futures_part futures.now.items) (drop end out.old) }
 {
     let mut start = end;
     for i in (0..futures.len()).rev() {
@@ -209,8 +219,10 @@ fn encode_futures(futures: &Vec<Future>, out: &mut [u8], end: usize) -> usize
 fn encode_nested(future: &Future, out: &mut [u8], end: usize) -> usize
     requires within { end ≤ length out.old }
     requires room { length (value_bytes 4 (Message tables.future) (message_part future_parts future.now)) ≤ end }
-    ensures start { result + length (value_bytes 4 (Message tables.future) (message_part future_parts future.now)) ≡ end }
-    ensures written { drop result out.new ≡ value_bytes 4 (Message tables.future) (message_part future_parts future.now) ++ drop end out.old }
+    ensures start { result + length (value_bytes 4 (Message tables.future) (message_part future_parts future.now))
+        ≡ end }
+    ensures written { drop result out.new ≡ value_bytes 4 (Message tables.future) (message_part future_parts future.now)
+        ++ drop end out.old }
 {
     let start = encode_future(future, out, end);
     write_length(out, start, 4, end - start)

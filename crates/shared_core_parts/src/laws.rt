@@ -24,7 +24,8 @@ pub fn terminal_failures_convert_back(
 ) -> Result<TerminalFailure, OutOfMemory>
     ensures ok { IfOk result (λ back. terminal_contents back ≡ terminal_contents terminal) }
     // for all results that the two calls may have
-    ensures any { (failure : AnyFailure) (back : AnyTerminalFailure) → failure_contents failure ≡ terminal_contents terminal
+    ensures any { (failure : AnyFailure) (back : AnyTerminalFailure)
+        → failure_contents failure ≡ terminal_contents terminal
         → terminal_contents back ≡ terminal_contents_of failure → terminal_contents back ≡ terminal_contents terminal }
 {
     Failure::from_terminal(alloc, terminal)?.into_terminal(alloc)

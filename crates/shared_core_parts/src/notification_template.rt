@@ -79,9 +79,15 @@ impl OneOf for Id {
     ghost present = { elim [ id_is.CompletionId x ↦ refl | id_is.SignalId x ↦ refl | id_is.SignalName x ↦ refl ] };
 
     ghost equality = { elim [
-      | id_is.CompletionId x ↦ elim [ id_is.CompletionId y ↦ Prim.search equality_rules | _ ↦ different_members _ _ _ _ refl ]
+      | id_is.CompletionId x ↦ elim [
+        | id_is.CompletionId y ↦ Prim.search equality_rules
+        | _ ↦ different_members _ _ _ _ refl
+      ]
       | id_is.SignalId x ↦ elim [ id_is.SignalId y ↦ Prim.search equality_rules | _ ↦ different_members _ _ _ _ refl ]
-      | id_is.SignalName x ↦ elim [ id_is.SignalName y ↦ Prim.search equality_rules | _ ↦ different_members _ _ _ _ refl ]
+      | id_is.SignalName x ↦ elim [
+        | id_is.SignalName y ↦ Prim.search equality_rules
+        | _ ↦ different_members _ _ _ _ refl
+      ]
     ] };
 }
 
@@ -103,7 +109,8 @@ pub enum Result {
 impl OneOf for Result {
     ghost use Rattle.shared_core_parts.specs.declared.notification_template.Result.TheVariants as result_is;
 
-    ghost members = { (4, Message tables.void) ∷ (5, Message tables.value) ∷ (6, Message tables.failure) ∷ (16, Text) ∷ (17, Message tables.state_keys) ∷ [] };
+    ghost members = { (4, Message tables.void) ∷ (5, Message tables.value) ∷ (6, Message tables.failure) ∷ (16, Text)
+        ∷ (17, Message tables.state_keys) ∷ [] };
 
     ghost part = { elim [
       | result_is.Void x ↦ Member 4 (message_part ⟦<Void as WireRecord>⟧.parts x)
@@ -168,14 +175,35 @@ impl OneOf for Result {
     ghost use Rattle.shared_core_parts.specs.contracts.failure.FailureWireRecord.TheImpl.Laws.{equality-law as failure_equality};
     ghost use Rattle.shared_core_parts.specs.contracts.state_keys.StateKeysWireRecord.TheImpl.Laws.{equality-law as state_keys_equality};
 
-    ghost present = { elim [ result_is.Void x ↦ refl | result_is.Value x ↦ refl | result_is.Failure x ↦ refl | result_is.InvocationId x ↦ refl | result_is.StateKeys x ↦ refl ] };
+    ghost present = { elim [
+      | result_is.Void x ↦ refl
+      | result_is.Value x ↦ refl
+      | result_is.Failure x ↦ refl
+      | result_is.InvocationId x ↦ refl
+      | result_is.StateKeys x ↦ refl
+    ] };
 
     ghost equality = { elim [
-      | result_is.Void x ↦ elim [ result_is.Void y ↦ Prim.search (equality_rules, void_equality) | _ ↦ different_members _ _ _ _ refl ]
-      | result_is.Value x ↦ elim [ result_is.Value y ↦ Prim.search (equality_rules, value_equality) | _ ↦ different_members _ _ _ _ refl ]
-      | result_is.Failure x ↦ elim [ result_is.Failure y ↦ Prim.search (equality_rules, failure_equality) | _ ↦ different_members _ _ _ _ refl ]
-      | result_is.InvocationId x ↦ elim [ result_is.InvocationId y ↦ Prim.search equality_rules | _ ↦ different_members _ _ _ _ refl ]
-      | result_is.StateKeys x ↦ elim [ result_is.StateKeys y ↦ Prim.search (equality_rules, state_keys_equality) | _ ↦ different_members _ _ _ _ refl ]
+      | result_is.Void x ↦ elim [
+        | result_is.Void y ↦ Prim.search (equality_rules, void_equality)
+        | _ ↦ different_members _ _ _ _ refl
+      ]
+      | result_is.Value x ↦ elim [
+        | result_is.Value y ↦ Prim.search (equality_rules, value_equality)
+        | _ ↦ different_members _ _ _ _ refl
+      ]
+      | result_is.Failure x ↦ elim [
+        | result_is.Failure y ↦ Prim.search (equality_rules, failure_equality)
+        | _ ↦ different_members _ _ _ _ refl
+      ]
+      | result_is.InvocationId x ↦ elim [
+        | result_is.InvocationId y ↦ Prim.search equality_rules
+        | _ ↦ different_members _ _ _ _ refl
+      ]
+      | result_is.StateKeys x ↦ elim [
+        | result_is.StateKeys y ↦ Prim.search (equality_rules, state_keys_equality)
+        | _ ↦ different_members _ _ _ _ refl
+      ]
     ] };
 }
 
@@ -223,5 +251,6 @@ impl WireRecord for NotificationTemplate {
     ghost use Rattle.shared_core_parts.specs.contracts.notification_template.IdOneOf.TheImpl.Laws.{equality-law as id_equality, present-law as id_present};
     ghost use Rattle.shared_core_parts.specs.contracts.notification_template.ResultOneOf.TheImpl.Laws.{equality-law as result_equality, present-law as result_present};
 
-    ghost equality = { Prim.search (equality_rules, id_equality, id_present, result_equality, result_present) depth 16 };
+    ghost equality = { Prim.search (equality_rules, id_equality, id_present, result_equality, result_present) depth
+        16 };
 }

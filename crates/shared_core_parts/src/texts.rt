@@ -4,7 +4,8 @@ ghost use Rattle.std.specs.Prelude.{◌≡◌, [], Some, IfOk, IsOk, map};
 ghost use Rattle.std.specs.Fmt.{WritesOnOk, comma_space};
 ghost use Rattle.std.specs.List.{join_by};
 ghost use Rattle.std.specs.String.{string_bytes};
-ghost use Rattle.shared_core_parts.specs.Texts.{value_text, failure_text, header_text, headers_text, lossy_text, state_key_text, state_keys_text};
+ghost use Rattle.shared_core_parts.specs.Texts.{value_text, failure_text, header_text};
+ghost use Rattle.shared_core_parts.specs.Texts.{headers_text, lossy_text, state_key_text, state_keys_text};
 
 use crate::escape::write_escaped;
 use crate::failure::Failure;

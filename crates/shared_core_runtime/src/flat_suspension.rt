@@ -8,11 +8,13 @@ ghost use Rattle.shared_core_wire.specs.Value.{Elements};
 ghost use Rattle.shared_core_wire.specs.Fitting.{ElementsFit};
 ghost use Rattle.shared_core_codec.specs.Table.{table};
 ghost use Rattle.shared_core_codec.specs.Table as tables;
-ghost use Rattle.shared_core_codec.specs.RowEncoding.{capped, measured_row, measured_rows, before_row, before_rows, row_size, rows_size};
+ghost use Rattle.shared_core_codec.specs.RowEncoding.{capped, measured_row, measured_rows};
+ghost use Rattle.shared_core_codec.specs.RowEncoding.{before_row, before_rows, row_size, rows_size};
 ghost use Rattle.shared_core_codec.specs.RowFitting.{FieldsFit};
 ghost use Rattle.shared_core_parts.specs.Futures.{future_parts, future_elements};
 ghost use Rattle.shared_core_runtime.specs.Flattening.{flattened, messages_in, preorder};
-ghost use Rattle.shared_core_runtime.specs.AwaitedLists.{awaited_list, own_list, kind_in, list_bytes, HoldsNumbers, ShowsElements};
+ghost use Rattle.shared_core_runtime.specs.AwaitedLists.{awaited_list, own_list, kind_in};
+ghost use Rattle.shared_core_runtime.specs.AwaitedLists.{list_bytes, HoldsNumbers, ShowsElements};
 
 use crate::suspension_message::SuspensionMessage;
 use shared_core_base::header::MessageType;
@@ -66,8 +68,10 @@ impl<'a> FramePayload for FlatSuspension<'a> {
 
 /// Adds the sizes of the three lists, in their order.
 fn measure_flat(suspension: &SuspensionMessage, size: &mut Size)
-    ensures sum { size.new ≡ measured_rows (table tables.suspension_v6) (flattened (⟦<SuspensionMessage as WireRecord>⟧.parts suspension.now)) size.old }
-    ensures fit { FieldsFit (table tables.suspension_v6) (flattened (⟦<SuspensionMessage as WireRecord>⟧.parts suspension.now)) }
+    ensures sum { size.new ≡ measured_rows (table tables.suspension_v6)
+        (flattened (⟦<SuspensionMessage as WireRecord>⟧.parts suspension.now)) size.old }
+    ensures fit { FieldsFit (table tables.suspension_v6)
+        (flattened (⟦<SuspensionMessage as WireRecord>⟧.parts suspension.now)) }
 {
     let _ = size.total();
     let Some(future) = &suspension.awaiting_on else {
@@ -81,9 +85,12 @@ fn measure_flat(suspension: &SuspensionMessage, size: &mut Size)
 /// Writes the three lists before `end`, the last one first, and returns where the first begins.
 fn encode_flat(suspension: &SuspensionMessage, out: &mut [u8], end: usize) -> usize
     requires within { end ≤ length out.old }
-    requires room { rows_size (table tables.suspension_v6) (flattened (⟦<SuspensionMessage as WireRecord>⟧.parts suspension.now)) ≤ end }
-    ensures start { result + rows_size (table tables.suspension_v6) (flattened (⟦<SuspensionMessage as WireRecord>⟧.parts suspension.now)) ≡ end }
-    ensures written { drop result out.new ≡ before_rows (table tables.suspension_v6) (flattened (⟦<SuspensionMessage as WireRecord>⟧.parts suspension.now)) (drop end out.old) }
+    requires room { rows_size (table tables.suspension_v6)
+        (flattened (⟦<SuspensionMessage as WireRecord>⟧.parts suspension.now)) ≤ end }
+    ensures start { result + rows_size (table tables.suspension_v6)
+        (flattened (⟦<SuspensionMessage as WireRecord>⟧.parts suspension.now)) ≡ end }
+    ensures written { drop result out.new ≡ before_rows (table tables.suspension_v6)
+        (flattened (⟦<SuspensionMessage as WireRecord>⟧.parts suspension.now)) (drop end out.old) }
 {
     let Some(future) = &suspension.awaiting_on else {
         return end;
@@ -96,7 +103,8 @@ fn encode_flat(suspension: &SuspensionMessage, out: &mut [u8], end: usize) -> us
 /// Adds the size of a list of numbers, if there is one.
 fn measure_run(list: AwaitedList, number: u32, future: &Future, size: &mut Size)
     requires numbers { HoldsNumbers list }
-    ensures sum { size.new ≡ measured_row (Repeated number U32) (Elements (awaited_list list (preorder (future_parts future.now)))) size.old }
+    ensures sum { size.new ≡ measured_row (Repeated number U32)
+        (Elements (awaited_list list (preorder (future_parts future.now)))) size.old }
     ensures fit { ElementsFit table (awaited_list list (preorder (future_parts future.now))) U32 }
 {
     let _ = size.total();
@@ -110,7 +118,8 @@ fn measure_run(list: AwaitedList, number: u32, future: &Future, size: &mut Size)
 /// Adds the sizes of the elements of a list, in a future and those nested in it.
 #[cycle(measure_list)]
 fn measure_list(list: AwaitedList, future: &Future, size: &mut Size)
-    ensures sum { size.new ≡ capped (size.old + length (list_bytes list (awaited_list list (preorder (future_parts future.now))))) }
+    ensures sum { size.new ≡ capped (size.old
+        + length (list_bytes list (awaited_list list (preorder (future_parts future.now))))) }
     ensures fit { ElementsFit table (awaited_list list (preorder (future_parts future.now))) (kind_in list) }
     // no number is written as nothing
     ensures shown { ShowsElements list (awaited_list list (preorder (future_parts future.now))) }
@@ -121,8 +130,10 @@ fn measure_list(list: AwaitedList, future: &Future, size: &mut Size)
 
 #[cycle(measure_list)]
 fn measure_lists(list: AwaitedList, futures: &Vec<Future>, size: &mut Size)
-    ensures sum { size.new ≡ capped (size.old + length (list_bytes list (awaited_list list (messages_in (future_elements futures.now.items))))) }
-    ensures fit { ElementsFit table (awaited_list list (messages_in (future_elements futures.now.items))) (kind_in list) }
+    ensures sum { size.new ≡ capped (size.old
+        + length (list_bytes list (awaited_list list (messages_in (future_elements futures.now.items))))) }
+    ensures fit { ElementsFit table (awaited_list list (messages_in (future_elements futures.now.items)))
+        (kind_in list) }
     ensures shown { ShowsElements list (awaited_list list (messages_in (future_elements futures.now.items))) }
 {
     let _ = size.total();
@@ -148,9 +159,12 @@ fn measure_own(list: AwaitedList, future: &Future, size: &mut Size)
 fn write_run(list: AwaitedList, number: u32, future: &Future, out: &mut [u8], end: usize) -> usize
     requires numbers { HoldsNumbers list }
     requires within { end ≤ length out.old }
-    requires room { row_size (Repeated number U32) (Elements (awaited_list list (preorder (future_parts future.now)))) ≤ end }
-    ensures start { result + row_size (Repeated number U32) (Elements (awaited_list list (preorder (future_parts future.now)))) ≡ end }
-    ensures written { drop result out.new ≡ before_row (Repeated number U32) (Elements (awaited_list list (preorder (future_parts future.now)))) (drop end out.old) }
+    requires room { row_size (Repeated number U32)
+        (Elements (awaited_list list (preorder (future_parts future.now)))) ≤ end }
+    ensures start { result + row_size (Repeated number U32)
+        (Elements (awaited_list list (preorder (future_parts future.now)))) ≡ end }
+    ensures written { drop result out.new ≡ before_row (Repeated number U32)
+        (Elements (awaited_list list (preorder (future_parts future.now)))) (drop end out.old) }
 {
     let start = write_list(list, future, out, end);
     if start == end {
@@ -165,7 +179,8 @@ fn write_list(list: AwaitedList, future: &Future, out: &mut [u8], end: usize) ->
     requires within { end ≤ length out.old }
     requires room { length (list_bytes list (awaited_list list (preorder (future_parts future.now)))) ≤ end }
     ensures start { result + length (list_bytes list (awaited_list list (preorder (future_parts future.now)))) ≡ end }
-    ensures written { drop result out.new ≡ list_bytes list (awaited_list list (preorder (future_parts future.now))) ++ drop end out.old }
+    ensures written { drop result out.new ≡ list_bytes list (awaited_list list (preorder (future_parts future.now)))
+        ++ drop end out.old }
     // no number is written as nothing
     ensures shown { ShowsElements list (awaited_list list (preorder (future_parts future.now))) }
 {
@@ -176,9 +191,12 @@ fn write_list(list: AwaitedList, future: &Future, out: &mut [u8], end: usize) ->
 #[cycle(write_list)]
 fn write_lists(list: AwaitedList, futures: &Vec<Future>, out: &mut [u8], end: usize) -> usize
     requires within { end ≤ length out.old }
-    requires room { length (list_bytes list (awaited_list list (messages_in (future_elements futures.now.items)))) ≤ end }
-    ensures start { result + length (list_bytes list (awaited_list list (messages_in (future_elements futures.now.items)))) ≡ end }
-    ensures written { drop result out.new ≡ list_bytes list (awaited_list list (messages_in (future_elements futures.now.items))) ++ drop end out.old }
+    requires room { length (list_bytes list (awaited_list list (messages_in (future_elements futures.now.items)))) ≤
+        end }
+    ensures start { result + length (list_bytes list
+        (awaited_list list (messages_in (future_elements futures.now.items)))) ≡ end }
+    ensures written { drop result out.new ≡ list_bytes list
+        (awaited_list list (messages_in (future_elements futures.now.items))) ++ drop end out.old }
     ensures shown { ShowsElements list (awaited_list list (messages_in (future_elements futures.now.items))) }
 {
     let mut start = end;
@@ -193,7 +211,8 @@ fn write_own(list: AwaitedList, future: &Future, out: &mut [u8], end: usize) -> 
     requires within { end ≤ length out.old }
     requires room { length (list_bytes list (own_list list (future_parts future.now))) ≤ end }
     ensures start { result + length (list_bytes list (own_list list (future_parts future.now))) ≡ end }
-    ensures written { drop result out.new ≡ list_bytes list (own_list list (future_parts future.now)) ++ drop end out.old }
+    ensures written { drop result out.new ≡ list_bytes list (own_list list (future_parts future.now))
+        ++ drop end out.old }
     ensures shown { ShowsElements list (own_list list (future_parts future.now)) }
 {
     match list {

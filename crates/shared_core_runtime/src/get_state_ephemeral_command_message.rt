@@ -79,7 +79,8 @@ impl RestateMessage for GetStateEphemeralCommandMessage {
 }
 
 impl RestateEncodableMessage for GetStateEphemeralCommandMessage {
-    ghost wire_form = { λ message _. plain_form tables.get_state_ephemeral_command (⟦<GetStateEphemeralCommandMessage as WireRecord>⟧.parts message) };
+    ghost wire_form = { λ message _. plain_form tables.get_state_ephemeral_command
+        (⟦<GetStateEphemeralCommandMessage as WireRecord>⟧.parts message) };
 
     fn encode_into(&self, _version: Version, out: &mut Vec<u8>) -> Result<(), EncodingError> {
         encode_frame_into(self, None, out)

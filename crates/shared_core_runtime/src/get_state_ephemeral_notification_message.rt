@@ -86,8 +86,14 @@ impl OneOf for Result {
     ghost present = { elim [ result_is.Void x ↦ refl | result_is.Value x ↦ refl ] };
 
     ghost equality = { elim [
-      | result_is.Void x ↦ elim [ result_is.Void y ↦ Prim.search (equality_rules, void_equality) | _ ↦ different_members _ _ _ _ refl ]
-      | result_is.Value x ↦ elim [ result_is.Value y ↦ Prim.search (equality_rules, value_equality) | _ ↦ different_members _ _ _ _ refl ]
+      | result_is.Void x ↦ elim [
+        | result_is.Void y ↦ Prim.search (equality_rules, void_equality)
+        | _ ↦ different_members _ _ _ _ refl
+      ]
+      | result_is.Value x ↦ elim [
+        | result_is.Value y ↦ Prim.search (equality_rules, value_equality)
+        | _ ↦ different_members _ _ _ _ refl
+      ]
     ] };
 }
 
@@ -150,7 +156,8 @@ impl RestateMessage for GetStateEphemeralNotificationMessage {
 }
 
 impl RestateEncodableMessage for GetStateEphemeralNotificationMessage {
-    ghost wire_form = { λ message _. plain_form tables.get_state_ephemeral_notification (⟦<GetStateEphemeralNotificationMessage as WireRecord>⟧.parts message) };
+    ghost wire_form = { λ message _. plain_form tables.get_state_ephemeral_notification
+        (⟦<GetStateEphemeralNotificationMessage as WireRecord>⟧.parts message) };
 
     fn encode_into(
         &self,

@@ -70,7 +70,8 @@ impl RestateMessage for ProposeRunCompletionAckMessage {
 }
 
 impl RestateEncodableMessage for ProposeRunCompletionAckMessage {
-    ghost wire_form = { λ message _. plain_form tables.propose_run_completion_ack (⟦<ProposeRunCompletionAckMessage as WireRecord>⟧.parts message) };
+    ghost wire_form = { λ message _. plain_form tables.propose_run_completion_ack
+        (⟦<ProposeRunCompletionAckMessage as WireRecord>⟧.parts message) };
 
     fn encode_into(&self, _version: Version, out: &mut Vec<u8>) -> Result<(), EncodingError> {
         encode_frame_into(self, None, out)

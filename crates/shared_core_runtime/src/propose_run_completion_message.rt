@@ -78,7 +78,10 @@ impl OneOf for Result {
 
     ghost equality = { elim [
       | result_is.Value x ↦ elim [ result_is.Value y ↦ Prim.search equality_rules | _ ↦ different_members _ _ _ _ refl ]
-      | result_is.Failure x ↦ elim [ result_is.Failure y ↦ Prim.search (equality_rules, failure_equality) | _ ↦ different_members _ _ _ _ refl ]
+      | result_is.Failure x ↦ elim [
+        | result_is.Failure y ↦ Prim.search (equality_rules, failure_equality)
+        | _ ↦ different_members _ _ _ _ refl
+      ]
     ] };
 }
 

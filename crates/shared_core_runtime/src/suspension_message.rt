@@ -29,7 +29,8 @@ pub struct SuspensionMessage {
 impl WireRecord for SuspensionMessage {
     ghost schema = { tables.suspension };
 
-    ghost parts = { λ message. cons (option_part (message_part ⟦<Future as WireRecord>⟧.parts) message.awaiting_on) nil };
+    ghost parts = { λ message. cons (option_part (message_part ⟦<Future as WireRecord>⟧.parts) message.awaiting_on)
+        nil };
 
     fn empty(_alloc: Global) -> SuspensionMessage {
         SuspensionMessage { awaiting_on: None }

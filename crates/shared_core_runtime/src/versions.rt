@@ -14,7 +14,8 @@ use shared_core_message::restate_message::RestateEncodableMessage;
 
 /// Unchanged at every version. From V7 on the header requests an acknowledgement; before V7 it does not.
 impl RestateEncodableMessage for ProposeRunCompletionMessage {
-    ghost wire_form = { λ message version. proposal_form (⟦<ProposeRunCompletionMessage as WireRecord>⟧.parts message) version };
+    ghost wire_form = { λ message version. proposal_form
+        (⟦<ProposeRunCompletionMessage as WireRecord>⟧.parts message) version };
 
     fn encode_into(&self, version: Version, out: &mut Vec<u8>) -> Result<(), EncodingError> {
         if !version.requests_acknowledgement() {
@@ -34,7 +35,8 @@ impl RestateEncodableMessage for ProposeRunCompletionMessage {
 /// Unchanged from V7 on. Before V7 as a `SuspensionMessageV6`: the three lists of all awaited futures, each future
 /// before those nested in it, duplicates kept, however deep they are nested; the lists are empty if nothing is awaited.
 impl RestateEncodableMessage for SuspensionMessage {
-    ghost wire_form = { λ message version. suspension_form (⟦<SuspensionMessage as WireRecord>⟧.parts message) version };
+    ghost wire_form = { λ message version. suspension_form
+        (⟦<SuspensionMessage as WireRecord>⟧.parts message) version };
 
     fn encode_into(&self, version: Version, out: &mut Vec<u8>) -> Result<(), EncodingError> {
         if version.has_flat_suspensions() {

@@ -73,7 +73,8 @@ impl RestateMessage for ClearAllStateCommandMessage {
 }
 
 impl RestateEncodableMessage for ClearAllStateCommandMessage {
-    ghost wire_form = { λ message _. plain_form tables.clear_all_state_command (⟦<ClearAllStateCommandMessage as WireRecord>⟧.parts message) };
+    ghost wire_form = { λ message _. plain_form tables.clear_all_state_command
+        (⟦<ClearAllStateCommandMessage as WireRecord>⟧.parts message) };
 
     fn encode_into(&self, _version: Version, out: &mut Vec<u8>) -> Result<(), EncodingError> {
         encode_frame_into(self, None, out)

@@ -83,7 +83,8 @@ impl RestateMessage for GetEagerStateKeysCommandMessage {
 }
 
 impl RestateEncodableMessage for GetEagerStateKeysCommandMessage {
-    ghost wire_form = { λ message _. plain_form tables.get_eager_state_keys_command (⟦<GetEagerStateKeysCommandMessage as WireRecord>⟧.parts message) };
+    ghost wire_form = { λ message _. plain_form tables.get_eager_state_keys_command
+        (⟦<GetEagerStateKeysCommandMessage as WireRecord>⟧.parts message) };
 
     fn encode_into(&self, _version: Version, out: &mut Vec<u8>) -> Result<(), EncodingError> {
         encode_frame_into(self, None, out)

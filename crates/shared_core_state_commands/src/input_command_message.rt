@@ -92,7 +92,8 @@ impl RestateMessage for InputCommandMessage {
 }
 
 impl RestateEncodableMessage for InputCommandMessage {
-    ghost wire_form = { λ message _. plain_form tables.input_command (⟦<InputCommandMessage as WireRecord>⟧.parts message) };
+    ghost wire_form = { λ message _. plain_form tables.input_command
+        (⟦<InputCommandMessage as WireRecord>⟧.parts message) };
 
     fn encode_into(&self, _version: Version, out: &mut Vec<u8>) -> Result<(), EncodingError> {
         encode_frame_into(self, None, out)

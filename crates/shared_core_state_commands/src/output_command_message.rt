@@ -86,8 +86,14 @@ impl OneOf for Result {
     ghost present = { elim [ result_is.Value x ↦ refl | result_is.Failure x ↦ refl ] };
 
     ghost equality = { elim [
-      | result_is.Value x ↦ elim [ result_is.Value y ↦ Prim.search (equality_rules, value_equality) | _ ↦ different_members _ _ _ _ refl ]
-      | result_is.Failure x ↦ elim [ result_is.Failure y ↦ Prim.search (equality_rules, failure_equality) | _ ↦ different_members _ _ _ _ refl ]
+      | result_is.Value x ↦ elim [
+        | result_is.Value y ↦ Prim.search (equality_rules, value_equality)
+        | _ ↦ different_members _ _ _ _ refl
+      ]
+      | result_is.Failure x ↦ elim [
+        | result_is.Failure y ↦ Prim.search (equality_rules, failure_equality)
+        | _ ↦ different_members _ _ _ _ refl
+      ]
     ] };
 }
 
@@ -150,7 +156,8 @@ impl RestateMessage for OutputCommandMessage {
 }
 
 impl RestateEncodableMessage for OutputCommandMessage {
-    ghost wire_form = { λ message _. plain_form tables.output_command (⟦<OutputCommandMessage as WireRecord>⟧.parts message) };
+    ghost wire_form = { λ message _. plain_form tables.output_command
+        (⟦<OutputCommandMessage as WireRecord>⟧.parts message) };
 
     fn encode_into(
         &self,

@@ -90,7 +90,8 @@ impl RestateMessage for SetStateCommandMessage {
 }
 
 impl RestateEncodableMessage for SetStateCommandMessage {
-    ghost wire_form = { λ message _. plain_form tables.set_state_command (⟦<SetStateCommandMessage as WireRecord>⟧.parts message) };
+    ghost wire_form = { λ message _. plain_form tables.set_state_command
+        (⟦<SetStateCommandMessage as WireRecord>⟧.parts message) };
 
     fn encode_into(&self, _version: Version, out: &mut Vec<u8>) -> Result<(), EncodingError> {
         encode_frame_into(self, None, out)

@@ -31,7 +31,8 @@ pub fn there_and_back<M: RestateEncodableMessage>(
     requires own { (M.wire_form message.now version).schema ≡ M.schema }
     requires low { levels (M.wire_form message.now version).parts ≤ 100 }
     ensures same { IfOk result (λ found. M.parts found ≡ (M.wire_form message.now version).parts) }
-    ensures too_long { IsErrOf result RoundTripError.PayloadTooLong → 2 ^ 32 ≤ wire_size (M.wire_form message.now version) }
+    ensures too_long { IsErrOf result RoundTripError.PayloadTooLong
+        → 2 ^ 32 ≤ wire_size (M.wire_form message.now version) }
 {
     let frame = match Encoder::new(version).encode(alloc, message) {
         Ok(frame) => frame,

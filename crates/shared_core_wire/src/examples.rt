@@ -6,8 +6,13 @@ ghost use Rattle.std.specs.List.{list_all};
 ghost use Rattle.shared_core_wire.specs.Schema.{is_schema};
 ghost use Rattle.shared_core_wire.specs.Value.{Absent, Number, Bytes, Nested, Elements, Member, nil, cons, one_part};
 ghost use Rattle.shared_core_wire.specs.Template.{is_within_template};
-ghost use Rattle.shared_core_wire.specs.Examples.{void, value, failure, future, suspension, lists, completion, signal, clear, sleep, options, input, attach, keys_completion, text_completion, template, schemas, examples};
-ghost use Rattle.shared_core_wire.specs.Examples.{a_failure, a_future, completions_alone, two, Means, IsAccepted, IsMalformed, Merges, IsWrittenAs, hex, repeated_byte, nested_messages, nested_groups};
+ghost use Rattle.shared_core_wire.specs.Examples.{void, value, failure, future};
+ghost use Rattle.shared_core_wire.specs.Examples.{suspension, lists, completion, signal, clear};
+ghost use Rattle.shared_core_wire.specs.Examples.{sleep, options, input, attach};
+ghost use Rattle.shared_core_wire.specs.Examples.{keys_completion, text_completion, template, schemas, examples};
+ghost use Rattle.shared_core_wire.specs.Examples.{a_failure, a_future, completions_alone, two};
+ghost use Rattle.shared_core_wire.specs.Examples.{Means, IsAccepted, IsMalformed, Merges};
+ghost use Rattle.shared_core_wire.specs.Examples.{IsWrittenAs, hex, repeated_byte, nested_messages, nested_groups};
 
 /// The elements of a repeated field are in the order of its records, packed or not.
 pub fn repeated_numbers()

@@ -2,9 +2,11 @@
 //! its arguments.
 
 ghost use Rattle.std.specs.Prelude.{◌≡◌, ◌≤◌, ◌<◌, ◌↔◌, ◌+◌, ◌*◌, ◌^◌, ℕ, IsTrue, List, ◌++◌, length, Some};
-ghost use Rattle.shared_core_wire.specs.Grammar.{FieldRecord, IsBase128, IsVarint, IsKey, IsSequence, IsRecordWithin, IsRecordListWithin};
+ghost use Rattle.shared_core_wire.specs.Grammar.{FieldRecord, IsBase128, IsVarint};
+ghost use Rattle.shared_core_wire.specs.Grammar.{IsKey, IsSequence, IsRecordWithin, IsRecordListWithin};
 ghost use Rattle.shared_core_wire.specs.Reader.{packed_numbers, record_list};
-ghost use Rattle.shared_core_wire.specs.Laws.{AreSchemas, ListedSchemasLaw, AcceptanceLaw, StepLaw, MergeLaw, ReadBackLaw, OneEncodingLaw};
+ghost use Rattle.shared_core_wire.specs.Laws.{AreSchemas, ListedSchemasLaw, AcceptanceLaw};
+ghost use Rattle.shared_core_wire.specs.Laws.{StepLaw, MergeLaw, ReadBackLaw, OneEncodingLaw};
 ghost use Rattle.shared_core_wire.specs.Schema.{Row, Table};
 ghost use Rattle.shared_core_wire.specs.Template.{ViewLaw};
 ghost use Rattle.shared_core_wire.specs.Encoding.{shortest_varint, key_bytes};

@@ -29,7 +29,8 @@ pub struct Records<'a> {
 }
 
 impl<'a> Records<'a> {
-    ghost use Rattle.shared_core_wire.specs.Grammar.{FieldRecord, IsRecord, IsRecordList, IsRecordWithin, IsRecordListWithin};
+    ghost use Rattle.shared_core_wire.specs.Grammar.{FieldRecord, IsRecord};
+    ghost use Rattle.shared_core_wire.specs.Grammar.{IsRecordList, IsRecordWithin, IsRecordListWithin};
     ghost use Rattle.shared_core_wire.specs.ReadRecords.{AreRecordsFrom, read_records, without_place, record_count};
     ghost use Rattle.shared_core_wire.specs.RecordsLeft.{records_left};
     ghost use Rattle.shared_core_wire.specs.Places.{EachLies};

@@ -38,7 +38,8 @@ pub fn print_lines<P: LinePrinter, R: Read, W: Write>(
     ensures { (read : List ℕ) × (written : List ℕ)
         × Consumes (R.remaining input.old) (R.remaining input.new) read
         × Appends (W.contents output.old) (W.contents output.new) written
-        × ArePrinted (P.item_line printer.now) (P.rest_line printer.now) (P.is_long printer.now) version result read written (R.remaining input.new) }
+        × ArePrinted (P.item_line printer.now) (P.rest_line printer.now)
+        (P.is_long printer.now) version result read written (R.remaining input.new) }
 {
     let mut decoder = Decoder::new(alloc, version);
     let mut scratch = printer.scratch(alloc);

@@ -69,7 +69,8 @@ impl Encoder {
             (wire_frame M.message_type (M.wire_form message.now self.now.version))) }
         ensures unchanged { OnErr result (out.new.items ≡ out.old.items) }
         ensures capacity { vec_capacity out.old ≤ vec_capacity out.new }
-        ensures full { IsErrOf result OutOfMemory → vec_capacity out.old < vec_len out.old + (8 + wire_size (M.wire_form message.now self.now.version)) }
+        ensures full { IsErrOf result OutOfMemory
+            → vec_capacity out.old < vec_len out.old + (8 + wire_size (M.wire_form message.now self.now.version)) }
         ensures too_long { IsErrOf result PayloadTooLong
             → 2 ^ 32 ≤ wire_size (M.wire_form message.now self.now.version) }
         ensures refused { 2 ^ 32 ≤ wire_size (M.wire_form message.now self.now.version)
@@ -96,7 +97,8 @@ impl Encoder {
             (IsFrameOf self.now.version M.message_type (M.wire_form message.now self.now.version)
             (wire_frame M.message_type (M.wire_form message.now self.now.version))) }
         ensures unchanged { OnErr result (out.new.items ≡ out.old.items) }
-        ensures full { IsErrOf result OutOfMemory → out.old.spare < 8 + wire_size (M.wire_form message.now self.now.version) }
+        ensures full { IsErrOf result OutOfMemory
+            → out.old.spare < 8 + wire_size (M.wire_form message.now self.now.version) }
         ensures spare { OnOk result
             (out.old.spare ≤ out.new.spare + (8 + wire_size (M.wire_form message.now self.now.version))) }
         ensures kept { OnErr result (out.old.spare ≤ out.new.spare) }

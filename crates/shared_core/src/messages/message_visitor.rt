@@ -29,6 +29,7 @@ pub trait MessageVisitor: Sized + Drop {
         // its payloads have the record's schema
         requires own { message_schema M.message_type ≡ Some M.schema }
         // what the record is written as follows from the type
-        requires form { (message : M) (version : AnyVersion) → M.wire_form message version ≡ written_form M.message_type M.schema version (M.parts message) }
+        requires form { (message : M) (version : AnyVersion)
+            → M.wire_form message version ≡ written_form M.message_type M.schema version (M.parts message) }
         ensures { answers self M.message_type M.schema result };
 }
