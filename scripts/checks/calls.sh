@@ -163,7 +163,7 @@ grep -hoE '^ *pub fn [a-z_0-9]+' crates/shared_core/src/*.rt crates/shared_core/
   crates/shared_core_parts/src/notification.rt crates/shared_core_base/src/error.rt crates/shared_core_base/src/header.rt \
   crates/shared_core_base/src/message_header.rt crates/shared_core_base/src/type_kinds.rt \
   crates/shared_core_base/src/values.rt crates/shared_core_base/src/version.rt |
-  awk '{ print $NF }' | sort -u | grep -vxE 'error_of|split_to|take_head|clone_each|order_depends_on_the_set' > "$work/values"
+  awk '{ print $NF }' | sort -u | grep -vxE 'error_of|split_to|copy_to|take_head|clone_each|order_depends_on_the_set' > "$work/values"
 grep -hoE '[a-z_0-9]+' tests/public_api/*.rt.in | sort -u > "$work/names"
 comm -23 "$work/values" "$work/names" > "$work/absent"
 [ -s "$work/values" ] && [ ! -s "$work/absent" ]
