@@ -1,9 +1,12 @@
 //! What the programs share: their arguments, the files that they read, and how they say what is wrong.
 #![tactic(auto)]
 
+mod pipe;
+
 ghost use Rattle.std.specs.Prelude.{◌≡◌};
 ghost use Rattle.std.specs.Process.{exit_status};
 
+pub use crate::pipe::Pipe;
 use clap::Error;
 use clap::error::ErrorKind;
 use std::fmt::Display;
@@ -47,6 +50,7 @@ pub fn report(rt: &HostRuntime, program: &str, error: &Error, failure: u8) -> Ex
     }
     match printed {
         Ok(()) => ExitCode::SUCCESS,
+        Err(error) if error.kind() == io::ErrorKind::BrokenPipe => ExitCode::from(failure),
         Err(_) => fail(rt, program, "output failed", failure),
     }
 }
