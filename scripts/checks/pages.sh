@@ -1,9 +1,9 @@
 #!/bin/sh
 # Links, paths, worked lines and the names behind promises in pages lead somewhere; the README shows what runs.
 #
-# Each link, each path of this repository in `code`, each worked line of conformance, the test vectors of each rule,
-# the README's page of code and the dump that it shows, in a table of promises, each name behind a
-# promise in the crates that it is about, and the version of the library. What is missing is shown above the last line.
+# Each link, anchor and path of this repository in `code`, the length of lines, each worked line of conformance, the test
+# vectors of each rule, the README's page of code and the dump that it shows, in a table of promises each name behind a
+# promise in the crates that it is about, and the version of the library. What is missing is shown before the last line.
 set -u
 cd "$(dirname "$0")/../.." || exit 1
 . scripts/checks/lib.sh
@@ -41,6 +41,49 @@ for page in $pages; do
     esac
     if [ -e "$place" ]; then passed=$((passed + 1)); else missing "$page" "there is no $target"; fi
   done < "$work/targets"
+done
+
+# an anchor is a heading of its page, as GitHub names it; lines have at most 120 characters, but for rows of tables,
+# pictures and code
+for page in $pages; do
+  awk '
+    /^ *```/ { fenced = !fenced; next }
+    /^#+ / && !fenced {
+      sub(/^#+ /, "")
+      $0 = tolower($0)
+      gsub(/[^a-z0-9_ -]/, "")
+      gsub(/ /, "-")
+      print FILENAME "#" $0
+    }' "$page"
+done | sort > "$work/headings"
+for page in $pages; do
+  awk -v page="$page" -v folder="$(dirname "$page")/" '{
+    while (match($0, /\]\([^):# ]*#[^) ]+\)/)) {
+      target = substr($0, RSTART + 2, RLENGTH - 3)
+      print target ~ /^#/ ? page target : (folder == "./" ? "" : folder) target
+      $0 = substr($0, RSTART + RLENGTH)
+    }
+  }' "$page" | sort -u > "$work/anchors"
+  while IFS= read -r target; do
+    place=$(realpath --relative-to=. "${target%%#*}")
+    case $target in
+      *.md#*) ;;
+      *) continue ;;
+    esac
+    if grep -qxF -- "$place#${target#*#}" "$work/headings"; then
+      passed=$((passed + 1))
+    else
+      missing "$page" "there is no heading $target"
+    fi
+  done < "$work/anchors"
+  awk '
+    /^ *```/ { fenced = !fenced; before = ""; print ""; next }
+    { is_code = fenced || /^    / && (before == "" || was_code) }
+    { print is_code || /^ *\|/ || /^!\[/ ? "" : $0; before = $0; was_code = is_code }' "$page" |
+    LC_ALL=C.UTF-8 grep -nE '^.{121,}' > "$work/long"
+  while IFS=: read -r line _; do
+    missing "$page" "line $line has more than 120 characters"
+  done < "$work/long"
 done
 
 # worked lines
@@ -172,14 +215,14 @@ for page in README.md docs/PROOFS.md; do
   done < "$work/wrong"
 done
 
-# the version of the library: on the first line of a file that has these words, the number behind them
+# the version of the library: on the first line of a file that has these words, the number after them
 version=$(sed -n 's/^pub const LIBRARY_VERSION: &str = "\(.*\)";$/\1/p' crates/journal_c_api/src/names.rt)
 while IFS='|' read -r place words; do
   stated=$(grep -m 1 -oE "$words[0-9]+(\.[0-9]+)+" "$place" | grep -oE '[0-9]+(\.[0-9]+)+$')
   if [ -n "$version" ] && [ "$stated" = "$version" ]; then
     passed=$((passed + 1))
   else
-    missing "$place" "the version of the library is '$version', and behind '$words' stands '$stated'"
+    missing "$place" "the version of the library is '$version', and after '$words' is '$stated'"
   fi
 done << 'EOF'
 CHANGELOG.md|^## 
