@@ -1,9 +1,10 @@
 #!/bin/sh
 # Links, paths, worked lines and the names behind promises in pages lead somewhere; the README shows what runs.
 #
-# Each link, anchor and path of this repository in `code`, the length of lines, each worked line of conformance, the test
-# vectors of each rule, the README's page of code and the dump that it shows, in a table of promises each name behind a
-# promise in the crates that it is about, and the version of the library. What is missing is shown before the last line.
+# Each link, anchor and path of this repository in `code`, the length of lines, the index of decisions, each worked line
+# of conformance, the test vectors of each rule, the README's page of code and the dump that it shows, in a table of
+# promises each name behind a promise in the crates that it is about, and the version of the library. What is missing is
+# shown before the last line.
 set -u
 cd "$(dirname "$0")/../.." || exit 1
 . scripts/checks/lib.sh
@@ -85,6 +86,16 @@ for page in $pages; do
     missing "$page" "line $line has more than 120 characters"
   done < "$work/long"
 done
+
+# each decision is in the index
+sed -n 's/^docs\/DECISIONS\.md\(#.*\)/\1/p' "$work/headings" > "$work/decisions"
+while IFS= read -r anchor; do
+  if [ "$anchor" = '#decisions' ] || grep -qF "($anchor)" docs/DECISIONS.md; then
+    passed=$((passed + 1))
+  else
+    missing docs/DECISIONS.md "the index lacks $anchor"
+  fi
+done < "$work/decisions"
 
 # worked lines
 cat conformance/*.txt > "$work/lines"
