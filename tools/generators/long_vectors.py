@@ -2,6 +2,8 @@
 
 What a payload means follows from how it is put together here; no reader of payloads takes part.
 """
+import textwrap
+
 from . import missing  # noqa: F401
 
 ABOUT = "Test vectors that are long."
@@ -61,7 +63,7 @@ def groups(count, content=b"", number=9):
 
 def chains_of_futures():
     yield (
-        "# A suspension's future stands on level 1, so a chain of 100 futures reaches level 100, the last. One "
+        "# A suspension's future is on level 1, so a chain of 100 futures reaches level 100, the last. One "
         "more is malformed."
     )
     for futures in (1, 2, 99, 100):
@@ -70,13 +72,13 @@ def chains_of_futures():
     yield payload("SuspensionMessage", suspension(chain(101)), MALFORMED)
     yield payload("SuspensionMessage", suspension(chain(150)), MALFORMED)
 
-    yield "# Read by itself a future stands on level 0, and in what is awaited on level 1."
+    yield "# A future that is decoded by itself is on level 0, and the future in a suspension on level 1."
     yield payload("Future", chain(101), chain(101))
     yield payload("Future", chain(102), MALFORMED)
     yield payload("AwaitingOnMessage", lengthy(1, chain(100)), lengthy(1, chain(100)))
     yield payload("AwaitingOnMessage", lengthy(1, chain(101)), MALFORMED)
 
-    yield "# Numbers, texts and empty messages of fields stand on the last level as on any other."
+    yield "# Numbers, texts and empty messages of fields are accepted on the last level as on any other."
     innermost = bytes.fromhex("0a0201021201111a016128ffffffffffffffffff01")
     yield payload("SuspensionMessage", suspension(chain(100, innermost)), suspension(chain(100, innermost)))
     yield payload("SuspensionMessage", suspension(chain(100, b"\x22\x00")), MALFORMED)
@@ -86,16 +88,13 @@ def chains_of_futures():
 
 
 def groups_of_an_unknown_field():
-    yield (
-        "# Groups of a number that the schema does not have, in one another: the content of the hundredth stands "
-        "on level 100."
-    )
+    yield "# Nested groups of a number that the schema does not have: the content of the hundredth is on level 100."
     for schema in ("EndMessage", "SuspensionMessage"):
         for count in (1, 99, 100):
             yield payload(schema, groups(count), b"")
         yield payload(schema, groups(101), MALFORMED)
 
-    yield "# A group that is not closed, and one that is closed once too often."
+    yield "# A group without its end, and one with an end too many."
     yield payload("EndMessage", groups(100)[:-1], MALFORMED)
     yield payload("EndMessage", groups(100) + b"\x4c", MALFORMED)
 
@@ -116,8 +115,8 @@ def groups_below_futures():
     yield payload("SuspensionMessage", suspension(chain(50, groups(51))), MALFORMED)
 
     yield (
-        "# What is skipped on the last level: a number, eight bytes, four bytes and bytes hold no further level. "
-        "prost refuses each of these."
+        "# Skipped records on the last level: a number, eight bytes, four bytes and bytes have no further level. "
+        "prost rejects each of these."
     )
     for record in ("1000", "110102030405060708", "1501020304", "120161"):
         skipped = bytes.fromhex(record)
@@ -125,15 +124,15 @@ def groups_below_futures():
     yield payload("SuspensionMessage", suspension(chain(100, bytes.fromhex("7801"))), suspension(chain(100)))
     yield payload("Future", chain(101, bytes.fromhex("3a020101")), chain(101))
 
-    yield "# A level above it none of the readers refuses them."
+    yield "# One level above, all readers accept them."
     for record in ("1000", "110102030405060708", "1501020304", "120161"):
         yield payload("EndMessage", groups(99, bytes.fromhex(record)), b"")
 
 
 def far_below_the_last_level():
     yield (
-        "# Far below the last level: ten thousand groups that are begun, a thousand that are closed too, and a "
-        "thousand futures."
+        "# Far deeper than the last level: ten thousand groups that are begun, a thousand that are also ended, "
+        "and a thousand futures."
     )
     yield payload("EndMessage", groups(10_000)[:10_000], MALFORMED)
     yield payload("EndMessage", groups(1_000), MALFORMED)
@@ -164,7 +163,7 @@ def frames_of_chains():
     for version in (7, 8):
         yield line("frame", "Suspension", str(version), whole, answer=header(1, len(whole)) + whole)
 
-    yield "# Of 101 futures there is no frame, since they are no payload."
+    yield "# There is no frame of 101 futures, since they are no payload."
     whole = suspension(chain(101, b"\x0a\x01\x01", lambda number: b"\x0a\x01\x01"))
     for version in (5, 6, 7, 8):
         yield line("frame", "Suspension", str(version), whole, answer=MALFORMED)
@@ -217,7 +216,7 @@ def lengths():
     yield payload("InputCommandMessage", b"\x72\x00" * 999 + b"\x72\x03\x0a\x01\x78", b"\x72\x03\x0a\x01\x78")
     yield payload("SuspensionMessage", b"\x22\x02\x08\x07" * 300, suspension(lengthy(1, b"\x07" * 300)))
 
-    yield "# A payload of more than 65,535 bytes there and back, and its frame in pieces."
+    yield "# A payload of more than 65,535 bytes decoded and encoded, and its frame in chunks."
     key = lengthy(1, pattern(65_536))
     frame = header(0x0402, len(key)) + key
     yield line("frame", "GetLazyStateCommand", "8", key, answer=frame)
@@ -226,18 +225,23 @@ def lengths():
     )
 
 
+def heading(words):
+    """A heading in lines of at most 120 characters."""
+    return textwrap.fill(words, 120, initial_indent="# ", subsequent_indent="# ", break_on_hyphens=False)
+
+
 def text(title, *makers):
-    parts = [f"# {title}\n"]
+    parts = [f"{heading(title)}\n"]
     for make in makers:
         for part in make():
-            parts.append(f"\n{part}\n" if part.startswith("#") else part)
+            parts.append(f"\n{heading(part[2:])}\n" if part.startswith("# ") else part)
     return "".join(parts)
 
 
 def files():
     return {
         "conformance/levels.txt": text(
-            "Levels: a payload's records stand on level 0, those of a message or a group one level deeper, and level "
+            "Levels: the records of a payload are on level 0, those of a message or a group one level deeper, and level "
             "100 is the last.",
             chains_of_futures,
             groups_of_an_unknown_field,
