@@ -56,6 +56,14 @@ copied_next front segments i count wanted part segment copied next below is copi
       omega (arith, wanted_is, part_is, ap length after, length-append before segment),
     )
 
+-- all of the first segments are copied after what was there, and then the next one
+pub copied_more : (kept front : List ℕ) (segments : List (List ℕ)) (i : ℕ) (segment copied next : List ℕ) → i < length segments → segment ≡ get_or segments i segment
+    → copied ≡ kept ++ (front ++ concat (take i segments)) → next ≡ copied ++ segment → next ≡ kept ++ (front ++ concat (take (i + 1) segments))
+copied_more kept front segments i segment copied next below is before more =
+    let joined : (front ++ concat (take i segments)) ++ segment ≡ front ++ concat (take (i + 1) segments) =
+    append_assoc front (concat (take i segments)) segment ∙ ap (λ l. front ++ l) (sym (concat_next segments i segment below is)) in
+    more ∙ ap (λ l. l ++ segment) before ∙ append_assoc kept (front ++ concat (take i segments)) segment ∙ ap (λ l. kept ++ l) joined
+
 -- the segments that were copied have as many bytes as are wanted, or they are all
 pub copied_all : (front : List ℕ) (segments : List (List ℕ)) (i count : ℕ) → (count ≤ length (front ++ concat (take i segments))) ⊎ (length segments ≤ i) → take count (front ++ concat (take i segments)) ≡ take count (front ++ concat segments)
 copied_all front segments i count (inl enough) =
