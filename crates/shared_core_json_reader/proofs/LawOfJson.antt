@@ -23,7 +23,7 @@ use Rattle.shared_core_json_reader.specs.Laws.{JsonIsReadBack}
 use Rattle.shared_core_json_reader.specs.Reading.{only_value}
 use Rattle.shared_core_json_reader.proofs.Agreeing.{out_of}
 use Rattle.shared_core_json_reader.proofs.TreeBack.{PartBytes, PartsBytes, message_back}
-use Rattle.shared_core_json_reader.proofs.Whole.{IsText, of_tokens}
+use Rattle.shared_core_json_reader.proofs.Whole.{IsText, of_tokens, text_of_value}
 
 -- ---- how deep the JSON of a value is
 
@@ -248,5 +248,5 @@ json_back s v bytes text encoding small low utf8 lexed =
     let deep : depth (value_json s v) ≤ 1000 = omega (arith, members_low (names_of s) v (table s) encoding.fits) in
     let held = message_bytes_of v (table s) encoding.fits (subst IsBytes encoding.canonical small) in
     let is : IsText text (json_tokens (value_json s v)) = record { utf8 = is_utf8-from_IsUtf8 text utf8; lexed = sym lexed } in
-    of_tokens s text (json_tokens (value_json s v)) (Some (value_json s v)) is (whole_value (value_json s v) deep)
+    text_of_value s text (value_json s v) (of_tokens text (json_tokens (value_json s v)) (Some (value_json s v)) is (whole_value (value_json s v) deep))
     ∙ ap (option_map (canonical_payload table s)) (message_back 100 s v encoding.fits low held) ∙ ap (λ (b : List ℕ). Some b) (sym encoding.canonical)

@@ -152,6 +152,10 @@ unfoldable pub message_read : ℕ → ℕ → Json → Option Parts
 message_read zero s j = None
 message_read (suc levels) s j = object_read (message_read levels) (named_rows s) j
 
+-- The canonical payload of the value of the schema s that a JSON value means.
+abbrev pub value_payload : ℕ → Json → Option (List ℕ)
+value_payload s j = option_map (canonical_payload table s) (message_read 101 s j)
+
 -- ---- texts
 
 -- How deep arrays and objects may be nested in a text; a message one hundred levels deep needs 202 at most.

@@ -16,4 +16,5 @@ mod scalars;
 mod schemas;
 
 pub use error::{JsonReadError, Reason};
-pub use read::payload_of;
+pub use read::{payload_of, payload_of_value, value_of_text};
+pub use scalars::{read_bytes, read_u32, read_u64};

@@ -1,9 +1,11 @@
-//! Reading a text: it is parsed as a tree of JSON, and the payload is appended by the tree.
+//! Reading a text: it is parsed as a tree of JSON, and the payload is appended by the tree. Each step is a call of its
+//! own, for a text of which a message is a part.
 
 ghost use Rattle.std.specs.Prelude.{◌≡◌, ◌≢◌, Some, None, IfOk, IfErr, MatchResult};
 ghost use Rattle.json.specs.Value.{value_view as json_view};
 ghost use Rattle.shared_core_codec.specs.Payloads.{IsAccepted, payload_meaning};
-ghost use Rattle.shared_core_json_reader.specs.Reading.{only_value, text_meaning, text_payload};
+ghost use Rattle.shared_core_json_reader.specs.Reading.{only_value, json_of_text, message_read};
+ghost use Rattle.shared_core_json_reader.specs.Reading.{value_payload, text_meaning, text_payload};
 
 use crate::error::{JsonReadError, Reason};
 use crate::payload::{Step, Walk, append_message};
@@ -79,6 +81,54 @@ fn error_on(alloc: Global, reason: Reason, path: &Vec<Step<'_>>) -> JsonReadErro
     }
 }
 
+/// Returns the JSON value that a text is, which borrows from the text and from the buffers. The only errors are
+/// `NotJson`, with the offset at which the text stops being JSON, and `OutOfMemory`.
+pub fn value_of_text<'a>(
+    alloc: Global,
+    text: &'a [u8],
+    scratch: &'a mut Scratch,
+) -> Result<Value<'a>, JsonReadError>
+    ensures ok { IfOk result (λ value. json_of_text text.now ≡ Some (json_view value)) }
+    ensures refused { IfErr result (λ error. error.reason ≢ Reason.OutOfMemory → json_of_text text.now ≡ None) }
+{
+    let text = match std::str::from_utf8(text) {
+        Ok(text) => text,
+        Err(error) => return Err(error_at(alloc, Reason::NotJson, error.valid_up_to())),
+    };
+    let Ok(mut reader) = Reader::new(text, scratch) else {
+        return Err(error_at(alloc, Reason::OutOfMemory, 0));
+    };
+    match parse(alloc, &mut reader) {
+        Ok(value) => Ok(value),
+        Err(reason) => Err(error_at(alloc, reason, reader.offset())),
+    }
+}
+
+/// Returns the canonical payload of what a JSON value means for the schema at this index of the table, as `payload_of`
+/// does for a text. Its errors are those of `Reason` but for `NotJson`, with a path that begins in the value.
+pub fn payload_of_value(
+    alloc: Global,
+    schema: u32,
+    value: &Value<'_>,
+) -> Result<Vec<u8>, JsonReadError>
+    ensures ok { IfOk result (λ payload. value_payload schema (json_view value.now) ≡ Some payload.items) }
+    // the payload is accepted, and means what the value means
+    ensures means { IfOk result (λ payload. IsAccepted schema payload.items
+        × (message_read 101 schema (json_view value.now) ≡ Some (payload_meaning schema payload.items))) }
+    ensures refused { IfErr result (λ error. error.reason ≢ Reason.OutOfMemory
+        → value_payload schema (json_view value.now) ≡ None) }
+{
+    let mut walk = Walk {
+        alloc,
+        path: Vec::new(alloc),
+    };
+    let mut payload = Vec::new(alloc);
+    match append_message(&mut walk, &mut payload, schema, value, LEVELS) {
+        Ok(()) => Ok(payload),
+        Err(reason) => Err(error_on(alloc, reason, &walk.path)),
+    }
+}
+
 /// Returns the canonical payload of what a JSON text means for the schema at this index of the table.
 ///
 /// The text is proto3's JSON form of the message: an object with the members of its fields in any order, by their names
@@ -92,25 +142,7 @@ pub fn payload_of(alloc: Global, schema: u32, text: &[u8]) -> Result<Vec<u8>, Js
         × (text_meaning schema text.now ≡ Some (payload_meaning schema payload.items))) }
     ensures refused { IfErr result (λ error. error.reason ≢ Reason.OutOfMemory → text_payload schema text.now ≡ None) }
 {
-    let text = match std::str::from_utf8(text) {
-        Ok(text) => text,
-        Err(error) => return Err(error_at(alloc, Reason::NotJson, error.valid_up_to())),
-    };
     let mut scratch = Scratch::new(alloc);
-    let Ok(mut reader) = Reader::new(text, &mut scratch) else {
-        return Err(error_at(alloc, Reason::OutOfMemory, 0));
-    };
-    let value = match parse(alloc, &mut reader) {
-        Ok(value) => value,
-        Err(reason) => return Err(error_at(alloc, reason, reader.offset())),
-    };
-    let mut walk = Walk {
-        alloc,
-        path: Vec::new(alloc),
-    };
-    let mut payload = Vec::new(alloc);
-    match append_message(&mut walk, &mut payload, schema, &value, LEVELS) {
-        Ok(()) => Ok(payload),
-        Err(reason) => Err(error_on(alloc, reason, &walk.path)),
-    }
+    let value = value_of_text(alloc, text, &mut scratch)?;
+    payload_of_value(alloc, schema, &value)
 }

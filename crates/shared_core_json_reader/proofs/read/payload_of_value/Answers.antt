@@ -1,0 +1,15 @@
+use Rattle.std.proofs.Common.{◌^◌, ◌<◌, length, ◌∙◌, rules}
+use Rattle.json.specs.Value.{value_view as json_view}
+use Rattle.shared_core_json_reader.proofs.Whole.{appended_payload, no_payload, payload_means}
+use Rattle.shared_core_json_reader.proofs.read.payload_of_value.Goals as goal
+
+pub returns-in-Ok-clause-ok : goal.returns-in-Ok-clause-ok
+returns-in-Ok-clause-ok c = appended_payload c.args.schema (json_view c.args.value.now) c.new-payload.result.items c.append_message.new.out.items c.new-payload.ensures.items c.in-Ok.ensures
+
+pub returns-in-Ok-clause-means : goal.returns-in-Ok-clause-means
+returns-in-Ok-clause-means c =
+    let short : length c.append_message.new.out.items < 2 ^ 64 = search rules in
+    payload_means c.args.schema (json_view c.args.value.now) c.append_message.new.out.items (returns-in-Ok-clause-ok c) short
+
+pub returns-clause-refused : goal.returns-clause-refused
+returns-clause-refused c n = no_payload c.args.schema (json_view c.args.value.now) (c.in-Err.ensures (λ e. n (c.error_on.ensures n ∙ e)))
