@@ -2,9 +2,10 @@
 The rows are proved to be those of the schemas, with the names that the contracts cite.
 """
 from . import laid_out
-from .json_names import KINDS, json_name
+from .json_names import json_name
 from .proto import OneOf, enums, fields_of, schemas
 from .records import missing  # noqa: F401
+from .row_table import KINDS
 
 ABOUT = "The rows by which JSON is read, with the names of fields and of the values of enums."
 SOURCE = "proto/journal.proto"

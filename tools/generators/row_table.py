@@ -2,13 +2,14 @@
 those of the schemas.
 """
 from . import laid_out
-from .json_names import KINDS
 from .proto import OneOf, schemas
 from .records import missing  # noqa: F401
 from .tables import least
 
 ABOUT = "The rows of schemas, for the program."
 SOURCE = "proto/journal.proto"
+
+KINDS = {"u32": "U32", "u64": "U64", "bool": "Boolean", "enum": "Enumeration", "text": "Text", "bytes": "ByteString"}
 
 PATH = "crates/shared_core_codec/src/schemas.rt"
 

@@ -2,7 +2,8 @@
 //!
 //! Users of records call `record` and `error`. The code of a record uses the other modules: `kind`, with a file for
 //! each kind of field; the fields by their presence, `plain`, `optional`, `repeated`, `packed` and `oneof`; and below
-//! them `message_bytes` and `occurrence` for reading, `size` for measuring, and `write`.
+//! them `message_bytes` and `occurrence` for reading, `size` for measuring, and `write`. Whoever goes over payloads
+//! without a record has the rows of schemas in `rows`, and a check of payloads by them in `check`.
 #![tactic(auto)]
 
 pub mod boolean;
@@ -21,7 +22,7 @@ pub mod packed;
 pub mod plain;
 pub mod record;
 pub mod repeated;
-mod rows;
+pub mod rows;
 mod schemas;
 pub mod size;
 pub mod text;

@@ -1,4 +1,5 @@
-pub mod Listed
+pub mod NamesAt
+pub mod InRows
 pub mod Walk
 pub mod Lookup
 pub mod Members

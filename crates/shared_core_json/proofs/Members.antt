@@ -25,27 +25,27 @@ use Rattle.shared_core_wire.proofs.Runs.{and_split, and_join}
 use Rattle.shared_core_codec.specs.Table.{table}
 use Rattle.shared_core_json.specs.Fields.{NamedField, name_of, field_numbered}
 use Rattle.shared_core_json.specs.Form.{is_present, member_if, part_json, items_json, members_json, value_json, enum_digits}
-use Rattle.shared_core_json.specs.Written.{low, number_token, numbers_past, run_tokens, value_tokens, end_tokens, record_tokens, next_begun, items_tokens}
+use Rattle.shared_core_json.specs.Written.{low, number_token, numbers_past, run_tokens, value_tokens, end_tokens, record_tokens, next_open_list, items_tokens}
 use Rattle.shared_core_json.proofs.Lookup.{own_field, Knows, knows_row, knows_rest}
 
 -- ---- the walk over a record list
 
 module _ (nested : ℕ → List ℕ → List Token) (fields : List NamedField) where
   unfoldable pub walk : ℕ → List FieldRecord → List Token
-  walk begun [] = end_tokens begun
-  walk begun (r ∷ rs) = record_tokens nested begun (field_numbered fields r.number) r.value ++ walk (next_begun begun (field_numbered fields r.number)) rs
+  walk open_list [] = end_tokens open_list
+  walk open_list (r ∷ rs) = record_tokens nested open_list (field_numbered fields r.number) r.value ++ walk (next_open_list open_list (field_numbered fields r.number)) rs
 
-  pub walk_items : (items : List (Result PlacedRecord WireError)) (rs : List FieldRecord) (begun : ℕ) → map without_place items ≡ map Ok rs → items_tokens nested fields begun items ≡ walk begun rs
+  pub walk_items : (items : List (Result PlacedRecord WireError)) (rs : List FieldRecord) (open_list : ℕ) → map without_place items ≡ map Ok rs → items_tokens nested fields open_list items ≡ walk open_list rs
   unfolding items_tokens walk
-  walk_items [] [] begun e = refl
-  walk_items [] (r ∷ rs) begun e = absurd cc
-  walk_items (Ok p ∷ items) [] begun e = absurd cc
-  walk_items (Err x ∷ items) [] begun e = absurd cc
-  walk_items (Err x ∷ items) (r ∷ rs) begun e = absurd cc
-  walk_items (Ok p ∷ items) (r ∷ rs) begun e =
+  walk_items [] [] open_list e = refl
+  walk_items [] (r ∷ rs) open_list e = absurd cc
+  walk_items (Ok p ∷ items) [] open_list e = absurd cc
+  walk_items (Err x ∷ items) [] open_list e = absurd cc
+  walk_items (Err x ∷ items) (r ∷ rs) open_list e = absurd cc
+  walk_items (Ok p ∷ items) (r ∷ rs) open_list e =
       let head : p.field_record ≡ r = cc in
       let tail : map without_place items ≡ map Ok rs = cc in
-      rw head (ap (λ (ts : List Token). record_tokens nested begun (field_numbered fields r.number) r.value ++ ts) (walk_items items rs (next_begun begun (field_numbered fields r.number)) tail))
+      rw head (ap (λ (ts : List Token). record_tokens nested open_list (field_numbered fields r.number) r.value ++ ts) (walk_items items rs (next_open_list open_list (field_numbered fields r.number)) tail))
 
 -- ---- numbers
 
@@ -212,67 +212,67 @@ module _ (nested : ℕ → List ℕ → List Token) (left : ℕ)
         rw (f, eq-eqb n n refl) (ap (λ (ts : List Token). value_tokens nested k w ++ ts) (elements_walk n name k ws rest f)
         ∙ sym (append_assoc (value_tokens nested k w) (flat_map (value_tokens nested k) ws) (walk nested fields n rest)))
 
-    module _ (rest : List FieldRecord) (ms : Members) (begun : ℕ) where
+    module _ (rest : List FieldRecord) (ms : Members) (open_list : ℕ) where
       one_written : (n : ℕ) (name : List ℕ) (k : Kind) (w : RecordValue) (j : Json)
           → field_numbered fields n ≡ Some (record { number = n; name = name; kind = k; is_element = false })
-          → eqb begun n ≡ false → value_tokens nested k w ≡ json_tokens j
+          → eqb open_list n ≡ false → value_tokens nested k w ≡ json_tokens j
           → walk nested fields 0 rest ++ end_object ∷ [] ≡ members_tokens ms
-          → walk nested fields begun (record { number = n; value = w } ∷ rest) ++ end_object ∷ [] ≡ end_tokens begun ++ members_tokens (member name j ms)
+          → walk nested fields open_list (record { number = n; value = w } ∷ rest) ++ end_object ∷ [] ≡ end_tokens open_list ++ members_tokens (member name j ms)
       unfolding walk
       one_written n name k w j f ne t next =
-          rw (f, ne) (regroup (end_tokens begun) (key name ∷ []) (value_tokens nested k w) (walk nested fields 0 rest) (end_object ∷ [])
-          ∙ ap (λ (ts : List Token). end_tokens begun ++ (key name ∷ (ts ++ (walk nested fields 0 rest ++ end_object ∷ [])))) t
-          ∙ ap (λ (ts : List Token). end_tokens begun ++ (key name ∷ (json_tokens j ++ ts))) next)
+          rw (f, ne) (regroup (end_tokens open_list) (key name ∷ []) (value_tokens nested k w) (walk nested fields 0 rest) (end_object ∷ [])
+          ∙ ap (λ (ts : List Token). end_tokens open_list ++ (key name ∷ (ts ++ (walk nested fields 0 rest ++ end_object ∷ [])))) t
+          ∙ ap (λ (ts : List Token). end_tokens open_list ++ (key name ∷ (json_tokens j ++ ts))) next)
 
       single_written : (n : ℕ) (name : List ℕ) (k : Kind) (p : Part) → Single p k
           → field_numbered fields n ≡ Some (record { number = n; name = name; kind = k; is_element = false })
-          → eqb begun n ≡ false → list_all encodable (map (λ w. record { number = n; value = w }) (part_values table p k)) ≡ true
+          → eqb open_list n ≡ false → list_all encodable (map (λ w. record { number = n; value = w }) (part_values table p k)) ≡ true
           → walk nested fields 0 rest ++ end_object ∷ [] ≡ members_tokens ms
-          → walk nested fields begun (map (λ w. record { number = n; value = w }) (part_values table p k) ++ rest) ++ end_object ∷ []
-          ≡ end_tokens begun ++ members_tokens (member name (part_json p k) ms)
+          → walk nested fields open_list (map (λ w. record { number = n; value = w }) (part_values table p k) ++ rest) ++ end_object ∷ []
+          ≡ end_tokens open_list ++ members_tokens (member name (part_json p k) ms)
       single_written n name k p x f ne s next =
           let encodes = ap (λ (ws : List RecordValue). list_all encodable (map (λ w. record { number = n; value = w }) ws)) (sym x.is) ∙ s in
-          ap (λ (ws : List RecordValue). walk nested fields begun (map (λ w. record { number = n; value = w }) ws ++ rest) ++ end_object ∷ []) x.is
+          ap (λ (ws : List RecordValue). walk nested fields open_list (map (λ w. record { number = n; value = w }) ws ++ rest) ++ end_object ∷ []) x.is
           ∙ one_written n name k x.w (part_json p k) f ne (x.tokens (and_split _ _ (and_split _ _ encodes).0).1) next
 
       -- the first element of a list, and the others
       first_written : (n : ℕ) (name : List ℕ) (k : Kind) (w : RecordValue) (ws all : List RecordValue)
           → field_numbered fields n ≡ Some (record { number = n; name = name; kind = k; is_element = true })
-          → eqb begun n ≡ false → eqb n 0 ≡ false → all ≡ w ∷ ws
+          → eqb open_list n ≡ false → eqb n 0 ≡ false → all ≡ w ∷ ws
           → walk nested fields n rest ++ end_object ∷ [] ≡ end_tokens n ++ members_tokens ms
-          → walk nested fields begun (record { number = n; value = w } ∷ (map (λ v. record { number = n; value = v }) ws ++ rest)) ++ end_object ∷ []
-          ≡ end_tokens begun ++ (key name ∷ (begin_array ∷ (flat_map (value_tokens nested k) all ++ (end_array ∷ members_tokens ms))))
+          → walk nested fields open_list (record { number = n; value = w } ∷ (map (λ v. record { number = n; value = v }) ws ++ rest)) ++ end_object ∷ []
+          ≡ end_tokens open_list ++ (key name ∷ (begin_array ∷ (flat_map (value_tokens nested k) all ++ (end_array ∷ members_tokens ms))))
       unfolding walk
       first_written n name k w ws all f ne nz a next =
           let later = elements_walk n name k ws rest f in
           let ended : walk nested fields n rest ++ end_object ∷ [] ≡ end_array ∷ members_tokens ms = rw nz at next in
           let values = flat_map (value_tokens nested k) ws in
-          rw (f, ne) (ap (λ (ts : List Token). (((end_tokens begun ++ (key name ∷ begin_array ∷ [])) ++ value_tokens nested k w) ++ ts) ++ (end_object ∷ [])) later
-          ∙ regroup (end_tokens begun) (key name ∷ begin_array ∷ []) (value_tokens nested k w) (values ++ walk nested fields n rest) (end_object ∷ [])
-          ∙ ap (λ (ts : List Token). end_tokens begun ++ (key name ∷ (begin_array ∷ (value_tokens nested k w ++ ts)))) (append_assoc values (walk nested fields n rest) (end_object ∷ []) ∙ ap (λ (ts : List Token). values ++ ts) ended)
-          ∙ ap (λ (ts : List Token). end_tokens begun ++ (key name ∷ (begin_array ∷ ts))) (sym (append_assoc (value_tokens nested k w) values (end_array ∷ members_tokens ms)))
-          ∙ ap (λ (vs : List RecordValue). end_tokens begun ++ (key name ∷ (begin_array ∷ (flat_map (value_tokens nested k) vs ++ (end_array ∷ members_tokens ms))))) (sym a))
+          rw (f, ne) (ap (λ (ts : List Token). (((end_tokens open_list ++ (key name ∷ begin_array ∷ [])) ++ value_tokens nested k w) ++ ts) ++ (end_object ∷ [])) later
+          ∙ regroup (end_tokens open_list) (key name ∷ begin_array ∷ []) (value_tokens nested k w) (values ++ walk nested fields n rest) (end_object ∷ [])
+          ∙ ap (λ (ts : List Token). end_tokens open_list ++ (key name ∷ (begin_array ∷ (value_tokens nested k w ++ ts)))) (append_assoc values (walk nested fields n rest) (end_object ∷ []) ∙ ap (λ (ts : List Token). values ++ ts) ended)
+          ∙ ap (λ (ts : List Token). end_tokens open_list ++ (key name ∷ (begin_array ∷ ts))) (sym (append_assoc (value_tokens nested k w) values (end_array ∷ members_tokens ms)))
+          ∙ ap (λ (vs : List RecordValue). end_tokens open_list ++ (key name ∷ (begin_array ∷ (flat_map (value_tokens nested k) vs ++ (end_array ∷ members_tokens ms))))) (sym a))
 
       elements_written : (n : ℕ) (name : List ℕ) (k : Kind) (p : Part) (ps : Parts)
           → field_numbered fields n ≡ Some (record { number = n; name = name; kind = k; is_element = true })
-          → eqb begun n ≡ false → eqb n 0 ≡ false → ElementsFit table (cons p ps) k → levels (cons p ps) ≤ left → list_all encodable_value (element_values table (cons p ps) k) ≡ true
+          → eqb open_list n ≡ false → eqb n 0 ≡ false → ElementsFit table (cons p ps) k → levels (cons p ps) ≤ left → list_all encodable_value (element_values table (cons p ps) k) ≡ true
           → walk nested fields n rest ++ end_object ∷ [] ≡ end_tokens n ++ members_tokens ms
-          → walk nested fields begun (map (λ w. record { number = n; value = w }) (element_values table (cons p ps) k) ++ rest) ++ end_object ∷ []
-          ≡ end_tokens begun ++ members_tokens (member name (array (items_json (cons p ps) k)) ms)
+          → walk nested fields open_list (map (λ w. record { number = n; value = w }) (element_values table (cons p ps) k) ++ rest) ++ end_object ∷ []
+          ≡ end_tokens open_list ++ members_tokens (member name (array (items_json (cons p ps) k)) ms)
       elements_written n name k p ps f ne nz h l s next =
           let x = single_first p k ps h l in
-          ap (λ (ws : List RecordValue). walk nested fields begun (map (λ w. record { number = n; value = w }) ws ++ rest) ++ end_object ∷ []) x.is
+          ap (λ (ws : List RecordValue). walk nested fields open_list (map (λ w. record { number = n; value = w }) ws ++ rest) ++ end_object ∷ []) x.is
           ∙ first_written n name k x.w x.ws (element_values table (cons p ps) k) f ne nz x.is next
-          ∙ ap (λ (ts : List Token). end_tokens begun ++ (key name ∷ (begin_array ∷ ts))) (elements_tokens (cons p ps) k (members_tokens ms) h l s)
+          ∙ ap (λ (ts : List Token). end_tokens open_list ++ (key name ∷ (begin_array ∷ ts))) (elements_tokens (cons p ps) k (members_tokens ms) h l s)
 
       -- a plain field, whose default is left out
       plain_written : (n : ℕ) (name : List ℕ) (k : Kind) (p : Part) (default : Bool) → Single p k
           → field_numbered fields n ≡ Some (record { number = n; name = name; kind = k; is_element = false })
-          → eqb begun n ≡ false → list_all encodable (map (λ w. record { number = n; value = w }) (cond default [] (part_values table p k))) ≡ true
-          → walk nested fields begun rest ++ end_object ∷ [] ≡ end_tokens begun ++ members_tokens ms
+          → eqb open_list n ≡ false → list_all encodable (map (λ w. record { number = n; value = w }) (cond default [] (part_values table p k))) ≡ true
+          → walk nested fields open_list rest ++ end_object ∷ [] ≡ end_tokens open_list ++ members_tokens ms
           → walk nested fields 0 rest ++ end_object ∷ [] ≡ members_tokens ms
-          → walk nested fields begun (map (λ w. record { number = n; value = w }) (cond default [] (part_values table p k)) ++ rest) ++ end_object ∷ []
-          ≡ end_tokens begun ++ members_tokens (member_if (not default) name (part_json p k) ms)
+          → walk nested fields open_list (map (λ w. record { number = n; value = w }) (cond default [] (part_values table p k)) ++ rest) ++ end_object ∷ []
+          ≡ end_tokens open_list ++ members_tokens (member_if (not default) name (part_json p k) ms)
       plain_written n name k p true x f ne s stay next = stay
       plain_written n name k p false x f ne s stay next = single_written n name k p x f ne s next
 
@@ -282,33 +282,33 @@ module _ (nested : ℕ → List ℕ → List Token) (left : ℕ)
 
       row_written : (names : List (ℕ × List ℕ)) (row : Row) (p : Part)
           → ((n : ℕ) → includes (numbers row) n ≡ true → field_numbered fields n ≡ Some (own_field names row n))
-          → includes (numbers row) begun ≡ false → includes (numbers row) 0 ≡ false
+          → includes (numbers row) open_list ≡ false → includes (numbers row) 0 ≡ false
           → has_shape row p ≡ true → PartFits table p (kind_of row p) → part_levels p ≤ left
           → list_all encodable (row_records row p (part_values table p (kind_of row p))) ≡ true
-          → walk nested fields begun rest ++ end_object ∷ [] ≡ end_tokens begun ++ members_tokens ms
+          → walk nested fields open_list rest ++ end_object ∷ [] ≡ end_tokens open_list ++ members_tokens ms
           → walk nested fields 0 rest ++ end_object ∷ [] ≡ members_tokens ms
           → ((n : ℕ) → includes (numbers row) n ≡ true → walk nested fields n rest ++ end_object ∷ [] ≡ end_tokens n ++ members_tokens ms)
-          → walk nested fields begun (row_records row p (part_values table p (kind_of row p)) ++ rest) ++ end_object ∷ []
-          ≡ end_tokens begun ++ members_tokens (member_if (is_present row p) (name_of names (number_of row p)) (part_json p (kind_of row p)) ms)
+          → walk nested fields open_list (row_records row p (part_values table p (kind_of row p)) ++ rest) ++ end_object ∷ []
+          ≡ end_tokens open_list ++ members_tokens (member_if (is_present row p) (name_of names (number_of row p)) (part_json p (kind_of row p)) ms)
       unfolding part_values PartFits levels part_json
       row_written names (Plain n k) Absent f b z i h l s stay next nextn = absurd cc
       row_written names (Plain n k) (Elements ps) f b z i h l s stay next nextn = absurd cc
       row_written names (Plain n k) (Member m p) f b z i h l s stay next nextn = absurd cc
       row_written names (Plain n k) (Number m) f b z i h l s stay next nextn =
-          plain_written n (name_of names n) k (Number m) (is_default (Number m)) (single (Number m) k i h l) (f n (own_number n)) (other_number (n ∷ []) begun n b (own_number n)) s stay next
+          plain_written n (name_of names n) k (Number m) (is_default (Number m)) (single (Number m) k i h l) (f n (own_number n)) (other_number (n ∷ []) open_list n b (own_number n)) s stay next
       row_written names (Plain n k) (Bytes bytes) f b z i h l s stay next nextn =
-          plain_written n (name_of names n) k (Bytes bytes) (is_default (Bytes bytes)) (single (Bytes bytes) k i h l) (f n (own_number n)) (other_number (n ∷ []) begun n b (own_number n)) s stay next
+          plain_written n (name_of names n) k (Bytes bytes) (is_default (Bytes bytes)) (single (Bytes bytes) k i h l) (f n (own_number n)) (other_number (n ∷ []) open_list n b (own_number n)) s stay next
       row_written names (Plain n k) (Nested ps) f b z i h l s stay next nextn =
-          plain_written n (name_of names n) k (Nested ps) false (single (Nested ps) k i h l) (f n (own_number n)) (other_number (n ∷ []) begun n b (own_number n)) s stay next
+          plain_written n (name_of names n) k (Nested ps) false (single (Nested ps) k i h l) (f n (own_number n)) (other_number (n ∷ []) open_list n b (own_number n)) s stay next
       row_written names (Optional n k) Absent f b z i h l s stay next nextn = stay
       row_written names (Optional n k) (Elements ps) f b z i h l s stay next nextn = absurd cc
       row_written names (Optional n k) (Member m p) f b z i h l s stay next nextn = absurd cc
       row_written names (Optional n k) p f b z i h l s stay next nextn =
-          single_written n (name_of names n) k p (single p k i h l) (f n (own_number n)) (other_number (n ∷ []) begun n b (own_number n)) s next
+          single_written n (name_of names n) k p (single p k i h l) (f n (own_number n)) (other_number (n ∷ []) open_list n b (own_number n)) s next
       row_written names (Repeated n U32) (Elements nil) f b z i h l s stay next nextn = stay
       row_written names (Repeated n U32) (Elements (cons (Number m) ps)) f b z i h l s stay next nextn =
           one_written n (name_of names n) U32 (Length (flat_map number_bytes (element_values table (cons (Number m) ps) U32))) (array (items_json (cons (Number m) ps) U32))
-          (f n (own_number n)) (other_number (n ∷ []) begun n b (own_number n)) (packed (cons (Number m) ps) h) next
+          (f n (own_number n)) (other_number (n ∷ []) open_list n b (own_number n)) (packed (cons (Number m) ps) h) next
       row_written names (Repeated n U32) (Elements (cons Absent ps)) f b z i h l s stay next nextn = absurd (cc h.0)
       row_written names (Repeated n U32) (Elements (cons (Elements qs) ps)) f b z i h l s stay next nextn = absurd (cc h.0)
       row_written names (Repeated n U32) (Elements (cons (Member m p) ps)) f b z i h l s stay next nextn = absurd (cc h.0)
@@ -316,28 +316,28 @@ module _ (nested : ℕ → List ℕ → List Token) (left : ℕ)
       row_written names (Repeated n U32) (Elements (cons (Nested qs) ps)) f b z i h l s stay next nextn = absurd h.1
       row_written names (Repeated n k) (Elements nil) f b z i h l s stay next nextn = stay
       row_written names (Repeated n k) (Elements (cons p ps)) f b z i h l s stay next nextn =
-          elements_written n (name_of names n) k p ps (f n (own_number n)) (other_number (n ∷ []) begun n b (own_number n)) (not_zero (n ∷ []) n z (own_number n)) h l (encode_values n (element_values table (cons p ps) k) s) (nextn n (own_number n))
+          elements_written n (name_of names n) k p ps (f n (own_number n)) (other_number (n ∷ []) open_list n b (own_number n)) (not_zero (n ∷ []) n z (own_number n)) h l (encode_values n (element_values table (cons p ps) k) s) (nextn n (own_number n))
       row_written names (Repeated n k) p f b z i h l s stay next nextn = absurd cc
       row_written names (OneOf members) Absent f b z i h l s stay next nextn = stay
       row_written names (OneOf members) (Member m p) f b z i h l s stay next nextn =
           let e = and_split _ _ i in
-          single_written m (name_of names m) (member_kind members m) p (single p (member_kind members m) e.1 h l) (f m e.0) (other_number (numbers (OneOf members)) begun m b e.0) s next
+          single_written m (name_of names m) (member_kind members m) p (single p (member_kind members m) e.1 h l) (f m e.0) (other_number (numbers (OneOf members)) open_list m b e.0) s next
       row_written names (OneOf members) p f b z i h l s stay next nextn = absurd cc
 
-    pub members_written : (names : List (ℕ × List ℕ)) (v : Parts) (rows : List Row) (begun : ℕ) → are_distinct (all_numbers rows) ≡ true → Knows fields names rows
-        → includes (all_numbers rows) begun ≡ false → includes (all_numbers rows) 0 ≡ false
+    pub members_written : (names : List (ℕ × List ℕ)) (v : Parts) (rows : List Row) (open_list : ℕ) → are_distinct (all_numbers rows) ≡ true → Knows fields names rows
+        → includes (all_numbers rows) open_list ≡ false → includes (all_numbers rows) 0 ≡ false
         → Fits table v rows → levels v ≤ left → list_all encodable (message_records table v rows) ≡ true
-        → walk nested fields begun (message_records table v rows) ++ end_object ∷ [] ≡ end_tokens begun ++ members_tokens (members_json names v rows)
+        → walk nested fields open_list (message_records table v rows) ++ end_object ∷ [] ≡ end_tokens open_list ++ members_tokens (members_json names v rows)
     unfolding part_values PartFits levels part_json walk
-    members_written names nil [] begun d k b z h l s = refl
-    members_written names nil (row ∷ rows) begun d k b z h l s = absurd h
-    members_written names (cons p ps) [] begun d k b z h l s = absurd h
-    members_written names (cons p ps) (row ∷ rows) begun d k b z h l s =
+    members_written names nil [] open_list d k b z h l s = refl
+    members_written names nil (row ∷ rows) open_list d k b z h l s = absurd h
+    members_written names (cons p ps) [] open_list d k b z h l s = absurd h
+    members_written names (cons p ps) (row ∷ rows) open_list d k b z h l s =
         let low_row : part_levels p ≤ left = omega arith in
         let low_rest : levels ps ≤ left = omega arith in
         let e = and_split _ _ (sym (list_all-append encodable (row_records row p (part_values table p (kind_of row p))) (message_records table ps rows)) ∙ s) in
-        let before = or_split (includes (numbers row) begun) _ (sym (includes-append (numbers row) (all_numbers rows) begun) ∙ b) in
+        let before = or_split (includes (numbers row) open_list) _ (sym (includes-append (numbers row) (all_numbers rows) open_list) ∙ b) in
         let zero_of = or_split (includes (numbers row) 0) _ (sym (includes-append (numbers row) (all_numbers rows) 0) ∙ z) in
         let later = λ (n : ℕ) (g : includes (all_numbers rows) n ≡ false). members_written names ps rows n (distinct_back (numbers row) (all_numbers rows) d) (knows_rest fields names row rows d k) g zero_of.1 h.2 low_rest e.1 in
-        row_written (message_records table ps rows) (members_json names ps rows) begun names row p (knows_row fields names row rows k) before.0 zero_of.0 h.0 h.1 low_row e.0
-        (later begun before.1) (later 0 zero_of.1) (λ n g. later n (distinct_other (numbers row) (all_numbers rows) n d g))
+        row_written (message_records table ps rows) (members_json names ps rows) open_list names row p (knows_row fields names row rows k) before.0 zero_of.0 h.0 h.1 low_row e.0
+        (later open_list before.1) (later 0 zero_of.1) (λ n g. later n (distinct_other (numbers row) (all_numbers rows) n d g))

@@ -10,7 +10,7 @@ use Rattle.shared_core_wire.specs.declared.error.WireError.{WireError}
 use Rattle.std.specs.Prelude.{OnOk}
 use Rattle.std.specs.Str.{is_utf8}
 use Rattle.shared_core_json.specs.Fields.{NamedField, schema_fields, field_numbered}
-use Rattle.shared_core_json.specs.Written.{text_token, numbers_past, end_tokens, record_tokens, next_begun, items_tokens, payload_tokens}
+use Rattle.shared_core_json.specs.Written.{text_token, numbers_past, end_tokens, record_tokens, next_open_list, items_tokens, payload_tokens}
 
 numbers_over : (past : ℕ) (bytes : List ℕ) → numbers_past past bytes ≡ numbers_past 0 (drop past bytes)
 unfolding numbers_past
@@ -76,19 +76,19 @@ enclosed first last before begun looped ended whole middle b l e w =
     ∙ append_assoc (before ++ first ∷ []) middle (last ∷ []) ∙ append_assoc before (first ∷ []) (middle ++ last ∷ [])
 
 module _ (nested : ℕ → List ℕ → List Token) (fields : List NamedField) where
-  pub record_turn : (begun now : ℕ) (old new all : List Token) (r : PlacedRecord) (items whole : List (Result PlacedRecord WireError))
-      → new ≡ old ++ record_tokens nested begun (field_numbered fields r.field_record.number) r.field_record.value
-      → now ≡ next_begun begun (field_numbered fields r.field_record.number)
-      → whole ≡ Ok r ∷ items → old ++ items_tokens nested fields begun whole ≡ all → new ++ items_tokens nested fields now items ≡ all
+  pub record_turn : (open_list now : ℕ) (old new all : List Token) (r : PlacedRecord) (items whole : List (Result PlacedRecord WireError))
+      → new ≡ old ++ record_tokens nested open_list (field_numbered fields r.field_record.number) r.field_record.value
+      → now ≡ next_open_list open_list (field_numbered fields r.field_record.number)
+      → whole ≡ Ok r ∷ items → old ++ items_tokens nested fields open_list whole ≡ all → new ++ items_tokens nested fields now items ≡ all
   unfolding items_tokens
-  record_turn begun now old new all r items whole e n w h =
-      rw n (step_on old new _ _ all e (sym (ap (λ (is : List (Result PlacedRecord WireError)). old ++ items_tokens nested fields begun is) w) ∙ h))
+  record_turn open_list now old new all r items whole e n w h =
+      rw n (step_on old new _ _ all e (sym (ap (λ (is : List (Result PlacedRecord WireError)). old ++ items_tokens nested fields open_list is) w) ∙ h))
 
-  pub error_turn : (begun : ℕ) (old all : List Token) (x : WireError) (items whole : List (Result PlacedRecord WireError))
-      → whole ≡ Err x ∷ items → old ++ items_tokens nested fields begun whole ≡ all → old ++ items_tokens nested fields begun items ≡ all
+  pub error_turn : (open_list : ℕ) (old all : List Token) (x : WireError) (items whole : List (Result PlacedRecord WireError))
+      → whole ≡ Err x ∷ items → old ++ items_tokens nested fields open_list whole ≡ all → old ++ items_tokens nested fields open_list items ≡ all
   unfolding items_tokens
-  error_turn begun old all x items whole w h = sym (ap (λ (is : List (Result PlacedRecord WireError)). old ++ items_tokens nested fields begun is) w) ∙ h
+  error_turn open_list old all x items whole w h = sym (ap (λ (is : List (Result PlacedRecord WireError)). old ++ items_tokens nested fields open_list is) w) ∙ h
 
-  pub items_end : (begun : ℕ) (items : List (Result PlacedRecord WireError)) → items ≡ [] → items_tokens nested fields begun items ≡ end_tokens begun
+  pub items_end : (open_list : ℕ) (items : List (Result PlacedRecord WireError)) → items ≡ [] → items_tokens nested fields open_list items ≡ end_tokens open_list
   unfolding items_tokens
-  items_end begun items w = rw w refl
+  items_end open_list items w = rw w refl

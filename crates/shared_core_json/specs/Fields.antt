@@ -1,12 +1,12 @@
 -- The fields of a schema, with their JSON names.
 use Rattle.std.specs.Prelude.{ℕ, zero, suc, Bool, true, false, List, [], ◌∷◌, ◌++◌, map, nat_eq, if◌then◌else◌, Option, Some, None}
 use Rattle.shared_core_wire.specs.Schema.{Row, Plain, Optional, Repeated, OneOf, Kind as AnyKind, U32, U64, Boolean, Enumeration, Text, ByteString, Message}
-use Rattle.shared_core_codec.specs.Table.{table, schemas}
+use Rattle.shared_core_codec.specs.Table.{table}
+use Rattle.shared_core_codec.specs.ProgramRows.{kind_view}
 use Rattle.std.specs.Borrow.{Bor}
 use Rattle.shared_core_json.specs.Names.{names}
-use Rattle.shared_core_json.specs.declared.fields.Kind.{Kind}
-use Rattle.shared_core_json.specs.declared.fields.Kind.TheVariants as kind
 use Rattle.shared_core_json.specs.declared.fields.Field.{Field}
+use Rattle.shared_core_json.specs.declared.names.Name.{Name}
 
 -- A field: its number, its name, its kind, and whether each of its records is an element of a list.
 pub record NamedField : Type 0 where
@@ -47,16 +47,6 @@ abbrev pub fields_of_rows : List (ℕ × List ℕ) → List Row → List NamedFi
 fields_of_rows ns [] = []
 fields_of_rows ns (row ∷ rows) = row_fields ns row ++ fields_of_rows ns rows
 
--- The fields of each schema of a list.
-abbrev pub fields_of_each : List (List (ℕ × List ℕ)) → List (List Row) → List (List NamedField)
-fields_of_each nss [] = []
-fields_of_each [] (rows ∷ lists) = fields_of_rows [] rows ∷ fields_of_each [] lists
-fields_of_each (ns ∷ nss) (rows ∷ lists) = fields_of_rows ns rows ∷ fields_of_each nss lists
-
--- The fields of each schema of the table.
-abbrev pub all_fields : List (List NamedField)
-all_fields = fields_of_each names schemas
-
 -- The fields of a schema.
 unfoldable pub schema_fields : ℕ → List NamedField
 schema_fields s = fields_of_rows (names_of s) (table s)
@@ -66,20 +56,14 @@ abbrev pub field_numbered : List NamedField → ℕ → Option NamedField
 field_numbered [] n = None
 field_numbered (f ∷ fs) n = if nat_eq n f.number then Some f else field_numbered fs n
 
--- The schema kind of a kind of the program.
-abbrev pub kind_view : Kind → AnyKind
-kind_view kind.U32 = U32
-kind_view kind.U64 = U64
-kind_view kind.Boolean = Boolean
-kind_view kind.Enumeration = Enumeration
-kind_view kind.Text = Text
-kind_view kind.ByteString = ByteString
-kind_view (kind.Message s) = Message s
+-- The field of the schema s as JSON has it, which is one of the program.
+abbrev pub field_view : ℕ → Field → NamedField
+field_view s f = record { number = f.number; name = name_of (names_of s) f.number; kind = kind_view f.kind; is_element = f.is_element }
 
--- The schema field of a field of the program.
-abbrev pub field_view : Field → NamedField
-field_view f = record { number = f.0; name = f.1.now; kind = kind_view f.2; is_element = f.3 }
+-- The number and the name of a name of the program.
+abbrev pub name_view : Name → ℕ × List ℕ
+name_view n = (n.0, n.1.now)
 
--- The schema fields of a list of the program.
-abbrev pub fields_view : Bor (List Field) → List NamedField
-fields_view fs = map field_view fs.now
+-- The numbers and the names of a list of the program.
+abbrev pub names_view : Bor (List Name) → List (ℕ × List ℕ)
+names_view ns = map name_view ns.now

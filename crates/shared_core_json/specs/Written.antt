@@ -67,33 +67,33 @@ value_tokens nested k (Fixed32 bytes) = null ∷ []
 
 -- The end of the open list: that of the field of this number, or none if it is 0.
 abbrev pub end_tokens : ℕ → List Token
-end_tokens begun = if begun == 0 then [] else end_array ∷ []
+end_tokens open_list = if open_list == 0 then [] else end_array ∷ []
 
 -- What comes before the value of a field: nothing if it is one more element of the open list, otherwise its name.
 abbrev pub lead_tokens : ℕ → NamedField → List Token
-lead_tokens begun f = if nat_eq begun f.number then [] else (end_tokens begun ++ key f.name ∷ (if f.is_element then begin_array ∷ [] else []))
+lead_tokens open_list f = if nat_eq open_list f.number then [] else (end_tokens open_list ++ key f.name ∷ (if f.is_element then begin_array ∷ [] else []))
 
 -- The list that is open after the value of a field.
-abbrev pub begun_after : NamedField → ℕ
-begun_after f = if f.is_element then f.number else 0
+abbrev pub open_list_after : NamedField → ℕ
+open_list_after f = if f.is_element then f.number else 0
 
 -- The tokens of a record of the field, if there is one.
 abbrev pub record_tokens : (ℕ → List ℕ → List Token) → ℕ → Option NamedField → RecordValue → List Token
-record_tokens nested begun None w = []
-record_tokens nested begun (Some f) w = lead_tokens begun f ++ value_tokens nested f.kind w
+record_tokens nested open_list None w = []
+record_tokens nested open_list (Some f) w = lead_tokens open_list f ++ value_tokens nested f.kind w
 
 -- The list that is open after it.
-abbrev pub next_begun : ℕ → Option NamedField → ℕ
-next_begun begun None = begun
-next_begun begun (Some f) = begun_after f
+abbrev pub next_open_list : ℕ → Option NamedField → ℕ
+next_open_list open_list None = open_list
+next_open_list open_list (Some f) = open_list_after f
 
 -- The tokens of the items that reading a payload gives.
 unfoldable pub items_tokens : (ℕ → List ℕ → List Token) → List NamedField → ℕ → List (Result PlacedRecord WireError) → List Token
-items_tokens nested fields begun [] = end_tokens begun
-items_tokens nested fields begun (Ok r ∷ items) =
-    record_tokens nested begun (field_numbered fields r.field_record.number) r.field_record.value
-    ++ items_tokens nested fields (next_begun begun (field_numbered fields r.field_record.number)) items
-items_tokens nested fields begun (Err e ∷ items) = items_tokens nested fields begun items
+items_tokens nested fields open_list [] = end_tokens open_list
+items_tokens nested fields open_list (Ok r ∷ items) =
+    record_tokens nested open_list (field_numbered fields r.field_record.number) r.field_record.value
+    ++ items_tokens nested fields (next_open_list open_list (field_numbered fields r.field_record.number)) items
+items_tokens nested fields open_list (Err e ∷ items) = items_tokens nested fields open_list items
 
 -- The tokens of a payload of the schema s that may be nested this deep, itself included; null if the depth is 0.
 unfoldable pub payload_tokens : ℕ → ℕ → List ℕ → List Token

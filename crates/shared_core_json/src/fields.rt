@@ -1,56 +1,39 @@
-//! The types of the table of fields: their numbers, kinds and JSON names, by schema.
+//! The fields that the rows of a schema have, told apart as JSON does: whether a record of one is an element of a list.
 
-ghost use Rattle.std.specs.Prelude.{◌≡◌, map, option_map};
-ghost use Rattle.shared_core_json.specs.Fields.{field_view, fields_view, all_fields, schema_fields, field_numbered};
+ghost use Rattle.std.specs.Prelude.{◌≡◌, ◌&&◌, option_map};
+ghost use Rattle.shared_core_codec.specs.ProgramRows.{kind_view};
+ghost use Rattle.shared_core_json.specs.Fields.{stands_alone, field_view, schema_fields, field_numbered};
 
-use crate::schemas::SCHEMAS;
+use shared_core_codec::rows::{self, Found, Kind, rows_of};
 
-/// The kind of a field.
+/// A field of a schema: its number and its kind, and whether each of its records is an element of a list.
 #[derive(Clone, Copy)]
-pub enum Kind {
-    U32,
-    U64,
-    Boolean,
-    Enumeration,
-    Text,
-    ByteString,
-    /// A message of the schema at this index of the table.
-    Message(u32),
+pub struct Field {
+    pub number: u32,
+    pub kind: Kind,
+    pub is_element: bool,
 }
 
-/// A field of a schema: its number, its name in JSON, its kind, and whether each of its records is an element of a
-/// list.
-#[derive(Clone, Copy)]
-pub struct Field(pub u32, pub &'static str, pub Kind, pub bool);
-
-/// The fields of each schema, in the order of the table.
-fn schemas() -> &'static [&'static [Field]]
-    ensures { map fields_view result.now ≡ all_fields }
+/// Whether each record of a field is an element of a list: the numbers of a repeated one are packed into one record.
+fn is_element(found: Found) -> bool
+    ensures { result ≡ found.is_repeated && stands_alone (kind_view found.kind) }
 {
-    &SCHEMAS
-}
-
-/// The fields of the schema at an index of the table; past its end there are none.
-pub fn fields_of(schema: u32) -> &'static [Field]
-    ensures { map field_view result.now ≡ schema_fields schema }
-{
-    let schemas = schemas();
-    let place = schema as usize;
-    if place < schemas.len() {
-        schemas[place]
-    } else {
-        &[]
+    match found.kind {
+        Kind::U32 => false,
+        _ => found.is_repeated,
     }
 }
 
 /// The field of the schema that has a number.
 pub fn find_field(schema: u32, number: u32) -> Option<Field>
-    ensures { option_map field_view result ≡ field_numbered (schema_fields schema) number }
+    ensures { option_map (field_view schema) result ≡ field_numbered (schema_fields schema) number }
 {
-    for field in fields_of(schema) {
-        if field.0 == number {
-            return Some(*field);
-        }
-    }
-    None
+    let Some(found) = rows::find_field(rows_of(schema), number) else {
+        return None;
+    };
+    Some(Field {
+        number,
+        kind: found.kind,
+        is_element: is_element(found),
+    })
 }

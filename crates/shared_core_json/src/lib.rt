@@ -1,13 +1,15 @@
 //! The JSON of the protocol's messages: proto3's JSON form, by the names of proto/journal.proto.
 //!
 //! A payload is decoded and written canonically (`canonical`), and the canonical payload is written as JSON
-//! (`write_message`), which goes over its records once, by one table of fields for all messages.
+//! (`write_message`), which goes over its records once, by one table of rows for all messages, that of
+//! `shared_core_codec`, and a table of names.
 #![tactic(auto)]
 
 mod canonical;
 mod error;
 mod fields;
-mod schemas;
+mod name_table;
+pub mod names;
 mod write;
 
 pub use canonical::{json_of, write_canonical};

@@ -1,24 +1,27 @@
-//! Writing canonical payloads as JSON, in one pass and by one table of fields for all messages.
+//! Writing canonical payloads as JSON, in one pass and by the rows of schemas for all messages.
 
-ghost use Rattle.std.specs.Prelude.{◌≡◌, ◌<◌, ◌^◌, [], ◌∷◌, ◌++◌, false, nat_eq, OnOk, IfOk};
+ghost use Rattle.std.specs.Prelude.{◌≡◌, [], ◌∷◌, ◌++◌, false, nat_eq, OnOk, IfOk};
 ghost use Rattle.json.specs.Token.{number, null, end_array};
 ghost use Rattle.json.specs.Token as token;
 ghost use Rattle.base64.specs.GeneralPurpose.{encode_of};
 ghost use Rattle.base64.specs.Engines.{standard};
 ghost use Rattle.shared_core_wire.specs.View.{value_of};
+ghost use Rattle.shared_core_codec.specs.ProgramRows.{kind_view};
 ghost use Rattle.shared_core_json.specs.Form.{enum_digits};
-ghost use Rattle.shared_core_json.specs.Fields.{kind_view, field_view, schema_fields, field_numbered};
+ghost use Rattle.shared_core_json.specs.Fields.{field_view, schema_fields, field_numbered};
 ghost use Rattle.shared_core_json.specs.Payloads.{WritesJson};
 ghost use Rattle.shared_core_json.specs.Written.{low, varint_token, run_tokens};
 ghost use Rattle.shared_core_json.specs.Written.{text_token, length_tokens, value_tokens, end_tokens};
-ghost use Rattle.shared_core_json.specs.Written.{lead_tokens, record_tokens, next_begun, payload_tokens};
+ghost use Rattle.shared_core_json.specs.Written.{lead_tokens, record_tokens, next_open_list, payload_tokens};
 
-use crate::fields::{Field, Kind, find_field};
+use crate::fields::{Field, find_field};
+use crate::names::name_of;
 use base64::engine::general_purpose::STANDARD;
 use json::Writer;
+use shared_core_codec::rows::Kind;
 use shared_core_wire::record::WireValue;
 use shared_core_wire::records::{Record, Records};
-use shared_core_wire::varint::read_varint;
+use shared_core_wire::varint::{low_32, read_varint};
 use std::alloc::AllocError;
 
 /// How deep messages may be nested, the outermost included: a payload has depths 0 to 100, and the walk needs one more.
@@ -54,64 +57,70 @@ fn write_payload(
         return out.null();
     }
     out.begin_object()?;
-    let mut begun = 0;
+    let mut open_list = 0;
     for item in Records::within(payload, levels - 1) {
         if let Ok(found) = item {
-            begun = write_record(out, base64, schema, &found, begun, levels - 1)?;
+            open_list = write_record(out, base64, schema, &found, open_list, levels - 1)?;
         }
     }
-    end_list(out, begun)?;
+    end_list(out, open_list)?;
     out.end_object()
 }
 
-/// Writes a record as a member or an element, where the list of the field `begun` is open (0 for none), and returns the
-/// list that is open after it.
+/// Writes a record as a member or an element, where the list of the field with the number `open_list` is open, or none
+/// if that is 0, and returns the list that is open after it.
 #[cycle(payload)]
 fn write_record(
     out: &mut Writer,
     base64: &mut String,
     schema: u32,
     found: &Record<'_>,
-    begun: u32,
+    open_list: u32,
     left: u32,
 ) -> Result<u32, AllocError>
     ensures tokens { OnOk result (out.new.tokens ≡ out.old.tokens
-        ++ record_tokens (payload_tokens left) begun (field_numbered (schema_fields schema) found.now.number)
+        ++ record_tokens (payload_tokens left) open_list (field_numbered (schema_fields schema) found.now.number)
         (value_of found.now.value)) }
-    ensures begun { IfOk result (λ now. now ≡ next_begun begun
+    ensures open_list { IfOk result (λ now. now ≡ next_open_list open_list
         (field_numbered (schema_fields schema) found.now.number)) }
     ensures before { out.new.before ≡ out.old.before }
 {
     let Some(field) = find_field(schema, found.number) else {
-        return Ok(begun);
+        return Ok(open_list);
     };
-    if begun != field.0 {
-        begin_member(out, &field, begun)?;
+    if open_list != field.number {
+        begin_member(out, schema, &field, open_list)?;
     }
-    write_value(out, base64, field.2, found.value, left)?;
-    Ok(if field.3 { field.0 } else { 0 })
+    write_value(out, base64, field.kind, found.value, left)?;
+    Ok(if field.is_element { field.number } else { 0 })
 }
 
-/// Writes a field's name, and the beginning of its list, after closing the open list.
-fn begin_member(out: &mut Writer, field: &Field, begun: u32) -> Result<(), AllocError>
-    requires { nat_eq begun (field_view field.now).number ≡ false }
-    ensures tokens { OnOk result (out.new.tokens ≡ out.old.tokens ++ lead_tokens begun (field_view field.now)) }
+/// Writes the name of a field of a schema, and the beginning of its list, after closing the open list.
+fn begin_member(
+    out: &mut Writer,
+    schema: u32,
+    field: &Field,
+    open_list: u32,
+) -> Result<(), AllocError>
+    requires { nat_eq open_list field.now.number ≡ false }
+    ensures tokens { OnOk result (out.new.tokens
+        ≡ out.old.tokens ++ lead_tokens open_list (field_view schema field.now)) }
     ensures before { out.new.before ≡ out.old.before }
 {
-    end_list(out, begun)?;
-    out.key(field.1)?;
-    if field.3 {
+    end_list(out, open_list)?;
+    out.key(name_of(schema, field.number))?;
+    if field.is_element {
         out.begin_array()?;
     }
     Ok(())
 }
 
 /// Closes the open list, if there is one.
-fn end_list(out: &mut Writer, begun: u32) -> Result<(), AllocError>
-    ensures tokens { OnOk result (out.new.tokens ≡ out.old.tokens ++ end_tokens begun) }
+fn end_list(out: &mut Writer, open_list: u32) -> Result<(), AllocError>
+    ensures tokens { OnOk result (out.new.tokens ≡ out.old.tokens ++ end_tokens open_list) }
     ensures before { out.new.before ≡ out.old.before }
 {
-    if begun == 0 {
+    if open_list == 0 {
         return Ok(());
     }
     out.end_array()
@@ -149,24 +158,23 @@ fn write_varint(out: &mut Writer, kind: Kind, number: u64) -> Result<(), AllocEr
     ensures before { out.new.before ≡ out.old.before }
 {
     match kind {
-        Kind::U32 => out.u64(number % 4_294_967_296),
+        Kind::U32 => out.u64(u64::from(low_32(number))),
         Kind::U64 => out.quoted_u64(number),
         Kind::Boolean => out.boolean(number != 0),
-        Kind::Enumeration => write_enumeration(out, number % 4_294_967_296),
+        Kind::Enumeration => write_enumeration(out, low_32(number)),
         _ => out.null(),
     }
 }
 
 /// Writes 32 bits as an i32.
-fn write_enumeration(out: &mut Writer, bits: u64) -> Result<(), AllocError>
-    requires { bits < 2 ^ 32 }
+fn write_enumeration(out: &mut Writer, bits: u32) -> Result<(), AllocError>
     ensures tokens { OnOk result (out.new.tokens ≡ out.old.tokens ++ number (enum_digits bits) ∷ []) }
     ensures before { out.new.before ≡ out.old.before }
 {
     if bits < 2_147_483_648 {
-        out.u64(bits)
+        out.u64(u64::from(bits))
     } else {
-        out.i64(bits as i64 - 4_294_967_296)
+        out.i64(i64::from(bits) - 4_294_967_296)
     }
 }
 
@@ -178,7 +186,7 @@ fn write_run(out: &mut Writer, run: &[u8]) -> Result<(), AllocError>
     out.begin_array()?;
     let mut rest = run;
     while let Some((number, after)) = read_varint(rest) {
-        out.u64(number % 4_294_967_296)?;
+        out.u64(u64::from(low_32(number)))?;
         rest = after;
     }
     out.end_array()

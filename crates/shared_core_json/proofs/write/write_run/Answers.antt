@@ -1,5 +1,6 @@
 use Rattle.std.proofs.Common.{[], ◌∷◌, ◌++◌, map, sym, refl, ap, ◌∙◌, append-nil, rules, List, ℕ}
-use Rattle.json.specs.Token.{begin_array, end_array}
+use Rattle.std.specs.Prelude.{decimal}
+use Rattle.json.specs.Token.{begin_array, end_array, number}
 use Rattle.shared_core_json.specs.Written.{number_token}
 use Rattle.shared_core_json.proofs.Walk.{numbers_turn, numbers_stop, step_on, on_ok, enclosed}
 use Rattle.shared_core_json.proofs.write.write_run.Goals as goal
@@ -11,7 +12,8 @@ pub loop-number-preserved : goal.loop-number-preserved
 loop-number-preserved c =
     let turn = numbers_turn c.loop-number.rest.now c.in-Some.number c.in-Some.after.now c.in-Some.ensures in
     record {
-      tokens = step_on c.loop-number.out.tokens c.u64.new.self.tokens (number_token c.in-Some.number ∷ []) _ _ c.in_ok-u64.ensures.ok
+      tokens = step_on c.loop-number.out.tokens c.u64.new.self.tokens (number_token c.in-Some.number ∷ []) _ _
+          (c.in_ok-u64.ensures.ok ∙ ap (λ (n : ℕ). c.loop-number.out.tokens ++ number (decimal n) ∷ []) (c.from.ensures ∙ c.low_32.ensures))
           (ap (λ (ns : List ℕ). c.loop-number.out.tokens ++ map number_token ns) (sym turn.more) ∙ c.loop-number.invariant.tokens);
       before = search rules;
     }
