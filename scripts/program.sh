@@ -7,6 +7,7 @@
 # is no rt.
 set -eu
 cd "$(dirname "$0")/.."
+. scripts/keeping_kit.sh
 . scripts/up_to_date.sh
 
 is_unproved=no
@@ -30,32 +31,6 @@ take() {
   fi
 }
 
-# linked FOLDER TARGET: a folder of links to what another one has
-linked() {
-  rm -f "$2"
-  mkdir "$2"
-  ln -s "$1"/* "$2"
-}
-
-# keeping_kit: a kit below $work whose rt try leaves its program in $work/program. The toolchain's own rt try deletes
-# what it has built and run; so this is a folder of links to the toolchain, with another linker, and rt copied, since it
-# looks for the rest beside itself.
-keeping_kit() {
-  page=$(rt doc)
-  kit=${page%/*}
-  for folder in '' /bin /toolchain /toolchain/bin; do
-    linked "$kit$folder" "$work/kit$folder"
-  done
-  rm "$work/kit/bin/rt" "$work/kit/bin/rtlib.py" "$work/kit/toolchain/bin/ld.lld"
-  cp "$kit/bin/rt" "$kit/bin/rtlib.py" "$work/kit/bin/"
-  # it is run without an environment
-  cat > "$work/kit/toolchain/bin/ld.lld" << END
-#!/bin/sh
-'$kit/toolchain/bin/ld.lld' "\$@" && '$(command -v cp)' program '$work/program'
-END
-  chmod +x "$work/kit/toolchain/bin/ld.lld"
-}
-
 take "$proved"
 [ "$is_unproved" = no ] || take "$unproved"
 if ! command -v rt > /dev/null; then
@@ -66,7 +41,7 @@ work=$(mktemp -d)
 trap 'rm -rf "$work"' EXIT
 if [ "$is_unproved" = yes ]; then
   echo "program.sh: building $crate without the proofs, once, which takes less than a minute" >&2
-  keeping_kit
+  keeping_kit "$work"
   # the program is run without input and arguments, and may refuse that
   (cd "crates/$crate" && "$work/kit/bin/rt" try --steps 1 < /dev/null) > "$work/log" 2>&1 || :
   if [ -e "$work/program" ]; then

@@ -1,9 +1,9 @@
 #!/bin/sh
-# scripts/test.sh [--quick [FOLDER|CRATE..]]
+# scripts/test.sh [--quick [FOLDER..]]
 #
-# All tests: the gate (every proof from nothing, the mutants of must-fail/, each test and the stored runs of the programs), then all checks of
-# scripts/check.sh, which lists them. With --quick: what can be known within two minutes, without a proof, and the tests of the folders of tests/
-# and of the crates that are named (scripts/quick.sh). The last line is 'N passed, M failed', of all.
+# All tests: the gate (every proof from nothing, the mutants of must-fail/, the stored runs of the programs), then all
+# checks of scripts/check.sh, which lists them. With --quick: what can be known within two minutes, without a proof, and
+# the tests of the folders of tests/ that are named (scripts/quick.sh). The last line is 'N passed, M failed', of all.
 set -u
 cd "$(dirname "$0")/.." || exit 1
 
@@ -15,7 +15,7 @@ case ${1-} in
   --help) sed -n '2,6s/^# \{0,1\}//p' scripts/test.sh; exit 0 ;;
 esac
 if [ $# -gt 0 ]; then
-  echo 'usage: test.sh [--quick [FOLDER|CRATE..]]' >&2
+  echo 'usage: test.sh [--quick [FOLDER..]]' >&2
   exit 2
 fi
 

@@ -1,18 +1,17 @@
 #!/bin/sh
-# Each allocation of tests and of programs fails in turn.
+# Each allocation of journal_list and journal_diff fails in turn; that of the tests is in tests.sh.
 #
-# Each test of crates/shared_core_out_of_memory_tests, and the programs journal_list and journal_diff, run once for each
-# allocation that they make, with that one failing, and at last with none.
-# A test has to pass. journal_list has to write its listing, or whole lines at the beginning of it and that memory is
-# short, and journal_diff its verdict, or nothing and that memory is short; both succeed if no allocation fails.
+# The programs run once for each allocation that they make, with that one failing, and at last with none. journal_list
+# has to write its listing, or whole lines at the beginning of it and that memory is short, and journal_diff its
+# verdict, or nothing and that memory is short; both succeed if no allocation fails.
 #
-# It takes the tests and the programs that rt ci has proved and built, and tests/c/refuse.c, which counts their
-# requests and refuses one. Two runs go at a time. Each refused request counts as one.
+# It takes the programs that rt ci has proved and built, and tests/c/refuse.c, which counts their requests and refuses
+# one. Two runs go at a time. Each refused request counts as one.
 set -u
 cd "$(dirname "$0")/../.." || exit 1
 . scripts/checks/lib.sh
+. scripts/checks/each_refused.sh
 
-test_crate=shared_core_out_of_memory_tests
 journal_list=crates/journal_list/out/journal_list
 journal_diff=crates/journal_diff/out/journal_diff
 
@@ -25,11 +24,8 @@ if ! cc -O2 -shared -fPIC -o "$work/refuse.so" tests/c/refuse.c -ldl; then
   finish
 fi
 
-# Whether a run was right, of which $status, $room/out and $room/err are what came of it, and $refused says whether a request was refused.
-
-is_right_test() {
-  [ "$status" -eq 0 ]
-}
+# Whether a run was right, of which $status, $room/out and $room/err are what came of it, and $refused says whether a
+# request was refused.
 
 is_right_listing() {
   complaint=''
@@ -53,75 +49,13 @@ is_right_verdict() {
   esac
 }
 
-# sweep FIRST IS_RIGHT INPUT COMMAND..: runs the command with each second request refused, from the first one on, until none is
-sweep() {
-  request=$1
-  room=$work/$1
-  is_right=$2
-  input=$3
-  shift 3
-  mkdir -p "$room"
-  right=0
-  wrong=0
-  refused=yes
-  while [ "$refused" = yes ] && [ "$wrong" -lt 5 ]; do
-    REFUSE=$request LD_PRELOAD=$work/refuse.so "$@" < "$input" > "$room/out" 2> "$room/err" 3> "$room/requests"
-    status=$?
-    requests=0
-    read -r requests < "$room/requests"
-    [ "$requests" -ge "$request" ] || refused=no
-    if ! "$is_right"; then
-      wrong=$((wrong + 1))
-      [ "$refused" = yes ] && what="request $request refused" || what='no request refused'
-      echo "failed: $name: $what: status $status, standard output and standard error:"
-      cat "$room/out" "$room/err"
-    elif [ "$refused" = yes ]; then
-      right=$((right + 1))
-    fi
-    request=$((request + 2))
-  done
-  echo "$right $wrong $requests" > "$room/counts"
-}
-
-# refuse_each NAME IS_RIGHT INPUT COMMAND..: runs the command with each request refused, half of them at a time, and counts
-refuse_each() {
-  name=$1
-  shift
-  sweep 1 "$@" > "$work/1.log" &
-  sweep 2 "$@" > "$work/2.log" &
-  wait
-  cat "$work/1.log" "$work/2.log"
-  refusals=0
-  for half in 1 2; do
-    read -r right wrong requests < "$work/$half/counts"
-    refusals=$((refusals + right))
-    failed=$((failed + wrong))
-  done
-  passed=$((passed + refusals))
-  echo "$name: $refusals of $requests requests refused in turn"
-  if [ "$requests" -eq 0 ]; then
-    echo "failed: $name: no request for memory is seen"
-    failed=$((failed + 1))
-  fi
-}
-
-tests=crates/$test_crate/out/${test_crate}_tests
-if [ -x "$tests" ]; then
-  "$tests" --list > "$work/list"
-  for test in $(sed -n 's/: test$//p' "$work/list"); do
-    refuse_each "$test" is_right_test /dev/null "$tests" "$test"
-  done
-else
-  without "the tests of $test_crate" "$tests"
-fi
-
 if [ -x "$journal_list" ]; then
   # refuse_listing STREAM LISTING WORD..: runs journal_list on a stream, which is to write this listing
   refuse_listing() {
     stream=$1
     listing=$2
     shift 2
-    refuse_each "journal_list $* < $stream" is_right_listing "$stream" "$journal_list" "$@"
+    refuse_each "journal_list $* < $stream" is_right_listing "$stream" env LD_PRELOAD="$work/refuse.so" "$journal_list" "$@"
   }
 
   for stream in examples/streams/replay examples/streams/unknown_type examples/streams/cut_short; do
@@ -143,7 +77,7 @@ refuse_verdict() {
   verdict_status=$1
   printf '%s\n' "$2" > "$work/verdict"
   shift 2
-  refuse_each "journal_diff $*" is_right_verdict examples/streams/recorded "$journal_diff" "$@"
+  refuse_each "journal_diff $*" is_right_verdict examples/streams/recorded env LD_PRELOAD="$work/refuse.so" "$journal_diff" "$@"
 }
 
 if [ -x "$journal_diff" ]; then

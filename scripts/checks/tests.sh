@@ -3,10 +3,13 @@
 #
 # They check the public API by its types, and what calls answer and print where no contract says it. `rt try --test`
 # compiles all of them as one crate, in a temporary copy of the sources, and stops at each fault of memory. Each test
-# counts as one, and each folder has a line.
+# counts as one, and each folder has a line. Then each test of tests/out_of_memory runs once for each allocation that it
+# makes, with that one failing (tests/c/refuse.c), and has to pass; each such run counts as one.
 set -u
 cd "$(dirname "$0")/../.." || exit 1
 . scripts/checks/lib.sh
+. scripts/checks/each_refused.sh
+. scripts/keeping_kit.sh
 
 if [ $# -eq 0 ]; then
   for folder in tests/*/mod.rt.in; do
@@ -30,7 +33,7 @@ esac
 # shellcheck disable=SC2086 # the names are split
 unproved_crate tests replay_bench shared_core_json shared_core_json_reader stream_lines shared_core shared_core_base \
   shared_core_wire shared_core_codec shared_core_message shared_core_parts shared_core_runtime \
-  shared_core_state_commands shared_core_call_commands shared_core_notifications bytes hex $more
+  shared_core_state_commands shared_core_call_commands shared_core_notifications shared_core_callers bytes hex $more
 {
   echo '//! Tests.'
   echo '#![tactic(auto)]'
@@ -57,16 +60,23 @@ as_module() {
   printf '#[cfg(test)]\nmod %s;\n' "$1" >> "$crate/src/lib.rt"
 }
 
-# the steps that proved tests of the same subject share with them
-proved=crates/shared_core_tests/src
-[ ! -d "$crate/src/streams" ] || cp "$proved/frames.rt" "$proved/steps.rt" "$crate/src/streams/"
-
 as_module journal_ffi ffi
 as_module bench_ffi measures
 as_module journal_list list
 as_module journal_diff diff
 
-(cd "$crate" && rt try --test --steps 1 --seconds 600) > "$out" 2> "$err"
+# the program is kept, and its allocations can be made to fail
+can_refuse=no
+if ! command -v cc > /dev/null; then
+  keeping_kit "$work"
+elif cc -O2 -fPIE -DWRAPPED -c -o "$work/refuse.o" tests/c/refuse.c; then
+  can_refuse=yes
+  keeping_kit "$work" --wrap=malloc --wrap=realloc "$work/refuse.o"
+else
+  outcome 'cc tests/c/refuse.c' 1
+  finish
+fi
+(cd "$crate" && "$work/kit/bin/rt" try --test --steps 1 --seconds 600) > "$out" 2> "$err"
 status=$?
 if ! grep -q '^test result: ' "$out"; then
   outcome 'the tests of tests/ do not compile' 1
@@ -83,4 +93,21 @@ done
 # a test that failed, with the lines after it
 awk '/^test / { shown = / \.\.\. / && !/ \.\.\. ok$/ && !/^test result: / } shown' "$out"
 [ "$status" -eq 0 ] || [ "$failed" -gt 0 ] || outcome 'rt try --test' 1
+
+is_right_test() {
+  [ "$status" -eq 0 ]
+}
+
+if [ ! -d "$crate/src/out_of_memory" ]; then
+  finish
+elif [ "$can_refuse" = no ]; then
+  without 'each allocation failing' cc
+  finish
+fi
+# nothing is looked for after the end of a run
+ASAN_OPTIONS=detect_leaks=0
+export ASAN_OPTIONS
+for test in $(sed -n 's/^test \(out_of_memory::.*\) \.\.\. ok$/\1/p' "$out"); do
+  refuse_each "$test" is_right_test /dev/null "$work/program" "$test"
+done
 finish

@@ -1,5 +1,7 @@
-/* Loaded into a program by LD_PRELOAD, makes one of its allocations fail: the one whose number, from 1, is in
-   REFUSE (0: none). When the program ends, the number of requests that it made goes to file descriptor 3. */
+/* Makes one allocation of a program fail: the one whose number, from 1, is in REFUSE (0: none). When the program ends,
+   the number of requests that it made goes to file descriptor 3. It is loaded by LD_PRELOAD, or, with WRAPPED, linked
+   into a program that has an allocator of its own (--wrap=malloc --wrap=realloc), where it does nothing without
+   REFUSE. */
 #define _GNU_SOURCE
 #include <dlfcn.h>
 #include <errno.h>
@@ -23,6 +25,23 @@ static int is_refused(void)
     errno = ENOMEM;
     return 1;
 }
+
+#ifdef WRAPPED
+
+void *__real_malloc(size_t size);
+void *__real_realloc(void *block, size_t size);
+
+void *__wrap_malloc(size_t size)
+{
+    return is_refused() ? NULL : __real_malloc(size);
+}
+
+void *__wrap_realloc(void *block, size_t size)
+{
+    return is_refused() ? NULL : __real_realloc(block, size);
+}
+
+#else
 
 /* The function of this name that is after ours. */
 static void *behind(const char *name)
@@ -73,8 +92,14 @@ int posix_memalign(void **block, size_t alignment, size_t size)
     return is_refused() ? ENOMEM : granted(block, alignment, size);
 }
 
+#endif
+
 __attribute__((destructor)) static void say_requests(void)
 {
+#ifdef WRAPPED
+    if (!getenv("REFUSE"))
+        return;
+#endif
     char text[32];
     int length = snprintf(text, sizeof text, "%ld\n", requests);
     if (length > 0 && write(3, text, (size_t)length) < 0)

@@ -60,21 +60,3 @@ pub fn there_and_back<M: RestateEncodableMessage>(
         Err(_other) => unreachable!(),
     }
 }
-
-#[cfg(test)]
-mod tests {
-    use super::there_and_back;
-    use shared_core::Version;
-    use shared_core::messages::SleepCommandMessage;
-    use shared_core::wire::WireRecord;
-    use std::test::Fail;
-
-    #[test]
-    fn a_sleep_goes_there_and_back(rt: HostRuntime) -> Result<(), Fail> {
-        let mut sleep = SleepCommandMessage::empty(rt.alloc());
-        sleep.wake_up_time = 300;
-        let again = there_and_back(rt.alloc(), Version::V8, &sleep)?;
-        assert!(rt; again == sleep);
-        Ok(())
-    }
-}

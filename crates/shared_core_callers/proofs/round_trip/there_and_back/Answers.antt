@@ -1,8 +1,7 @@
-use Rattle.std.proofs.Common.{rules, ◌≡◌, ap, subst, Ok, Err, Some, None}
-use Rattle.shared_core_wire.specs.Value.{Parts}
+use Rattle.std.proofs.Common.{rules, ap, subst, Ok, Err}
 use Rattle.shared_core.specs.Typed.{IsCanonical}
-use Rattle.shared_core_tests.proofs.Chain.{alone}
-use Rattle.shared_core_tests.proofs.round_trip.there_and_back.Goals as goal
+use Rattle.shared_core_callers.proofs.Chain.{alone}
+use Rattle.shared_core_callers.proofs.round_trip.there_and_back.Goals as goal
 
 pub unreachable-requires-in-Ok-None : goal.unreachable-requires-in-Ok-None
 unreachable-requires-in-Ok-None g c =
