@@ -11,4 +11,5 @@ pub mod Varints
 pub mod Tables
 pub mod PayloadLaws
 pub mod Checked
+pub mod Canonicity
 pub mod Positions

@@ -8,6 +8,7 @@
 
 pub mod boolean;
 pub mod byte_string;
+pub mod canonical;
 pub mod check;
 pub mod enumeration;
 pub mod error;

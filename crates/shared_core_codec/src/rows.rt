@@ -97,7 +97,7 @@ fn find_member(members: &[Field], number: u32) -> Option<Found>
 
 /// The field of a row that has a number.
 #[inline(always)]
-fn find_in_row(row: &Row, number: u32) -> Option<Found>
+pub fn find_in_row(row: &Row, number: u32) -> Option<Found>
     ensures { option_map found_view result ≡ field_in_row (row_view row.now) number }
 {
     match row {

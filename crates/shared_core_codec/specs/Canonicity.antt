@@ -1,0 +1,137 @@
+-- Which payloads are canonical, and how the records of a payload are checked for it, one after the other.
+use Rattle.std.specs.Prelude.{◌≡◌, ℕ, zero, suc, ◌+◌, ◌-◌, ◌^◌, ◌<◌, ◌≤◌, Bool, true, false, not, ◌&&◌, ◌||◌, List, [], ◌∷◌, length, nat_lt, ◌==◌, if◌then◌else◌, Option, Some, None, is_some, Result, Ok, Err}
+use Rattle.shared_core_wire.specs.Grammar.{RecordValue, Varint, Length, FieldRecord}
+use Rattle.shared_core_wire.specs.Reader.{◌>>=◌, varint_at, sequence_past, record_list}
+use Rattle.shared_core_wire.specs.ReadRecords.{PlacedRecord}
+use Rattle.shared_core_wire.specs.Encoding.{shortest_varint}
+use Rattle.shared_core_wire.specs.Schema.{Kind, Row, U32, U64, Boolean, Enumeration, Plain}
+use Rattle.shared_core_wire.specs.Acceptance.{NestedAcceptance, accepts_bytes, some_passes}
+use Rattle.shared_core_wire.specs.Canonical.{canonical_payload, levels}
+use Rattle.shared_core_wire.specs.Fitting.{Fits}
+use Rattle.shared_core_wire.specs.declared.error.WireError.{WireError}
+use Rattle.shared_core_codec.specs.Table.{table}
+use Rattle.shared_core_codec.specs.Payloads.{IsAccepted, payload_meaning}
+use Rattle.shared_core_codec.specs.ProgramRows.{field_in_row}
+use Rattle.shared_core_codec.specs.RowEncoding.{varint_record, length_record, unpacked}
+
+-- The payload is not too long for a header, is accepted, and is the canonical payload of what it means, which fits the
+-- schema and is at most one hundred levels deep.
+pub record IsCanonical (s : ℕ) (payload : List ℕ) : Type 0 where
+  pub short : length payload < 2 ^ 32
+  pub accepted : IsAccepted s payload
+  pub fits : Fits table (payload_meaning s payload) (table s)
+  pub low : levels (payload_meaning s payload) ≤ 100
+  pub canonical : payload ≡ canonical_payload table s (payload_meaning s payload)
+
+-- ---- record by record
+
+-- Whether a number is written for a value of the kind: an enum's is that of 32 bits, sign-extended.
+abbrev pub is_written_number : Kind → ℕ → Bool
+is_written_number U32 n = nat_lt n 4294967296
+is_written_number U64 n = true
+is_written_number Boolean n = nat_lt n 2
+is_written_number Enumeration n = nat_lt n 2147483648 || nat_lt 18446744071562067967 n
+is_written_number k n = false
+
+-- Whether a value of the kind is written as this value of a record, where `nested` says which bytes of a nested message
+-- are canonical.
+abbrev pub is_written_value : NestedAcceptance → Kind → RecordValue → Bool
+is_written_value nested k (Varint n) = is_written_number k n
+is_written_value nested k (Length bytes) = accepts_bytes nested k bytes
+is_written_value nested k w = false
+
+-- A varint of 32 bits in its shortest form.
+unfoldable pub low_varint_at : List ℕ → Option (ℕ × List ℕ)
+low_varint_at bytes = varint_at bytes >>= λ x.
+    if nat_lt x.0 4294967296 && (length (shortest_varint x.0) + length x.1 == length bytes) then Some x else None
+
+-- Whether bytes are a packed run as it is written: such varints fill them exactly, and there are any.
+abbrev pub is_written_run : List ℕ → Bool
+is_written_run run = not (length run == 0) && is_some (sequence_past low_varint_at 0 run)
+
+-- Whether elements of a repeated field of the kind are written as this value of a record.
+abbrev pub is_written_element : NestedAcceptance → Kind → RecordValue → Bool
+is_written_element nested U32 (Length run) = is_written_run run
+is_written_element nested U32 w = false
+is_written_element nested k w = is_written_value nested k w
+
+-- Whether a value is a default: 0, false or empty.
+abbrev pub is_default_value : RecordValue → Bool
+is_default_value (Varint n) = n == 0
+is_default_value (Length bytes) = length bytes == 0
+is_default_value w = false
+
+-- Whether a row is a plain field, of which a default is not written.
+abbrev pub is_plain : Row → Bool
+is_plain (Plain n k) = true
+is_plain row = false
+
+-- Whether a field of a kind, repeated or not, is written as this value of a record.
+abbrev pub is_written_field : NestedAcceptance → Bool → Kind × Bool → RecordValue → Bool
+is_written_field nested plain (k, true) w = is_written_element nested k w
+is_written_field nested plain (k, false) w = is_written_value nested k w && not (plain && is_default_value w)
+
+-- Whether a field may be written as more than one record.
+abbrev pub may_recur : Kind × Bool → Bool
+may_recur f = f.1 && unpacked f.0
+
+-- The rows that may come after a record of the first row's field, if the record is one that is written for it.
+abbrev pub after_field : NestedAcceptance → Row → List Row → RecordValue → Kind × Bool → Option (List Row)
+after_field nested row rows w f =
+    if is_written_field nested (is_plain row) f w then Some (if may_recur f then row ∷ rows else rows) else None
+
+-- The same where the first row has the record's number; otherwise those of the later rows.
+abbrev pub after_found : NestedAcceptance → Row → List Row → RecordValue → Option (List Row) → Option (Kind × Bool) → Option (List Row)
+after_found nested row rows w later None = later
+after_found nested row rows w later (Some f) = after_field nested row rows w f
+
+-- The rows that may come after a record, if one of these is written as the record.
+abbrev pub rows_after : NestedAcceptance → List Row → FieldRecord → Option (List Row)
+rows_after nested [] r = None
+rows_after nested (row ∷ rows) r =
+    after_found nested row rows r.value (rows_after nested rows r) (field_in_row row r.number)
+
+-- The number of bytes of a record that is written for a field.
+abbrev pub written_size : FieldRecord → ℕ
+written_size r = elim r.value [
+  | Varint n ↦ length (varint_record r.number n)
+  | Length bytes ↦ length (length_record r.number bytes)
+  | _ ↦ 0
+]
+
+-- The rows that may still come, and the number of bytes that the records still have to have.
+abbrev pub Coming : Type 0
+Coming = List Row × ℕ
+
+-- What may come after a record.
+abbrev pub coming_after : NestedAcceptance → Coming → FieldRecord → Option Coming
+coming_after nested s r = rows_after nested s.0 r >>= λ rows.
+    if nat_lt s.1 (written_size r) then None else Some (rows, s.1 - written_size r)
+
+-- Whether all bytes belong to records.
+abbrev pub is_complete : Coming → Bool
+is_complete s = s.1 == 0
+
+-- Whether the records may come one after the other, and are all that there is.
+abbrev pub all_come : NestedAcceptance → Coming → List FieldRecord → Bool
+all_come nested s [] = is_complete s
+all_come nested s (r ∷ rs) = elim (coming_after nested s r) [ None ↦ false | Some next ↦ all_come nested next rs ]
+
+-- The same of the items of a payload.
+abbrev pub all_come_read : NestedAcceptance → Coming → List (Result PlacedRecord WireError) → Bool
+all_come_read nested s [] = is_complete s
+all_come_read nested s (Ok r ∷ items) =
+    elim (coming_after nested s r.field_record) [ None ↦ false | Some next ↦ all_come_read nested next items ]
+all_come_read nested s (Err e ∷ items) = false
+
+-- Whether the bytes of a nested message are canonical, where the record that holds them allows `left` levels of
+-- nesting.
+unfoldable pub is_canonical_message : ℕ → NestedAcceptance
+is_canonical_message zero s bytes = false
+is_canonical_message (suc left) s bytes =
+    some_passes (all_come (is_canonical_message left) (table s, length bytes)) (record_list 0 bytes)
+
+-- Whether a payload is canonical, where its records allow `left` levels of nesting; no group is.
+abbrev pub is_canonical_payload : ℕ → ℕ → List ℕ → Bool
+is_canonical_payload left s bytes =
+    some_passes (all_come (is_canonical_message left) (table s, length bytes)) (record_list 0 bytes)

@@ -1,0 +1,220 @@
+//! Checking whether payloads are canonical, by the rows of their schema: without a record and without allocating.
+
+ghost use Rattle.std.specs.Prelude.{◌≡◌, IsTrue, map, option_map, length, is_some};
+ghost use Rattle.shared_core_wire.specs.Reader.{Gives};
+ghost use Rattle.shared_core_wire.specs.View.{value_of};
+ghost use Rattle.shared_core_codec.specs.Checking.{field_record_of};
+ghost use Rattle.shared_core_codec.specs.RowEncoding.{length_record};
+ghost use Rattle.shared_core_codec.specs.ProgramRows.{kind_view, found_view, row_view, rows_view};
+ghost use Rattle.shared_core_codec.specs.Canonicity.{IsCanonical, is_canonical_payload, is_canonical_message};
+ghost use Rattle.shared_core_codec.specs.Canonicity.{rows_after, may_recur};
+ghost use Rattle.shared_core_codec.specs.Canonicity.{is_written_number, is_written_value, low_varint_at};
+ghost use Rattle.shared_core_codec.specs.Canonicity.{is_written_run, is_written_element, is_default_value, is_plain};
+ghost use Rattle.shared_core_codec.specs.Canonicity.{is_written_field, written_size};
+
+use crate::check::is_text;
+use crate::rows::{Found, Kind, Row, find_in_row, rows_of};
+use crate::size::{LENGTH, Size, VARINT, key, varint_size};
+use shared_core_wire::record::WireValue;
+use shared_core_wire::records::{Record, Records};
+use shared_core_wire::varint::read_varint;
+
+/// How deep messages may be nested (this project's own limit).
+const LEVELS: u32 = 100;
+
+/// Whether a payload of at most 4,294,967,295 bytes is canonical: if so, it is well-formed for the schema at an index
+/// of the table, at most one hundred levels deep, and the canonical encoding of what it means. That each canonical
+/// payload is found is tested and not proved. Does not allocate, and makes one pass over the bytes, up to the first
+/// record that is not canonical.
+pub fn is_canonical(schema: u32, payload: &[u8]) -> bool
+    ensures { IsTrue result → IsCanonical schema payload.now }
+{
+    if payload.len() as u64 >= Size::LIMIT {
+        return false;
+    }
+    is_canonical_payload(schema, payload, LEVELS)
+}
+
+/// Whether a payload is canonical for a schema; its records may be nested `left` deep.
+#[cycle(canonical)]
+fn is_canonical_payload(schema: u32, payload: &[u8], left: u32) -> bool
+    ensures { result ≡ is_canonical_payload left schema payload.now }
+{
+    let mut rows = rows_of(schema);
+    let mut room = payload.len() as u64;
+    // a group is never canonical
+    for item in Records::within(payload, 0) {
+        let Ok(found) = item else {
+            return false;
+        };
+        let Some(next) = rows_after(rows, &found, left) else {
+            return false;
+        };
+        let size = written_size(&found);
+        if room < size {
+            return false;
+        }
+        rows = next;
+        room -= size;
+    }
+    // more bytes than the records take when they are written
+    room == 0
+}
+
+/// The rows of which records may come after a record, or `None` if none of these rows is written as the record.
+#[cycle(canonical)]
+fn rows_after<'a>(rows: &'a [Row], found: &Record<'_>, left: u32) -> Option<&'a [Row]>
+    ensures { option_map rows_view result
+        ≡ rows_after (is_canonical_message left) (map row_view rows.now) (field_record_of found.now) }
+{
+    let mut rest = rows;
+    while let Some((row, after)) = rest.split_first() {
+        if let Some(field) = find_in_row(row, found.number) {
+            if !is_written_field(is_plain(row), field, found.value, left) {
+                return None;
+            }
+            if may_recur(field) {
+                return Some(rest);
+            }
+            return Some(after);
+        }
+        rest = after;
+    }
+    None
+}
+
+/// Whether a field is written as a value of a record.
+#[cycle(canonical)]
+fn is_written_field(plain: bool, field: Found, value: WireValue<'_>, left: u32) -> bool
+    ensures { result ≡ is_written_field (is_canonical_message left) plain (found_view field) (value_of value.entry) }
+{
+    if field.is_repeated {
+        is_written_element(field.kind, value, left)
+    } else {
+        is_written_value(field.kind, value, left) && !(plain && is_default(value))
+    }
+}
+
+/// Whether elements of a repeated field of a kind are written as a value of a record.
+#[cycle(canonical)]
+fn is_written_element(kind: Kind, value: WireValue<'_>, left: u32) -> bool
+    ensures { result ≡ is_written_element (is_canonical_message left) (kind_view kind) (value_of value.entry) }
+{
+    if let Kind::U32 = kind {
+        return match value {
+            WireValue::Length(run) => is_written_run(run),
+            _ => false,
+        };
+    }
+    is_written_value(kind, value, left)
+}
+
+/// Whether a value of a kind is written as a value of a record.
+#[cycle(canonical)]
+fn is_written_value(kind: Kind, value: WireValue<'_>, left: u32) -> bool
+    ensures { result ≡ is_written_value (is_canonical_message left) (kind_view kind) (value_of value.entry) }
+{
+    match value {
+        WireValue::Varint(number) => is_written_number(kind, number),
+        WireValue::Length(bytes) => match kind {
+            Kind::Text => is_text(bytes),
+            Kind::ByteString => true,
+            Kind::Message(schema) => left > 0 && is_canonical_payload(schema, bytes, left - 1),
+            _ => false,
+        },
+        _ => false,
+    }
+}
+
+/// Whether a number is written for a value of a kind: an enum's is that of 32 bits, sign-extended.
+fn is_written_number(kind: Kind, number: u64) -> bool
+    ensures { result ≡ is_written_number (kind_view kind) number }
+{
+    match kind {
+        Kind::U32 => number < 4_294_967_296,
+        Kind::U64 => true,
+        Kind::Boolean => number < 2,
+        Kind::Enumeration => number < 2_147_483_648 || number > 18_446_744_071_562_067_967,
+        _ => false,
+    }
+}
+
+/// Whether a value is a default: 0, false or empty.
+fn is_default(value: WireValue<'_>) -> bool
+    ensures { result ≡ is_default_value (value_of value.entry) }
+{
+    match value {
+        WireValue::Varint(number) => number == 0,
+        WireValue::Length(bytes) => bytes.is_empty(),
+        _ => false,
+    }
+}
+
+/// Whether a row is a plain field, of which a default is not written.
+fn is_plain(row: &Row) -> bool
+    ensures { result ≡ is_plain (row_view row.now) }
+{
+    match row {
+        Row::Plain(_) => true,
+        _ => false,
+    }
+}
+
+/// Whether a field may be written as more than one record.
+fn may_recur(field: Found) -> bool
+    ensures { result ≡ may_recur (found_view field) }
+{
+    match field.kind {
+        Kind::U32 => false,
+        _ => field.is_repeated,
+    }
+}
+
+/// Whether bytes are a packed run as it is written: the shortest varints of numbers of 32 bits, of which there are any.
+fn is_written_run(run: &[u8]) -> bool
+    ensures { result ≡ is_written_run run.now }
+{
+    if run.is_empty() {
+        return false;
+    }
+    let mut rest = run;
+    while !rest.is_empty() {
+        let Some((_number, after)) = read_low_varint(rest) else {
+            return false;
+        };
+        rest = after;
+    }
+    true
+}
+
+/// Reads a varint of 32 bits that is in its shortest form.
+#[tactic(auto, unfolding(crate::specs::Canonicity::low_varint_at))]
+fn read_low_varint(bytes: &[u8]) -> Option<(u64, &[u8])>
+    ensures { Gives (λ x. (x.0, x.1.now)) result (low_varint_at bytes.now) }
+{
+    let (number, rest) = read_varint(bytes)?;
+    if number < 4_294_967_296 && varint_size(number) as usize + rest.len() == bytes.len() {
+        Some((number, rest))
+    } else {
+        None
+    }
+}
+
+/// The number of bytes of a record that is written for a field.
+fn written_size(found: &Record<'_>) -> u64
+    ensures { result ≡ written_size (field_record_of found.now) }
+{
+    match found.value {
+        WireValue::Varint(number) => varint_size(key(found.number, VARINT)) + varint_size(number),
+        WireValue::Length(content) => length_record_size(found.number, content),
+        _ => 0,
+    }
+}
+
+/// The number of bytes of a length-delimited record that is written.
+fn length_record_size(number: u32, content: &[u8]) -> u64
+    ensures { result ≡ length (length_record number content.now) }
+{
+    let len = content.len() as u64;
+    varint_size(key(number, LENGTH)) + varint_size(len) + len
+}
