@@ -23,7 +23,7 @@ NAMES = (
     "dispatch",
     "commands",
     "json_names",
-    "json_rows",
+    "enum_names",
     "comparisons",
     "record_vectors",
     "long_vectors",

@@ -1,12 +1,15 @@
 -- A message at each level, and one more element of a list.
-use Rattle.std.proofs.Common.{◌≡◌, ℕ, zero, suc, ◌+◌, ◌-◌, ◌<◌, List, [], ◌∷◌, ◌++◌, drop, false, Option, Some, None, option_and_then, refl, sym, ap, ◌∙◌, append_assoc, arith}
+use Rattle.std.proofs.Common.{◌≡◌, ℕ, zero, suc, ◌+◌, ◌-◌, ◌<◌, List, [], ◌∷◌, ◌++◌, drop, map, Bool, true, false, Option, Some, None, option_and_then, refl, sym, ap, ◌∙◌, append_assoc, arith}
 use Rattle.json.specs.Token.{Token}
-use Rattle.json.specs.Json.{Json, if_last, value}
+use Rattle.json.specs.Json.{Json, Members, if_last, value}
 use Rattle.json.specs.Value.{value_view, items_view}
 use Rattle.json.specs.declared.value.Value.{Value}
-use Rattle.shared_core_json_reader.specs.Rows.{NamedField, NamedRow, named_rows}
-use Rattle.shared_core_json_reader.specs.Reading.{only_value}
-use Rattle.shared_core_json_reader.specs.Appended.{both, field_bytes, items_bytes, object_bytes, message_bytes, after}
+use Rattle.shared_core_wire.specs.Schema.{Row}
+use Rattle.shared_core_codec.specs.Table.{table}
+use Rattle.shared_core_codec.specs.declared.rows.Field.{Field}
+use Rattle.shared_core_json_reader.specs.Rows.{NamedField, in_schema, named_members, named_row, named_rows}
+use Rattle.shared_core_json_reader.specs.Reading.{given, only_value, or_absent}
+use Rattle.shared_core_json_reader.specs.Appended.{both, field_bytes, items_bytes, member_bytes, held_after, oneof_bytes, object_bytes, message_bytes, after}
 
 pub no_level : (levels s : ℕ) (j : Json) → levels ≡ 0 → message_bytes levels s j ≡ None
 unfolding message_bytes
@@ -15,10 +18,15 @@ no_level levels s j e = rw e refl
 less_one : (n : ℕ) → suc n - 1 ≡ n
 less_one n = omega arith
 
-pub at_level : (levels s : ℕ) (rows : List NamedRow) (j : Json) → 0 < levels → rows ≡ named_rows s → object_bytes (message_bytes (levels - 1)) rows j ≡ message_bytes levels s j
+pub at_level : (levels s : ℕ) (j : Json) → 0 < levels → object_bytes (message_bytes (levels - 1)) (named_rows s) j ≡ message_bytes levels s j
 unfolding message_bytes
-at_level zero s rows j h e = absurd (omega arith)
-at_level (suc left) s rows j h e = rw (less_one left) (ap (λ (rs : List NamedRow). object_bytes (message_bytes left) rs j) e)
+at_level zero s j h = absurd (omega arith)
+at_level (suc left) s j h = rw (less_one left) refl
+
+-- the rows of the table, with names
+pub with_names : (s : ℕ) (rows : List Row) → rows ≡ table s → map (named_row s) rows ≡ named_rows s
+unfolding named_rows
+with_names s rows e = ap (map (named_row s)) e
 
 -- what is appended first, and then more
 pub after_both : (old new : List ℕ) (a b : Option (List ℕ)) → after old a ≡ Some new → after old (both a b) ≡ after new b
@@ -32,6 +40,24 @@ pub items_turn : {A : Type 0} (nested : ℕ → Json → Option (List ℕ)) (f :
 items_turn {A} nested f xs i x old new all here e h =
     sym (after_both old new (field_bytes nested false f (value_view x)) (items_bytes nested f (items_view (drop (i + 1) xs))) e)
     ∙ sym (ap (λ (ys : List (Value A)). after old (items_bytes nested f (items_view ys))) here) ∙ h
+
+-- what is appended for a member of a oneof that holds none before
+one_held : (nested : ℕ → Json → Option (List ℕ)) (ms : Members) (f : NamedField) (fs : List NamedField) (j : Json) → given f ms ≡ Some (Some j)
+    → oneof_bytes nested ms false (f ∷ fs) ≡ both (field_bytes nested false f j) (oneof_bytes nested ms true fs)
+one_held nested ms f fs j g = ap (option_and_then (λ o. both (or_absent [] (member_bytes nested false f) o) (oneof_bytes nested ms (held_after false o) fs))) g
+
+pub oneof_turn : (nested : ℕ → Json → Option (List ℕ)) (ms : Members) (s : ℕ) (xs : List Field) (i : ℕ) (x : Field) (f : NamedField) (j : Json) (held : Bool) (old new : List ℕ) (all : Option (List ℕ))
+    → drop i xs ≡ x ∷ drop (i + 1) xs → f ≡ in_schema s x → given f ms ≡ Some (Some j) → held ≡ false
+    → after old (field_bytes nested false f j) ≡ Some new → after old (oneof_bytes nested ms held (named_members s (drop i xs))) ≡ all
+    → after new (oneof_bytes nested ms true (named_members s (drop (i + 1) xs))) ≡ all
+oneof_turn nested ms s xs i x f j held old new all here named found none e h =
+    let rest = named_members s (drop (i + 1) xs) in
+    sym (after_both old new (field_bytes nested false f j) (oneof_bytes nested ms true rest) e)
+    ∙ ap (after old) (sym (one_held nested ms f rest j found))
+    ∙ ap (λ (g : NamedField). after old (oneof_bytes nested ms false (g ∷ rest))) named
+    ∙ sym (ap (λ (ys : List Field). after old (oneof_bytes nested ms false (named_members s ys))) here)
+    ∙ sym (ap (λ (b : Bool). after old (oneof_bytes nested ms b (named_members s (drop i xs)))) none)
+    ∙ h
 
 -- ---- one value and no more
 

@@ -1,4 +1,3 @@
-pub mod Listed
 pub mod Numbers
 pub mod Texts
 pub mod Levels

@@ -1,16 +1,15 @@
 -- The rows of a schema, with the names that JSON may have for its fields.
-use Rattle.std.specs.Prelude.{ℕ, zero, suc, List, [], ◌∷◌, map, ◌&&◌, ◌==◌, if◌then◌else◌}
-use Rattle.std.specs.Borrow.{Bor}
+use Rattle.std.specs.Prelude.{ℕ, List, [], ◌∷◌, map, ◌&&◌, ◌==◌, if◌then◌else◌}
 use Rattle.shared_core_wire.specs.Schema as schema
-use Rattle.shared_core_codec.specs.Table.{table, schema_count}
+use Rattle.shared_core_codec.specs.Table.{table}
+use Rattle.shared_core_codec.specs.ProgramRows as codec
+use Rattle.shared_core_codec.specs.declared.rows.Field as codec_field
+use Rattle.shared_core_codec.specs.declared.rows.Row.{Row}
 use Rattle.shared_core_json.specs.Fields.{names_of, name_of}
 use Rattle.shared_core_json_reader.specs.EnumValues.{EnumField, enum_fields}
+use Rattle.shared_core_json_reader.specs.declared.rows.EnumField as program
 use Rattle.shared_core_json_reader.specs.declared.rows.EnumValue.{EnumValue}
-use Rattle.shared_core_json_reader.specs.declared.rows.Kind.{Kind}
-use Rattle.shared_core_json_reader.specs.declared.rows.Kind.TheVariants as kind
 use Rattle.shared_core_json_reader.specs.declared.rows.Field.{Field}
-use Rattle.shared_core_json_reader.specs.declared.rows.Row.{Row}
-use Rattle.shared_core_json_reader.specs.declared.rows.Row.TheVariants as row
 
 -- A field: its number, its name in lower camel case, its kind, and the names of its enum's values.
 pub record NamedField : Type 0 where
@@ -50,52 +49,32 @@ named_row s (schema.OneOf members) = OneOf (map (λ m. named_field s m.0 m.1) me
 unfoldable pub named_rows : ℕ → List NamedRow
 named_rows s = map (named_row s) (table s)
 
--- The rows of so many schemas from the schema s on.
-abbrev pub rows_from : ℕ → ℕ → List (List NamedRow)
-rows_from zero s = []
-rows_from (suc n) s = map (named_row s) (table s) ∷ rows_from n (suc s)
-
--- The rows of all schemas.
-abbrev pub all_rows : List (List NamedRow)
-all_rows = rows_from schema_count 0
-
--- ---- the program's table
+-- ---- what the program goes by: the rows of the codec, and two tables of names
 
 -- The name and the number of a value of an enum.
 abbrev pub value_view : EnumValue → List ℕ × ℕ
 value_view v = (v.0.now, v.1)
 
--- The schema kind of a kind of the program.
-abbrev pub kind_view : Kind → schema.Kind
-kind_view kind.U32 = schema.U32
-kind_view kind.U64 = schema.U64
-kind_view kind.Boolean = schema.Boolean
-kind_view (kind.Enumeration values) = schema.Enumeration
-kind_view kind.Text = schema.Text
-kind_view kind.ByteString = schema.ByteString
-kind_view (kind.Message s) = schema.Message s
-
--- The names of the values of a kind of the program.
-abbrev pub kind_values : Kind → List (List ℕ × ℕ)
-kind_values kind.U32 = []
-kind_values kind.U64 = []
-kind_values kind.Boolean = []
-kind_values (kind.Enumeration values) = map value_view values.now
-kind_values kind.Text = []
-kind_values kind.ByteString = []
-kind_values (kind.Message s) = []
+-- The field with an enum that one of the program is.
+abbrev pub enum_field_view : program.EnumField → EnumField
+enum_field_view f = record { schema = f.schema; number = f.number; values = map value_view f.values.now }
 
 -- The named field of a field of the program.
 abbrev pub field_view : Field → NamedField
-field_view f = record { number = f.0; name = f.1.now; kind = kind_view f.2; values = kind_values f.2 }
+field_view f = record { number = f.number; name = f.name.now; kind = codec.kind_view f.kind; values = map value_view f.values.now }
 
--- The named row of a row of the program.
-abbrev pub row_view : Row → NamedRow
-row_view (row.Plain f) = Plain (field_view f)
-row_view (row.Optional f) = Optional (field_view f)
-row_view (row.Repeated f) = Repeated (field_view f)
-row_view (row.OneOf fs) = OneOf (map field_view fs.now)
+-- The field of the schema s that a field of the codec is, with its name.
+abbrev pub in_schema : ℕ → codec_field.Field → NamedField
+in_schema s f = named_field s f.0 (codec.kind_view f.1)
 
--- The named rows of a list of the program.
-abbrev pub rows_view : Bor (List Row) → List NamedRow
-rows_view rows = map row_view rows.now
+-- The members of a oneof of the schema s, with their names.
+abbrev pub named_members : ℕ → List codec_field.Field → List NamedField
+named_members s fields = map (λ m. named_field s m.0 m.1) (map codec.field_view fields)
+
+-- The row of the schema s that a row of the codec is, with names.
+abbrev pub row_view : ℕ → Row → NamedRow
+row_view s row = named_row s (codec.row_view row)
+
+-- The rows of the schema s that rows of the codec are, with names.
+abbrev pub rows_view : ℕ → List Row → List NamedRow
+rows_view s rows = map (named_row s) (map codec.row_view rows)

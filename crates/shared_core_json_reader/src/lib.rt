@@ -1,10 +1,11 @@
 //! JSON read as payloads: the canonical payload that a text of proto3's JSON form means, by the names of
 //! proto/journal.proto.
 //!
-//! A text is parsed as a tree of JSON, and the tree is gone over once, by one table of rows for all messages: what each
-//! row is given is appended as records, in the order of the schema (`payload`).
+//! A text is parsed as a tree of JSON, and the tree is gone over once, by the rows of schemas that `shared_core_codec`
+//! has: what each row is given is appended as records, in the order of the schema (`payload`).
 #![tactic(auto)]
 
+mod enum_values;
 mod error;
 pub mod laws;
 mod members;
@@ -13,7 +14,6 @@ mod read;
 mod records;
 mod rows;
 mod scalars;
-mod schemas;
 
 pub use error::{JsonReadError, Reason};
 pub use read::{payload_of, payload_of_value, value_of_text};

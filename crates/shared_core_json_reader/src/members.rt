@@ -1,17 +1,18 @@
 //! The members of an object, by the names of fields.
 
-ghost use Rattle.std.specs.Prelude.{◌≡◌, ◌&&◌, ◌||◌, Some, None, option_map, MatchResult, map};
+ghost use Rattle.std.specs.Prelude.{◌≡◌, ◌&&◌, ◌||◌, Some, None, option_map, MatchResult};
 ghost use Rattle.std.specs.Option.{is_none};
 ghost use Rattle.std.specs.Str.{bytes_eq};
 ghost use Rattle.json.specs.Value.{value_view as json_view, members_view};
-ghost use Rattle.shared_core_json_reader.specs.Rows.{field_view, row_view};
+ghost use Rattle.shared_core_json_reader.specs.Rows.{field_view, row_view, rows_view, named_members};
 ghost use Rattle.shared_core_json_reader.specs.Original.{after_byte, after_original};
 ghost use Rattle.shared_core_json_reader.specs.Reading.{original_name, is_named, names_field};
 ghost use Rattle.shared_core_json_reader.specs.Reading.{row_names, names_row, are_known, given};
 
 use crate::error::Reason;
-use crate::rows::{Field, Row};
+use crate::rows::{Field, named};
 use json::Value;
+use shared_core_codec::rows::{self, Row};
 
 /// What comes after a byte, if the text begins with it.
 fn after_byte(text: &[u8], byte: u8) -> Option<&[u8]>
@@ -52,51 +53,55 @@ fn is_original(key: &[u8], name: &[u8]) -> bool
 fn is_named(field: &Field, key: &str) -> bool
     ensures { result ≡ is_named (field_view field.now) key.now }
 {
-    key == field.1 || is_original(key.as_bytes(), field.1.as_bytes())
+    key == field.name || is_original(key.as_bytes(), field.name.as_bytes())
 }
 
-/// Whether a key is a name of one of some fields.
-fn names_field(fields: &[Field], key: &str) -> bool
-    ensures { result ≡ names_field (map field_view fields.now) key.now }
+/// Whether a key is a name of one of some fields of a schema.
+fn names_field(schema: u32, fields: &[rows::Field], key: &str) -> bool
+    ensures { result ≡ names_field (named_members schema fields.now) key.now }
 {
     for field in fields {
-        if is_named(field, key) {
+        if is_named(&named(schema, field), key) {
             return true;
         }
     }
     false
 }
 
-/// Whether a key is a name of a field of a row.
-fn row_names(row: &Row, key: &str) -> bool
-    ensures { result ≡ row_names (row_view row.now) key.now }
+/// Whether a key is a name of a field of a row of a schema.
+fn row_names(schema: u32, row: &Row, key: &str) -> bool
+    ensures { result ≡ row_names (row_view schema row.now) key.now }
 {
     match row {
-        Row::Plain(field) => is_named(field, key),
-        Row::Optional(field) => is_named(field, key),
-        Row::Repeated(field) => is_named(field, key),
-        Row::OneOf(fields) => names_field(fields, key),
+        Row::Plain(field) => is_named(&named(schema, field), key),
+        Row::Optional(field) => is_named(&named(schema, field), key),
+        Row::Repeated(field) => is_named(&named(schema, field), key),
+        Row::OneOf(fields) => names_field(schema, fields, key),
     }
 }
 
-/// Whether a key is a name of a field of some rows.
-fn names_row(rows: &[Row], key: &str) -> bool
-    ensures { result ≡ names_row (map row_view rows.now) key.now }
+/// Whether a key is a name of a field of some rows of a schema.
+fn names_row(schema: u32, rows: &[Row], key: &str) -> bool
+    ensures { result ≡ names_row (rows_view schema rows.now) key.now }
 {
     for row in rows {
-        if row_names(row, key) {
+        if row_names(schema, row, key) {
             return true;
         }
     }
     false
 }
 
-/// The first key that is no name of a field of the rows.
-pub fn find_unknown<'a>(rows: &[Row], members: &Vec<(&'a str, Value<'a>)>) -> Option<&'a str>
-    ensures { is_none result ≡ are_known (map row_view rows.now) (members_view members.now.items) }
+/// The first key that is no name of a field of the rows of a schema.
+pub fn find_unknown<'a>(
+    schema: u32,
+    rows: &[Row],
+    members: &Vec<(&'a str, Value<'a>)>,
+) -> Option<&'a str>
+    ensures { is_none result ≡ are_known (rows_view schema rows.now) (members_view members.now.items) }
 {
     for member in members {
-        if !names_row(rows, member.0) {
+        if !names_row(schema, rows, member.0) {
             return Some(member.0);
         }
     }

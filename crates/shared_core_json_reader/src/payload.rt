@@ -3,11 +3,11 @@
 //! Each function appends the records of what it is given. After an error, part of them may be there, and the path leads
 //! to what was not taken.
 
-ghost use Rattle.std.specs.Prelude.{◌≡◌, ◌≢◌, Some, None, true, false, map, option_map, IfErr, MatchResult};
+ghost use Rattle.std.specs.Prelude.{◌≡◌, ◌≢◌, Some, None, true, false, option_map, IfErr, MatchResult};
 ghost use Rattle.shared_core_wire.specs.Schema.{Enumeration};
 ghost use Rattle.shared_core_wire.specs.Canonical.{written_number};
 ghost use Rattle.json.specs.Value.{value_view as json_view, items_view, members_view};
-ghost use Rattle.shared_core_json_reader.specs.Rows.{field_view, row_view};
+ghost use Rattle.shared_core_json_reader.specs.Rows.{field_view, row_view, named_members, named_rows};
 ghost use Rattle.shared_core_json_reader.specs.Reading.{given};
 ghost use Rattle.shared_core_json_reader.specs.Appended.{length_record, field_bytes, items_bytes, run_bytes};
 ghost use Rattle.shared_core_json_reader.specs.Appended.{list_bytes, given_bytes, oneof_bytes, row_bytes};
@@ -16,9 +16,10 @@ ghost use Rattle.shared_core_json_reader.specs.Appended.{members_bytes, object_b
 use crate::error::Reason;
 use crate::members::{find_unknown, given};
 use crate::records::{append_bytes, append_number, append_varint};
-use crate::rows::{Field, Kind, Row, rows_of};
+use crate::rows::{Field, named, rows_of};
 use crate::scalars::{read_boolean, read_bytes, read_enumeration, read_text, read_u32, read_u64};
 use json::Value;
+use shared_core_codec::rows::{self, Kind, Row};
 use std::alloc::Global;
 
 /// The members of an object.
@@ -69,73 +70,78 @@ pub fn append_message<'a>(
     if levels == 0 {
         return Err(Reason::TooDeep);
     }
-    append_object(walk, out, rows_of(schema), value, levels - 1)
+    append_object(walk, out, schema, value, levels - 1)
 }
 
-/// Appends the records of an object.
+/// Appends the records of an object of a schema.
 #[cycle(message)]
 fn append_object<'a>(
     walk: &mut Walk<'a>,
     out: &mut Vec<u8>,
-    rows: &'static [Row],
+    schema: u32,
     value: &Value<'a>,
     left: u32,
 ) -> Result<(), Reason>
-    ensures { Appends result (object_bytes (message_bytes left) (map row_view rows.now) (json_view value.now))
+    ensures { Appends result (object_bytes (message_bytes left) (named_rows schema) (json_view value.now))
         out.old.items out.new.items }
 {
     let Value::Object(members) = value else {
         return Err(Reason::WrongKind);
     };
-    append_members(walk, out, rows, members, left)
+    append_members(walk, out, schema, members, left)
 }
 
-/// Appends the records of the members of an object.
+/// Appends the records of the members of an object of a schema.
 #[cycle(message)]
 fn append_members<'a>(
     walk: &mut Walk<'a>,
     out: &mut Vec<u8>,
-    rows: &'static [Row],
+    schema: u32,
     members: &Members<'a>,
     left: u32,
 ) -> Result<(), Reason>
-    ensures { Appends result (members_bytes (message_bytes left) (map row_view rows.now)
+    ensures { Appends result (members_bytes (message_bytes left) (named_rows schema)
         (members_view members.now.items)) out.old.items out.new.items }
 {
-    if let Some(key) = find_unknown(rows, members) {
+    let rows = rows_of(schema);
+    if let Some(key) = find_unknown(schema, rows, members) {
         walk.enter(Step::Member(key))?;
         return Err(Reason::UnknownMember);
     }
     for row in rows {
-        append_row(walk, out, row, members, left)?;
+        append_row(walk, out, schema, row, members, left)?;
     }
     Ok(())
 }
 
-/// Appends the records of a row.
+/// Appends the records of a row of a schema.
 #[cycle(message)]
 fn append_row<'a>(
     walk: &mut Walk<'a>,
     out: &mut Vec<u8>,
-    row: &'static Row,
+    schema: u32,
+    row: &Row,
     members: &Members<'a>,
     left: u32,
 ) -> Result<(), Reason>
-    ensures { Appends result (row_bytes (message_bytes left) (members_view members.now.items) (row_view row.now))
+    ensures { Appends result (row_bytes (message_bytes left) (members_view members.now.items)
+        (row_view schema row.now))
         out.old.items out.new.items }
 {
     match row {
-        Row::Plain(field) => append_given(walk, out, true, field, members, left),
-        Row::Optional(field) => append_given(walk, out, false, field, members, left),
-        Row::Repeated(field) => append_list(walk, out, field, members, left),
-        Row::OneOf(fields) => append_oneof(walk, out, fields, members, left),
+        Row::Plain(field) => append_given(walk, out, true, &named(schema, field), members, left),
+        Row::Optional(field) => {
+            append_given(walk, out, false, &named(schema, field), members, left)
+        }
+        Row::Repeated(field) => append_list(walk, out, &named(schema, field), members, left),
+        Row::OneOf(fields) => append_oneof(walk, out, schema, fields, members, left),
     }
 }
 
 /// The value that an object gives a field, to which the path leads then.
 fn enter_given<'v, 'a>(
     walk: &mut Walk<'a>,
-    field: &'static Field,
+    field: &Field,
     members: &'v Members<'a>,
 ) -> Result<Option<&'v Value<'a>>, Reason>
     ensures { MatchResult result
@@ -147,7 +153,7 @@ fn enter_given<'v, 'a>(
     if let Ok(None) = found {
         return Ok(None);
     }
-    walk.enter(Step::Member(field.1))?;
+    walk.enter(Step::Member(field.name))?;
     found
 }
 
@@ -157,7 +163,7 @@ fn append_given<'a>(
     walk: &mut Walk<'a>,
     out: &mut Vec<u8>,
     plain: bool,
-    field: &'static Field,
+    field: &Field,
     members: &Members<'a>,
     left: u32,
 ) -> Result<(), Reason>
@@ -173,27 +179,29 @@ fn append_given<'a>(
     Ok(())
 }
 
-/// Appends the record of a oneof.
+/// Appends the record of a oneof of a schema.
 #[cycle(message)]
 fn append_oneof<'a>(
     walk: &mut Walk<'a>,
     out: &mut Vec<u8>,
-    fields: &'static [Field],
+    schema: u32,
+    fields: &[rows::Field],
     members: &Members<'a>,
     left: u32,
 ) -> Result<(), Reason>
     ensures { Appends result (oneof_bytes (message_bytes left) (members_view members.now.items) false
-        (map field_view fields.now)) out.old.items out.new.items }
+        (named_members schema fields.now)) out.old.items out.new.items }
 {
     let mut held = false;
-    for field in fields {
-        let Some(value) = enter_given(walk, field, members)? else {
+    for member in fields {
+        let field = named(schema, member);
+        let Some(value) = enter_given(walk, &field, members)? else {
             continue;
         };
         if held {
             return Err(Reason::SeveralMembers);
         }
-        append_value(walk, out, false, field, value, left)?;
+        append_value(walk, out, false, &field, value, left)?;
         walk.leave();
         held = true;
     }
@@ -205,7 +213,7 @@ fn append_oneof<'a>(
 fn append_list<'a>(
     walk: &mut Walk<'a>,
     out: &mut Vec<u8>,
-    field: &'static Field,
+    field: &Field,
     members: &Members<'a>,
     left: u32,
 ) -> Result<(), Reason>
@@ -219,8 +227,8 @@ fn append_list<'a>(
     let Value::Array(items) = value else {
         return Err(Reason::WrongKind);
     };
-    if let Kind::U32 = field.2 {
-        append_run(walk, out, field.0, items)?;
+    if let Kind::U32 = field.kind {
+        append_run(walk, out, field.number, items)?;
     } else {
         append_items(walk, out, field, items, left)?;
     }
@@ -233,7 +241,7 @@ fn append_list<'a>(
 fn append_items<'a>(
     walk: &mut Walk<'a>,
     out: &mut Vec<u8>,
-    field: &'static Field,
+    field: &Field,
     items: &Vec<Value<'a>>,
     left: u32,
 ) -> Result<(), Reason>
@@ -286,34 +294,34 @@ fn append_value<'a>(
     walk: &mut Walk<'a>,
     out: &mut Vec<u8>,
     plain: bool,
-    field: &'static Field,
+    field: &Field,
     value: &Value<'a>,
     left: u32,
 ) -> Result<(), Reason>
     ensures { Appends result (field_bytes (message_bytes left) plain (field_view field.now) (json_view value.now))
         out.old.items out.new.items }
 {
-    match field.2 {
-        Kind::U32 => append_number(out, plain, field.0, u64::from(read_u32(value)?))?,
-        Kind::U64 => append_number(out, plain, field.0, read_u64(value)?)?,
-        Kind::Boolean => append_number(out, plain, field.0, read_boolean(value)?)?,
-        Kind::Enumeration(values) => append_number(
+    match field.kind {
+        Kind::U32 => append_number(out, plain, field.number, u64::from(read_u32(value)?))?,
+        Kind::U64 => append_number(out, plain, field.number, read_u64(value)?)?,
+        Kind::Boolean => append_number(out, plain, field.number, read_boolean(value)?)?,
+        Kind::Enumeration => append_number(
             out,
             plain,
-            field.0,
-            extended(read_enumeration(values, value)?),
+            field.number,
+            extended(read_enumeration(field.values, value)?),
         )?,
-        Kind::Text => append_bytes(out, plain, field.0, read_text(value)?)?,
+        Kind::Text => append_bytes(out, plain, field.number, read_text(value)?)?,
         Kind::ByteString => append_bytes(
             out,
             plain,
-            field.0,
+            field.number,
             read_bytes(walk.alloc, value)?.as_slice(),
         )?,
         Kind::Message(schema) => {
             let mut content = Vec::new(walk.alloc);
             append_message(walk, &mut content, schema, value, left)?;
-            append_bytes(out, false, field.0, content.as_slice())?;
+            append_bytes(out, false, field.number, content.as_slice())?;
         }
     }
     Ok(())

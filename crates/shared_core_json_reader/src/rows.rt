@@ -1,57 +1,70 @@
-//! The rows of each schema, with the names of their fields.
+//! What JSON adds to the rows of schemas, which are those of `shared_core_codec`: the name of each field, and the names
+//! of the values of its enum.
 
 ghost use Rattle.std.specs.Prelude.{◌≡◌, map};
-ghost use Rattle.shared_core_json_reader.specs.Rows.{rows_view, all_rows, named_rows};
+ghost use Rattle.shared_core_json_reader.specs.EnumValues.{enum_fields};
+ghost use Rattle.shared_core_json_reader.specs.Rows.{value_view, enum_field_view, enum_values};
+ghost use Rattle.shared_core_json_reader.specs.Rows.{field_view, in_schema, rows_view, named_rows};
 
-use crate::schemas::SCHEMAS;
+use crate::enum_values::ENUM_FIELDS;
+use shared_core_codec::rows::{self, Kind, Row};
+use shared_core_json::names::name_of;
 
 /// The name of a value of an enum, and its number.
 #[derive(Clone, Copy)]
 pub struct EnumValue(pub &'static str, pub u32);
 
-/// The kind of a field.
+/// A field with an enum: its schema and its number, and the values of the enum.
 #[derive(Clone, Copy)]
-pub enum Kind {
-    U32,
-    U64,
-    Boolean,
-    /// An enum of these values.
-    Enumeration(&'static [EnumValue]),
-    Text,
-    ByteString,
-    /// A message of the schema at this index of the table.
-    Message(u32),
+pub struct EnumField {
+    pub schema: u32,
+    pub number: u32,
+    pub values: &'static [EnumValue],
 }
 
-/// A field of a schema: its number, its name in lower camel case, and its kind.
+/// A field of a schema: its number, its name in lower camel case, its kind, and the values of its enum, if it has one.
 #[derive(Clone, Copy)]
-pub struct Field(pub u32, pub &'static str, pub Kind);
-
-/// A row of a schema: a field by its presence, or a oneof.
-#[derive(Clone, Copy)]
-pub enum Row {
-    Plain(Field),
-    Optional(Field),
-    Repeated(Field),
-    OneOf(&'static [Field]),
+pub struct Field {
+    pub number: u32,
+    pub name: &'static str,
+    pub kind: Kind,
+    pub values: &'static [EnumValue],
 }
 
-/// The rows of each schema, in the order of the table.
-fn schemas() -> &'static [&'static [Row]]
-    ensures { map rows_view result.now ≡ all_rows }
+/// The fields with an enum.
+fn enum_fields() -> &'static [EnumField]
+    ensures { map enum_field_view result.now ≡ enum_fields }
 {
-    &SCHEMAS
+    &ENUM_FIELDS
+}
+
+/// The values of the enum of a field; none if it has no enum.
+fn values_of(schema: u32, number: u32) -> &'static [EnumValue]
+    ensures { map value_view result.now ≡ enum_values schema number }
+{
+    for field in enum_fields() {
+        if field.schema == schema && field.number == number {
+            return field.values;
+        }
+    }
+    &[]
 }
 
 /// The rows of the schema at an index of the table; past its end there are none.
 pub fn rows_of(schema: u32) -> &'static [Row]
-    ensures { rows_view result ≡ named_rows schema }
+    ensures { rows_view schema result.now ≡ named_rows schema }
 {
-    let schemas = schemas();
-    let place = schema as usize;
-    if place < schemas.len() {
-        schemas[place]
-    } else {
-        &[]
+    rows::rows_of(schema)
+}
+
+/// The field of a schema that a row has, with its names.
+pub fn named(schema: u32, field: &rows::Field) -> Field
+    ensures { field_view result ≡ in_schema schema field.now }
+{
+    Field {
+        number: field.0,
+        name: name_of(schema, field.0),
+        kind: field.1,
+        values: values_of(schema, field.0),
     }
 }

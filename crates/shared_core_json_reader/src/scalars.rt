@@ -19,6 +19,7 @@ use base64::DecodeAllocError;
 use base64::engine::general_purpose::{STANDARD_PAD_INDIFFERENT, URL_SAFE_PAD_INDIFFERENT};
 use fast_float::Numeral;
 use json::{Value, is_number};
+use shared_core_wire::varint::low_32;
 use std::alloc::Global;
 
 /// A whole number, by whether it has a minus and by its magnitude.
@@ -127,7 +128,7 @@ fn signed_bits(whole: Whole) -> Result<u32, Reason>
         if whole.magnitude > 2_147_483_648 {
             return Err(Reason::OutOfRange);
         }
-        return Ok(((4_294_967_296 - whole.magnitude) % 4_294_967_296) as u32);
+        return Ok(low_32(4_294_967_296 - whole.magnitude));
     }
     if whole.magnitude >= 2_147_483_648 {
         return Err(Reason::OutOfRange);

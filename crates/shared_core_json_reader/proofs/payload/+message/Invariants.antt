@@ -1,6 +1,6 @@
-use Rattle.std.proofs.Common.{◌≡◌, ◌+◌, ◌*◌, drop, map, false}
+use Rattle.std.proofs.Common.{◌≡◌, ◌+◌, ◌*◌, drop, false}
 use Rattle.json.specs.Value.{items_view, members_view}
-use Rattle.shared_core_json_reader.specs.Rows.{field_view, row_view}
+use Rattle.shared_core_json_reader.specs.Rows.{field_view, named_members, rows_view, named_rows}
 use Rattle.shared_core_json_reader.specs.Appended.{items_bytes, oneof_bytes, rows_bytes, message_bytes, after}
 use Rattle.shared_core_json_reader.proofs.payload.+message.Given as goal
 
@@ -33,13 +33,13 @@ decreases-append_value l = 7 * l.left + 1
 
 abbrev pub invariant-append_members-loop-row : goal.invariant-append_members-loop-row
 invariant-append_members-loop-row l =
-    after l.out.items (rows_bytes (message_bytes l.left) (members_view l.members.items) (map row_view (drop l.row-index l.rows)))
-    ≡ after l.initial.out.items (rows_bytes (message_bytes l.left) (members_view l.members.items) (map row_view l.rows))
+    after l.out.items (rows_bytes (message_bytes l.left) (members_view l.members.items) (rows_view l.schema (drop l.row-index l.rows)))
+    ≡ after l.initial.out.items (rows_bytes (message_bytes l.left) (members_view l.members.items) (named_rows l.schema))
 
-abbrev pub invariant-append_oneof-loop-field : goal.invariant-append_oneof-loop-field
-invariant-append_oneof-loop-field l =
-    after l.out.items (oneof_bytes (message_bytes l.left) (members_view l.members.items) l.held (map field_view (drop l.field-index l.fields)))
-    ≡ after l.initial.out.items (oneof_bytes (message_bytes l.left) (members_view l.members.items) false (map field_view l.fields))
+abbrev pub invariant-append_oneof-loop-member : goal.invariant-append_oneof-loop-member
+invariant-append_oneof-loop-member l =
+    after l.out.items (oneof_bytes (message_bytes l.left) (members_view l.members.items) l.held (named_members l.schema (drop l.member-index l.fields)))
+    ≡ after l.initial.out.items (oneof_bytes (message_bytes l.left) (members_view l.members.items) false (named_members l.schema l.fields))
 
 abbrev pub invariant-append_items-loop-index : goal.invariant-append_items-loop-index
 invariant-append_items-loop-index l =
