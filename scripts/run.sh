@@ -1,8 +1,8 @@
 #!/bin/sh
 # Runs a program of this repository: the proved one if it is up to date, otherwise one that is built without the proofs.
 #
-#   scripts/run.sh [--proved] list [STREAM [BYTES] [v9]]
-#       the listing of a stream, of examples/streams/replay if none is given
+#   scripts/run.sh [--proved] list [--protocol 5..9] [STREAM] [BYTES] [v9]
+#       the listing of a stream, of examples/streams/replay without arguments
 #   scripts/run.sh [--proved] diff [--ignore-payloads] [--protocol 5..9] RECORDED REPLAYED
 #       where two journals differ
 #   scripts/run.sh [--proved] dump [--protocol 5..9] [--type NAME].. [--no-payload] [FILE]
@@ -95,8 +95,27 @@ check_value() {
   esac
 }
 
+# check_word WORD: refuses a word of list that is no stream, no number of bytes and not v9, or comes too late; $next is
+# which of the three may come
+check_word() {
+  if [ "$1" = v9 ] && [ "$next" -le 3 ]; then
+    next=4
+  elif is_chunk "$1" && [ "$next" -le 2 ]; then
+    next=3
+  elif [ "$next" -eq 1 ]; then
+    [ "$1" = - ] || check_file "$1"
+    next=2
+  else
+    misused
+  fi
+}
+
 # check_named FILE: refuses one file more than $files, and what cannot be read
 check_named() {
+  if [ "$command" = list ]; then
+    check_word "$1"
+    return
+  fi
   [ "$files" -gt 0 ] || misused
   files=$((files - 1))
   [ "$command $1" = 'diff -' ] || check_file "$1"
@@ -110,8 +129,8 @@ check_option() {
   esac
 }
 
-# check_arguments OPTIONS FILES ARGUMENT..: refuses arguments of diff and dump that are none of these options, and more
-# than this many files; $files is then how many are left
+# check_arguments OPTIONS FILES ARGUMENT..: refuses arguments that are none of these options, and more than this many
+# files; $files is then how many are left
 check_arguments() {
   options=$1
   files=$2
@@ -161,21 +180,11 @@ command=${1---help}
 [ $# -eq 0 ] || shift
 case $command in
   list)
-    case ${1-} in
-      -h | --help) page ;;
-      -V | --version) version ;;
-    esac
-    stream=${1-$top/examples/streams/replay}
-    [ $# -eq 0 ] || shift
-    check_file "$stream"
-    case $# in
-      0) ;;
-      1) [ "$1" = v9 ] || is_chunk "$1" || misused ;;
-      2) { is_chunk "$1" && [ "$2" = v9 ]; } || misused ;;
-      *) misused ;;
-    esac
+    next=1
+    [ $# -gt 0 ] || set -- "$top/examples/streams/replay"
+    check_arguments ' --protocol ' 1 "$@"
     build
-    exec "$program" "$@" < "$stream"
+    exec "$program" "$@"
     ;;
   diff)
     check_arguments ' --ignore-payloads --protocol ' 2 "$@"

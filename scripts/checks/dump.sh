@@ -144,7 +144,7 @@ status=$?
 [ "$status" -eq 0 ] && [ "$(wc -l < "$out")" -eq 6001 ] && [ "$(tail -n 1 "$out")" = '{"offset":112000,"rest":0}' ]
 outcome 'a long stream' $?
 cp "$out" "$work/many.lines"
-shortened_outputs "$work/many" "$work/many.lines"
+shortened_outputs "$work/many" "$work/many.lines" 'journal_dump: output failed'
 
 little_memory replay "$work/three"
 

@@ -45,11 +45,33 @@ prints "$streams/replay.stdout" journal_list
 prints "$streams/replay.dump" journal_dump
 echo 'same, 4 commands' > "$work/verdict"
 prints "$work/verdict" journal_diff "$streams/recorded" "$streams/recorded"
-for name in journal_diff journal_dump; do
+prints "$streams/replay.stdout" journal_list "$streams/replay"
+prints "$streams/replay.stdout" journal_list - 3 --protocol 7
+prints "$streams/replay.dump" journal_dump "$streams/replay"
+for name in $programs; do
   echo "$name $version" > "$work/version"
   prints "$work/version" $name --version
 done
 
+# Errors and statuses of the installed programs
+# ends STATUS LINE PROGRAM ARGUMENT..: an installed program prints this line on the standard error alone, and ends so
+ends() {
+  wanted=$1
+  line=$2
+  name=$3
+  shift 3
+  (cd "$work" && alone "$prefix/bin/$name" "$@") < "$streams/replay" > "$out" 2> "$err"
+  status=$?
+  ended "$name $*, installed" "$wanted" /dev/null "$line"
+}
+
+ends 2 'usage: journal_list [1..65536] [v9]' journal_list 0
+for name in journal_list journal_dump; do
+  ends 2 "$name: ./nothing: No such file or directory (os error 2)" $name ./nothing
+  ends 2 "$name: .: is a directory" $name .
+done
+ends 2 'journal_diff: ./nothing: No such file or directory (os error 2)' journal_diff - ./nothing
+ends 2 'journal_diff: .: is a directory' journal_diff . -
 # Each program and each call has a man page, which man finds and mandoc finds nothing wrong with.
 for name in $programs pendratsoa $calls; do
   find "$prefix/share/man" -name "$name.[13]" | grep -q .
@@ -81,8 +103,8 @@ completed() {
     "_$1" && printf "%s\n" "${COMPREPLY[@]}"' bash "$prefix" "$@" | sort > "$work/completed"
 }
 if command -v bash > /dev/null; then
-  for name in journal_diff journal_dump; do
-    "$prefix/bin/$name" --help | grep -oE -- '--[a-z-]+' | sort > "$work/options"
+  for name in $programs; do
+    "$prefix/bin/$name" --help | grep -oE -- '--[a-z-]+' | sort -u > "$work/options"
     completed $name --
     same "the options of $name in bash" "$work/options" "$work/completed"
     completed $name --protocol ''

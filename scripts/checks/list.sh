@@ -39,6 +39,8 @@ refused v9 3
 refused v9 v9
 refused V9
 refused v8
+refused nothing
+refused 3 v9 nothing
 
 if [ -z "$program" ]; then
   mkdir "$work/cases"
@@ -73,6 +75,53 @@ for argument in '' 1 7 65536; do
 done
 
 stream=$streams/replay
+
+# lists FILE ARGUMENT..: with these arguments the listing is that of the file
+lists() {
+  listing=$1
+  shift
+  "$program" "$@" < "$stream" > "$out" 2> "$err"
+  status=$?
+  ended "journal_list $*" 0 "$listing"
+}
+
+# A file, and options, beside the arguments above
+lists $streams/replay.stdout $streams/replay
+lists $streams/replay.stdout $streams/replay 3
+lists $streams/replay.stdout -
+lists $streams/replay.stdout - 3 v9
+lists $streams/replay.stdout --protocol 5
+lists $streams/replay.stdout --protocol=7 - 1
+lists $streams/unknown_type.stdout $streams/unknown_type
+lists "$work/unknown_type.stdout" $streams/unknown_type v9
+lists "$work/unknown_type.stdout" $streams/unknown_type 7 v9
+lists "$work/unknown_type.stdout" --protocol 9 $streams/unknown_type
+lists "$work/unknown_type.stdout" $streams/unknown_type 7 --protocol 9
+cp $streams/unknown_type "$work/3"
+lists "$work/unknown_type.stdout" "$work/3" v9
+echo 'journal_list 0.1.0' > "$work/version"
+lists "$work/version" --version
+"$program" --help > "$out" 2> "$err"
+status=$?
+[ "$status" -eq 0 ] && grep -q '^Usage: journal_list' "$out" && [ ! -s "$err" ]
+outcome 'journal_list --help' $?
+
+# fails LINE ARGUMENT..: these arguments are an error that this line says, with the status 2
+fails() {
+  line=$1
+  shift
+  "$program" "$@" < /dev/null > "$out" 2> "$err"
+  status=$?
+  [ "$status" -eq 2 ] && [ ! -s "$out" ] && head -n 1 "$err" > "$work/said" && echo "$line" | cmp -s - "$work/said"
+  outcome "refused: journal_list $*" $?
+}
+fails 'journal_list: ./nothing: No such file or directory (os error 2)' ./nothing
+fails 'journal_list: .: is a directory' .
+fails 'journal_list: examples: is a directory' examples 3 v9
+fails "error: invalid value '4' for '--protocol <VERSION>'" --protocol 4 $streams/replay
+fails "error: unexpected argument '--type' found" --type Start
+fails 'error: after FILE come BYTES, from 1 to 65536, and v9, or one of them, or neither' --protocol 9 $streams/replay 0
+fails 'error: the version is said by v9 or by --protocol, and not by both' --protocol 9 $streams/replay v9
 
 # Arguments that are not UTF-8, and inputs that fail
 no_text=$(printf '\377')

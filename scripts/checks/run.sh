@@ -31,7 +31,7 @@ refused() {
   outcome "refused: run.sh $*" $?
 }
 
-listed='usage: run.sh [--proved] list [STREAM [BYTES] [v9]]'
+listed='usage: run.sh [--proved] list [--protocol 5..9] [STREAM] [BYTES] [v9]'
 compared='usage: run.sh [--proved] diff [--ignore-payloads] [--protocol 5..9] RECORDED REPLAYED'
 dumped='usage: run.sh [--proved] dump [--protocol 5..9] [--type NAME].. [--no-payload] [FILE]'
 for how in '' --proved; do
@@ -43,6 +43,9 @@ for how in '' --proved; do
   refused "$listed" $how list 'a stream' v9 3
   refused "$listed" $how list 'a stream' v8
   refused "$listed" $how list 'a stream' 3 v9 v9
+  refused "$listed" $how list 'a stream' 'a stream'
+  refused "$listed" $how list --type Start 'a stream'
+  refused "run.sh: --protocol is from 5 to 9, and not '4'" $how list --protocol 4 'a stream'
   refused "$compared" $how diff 'a stream'
   refused "$compared" $how diff 'a stream' 'a stream' 'a stream'
   refused "$compared" $how diff --type Start 'a stream' 'a stream'

@@ -3,6 +3,7 @@ use Rattle.std.specs.Prelude.{◌≡◌, ◌≤◌, ◌⊎◌, ℕ, List, [], �
 use Rattle.std.specs.Str.Parse.{IsNumeral, digits_value}
 use Rattle.shared_core_base.specs.declared.version.Version.{Version}
 use Rattle.shared_core_base.specs.declared.version.Version.TheVariants.{V8, V9}
+use Rattle.shared_core_base.specs.Version.{version_number}
 
 -- The argument is one to five digits, and their value is the number, from 1 to 65,536.
 pub record IsPiece (word : List ℕ) (piece : ℕ) : Type 0 where
@@ -20,3 +21,7 @@ AreOptions (word ∷ []) version piece =
     ((word ≡ codes "v9") × (version ≡ V9) × (piece ≡ 4096)) ⊎ ((version ≡ V8) × IsPiece word piece)
 AreOptions (word ∷ last ∷ []) version piece = (last ≡ codes "v9") × (version ≡ V9) × IsPiece word piece
 AreOptions (_ ∷ _ ∷ _ ∷ _) version piece = ⊥
+
+-- A version and a number of bytes that a stream can be listed with.
+abbrev pub IsAccepted : Version → ℕ → Type 0
+IsAccepted version piece = (5 ≤ version_number version) × (1 ≤ piece) × (piece ≤ 65536)

@@ -1,41 +1,96 @@
-//! Lists the frames of a stream on the standard input: at V8, or with the argument `v9` at V9.
+//! Lists the frames of a stream, of a file or of the standard input.
 #![tactic(auto)]
 
+ghost use Rattle.journal_list.specs.Options.{IsAccepted};
+
+mod arguments;
 mod error;
 mod list;
 mod options;
 mod run;
 
+use crate::arguments::{Arguments, is_option, parse_arguments, parse_words};
 use crate::error::ListError;
+use crate::list::list_at;
+use crate::options::options;
 use crate::run::{Outcome, exit_code, message, run};
-use std::io::ErrorKind;
+use command_line::{Pipe, arguments, fail, open_file, report};
+use std::io::{ErrorKind, Read};
 use std::process::ExitCode;
-use std::{env, io};
 
-/// The arguments after the program's name.
-fn words(rt: &HostRuntime) -> io::Result<Vec<String>> {
-    let mut words = Vec::new(rt.alloc());
-    for word in env::args(rt)?.skip(1) {
-        words.push(word)?;
-    }
-    Ok(words)
-}
+const PROGRAM: &str = "journal_list";
 
-fn main(rt: HostRuntime) -> ExitCode {
-    let outcome = match words(&rt) {
-        Ok(words) => run(
-            rt.alloc(),
-            words.as_slice(),
-            &mut rt.stdin(),
-            &mut rt.stdout(),
-        ),
-        Err(error) if error.kind() == ErrorKind::OutOfMemory => {
-            Outcome::Listed(Err(ListError::OutOfMemory))
-        }
-        // arguments that cannot be read are an input that fails
-        Err(_) => Outcome::Listed(Err(ListError::Input)),
-    };
+/// Says how a run ended, and returns the status.
+fn end(rt: &HostRuntime, outcome: Outcome) -> ExitCode {
     // there is nothing to do if the standard error fails too
     let _ = eprint!(rt; "{}", message(&outcome));
     exit_code(&outcome)
+}
+
+/// The same of a run that wrote to this output. If its reader is gone nothing is said.
+fn end_writing<W>(rt: &HostRuntime, outcome: Outcome, output: &Pipe<W>) -> ExitCode {
+    if output.is_broken() {
+        return exit_code(&outcome);
+    }
+    end(rt, outcome)
+}
+
+/// Lists an input, and returns the status.
+fn list_input<R: Read>(rt: &HostRuntime, asked: &Arguments<'_>, input: &mut R) -> ExitCode
+    requires { IsAccepted asked.now.version asked.now.piece }
+{
+    let mut output = Pipe::new(rt.stdout());
+    let listed = list_at(rt.alloc(), asked.version, input, &mut output, asked.piece);
+    end_writing(rt, Outcome::Listed(listed), &output)
+}
+
+/// Whether a text is more likely a path than a mistyped argument.
+fn looks_like_path(text: &str) -> bool {
+    text.contains('/') || text.contains('.')
+}
+
+/// Lists a file or the standard input, and returns the status.
+fn list_path(rt: &HostRuntime, asked: &Arguments<'_>) -> ExitCode
+    requires { IsAccepted asked.now.version asked.now.piece }
+{
+    if asked.path == "-" {
+        return list_input(rt, asked, &mut rt.stdin());
+    }
+    match open_file(rt, asked.path) {
+        Ok(mut file) => list_input(rt, asked, &mut file),
+        Err(error) if error.kind() == ErrorKind::NotFound && !looks_like_path(asked.path) => {
+            end(rt, Outcome::Refused)
+        }
+        Err(error) => fail(rt, PROGRAM, format_args!("{}: {error}", asked.path), 2),
+    }
+}
+
+fn main(rt: HostRuntime) -> ExitCode {
+    let all = match arguments(&rt) {
+        Ok(all) => all,
+        Err(error) if error.kind() == ErrorKind::OutOfMemory => {
+            return end(&rt, Outcome::Listed(Err(ListError::OutOfMemory)));
+        }
+        // arguments that cannot be read are an input that fails
+        Err(_) => return end(&rt, Outcome::Listed(Err(ListError::Input))),
+    };
+    let words = match all.as_slice() {
+        [_, words @ ..] => words,
+        [] => &[],
+    };
+    if options(words).is_some() {
+        let mut output = Pipe::new(rt.stdout());
+        let outcome = run(rt.alloc(), words, &mut rt.stdin(), &mut output);
+        return end_writing(&rt, outcome, &output);
+    }
+    if words.iter().any(|word| is_option(word.as_str())) {
+        return match parse_arguments(rt.alloc(), all.as_slice()) {
+            Ok(asked) => list_path(&rt, &asked),
+            Err(error) => report(&rt, PROGRAM, &error, 1),
+        };
+    }
+    match parse_words(words) {
+        Some(asked) => list_path(&rt, &asked),
+        None => end(&rt, Outcome::Refused),
+    }
 }

@@ -1,0 +1,158 @@
+//! Parsing a command line that names a file or has options.
+
+ghost use Rattle.std.specs.Prelude.{◌≤◌, IfOk, IfSome};
+ghost use Rattle.shared_core_base.specs.Version.{version_number};
+ghost use Rattle.journal_list.specs.Options.{IsAccepted};
+
+use crate::options::options;
+use clap::error::ErrorKind;
+use clap::{Arg, Command, Error};
+use shared_core::version::Version;
+use std::alloc::{AllocError, Global};
+
+/// The parsed command line.
+#[derive(Clone, Copy, Drop)]
+pub struct Arguments<'a> {
+    /// The path of the stream, or `-` for the standard input.
+    pub path: &'a str,
+    /// The version of the protocol.
+    pub version: Version,
+    /// The number of bytes that are read at a time.
+    pub piece: usize,
+}
+
+/// Whether an argument is an option. `-` is the standard input.
+pub fn is_option(word: &str) -> bool {
+    word.starts_with('-') && word != "-"
+}
+
+/// Whether an argument can name a file. A number cannot, since it is a number of bytes.
+fn is_path(word: &str) -> bool {
+    !word.bytes().all(|byte| byte.is_ascii_digit())
+}
+
+/// The version of an argument, if it is a supported one.
+fn version_of(word: &str) -> Option<Version>
+    ensures { IfSome result (λ version. 5 ≤ version_number version) }
+{
+    Version::from_number(word.parse().ok()?)
+}
+
+/// The clap definition of the command line.
+fn command<'a>(alloc: Global) -> Result<Command<'a>, AllocError> {
+    let protocol = Arg::new(alloc, "protocol")
+        .long("protocol")
+        .value_name("VERSION")
+        .value_parser(Version::supported_numbers())
+        .help("The version of the protocol of the stream, which is 8 without it");
+    let path = Arg::new(alloc, "file").value_name("FILE").help(
+        "The stream: a file, or - or nothing for the standard input",
+    );
+    let bytes = Arg::new(alloc, "bytes").value_name("BYTES").help(
+        "The number of bytes that are read at a time, from 1 to 65536",
+    );
+    let newest = Arg::new(alloc, "v9")
+        .value_name("v9")
+        .help("The same as --protocol 9");
+    Command::new(alloc, "journal_list")
+        .version("0.1.0")
+        .about("Lists a stream of the protocol, a line for each of its items.")
+        .arg(protocol)?
+        .arg(path)?
+        .arg(bytes)?
+        .arg(newest)
+}
+
+/// What arguments without options say.
+#[derive(Clone, Copy, Drop)]
+struct Words {
+    /// Whether the first is the path of a file.
+    has_path: bool,
+    version: Version,
+    piece: usize,
+}
+
+/// Reads arguments without options: those that `options` takes, or a file, and after it those. `None` for others.
+fn read_words(words: &[String]) -> Option<Words>
+    ensures { IfSome result (λ found. IsAccepted found.version found.piece) }
+{
+    if let Some((version, piece)) = options(words) {
+        return Some(Words {
+            has_path: false,
+            version,
+            piece,
+        });
+    }
+    let (path, rest) = words.split_first()?;
+    if !is_path(path.as_str()) {
+        return None;
+    }
+    let (version, piece) = options(rest)?;
+    Some(Words {
+        has_path: true,
+        version,
+        piece,
+    })
+}
+
+/// Parses the arguments after the program's name, of which none is an option. `None` for invalid ones.
+pub fn parse_words<'a>(words: &'a [String]) -> Option<Arguments<'a>>
+    ensures { IfSome result (λ found. IsAccepted found.version found.piece) }
+{
+    let Words {
+        has_path,
+        version,
+        piece,
+    } = read_words(words)?;
+    let path = match words {
+        [path, ..] if has_path => path.as_str(),
+        _ => "-",
+    };
+    Some(Arguments {
+        path,
+        version,
+        piece,
+    })
+}
+
+/// Parses the arguments, the program's name first, of which one is an option. The error is an invalid argument, or a
+/// request for the help or the version.
+pub fn parse_arguments<'a>(alloc: Global, arguments: &'a [String]) -> Result<Arguments<'a>, Error>
+    ensures { IfOk result (λ found. IsAccepted found.version found.piece) }
+{
+    let mut command = command(alloc)?;
+    let matches = command.try_get_matches_from_mut(arguments)?;
+    let mut words = Vec::new(alloc);
+    for id in ["file", "bytes", "v9"] {
+        if let Some(word) = matches.get_str(id) {
+            words.push(String::from_str(alloc, word)?)?;
+        }
+    }
+    let Some(found) = read_words(words.as_slice()) else {
+        return Err(command.error(
+            ErrorKind::InvalidValue,
+            "after FILE come BYTES, from 1 to 65536, and v9, or one of them, or neither",
+        )?);
+    };
+    let version = match matches.get_str("protocol") {
+        None => Some(found.version),
+        Some(_) if found.version == Version::V9 => None,
+        Some(word) => version_of(word),
+    };
+    let Some(version) = version else {
+        return Err(command.error(
+            ErrorKind::ArgumentConflict,
+            "the version is said by v9 or by --protocol, and not by both",
+        )?);
+    };
+    let path = if found.has_path {
+        matches.get_str("file")
+    } else {
+        None
+    };
+    Ok(Arguments {
+        path: path.unwrap_or("-"),
+        version,
+        piece: found.piece,
+    })
+}
