@@ -1,9 +1,10 @@
 #!/bin/sh
 # Makes prost and bytes of the Debian packages what cargo builds with: install.sh [--no-install]
 #
-# It installs the packages where they are missing, but not with --no-install, and writes .cargo/config.toml, which puts the distribution's
-# folder of crates in the place of crates.io, and has the peer compiled for the processor that the library is compiled for. Where that
-# cannot be had it says 'not run: ..' with status 1.
+# It installs the packages where they are missing, but not with --no-install, and writes .cargo/config.toml, which puts
+# the distribution's folder of crates in the place of crates.io, and has the peer compiled for the processor that the
+# library is compiled for. If that is not available, it says
+# 'not run: ..' with status 1.
 set -u
 cd "$(dirname "$0")" || exit 1
 

@@ -2,7 +2,7 @@
  * The calls of the static library bench_ffi: the work of the library several times over. They are for the comparison
  * and the measurement of this folder, and no part of the library that is installed.
  *
- * Slices and refusals are those of include/pendratsoa.h.
+ * Slices and errors are those of include/pendratsoa.h.
  */
 #ifndef MEASURE_H
 #define MEASURE_H
@@ -10,23 +10,25 @@
 #include "../include/pendratsoa.h"
 
 /*
- * Reads a stream of a version from 5 to 9, which comes in chunks of this many bytes (0: in one chunk), and writes a word for each item: the
- * word of the message's header, or the unknown code in bits 48 to 63. At version 9 a message of an unknown type is skipped with its payload,
- * and its word has the payload's length in bits 0 to 31. Answers the number of items; JOURNAL_NO_ROOM where there is room for fewer words. The
- * stream is copied once, and then read `rounds` times over by a new decoder each (0 counts as 1); the words are those of the last.
+ * Reads a stream of a version from 5 to 9, which comes in chunks of this many bytes (0: in one chunk), and writes a
+ * word for each item: the word of the message's header, or the unknown code in bits 48 to 63. At version 9 a message of
+ * an unknown type is skipped with its payload, and its word has the payload's length in bits 0 to 31. Returns the
+ * number of items; JOURNAL_NO_ROOM if there is room for fewer words. The stream is copied once, and then read `rounds`
+ * times over by a new decoder each (0 counts as 1); the words are those of the last.
  */
 int64_t measure_items(uint32_t version, const uint8_t *stream, size_t stream_length, size_t piece, size_t rounds,
                       uint64_t *words, size_t words_room);
 
 /*
- * As measure_items, but decodes every message of a named type to its record and writes nothing. Answers the number of these messages;
- * JOURNAL_MALFORMED where a payload is not well-formed for its type.
+ * As measure_items, but decodes every message of a named type to its record and writes nothing. Returns the number of
+ * these messages; JOURNAL_MALFORMED where a payload is not well-formed for its type.
  */
 int64_t measure_messages(uint32_t version, const uint8_t *stream, size_t stream_length, size_t piece, size_t rounds);
 
 /*
- * Decodes each command of a stream of a version from 5 to 9 twice, and compares the two `rounds` times (0: not at all), with their payloads
- * where `ignore_payloads` is 0. Answers the number of comparisons that hold, which are all: `rounds` for each command.
+ * Decodes each command of a stream of a version from 5 to 9 twice, and compares the two `rounds` times (0: not at all),
+ * with their payloads where `ignore_payloads` is 0. Returns the number of comparisons that hold, which are all:
+ * `rounds` for each command.
  */
 int64_t measure_compare(uint32_t version, const uint8_t *stream, size_t stream_length, uint32_t ignore_payloads, size_t rounds);
 
@@ -35,8 +37,8 @@ int64_t measure_frame(uint32_t version, uint16_t code, const uint8_t *payload, s
                       uint8_t *out, size_t room);
 
 /*
- * As measure_frame, but all rounds append the frame to one buffer, which is cleared before each: only the first, and a suspension before
- * version 7, allocates.
+ * As measure_frame, but all rounds append the frame to one buffer, which is cleared before each: only the first
+ * allocates.
  */
 int64_t measure_frame_into(uint32_t version, uint16_t code, const uint8_t *payload, size_t payload_length, size_t rounds,
                            uint8_t *out, size_t room);

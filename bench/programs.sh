@@ -1,9 +1,9 @@
 #!/bin/sh
-# Measures the programs journal_dump and journal_list beside the peer's, which have to write the same lines, and prints a table in Markdown:
-# programs.sh [LENGTH]; README.md says more
+# Measures the programs journal_dump and journal_list beside the peer's, which have to write the same lines, and prints
+# a table in Markdown: programs.sh [LENGTH]; README.md says more
 #
-# It takes the proved programs that rt ci leaves in out/, and proves and builds one where it is not there. Where the tools are not to be had it says
-# 'not run: ..'.
+# It takes the proved programs that rt ci leaves in out/, and proves and builds one where it is not there. If the
+# tools are missing it says 'not run: ..'.
 set -u
 cd "$(dirname "$0")" || exit 1
 

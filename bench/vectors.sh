@@ -1,8 +1,10 @@
 #!/bin/sh
-# Shows that the readers beside the library give the answers of conformance/*.txt, that the files that are not written by hand are what their
-# programs write, and that the library gives the readers' answers to random cases: vectors.sh [--no-install] [SEED [COUNT]]
+# Shows that the readers beside the library give the results of conformance/*.txt, that the files that are not written
+# by hand are what their programs write, and that the library gives the readers' results for random cases: vectors.sh
+# [--no-install] [SEED [COUNT]]
 #
-# It needs no static library. The last line is 'N passed, M failed'; it is '0 passed, 0 failed' where the tools are not to be had.
+# It needs no static library. The last line is 'N passed, M failed'; it is '0 passed, 0 failed' if the tools are
+# missing.
 set -u
 cd "$(dirname "$0")" || exit 1
 

@@ -87,7 +87,7 @@ func (d *Decoder) take() (Item, int64, error) {
 	return item, 0, nil
 }
 
-// read reads at least so many more bytes, but for an error of the reader.
+// read reads at least that many more bytes, unless the reader fails.
 func (d *Decoder) read(missing int64) error {
 	for empty := 0; missing > 0; {
 		if err := d.readErr; err != nil {

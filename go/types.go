@@ -58,7 +58,7 @@ func TypeCode(name string) (uint16, error) {
 // headerSize is how many bytes a header has.
 const headerSize = 8
 
-// Header returns the eight bytes that come before a payload of so many bytes. ErrUnknown for an unknown version and for
+// Header returns the eight bytes that come before a payload of this length. ErrUnknown for an unknown version and for
 // a code that is no type's; ErrTooLong for a length of more than 4,294,967,295 bytes, ErrNegative for one below 0.
 func Header(version int, code uint16, payloadLength int) ([]byte, error) {
 	number, err := unsigned("Header", "version", version)

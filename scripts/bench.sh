@@ -7,7 +7,7 @@
 #   scripts/bench.sh journals                 journal_diff on two journals of 100 MB
 #   scripts/bench.sh agree [SEED [COUNT]]     whether both agree on random payloads and streams, by the calls for C
 #   scripts/bench.sh vectors [SEED [COUNT]]   whether prost agrees with the test vectors of conformance/, and the
-#                                             library with random ones that prost has answered
+#                                             library with random ones that prost has read
 #
 # It needs a C compiler, cargo and Debian packages, which it installs; where something is missing it says 'not run' and
 # why. bench/README.md has the arguments of each.

@@ -2,12 +2,12 @@
 # scripts/mutants.sh [--jobs N] [--above] [CRATE | CRATE/NAME ..]
 #
 # Tries mutants: edits of crates/CRATE/mutants/ and crates/CRATE/must-fail/ that plant a bug, each of which the prover
-# has to refuse. Of the crates that are named, with --above also of all crates that use them, or of these mutants alone;
+# has to reject. Of the crates that are named, with --above also of all crates that use them, or of these mutants alone;
 # with no name, of all crates. The gate tries must-fail/ alone, since a mutant takes seconds to a minute.
 #
 # It works on a copy of crates/ in a temporary folder (below TMPDIR, or /tmp), with what earlier checks kept in out/, so
 # nothing here changes and other checks can run beside it. What is not yet proved of a crate and of those below it is
-# proved first: minutes on a fresh clone. N crates are tried at once, 2 if not said, each in up to 3 GB of memory. A
+# proved first: minutes on a fresh clone. N crates are tried at once, 2 by default, each in up to 3 GB of memory. A
 # line for each mutant, once its crate is through:
 #
 #   refused CRATE/NAME: the first error that the prover gave, which should name the function that the mutant changes

@@ -24,7 +24,7 @@ missing() {
   done
 }
 
-# apt SECONDS WORD..: apt-get, until so many seconds after the start
+# apt SECONDS WORD..: apt-get, until SECONDS after the start
 apt() {
   left=$((start + $1 - $(date +%s)))
   shift

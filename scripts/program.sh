@@ -42,7 +42,7 @@ trap 'rm -rf "$work"' EXIT
 if [ "$is_unproved" = yes ]; then
   echo "program.sh: building $crate without the proofs, once, which takes less than a minute" >&2
   keeping_kit "$work"
-  # the program is run without input and arguments, and may refuse that
+  # the program is run without input and arguments, and may fail then
   (cd "crates/$crate" && "$work/kit/bin/rt" try --steps 1 < /dev/null) > "$work/log" 2>&1 || :
   if [ -e "$work/program" ]; then
     mkdir -p "${unproved%/*}"
@@ -51,7 +51,7 @@ if [ "$is_unproved" = yes ]; then
   take "$unproved"
 else
   echo "program.sh: proving $crate and what is not proved yet below it, which can take more than an hour" >&2
-  # it is run too, without input and arguments, and may refuse that
+  # it is run too, without input and arguments, and may fail then
   (cd "crates/$crate" && rt run < /dev/null) > "$work/log" 2>&1 || :
   take "$proved"
 fi

@@ -19,7 +19,7 @@ trap 'rm -rf "$work"' EXIT
 passed=0
 failed=0
 
-# counted NAME: adds the 'N passed, M failed' at the end of $work/NAME, and shows what stands above it
+# counted NAME: adds the 'N passed, M failed' at the end of $work/NAME, and shows what is above it
 counted() {
   sed '$d' "$work/$1"
   counts=$(sed -n '$p' "$work/$1" | grep -E '^[0-9]+ passed, [0-9]+ failed$')

@@ -23,8 +23,8 @@ usage() {
   sed -n '2,17s/^# \{0,1\}//p' "$top/scripts/run.sh"
 }
 
-# refuse WHY: says in one line why the program is not run, and ends
-refuse() {
+# fail WHY: prints in one line why the program is not run, and ends
+fail() {
   echo "run.sh: $1" >&2
   exit 2
 }
@@ -56,11 +56,11 @@ version() {
   exit 0
 }
 
-# check_file FILE: refuses what is no file that can be read
+# check_file FILE: rejects what is no file that can be read
 check_file() {
-  [ -e "$1" ] || refuse "no such file: $1"
-  [ ! -d "$1" ] || refuse "a folder: $1"
-  [ -r "$1" ] || refuse "cannot be read: $1"
+  [ -e "$1" ] || fail "no such file: $1"
+  [ ! -d "$1" ] || fail "a folder: $1"
+  [ -r "$1" ] || fail "cannot be read: $1"
 }
 
 # is_type NAME: whether a type has this name in a dump
@@ -74,7 +74,7 @@ is_type() {
   esac
 }
 
-# is_chunk NUMBER: whether the lister reads so many bytes at a time
+# is_chunk NUMBER: whether the lister reads this number of bytes at a time
 is_chunk() {
   case $1 in
     '' | *[!0-9]* | ??????*) return 1 ;;
@@ -82,20 +82,20 @@ is_chunk() {
   [ "$1" -ge 1 ] && [ "$1" -le 65536 ]
 }
 
-# check_value OPTION VALUE: refuses a value that the option cannot have
+# check_value OPTION VALUE: rejects a value that the option cannot have
 check_value() {
   case $1 in
     --protocol)
       case $2 in
         [5-9]) ;;
-        *) refuse "--protocol is from 5 to 9, and not '$2'" ;;
+        *) fail "--protocol is from 5 to 9, and not '$2'" ;;
       esac
       ;;
-    --type) is_type "$2" || refuse "--type: proto/types.txt has no '$2'" ;;
+    --type) is_type "$2" || fail "--type: proto/types.txt has no '$2'" ;;
   esac
 }
 
-# check_word WORD: refuses a word of list that is no stream, no number of bytes and not v9, or comes too late; $next is
+# check_word WORD: rejects an argument of list that is no stream, no number of bytes and not v9, or comes too late; $next is
 # which of the three may come
 check_word() {
   if [ "$1" = v9 ] && [ "$next" -le 3 ]; then
@@ -110,7 +110,7 @@ check_word() {
   fi
 }
 
-# check_named FILE: refuses one file more than $files, and what cannot be read
+# check_named FILE: rejects one file more than $files, and what cannot be read
 check_named() {
   if [ "$command" = list ]; then
     check_word "$1"
@@ -121,7 +121,7 @@ check_named() {
   [ "$command $1" = 'diff -' ] || check_file "$1"
 }
 
-# check_option NAME: refuses an option that is none of $options
+# check_option NAME: rejects an option that is none of $options
 check_option() {
   case $options in
     *" $1 "*) ;;
@@ -129,7 +129,7 @@ check_option() {
   esac
 }
 
-# check_arguments OPTIONS FILES ARGUMENT..: refuses arguments that are none of these options, and more than this many
+# check_arguments OPTIONS FILES ARGUMENT..: rejects arguments that are none of these options, and more than this many
 # files; $files is then how many are left
 check_arguments() {
   options=$1
@@ -201,7 +201,7 @@ case $command in
     case ${1-} in
       -h | --help) page ;;
     esac
-    command -v python3 > /dev/null || refuse 'view: there is no python3'
+    command -v python3 > /dev/null || fail 'view: there is no python3'
     exec python3 "$top/view/make_page.py" $how "$@"
     ;;
   -h | --help) usage ;;

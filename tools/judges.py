@@ -89,7 +89,7 @@ def rules():
 
 
 def main():
-    # both refuse a description that contradicts itself
+    # both reject a description that contradicts itself
     command_types()
     schemas()
     for judge in (frames, compared, rules):

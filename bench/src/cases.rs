@@ -190,7 +190,7 @@ fn a_stream(random: &mut Random) -> Case {
 pub struct File {
     pub name: &'static str,
     pub text: String,
-    /// How many of its answers are those of the rules alone.
+    /// The number of its results that are those of the rules alone.
     pub departures: usize,
     /// The cases that it has.
     seen: HashSet<String>,
@@ -201,7 +201,7 @@ impl File {
         File {
             name,
             text: format!(
-                "# {what}\n# Random cases with the answers of prost and of the rules, written by bench/src/bin/vectors.rs; see README.md.\n"
+                "# {what}\n# Random cases with the results of prost and of the rules, written by bench/src/bin/vectors.rs; see README.md.\n"
             ),
             departures: 0,
             seen: HashSet::new(),
@@ -218,8 +218,8 @@ impl File {
         if self.seen.contains(&text) {
             return Ok(false);
         }
-        let Verdict { answer, departs } = judge(case)?;
-        self.text += &format!("{text} = {answer}\n");
+        let Verdict { result, departs } = judge(case)?;
+        self.text += &format!("{text} = {result}\n");
         self.departures += usize::from(departs);
         self.seen.insert(text);
         Ok(true)
@@ -230,18 +230,19 @@ impl File {
 #[derive(Debug)]
 pub struct Failed {
     pub case: Case,
-    pub answers: Disagreement,
+    pub results: Disagreement,
 }
 
-/// What both readers answer to a case.
+/// What both readers return for a case.
 pub fn judge(case: &Case) -> Result<Verdict, Failed> {
-    case.judge().map_err(|answers| Failed {
+    case.judge().map_err(|results| Failed {
         case: case.clone(),
-        answers,
+        results,
     })
 }
 
-/// A file of payloads and merges: its name, what its messages are, and the least and the greatest code of their types, where they have one.
+/// A file of payloads and merges: its name, what its messages are, and the least and the greatest code of their types,
+/// where they have one.
 struct Group(&'static str, &'static str, Option<(u16, u16)>);
 
 const GROUPS: [Group; 5] = [

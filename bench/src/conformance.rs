@@ -1,4 +1,4 @@
-//! Lines of conformance/*.txt: a case and its answer. conformance/README.md describes them.
+//! Lines of conformance/*.txt: a case and its expected result. conformance/README.md describes them.
 
 use std::fmt::{self, Write};
 
@@ -29,10 +29,10 @@ pub enum Case {
     Record { schema: usize, payload: Vec<u8> },
 }
 
-/// The answer to a payload that is not well-formed.
+/// The result for a payload that is not well-formed.
 pub const MALFORMED: &str = "malformed";
 
-/// The answer to a payload that should be canonical and is not.
+/// The result for a payload that should be canonical and is not.
 const NOT_CANONICAL: &str = "not canonical";
 
 impl Case {
@@ -77,16 +77,16 @@ impl Case {
         }
     }
 
-    /// What the peer answers.
+    /// What the peer returns.
     pub fn by_peer(&self) -> String {
         match self {
-            Case::Payload { schema, payload } => answer(peer::canonical(*schema, payload)),
-            Case::Merge { schema, payloads } => answer(peer::merge(*schema, slices(payloads))),
+            Case::Payload { schema, payload } => written(peer::canonical(*schema, payload)),
+            Case::Merge { schema, payloads } => written(peer::merge(*schema, slices(payloads))),
             Case::Frame {
                 message_type,
                 version,
                 payload,
-            } => answer(peer::frame(*version, message_type.code, payload, 1)),
+            } => written(peer::frame(*version, message_type.code, payload, 1)),
             Case::Stream { version, pieces } => list_by_peer(*version, pieces),
             Case::Record { schema, payload } => match peer::canonical(*schema, payload) {
                 Ok(canonical) if canonical == *payload => record_by_peer(*schema, payload),
@@ -96,7 +96,8 @@ impl Case {
         }
     }
 
-    /// What the rules answer, but for the text of a record, since they know no names: of its payload they say whether it is canonical.
+    /// What the rules return, but for the text of a record, since they know no names: of its payload they say whether
+    /// it is canonical.
     fn by_rules(&self) -> ByRules {
         match self {
             Case::Payload { schema, payload } | Case::Record { schema, payload } => {
@@ -118,31 +119,31 @@ impl Case {
                 |meaning| meaning.frame(message_type, *version),
             ),
             Case::Stream { version, pieces } => ByRules {
-                answer: list_by_rules(*version, &pieces.concat()),
+                result: list_by_rules(*version, &pieces.concat()),
                 departs: false,
             },
         }
     }
 
-    /// What both readers answer.
+    /// What both readers return.
     pub fn judge(&self) -> Result<Verdict, Disagreement> {
         let peer = self.by_peer();
         let rules = self.by_rules();
         let agreed = match self {
-            Case::Record { payload, .. } => rules.answer == hex(payload),
+            Case::Record { payload, .. } => rules.result == hex(payload),
             _ if rules.departs => peer == MALFORMED,
-            _ => rules.answer == peer,
+            _ => rules.result == peer,
         };
         if !agreed {
             return Err(Disagreement {
                 peer,
-                rules: rules.answer,
+                rules: rules.result,
             });
         }
         Ok(Verdict {
-            answer: match self {
+            result: match self {
                 Case::Record { .. } => peer,
-                _ => rules.answer,
+                _ => rules.result,
             },
             departs: rules.departs,
         })
@@ -175,16 +176,16 @@ impl fmt::Display for Case {
     }
 }
 
-/// What both readers answer, where they agree.
+/// What both readers return, where they agree.
 #[derive(Clone, Debug, PartialEq, Eq)]
 pub struct Verdict {
-    pub answer: String,
-    /// Whether the answer is that of the rules alone: prost refuses, since a skipped record stands on the last level. It counts a level for
-    /// each record that it skips; the rules count one for messages and groups alone.
+    pub result: String,
+    /// Whether the result is that of the rules alone: prost rejects it, since a skipped record is on the last level. It
+    /// counts a level for each record that it skips; the rules count one for messages and groups alone.
     pub departs: bool,
 }
 
-/// Answers of readers that differ, and not as is known.
+/// Results of readers that differ, and not as is known.
 #[derive(Clone, Debug, PartialEq, Eq)]
 pub struct Disagreement {
     pub peer: String,
@@ -198,7 +199,7 @@ impl fmt::Display for Disagreement {
 }
 
 struct ByRules {
-    answer: String,
+    result: String,
     departs: bool,
 }
 
@@ -208,32 +209,33 @@ impl ByRules {
         bytes_of: impl FnOnce(&Meaning) -> Option<Vec<u8>>,
     ) -> ByRules {
         let departs = matches!(&meaning, Some(meaning) if meaning.skips_on_last_level);
-        let answer = meaning
+        let result = meaning
             .and_then(|meaning| bytes_of(&meaning))
             .map_or_else(|| MALFORMED.into(), |bytes| hex(&bytes));
-        ByRules { answer, departs }
+        ByRules { result, departs }
     }
 }
 
-/// A line: a case and its answer.
+/// A line: a case and its expected result.
 #[derive(Clone, Debug)]
 pub struct Line<'a> {
     pub case: Case,
-    pub answer: &'a str,
+    pub expected: &'a str,
 }
 
 impl Line<'_> {
     /// Reads a line that says something.
     pub fn read(text: &str) -> Option<Line<'_>> {
-        let (case, answer) = text.split_once(" = ")?;
+        let (case, expected) = text.split_once(" = ")?;
         Some(Line {
             case: Case::read(case)?,
-            answer,
+            expected,
         })
     }
 }
 
-/// What a line begins with that compares two commands. The readers say nothing of it, since they know payloads and no texts.
+/// What a line begins with that compares two commands. The readers say nothing of it, since they know payloads and no
+/// texts.
 const COMPARISON: &str = "compare ";
 
 /// The lines of a text that are neither empty nor remarks nor comparisons, each with its number.
@@ -293,8 +295,8 @@ fn write_several(f: &mut fmt::Formatter<'_>, several: &[Vec<u8>]) -> fmt::Result
         .try_for_each(|bytes| write!(f, " {}", hex(bytes)))
 }
 
-fn answer<T: AsRef<[u8]>>(answer: Result<T, Refusal>) -> String {
-    match answer {
+fn written<T: AsRef<[u8]>>(result: Result<T, Refusal>) -> String {
+    match result {
         Ok(bytes) => hex(bytes.as_ref()),
         Err(refusal) => refused(&refusal),
     }

@@ -111,7 +111,8 @@ fn write_record<M: Message + Default + Serialize, O: SerializeMap>(
 }
 
 thread_local! {
-    /// What bytes are in base64, before they are written: a text of its own for each of them, or in parts by a `Display`, takes longer.
+    /// What bytes are in base64, before they are written: a text of its own for each of them, or in parts by a
+    /// `Display`, takes longer.
     static ENCODED: RefCell<String> = const { RefCell::new(String::new()) };
 }
 

@@ -1,16 +1,18 @@
-//! Messages that are cheap to send and dear to read: one kind of record over and over, as one would fill a payload with it who means harm.
+//! Messages that are cheap to send and dear to read: one kind of record over and over, as one would fill a payload with
+//! it who means harm.
 
 use crate::streams::Frame;
 use crate::wire::{key, put_varint, GROUP, GROUP_END, LENGTH, VARINT};
 
-/// How deep futures and groups are nested in one another: the futures below the one that is awaited, the groups down to the last level but one.
+/// How deep futures and groups are nested in one another: the futures below the one that is awaited, the groups down to
+/// the last level but one.
 const FUTURES_DEEP: usize = 90;
 const GROUPS_DEEP: usize = 98;
 
 /// The length of a text that is replaced, in bytes.
 const TEXT: usize = 16;
 
-/// One kind of message, with as many elements as one asks for.
+/// One kind of message, with a given number of elements.
 pub struct Hostile {
     pub name: &'static str,
     /// The length of the pieces in which the stream comes (0: whole).
@@ -86,7 +88,8 @@ impl Hostile {
         }
     }
 
-    /// The message with this many elements. Of those that are nested in one another there are as many as make up whole nests, so up to 97 less.
+    /// The message with this many elements. Of those that are nested in one another there are as many as make up whole
+    /// nests, so up to 97 less.
     pub fn frame(&self, count: usize) -> Frame {
         Frame {
             code: self.code,

@@ -31,8 +31,8 @@ impl From<Error> for Refusal {
 }
 
 impl From<i64> for Refusal {
-    fn from(answer: i64) -> Refusal {
-        match answer {
+    fn from(result: i64) -> Refusal {
+        match result {
             -1 => Refusal::Malformed,
             -2 => Refusal::OutOfMemory,
             -3 => Refusal::NoRoom,
@@ -51,7 +51,7 @@ impl fmt::Display for Refusal {
             Refusal::NoRoom => f.write_str("no room"),
             Refusal::TooLong => f.write_str("too long"),
             Refusal::Unknown => f.write_str("unknown"),
-            Refusal::Unlisted(answer) => write!(f, "the unlisted answer {answer}"),
+            Refusal::Unlisted(result) => write!(f, "the unlisted result {result}"),
         }
     }
 }
@@ -126,9 +126,9 @@ mod c {
     }
 }
 
-/// A number that is not negative, or a refusal.
-fn count(answer: i64) -> Result<usize, Refusal> {
-    usize::try_from(answer).map_err(|_| Refusal::from(answer))
+/// A number that is not negative, or an error.
+fn count(result: i64) -> Result<usize, Refusal> {
+    usize::try_from(result).map_err(|_| Refusal::from(result))
 }
 
 /// A word for each item of a stream, of the last of the rounds. There are at most as many as `words` has.

@@ -1,6 +1,7 @@
 //! The peer: the protocol over prost and shared buffers, as one writes it in ordinary Rust.
 //!
-//! A payload is cut out of the pieces that came and not copied, unless it lies across several; `bytes` fields are parts of the payload.
+//! A payload is cut out of the pieces that came and not copied, unless it lies across several; `bytes` fields are parts
+//! of the payload.
 
 use std::collections::VecDeque;
 use std::hint::black_box;
@@ -17,13 +18,13 @@ const ACKNOWLEDGE: u64 = 1 << 47;
 pub const SUSPENSION: u16 = 0x0001;
 pub const PROPOSE_RUN_COMPLETION: u16 = 0x0005;
 
-/// The version from which on futures are sent as trees, and the proposal of a run's result asks for an acknowledgement.
+/// The version from which on futures are sent as trees, and the proposal of a run's result requests an acknowledgement.
 pub const FUTURES: u32 = 7;
 
 /// The version from which on a message of an unknown type is skipped with its payload.
 const SKIPS: u32 = 9;
 
-/// Why a call gives no answer.
+/// Why a call returns no result.
 #[derive(Debug)]
 pub enum Refusal {
     Malformed(DecodeError),
@@ -103,7 +104,7 @@ pub enum Item {
 }
 
 impl Item {
-    /// The header's word, or what stands at the places of the code and the length in one.
+    /// The header's word, or what one has in the places of the code and the length.
     pub fn word(&self) -> u64 {
         match self {
             Item::Message(header, _) => header.word(),
@@ -296,7 +297,8 @@ fn decode(code: u16, payload: Bytes) -> Result<bool, DecodeError> {
     )
 }
 
-/// Decodes each command of a stream twice, compares the two so many times by their derived `==`, and says how many comparisons hold.
+/// Decodes each command of a stream twice, compares the two `rounds` times by their derived `==`, and returns the
+/// number of comparisons that hold.
 pub fn compare(version: u32, stream: &[u8], rounds: usize) -> Result<usize, Refusal> {
     let stream = Bytes::copy_from_slice(stream);
     let mut count = 0;
@@ -327,7 +329,7 @@ fn compare_command(code: u16, payload: Bytes, rounds: usize) -> Result<usize, De
     )
 }
 
-/// How many of so many comparisons of two records hold.
+/// The number of comparisons of two records that hold, of `rounds`.
 fn count_same<R: PartialEq>(first: &R, second: &R, rounds: usize) -> usize {
     // they take turns, so that no round can be left out for being the one before it
     let (mut asked, mut other) = (first, second);
@@ -369,7 +371,8 @@ pub fn merge<'a>(
     )
 }
 
-/// The record that a payload means, as Rust's derived Debug prints it, but for enums: they are printed by the names of their numbers.
+/// The record that a payload means, as Rust's derived Debug prints it, but for enums: they are printed by the names of
+/// their numbers.
 pub fn text(schema: usize, payload: &[u8]) -> Result<String, Refusal> {
     let payload = Bytes::copy_from_slice(payload);
     with_schema!(
@@ -483,11 +486,11 @@ fn append(
         length: length as u32,
     };
     out.put_u64(header.word());
-    // `encode` would ask for the length once more, to compare it with the room
+    // `encode` would compute the length once more, to compare it with the room
     message.encode_raw(out);
 }
 
-/// Puts the frame of the message that a payload holds so many times.
+/// Puts the frame of the message that a payload holds `rounds` times.
 fn frames(
     version: u32,
     code: u16,

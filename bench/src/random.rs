@@ -133,7 +133,7 @@ impl<'a> Payloads<'a> {
         (!ways.is_empty()).then(|| *self.random.pick(&ways))
     }
 
-    /// What stands at the end of a way down.
+    /// What is at the end of a way down.
     fn bottom(&mut self, schema: Option<usize>) -> Vec<u8> {
         let mut out = Vec::new();
         match (self.random.below(6), schema) {
@@ -247,7 +247,8 @@ impl<'a> Payloads<'a> {
         self.lengthy(&run, out);
     }
 
-    /// The length of a text or of bytes: mostly short, at times past what the first byte of a length says, or the second.
+    /// The length of a text or of bytes: mostly short, at times past what the first byte of a length says, or the
+    /// second.
     fn length(&mut self) -> usize {
         match self.random.below(64) {
             0 if self.style != Style::Tidy => self.random.below(20_000),

@@ -58,7 +58,8 @@ impl<R: Read> Reading<R> {
     }
 }
 
-/// What a program of the peer does: it has the stream on the standard input written out somehow, at the version that its only word says.
+/// What a program of the peer does: it has the stream on the standard input written out somehow, at the version that
+/// its only word says.
 pub fn run(
     write: impl FnOnce(u32, StdinLock<'static>, &mut StdoutLock<'static>) -> io::Result<()>,
 ) -> ExitCode {

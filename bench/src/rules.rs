@@ -1,4 +1,5 @@
-//! A reader of the protocol by the rules of docs/PAYLOADS.md and the protocol's description alone: neither the library nor prost takes part.
+//! A reader of the protocol by the rules of docs/PAYLOADS.md and the protocol's description alone: neither the library
+//! nor prost takes part.
 //!
 //! It is written to be read beside the rules and not to be fast: it copies all that it reads.
 
@@ -11,10 +12,11 @@ use crate::wire::{
     GROUP_END, LENGTH, VARINT,
 };
 
-/// The last level on which records may stand.
+/// The last level on which records may be.
 const LAST_LEVEL: u32 = 100;
 
-/// The version from which on a suspension is sent as a tree, and the proposal of a run's result asks for an acknowledgement.
+/// The version from which on a suspension is sent as a tree, and the proposal of a run's result requests an
+/// acknowledgement.
 const TREES: u32 = 7;
 
 /// The version from which on a message whose code is that of no type is skipped with its payload.
@@ -28,7 +30,7 @@ const ACKNOWLEDGE: u64 = 1 << 47;
 pub struct Meaning {
     schema: usize,
     message: Message,
-    /// Whether a record that the schema skips stands on the last level.
+    /// Whether a record that the schema skips is on the last level.
     pub skips_on_last_level: bool,
 }
 
@@ -67,8 +69,8 @@ impl Meaning {
     }
 }
 
-/// The values of a message's fields by their numbers. Where a field is no list it has one value at most, and where a member is present
-/// no other member of its oneof is.
+/// The values of a message's fields by their numbers. Where a field is no list it has one value at most, and where a
+/// member is present no other member of its oneof is.
 #[derive(Debug, Default)]
 struct Message {
     fields: BTreeMap<u32, Vec<Value>>,
@@ -76,7 +78,8 @@ struct Message {
 
 #[derive(Debug)]
 enum Value {
-    /// A number as its varint has it: the low 32 bits where the field has no more, extended by its sign where it is an enum.
+    /// A number as its varint has it: the low 32 bits where the field has no more, extended by its sign where it is an
+    /// enum.
     Number(u64),
     Bytes(Vec<u8>),
     Message(Message),
@@ -107,7 +110,8 @@ impl Message {
         self.fields.entry(number).or_default().push(value);
     }
 
-    /// The message that a field holds and that is no element of a list. It is empty where there was none, or another member.
+    /// The message that a field holds and that is no element of a list. It is empty where there was none, or another
+    /// member.
     fn inner(&mut self, schema: usize, field: &Field) -> &mut Message {
         self.drop_other_members(schema, field);
         let values = self
@@ -230,7 +234,7 @@ struct Reader {
 }
 
 impl Reader {
-    /// Lays a payload, whose records stand on a level, over a message.
+    /// Merges a payload, whose records are on a level, into a message.
     fn merge(
         &mut self,
         message: &mut Message,
@@ -292,7 +296,7 @@ impl Reader {
         Some(())
     }
 
-    /// Takes the content of a group, whose records stand on a level, and its end.
+    /// Takes the content of a group, whose records are on a level, and its end.
     fn group(&mut self, number: u32, level: u32, rest: &mut &[u8]) -> Option<()> {
         if level > LAST_LEVEL {
             return None;
@@ -343,8 +347,8 @@ fn merge_scalar(
     Some(())
 }
 
-/// An item of a stream: the code of its header, whether it asks for an acknowledgement, and the payload; or a code of no type,
-/// alone or with its payload.
+/// An item of a stream: the code of its header, whether it requests an acknowledgement, and the payload; or a code of
+/// no type, alone or with its payload.
 #[derive(Clone, Debug, PartialEq, Eq)]
 pub enum Item {
     Message {

@@ -4,8 +4,8 @@ use std::io;
 use std::process::Child;
 use std::time::Duration;
 
-/// What a run cost: how long processors worked for the program, or for the system on its behalf, and how many KiB of memory were resident at most,
-/// where Linux counts no less than this program has itself when it starts the other.
+/// What a run cost: how long processors worked for the program, or for the system on its behalf, and how many KiB of
+/// memory were resident at most, where Linux counts no less than this program has itself when it starts the other.
 #[derive(Clone, Copy, Debug)]
 pub struct Cost {
     pub time: Duration,

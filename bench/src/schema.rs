@@ -24,8 +24,8 @@ impl Kind {
     }
 }
 
-/// How often a field stands in a message. A message field that is no list and no member is optional. A member names its oneof by the least
-/// number of its members.
+/// How often a field is in a message. A message field that is no list and no member is optional. A member names its
+/// oneof by the least number of its members.
 #[derive(Clone, Copy, Debug, PartialEq, Eq)]
 pub enum Label {
     Plain,
@@ -51,7 +51,7 @@ impl Field {
         }
     }
 
-    /// Whether the field's values may stand joined in one record.
+    /// Whether the field's values may be packed in one record.
     pub fn is_packable(&self) -> bool {
         self.label == Label::Repeated && self.kind == Kind::U32
     }

@@ -36,7 +36,7 @@ fn put_frame(word: u64, payload: &[u8], out: &mut Vec<u8>) {
     out.extend_from_slice(payload);
 }
 
-/// Any stream: messages of named types and of others, codes that stand for no type, and bits that are to be ignored.
+/// Any stream: messages of named types and of others, unknown codes, and bits that are to be ignored.
 pub fn any(random: &mut Random, damaged: bool) -> Vec<u8> {
     let mut out = Vec::new();
     for _ in 0..random.below(12) {
@@ -73,8 +73,8 @@ pub fn any(random: &mut Random, damaged: bool) -> Vec<u8> {
     out
 }
 
-/// Messages of all types in turn, in any encoding and here and there malformed, and between them custom entries and codes that stand for no type; at
-/// the end a part of a header. The payload of a code of no type is one at version 9 alone.
+/// Messages of all types in turn, in any encoding and here and there malformed, and between them custom entries and
+/// unknown codes; at the end a part of a header. The payload of a code of no type is one at version 9 alone.
 pub fn varied(random: &mut Random, version: u32) -> Vec<u8> {
     let mut out = Vec::new();
     for _ in 0..60 {
@@ -176,7 +176,8 @@ pub fn large(random: &mut Random) -> Vec<Frame> {
 /// How many futures there are in a suspension below the one that is awaited.
 const FUTURES: u32 = 90;
 
-/// A suspension that waits for futures in one another, each with a completion of its own and every third with a named signal.
+/// A suspension that waits for futures in one another, each with a completion of its own and every third with a named
+/// signal.
 pub fn deep() -> Frame {
     let innermost = future(FUTURES, Vec::new());
     suspension(

@@ -13,7 +13,7 @@ pub struct Tally {
     failed: u64,
     /// How often each comparison was made.
     kinds: BTreeMap<&'static str, u64>,
-    /// How often prost refused a skipped record on the last level, as it is known to.
+    /// How often prost rejected a skipped record on the last level, which is known.
     departures: u64,
 }
 
@@ -23,17 +23,17 @@ impl Tally {
         self.passed += 1;
     }
 
-    /// Counts a failure, and shows what it is of and what was answered.
+    /// Counts a failure, and shows what it is of and what was returned.
     pub fn fails(
         &mut self,
         kind: &'static str,
         case: impl fmt::Display,
-        answers: impl fmt::Display,
+        results: impl fmt::Display,
     ) {
         *self.kinds.entry(kind).or_default() += 1;
         self.failed += 1;
         if self.failed <= SHOWN {
-            println!("failed: {case}\n{answers}");
+            println!("failed: {case}\n{results}");
         }
     }
 
@@ -52,13 +52,13 @@ impl Tally {
         self.failed
     }
 
-    /// Prints the counts, those of all comparisons last. Answers whether none failed.
+    /// Prints the counts, those of all comparisons last. Returns whether none failed.
     pub fn print(&self) -> bool {
         for (kind, count) in &self.kinds {
             println!("{kind}: {count}");
         }
         println!(
-            "known departure, prost refuses a skipped record on the last level: {}",
+            "known difference, prost rejects a skipped record on the last level: {}",
             self.departures
         );
         println!("{} passed, {} failed", self.passed, self.failed);

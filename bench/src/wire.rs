@@ -23,7 +23,7 @@ pub fn key(number: u32, wire_type: u8) -> u64 {
     u64::from(number) << 3 | u64::from(wire_type)
 }
 
-/// Takes so many bytes from the front.
+/// Takes a number of bytes from the front.
 pub fn take<'a>(bytes: &mut &'a [u8], length: usize) -> Option<&'a [u8]> {
     if length > bytes.len() {
         return None;
@@ -56,7 +56,7 @@ pub fn take_key(bytes: &mut &[u8]) -> Option<(u32, u8)> {
     (number > 0).then_some((number, (key & 7) as u8))
 }
 
-/// Takes a length and so many bytes from the front.
+/// Takes a length and that number of bytes from the front.
 pub fn take_lengthy<'a>(bytes: &mut &'a [u8]) -> Option<&'a [u8]> {
     let length = usize::try_from(take_varint(bytes)?).ok()?;
     take(bytes, length)

@@ -1,9 +1,10 @@
 /*
  * Lists the stream that comes on the standard input, in chunks of 4 KiB: listing [VERSION]
  *
- * A line is an item: the name of its type and the length of its payload, and " ack" where its header asks for an acknowledgement. A call
- * has the names of its service and its handler besides. The last line counts the bytes that are in no item. VERSION is from 5 to 9; the default
- * is 8. The status is 0 after a whole listing, 1 if the input, the output or an allocation fails, and 2 if the arguments are wrong.
+ * A line is an item: the name of its type and the length of its payload, and " ack" if its header requests an
+ * acknowledgement; after a call also the names of its service and its handler. The last line counts the bytes that are
+ * in no item. VERSION is from 5 to 9; the default is 8. The status is 0 after a whole listing, 1 if the input, the output
+ * or an allocation fails, and 2 if the arguments are wrong.
  *
  *   cc -std=c99 listing.c $(pkg-config --cflags --libs pendratsoa) -o listing
  */
@@ -24,7 +25,7 @@ struct buffer {
     size_t room;
 };
 
-/* Makes room for so many bytes behind those that are held. Answers whether there is. */
+/* Makes room for `count` bytes after those that are held. Returns 0 if an allocation fails, otherwise 1. */
 static int reserve(struct buffer *buffer, size_t count) {
     size_t held = buffer->end - buffer->begin;
     size_t room = buffer->room;
@@ -52,7 +53,7 @@ static int reserve(struct buffer *buffer, size_t count) {
     return 1;
 }
 
-/* Puts the canonical payload of a payload into a buffer. Answers its length, or a refusal. */
+/* Puts the canonical payload of a payload into a buffer. Returns its length, or an error. */
 static int64_t canonical(uint32_t schema, const uint8_t *payload, size_t length, struct buffer *buffer) {
     int64_t needed = journal_canonical(schema, payload, length, buffer->bytes, buffer->room);
 
@@ -92,7 +93,7 @@ static const uint8_t *print_text(const uint8_t *at, const uint8_t *end, int numb
     return at;
 }
 
-/* Prints the names of the service and of the handler of a call, its first two fields. Answers 0, or why there are none. */
+/* Prints the names of the service and of the handler of a call, its first two fields. Returns 0, or an error. */
 static int64_t print_call(uint32_t schema, const uint8_t *payload, size_t length, struct buffer *buffer) {
     int64_t needed = canonical(schema, payload, length, buffer);
 
@@ -109,19 +110,19 @@ static int64_t print_call(uint32_t schema, const uint8_t *payload, size_t length
     return 0;
 }
 
-/* Answers the code of the type that has a name. */
+/* Returns the code of the type that has a name. */
 static int64_t code_of(const char *name) {
     return journal_type_code((const uint8_t *)name, strlen(name));
 }
 
-/* Prints the line of an item. Answers 0, or a refusal. */
+/* Prints the line of an item. Returns 0, or an error. */
 static int64_t print_item(uint32_t version, const uint8_t *bytes, const uint64_t *item, struct buffer *buffer) {
     const uint8_t *payload = bytes + item[JOURNAL_ITEM_PAYLOAD];
     size_t length = (size_t)(item[JOURNAL_ITEM_SIZE] - item[JOURNAL_ITEM_PAYLOAD]);
     uint16_t code = (uint16_t)item[JOURNAL_ITEM_CODE];
     uint8_t name[64];
     int64_t name_length = journal_type_name(code, name, sizeof name);
-    int64_t answer = 0;
+    int64_t error = 0;
 
     switch (item[JOURNAL_ITEM_KIND]) {
     case JOURNAL_UNKNOWN_CODE:
@@ -141,18 +142,18 @@ static int64_t print_item(uint32_t version, const uint8_t *bytes, const uint64_t
         fputs(" ack", stdout);
     }
     if (code == code_of("CallCommand") || code == code_of("OneWayCallCommand")) {
-        answer = print_call((uint32_t)journal_schema(version, code), payload, length, buffer);
+        error = print_call((uint32_t)journal_schema(version, code), payload, length, buffer);
     }
     putchar('\n');
-    return answer;
+    return error;
 }
 
-/* Lists a stream. Answers null, or what fails. */
+/* Lists a stream. Returns null, or what failed. */
 static const char *list(uint32_t version, FILE *input, struct buffer *stream, struct buffer *scratch) {
     uint64_t item[JOURNAL_ITEM_NUMBERS];
 
     for (;;) {
-        int64_t missing, answer;
+        int64_t missing, error;
         size_t count;
 
         while (stream->end > stream->begin) {
@@ -161,9 +162,9 @@ static const char *list(uint32_t version, FILE *input, struct buffer *stream, st
             if (missing != 0) {
                 break;
             }
-            answer = print_item(version, bytes, item, scratch);
-            if (answer < 0) {
-                return answer == JOURNAL_OUT_OF_MEMORY ? "out of memory" : "a type has no name";
+            error = print_item(version, bytes, item, scratch);
+            if (error < 0) {
+                return error == JOURNAL_OUT_OF_MEMORY ? "out of memory" : "a type has no name";
             }
             stream->begin += (size_t)item[JOURNAL_ITEM_SIZE];
         }

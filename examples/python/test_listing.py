@@ -18,13 +18,13 @@ class TestListing(unittest.TestCase):
         with mock.patch.object(listing, "chunks", return_value=[STREAM]), contextlib.redirect_stdout(written):
             self.assertIsNone(listing.main([]))
         self.assertEqual(written.getvalue(), "InputCommand 9\nunknown 0x8\nrest 8\n")
-        for error, answer in (
+        for error, result in (
             (pendratsoa.OutOfMemory(), "listing.py: out of memory"),
             (MemoryError(), "listing.py: out of memory"),
             (listing.InputFailed(), "listing.py: input failed"),
         ):
             with mock.patch.object(listing, "chunks", side_effect=error):
-                self.assertEqual(listing.main([]), answer)
+                self.assertEqual(listing.main([]), result)
 
 
 if __name__ == "__main__":

@@ -115,7 +115,7 @@ export function notKnown(call, what, number) {
   return new JournalError(message, { call });
 }
 
-/** The error that a source ended with so many bytes in no item. */
+/** The error that a source ended with bytes that are in no item, and how many. */
 export function incomplete(call, rest) {
   const message = `${call}: the source ended within an item, after ${byteCount(rest)} of it`;
   return new Incomplete(message, { call, argument: 'source', value: rest });

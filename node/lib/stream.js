@@ -54,7 +54,7 @@ export class Stream {
     }
   }
 
-  /** Moves what is in no item yet to the beginning of new memory, with room for so many bytes more. */
+  /** Moves what is in no item yet to the beginning of new memory, with room for more bytes. */
   #makeRoom(length) {
     const rest = this.#bytes.subarray(this.#begin, this.#end);
     // at least as much room as is moved, so that all moving takes linear time, however small the chunks are

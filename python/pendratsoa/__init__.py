@@ -6,7 +6,7 @@
             if isinstance(item, Message):
                 print(item.type, item.json())
 
-What a call refuses is an exception below `JournalError`, whose text names the argument and its value. A payload's
+What a call rejects is an exception below `JournalError`, whose text names the argument and its value. A payload's
 schema is given by its number or by the name of its record, as "SleepCommandMessage". All may be called from any thread.
 
 The library is the file that PENDRATSOA_LIBRARY names, or else that which is installed with this package, or else what

@@ -32,7 +32,7 @@ class Message:
         """The message of a type, which is given by its code or by its name as "SleepCommand", with a payload.
 
         It requests an acknowledgement if the header of its type does at this version. The payload is taken as it is:
-        `frame` refuses one that is malformed. `Unknown` if there is no such version or type.
+        `frame` rejects one that is malformed. `Unknown` if there is no such version or type.
         """
         code = _calls.type_code(type) if isinstance(type, str) else type
         data, length = Request("Message.of", payload=payload).data("payload")

@@ -45,7 +45,7 @@ def shown(value: object) -> str:
     if isinstance(value, (bytes, bytearray, memoryview)):
         data = bytes(value)
         return repr(data) if len(data) <= 32 else f"{data[:16]!r}.. ({len(data)} bytes)"
-    # Python refuses to write numbers of thousands of digits in decimals
+    # Python does not write numbers of thousands of digits in decimals
     text = hex(value) if isinstance(value, int) and value.bit_length() > 64 else repr(value)
     return text if len(text) <= 80 else f"{text[:77]}.."
 

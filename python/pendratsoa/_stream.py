@@ -49,7 +49,7 @@ class Stream:
         # what came after them, and is joined to them once it is enough
         self._chunks: List[bytes] = []
         self._chunks_size = 0
-        # how many bytes are missing after `_left` at least; 0 if this is not known. It refuses an unknown version
+        # how many bytes are missing after `_left` at least; 0 if this is not known. It rejects an unknown version
         self._missing = self._look()
 
     @property

@@ -1,4 +1,4 @@
-"""What a call refuses: the kind of the error, its text and its fields."""
+"""What a call rejects: the kind of the error, its text and its fields."""
 
 import pickle
 import unittest

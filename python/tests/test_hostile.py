@@ -53,7 +53,7 @@ def values():
 
 class TestArguments(unittest.TestCase):
     def tried(self, call, *arguments, **named):
-        """Whether a call refuses these by an error that a caller can expect."""
+        """Whether a call rejects these with an error that a caller can expect."""
         try:
             call(*arguments, **named)
         except (JournalError, TypeError, ValueError):
@@ -164,7 +164,7 @@ class TestThreads(unittest.TestCase):
 
 class TestMemory(unittest.TestCase):
     def work(self):
-        """Calls of all kinds, some of which are refused."""
+        """Calls of all kinds, some of which are rejected."""
         stream = Stream()
         stream.feed(RECORDED)
         for item in stream:

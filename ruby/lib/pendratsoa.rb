@@ -17,7 +17,7 @@ require_relative "pendratsoa/stream"
 #     stream.read(file) { |item| puts item.type, item.json if item.is_a?(Pendratsoa::Message) }
 #   end
 #
-# What a call refuses is an exception below Pendratsoa::Error, whose text names the argument and its value; what is no
+# What a call rejects is an exception below Pendratsoa::Error, whose text names the argument and its value; what is no
 # String or no Integer is a TypeError. A schema is given by its number or by the name of its record, as
 # "SleepCommandMessage". Bytes are Strings of any encoding; those that are returned are binary, and texts are UTF-8. All
 # may be called from any thread.

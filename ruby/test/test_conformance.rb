@@ -2,7 +2,7 @@
 
 require_relative "helper"
 
-# The test vectors of conformance/, by the calls that answer them; none prints a record.
+# The test vectors of conformance/, by the calls that check them; no call prints a record.
 class TestConformance < Minitest::Test
   FILES = Dir[File.join(Helper::TOP, "conformance/**/*.txt")].freeze
 

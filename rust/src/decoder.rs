@@ -102,7 +102,7 @@ impl Decoder {
         read.map(|_| count)
     }
 
-    /// Makes room for so many more bytes.
+    /// Makes room for more bytes, of this number.
     fn make_room(&mut self, count: usize) -> Result<(), Error> {
         // used bytes are dropped once they are the greater part, so that each byte is moved once on average
         if self.begin > self.bytes.len() / 2 {

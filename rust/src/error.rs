@@ -50,7 +50,7 @@ pub enum Argument {
 }
 
 impl Error {
-    /// The error of a refusal, by what it is that can be unknown, and what can be malformed.
+    /// The error for an error number, by what can be unknown, and what can be malformed.
     pub(crate) fn of(
         refusal: Refusal,
         unknown: impl FnOnce() -> Argument,

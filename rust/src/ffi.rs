@@ -145,7 +145,7 @@ fn count(returned: i64) -> Result<usize> {
 /// # Safety
 ///
 /// The call is given a pointer and a number of bytes that it may write there. If what it returns is not negative and at
-/// most that number, it has written so many bytes.
+/// most that number, it has written that many bytes.
 unsafe fn written(guess: usize, call: impl FnMut(*mut u8, usize) -> i64) -> Result<Vec<u8>> {
     let mut call = call;
     let mut out = Vec::new();
@@ -155,7 +155,7 @@ unsafe fn written(guess: usize, call: impl FnMut(*mut u8, usize) -> i64) -> Resu
             .map_err(|_| Refusal::OutOfMemory)?;
         let length = count(call(out.as_mut_ptr(), out.capacity()))?;
         if length <= out.capacity() {
-            // SAFETY: the call has written so many bytes, as its caller promises, and there is room for them
+            // SAFETY: the call has written this number of bytes, as its caller promises, and there is room for them
             unsafe { out.set_len(length) };
             return Ok(out);
         }
@@ -348,7 +348,7 @@ mod tests {
     ///
     /// # Safety
     ///
-    /// There is room for so many bytes.
+    /// There is room for this number of bytes.
     unsafe fn text(text: &[u8], out: *mut u8, room: usize) -> i64 {
         if text.len() <= room {
             // SAFETY: there is room for it

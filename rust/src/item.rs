@@ -160,7 +160,7 @@ pub enum Next<'a> {
         /// Its size in bytes, header and payload.
         size: usize,
     },
-    /// No whole item: at least so many bytes are missing, one or more.
+    /// No whole item: the least number of bytes that are missing, one or more.
     Missing(usize),
 }
 

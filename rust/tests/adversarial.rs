@@ -1,4 +1,4 @@
-//! Arguments that nobody means: each gives the error or the items that are promised, and nothing panics.
+//! Adversarial arguments: each gives the error or the items that are promised, and nothing panics.
 
 use std::io::{self, ErrorKind, Read};
 
@@ -412,7 +412,7 @@ fn journals_of_noise() {
     }
 }
 
-/// A record of a payload: a field that holds so many bytes, fewer than 2^14.
+/// A record of a payload: a field that holds this number of bytes, fewer than 2^14.
 fn field(key: u8, bytes: &[u8]) -> Vec<u8> {
     let length = bytes.len();
     let head = [key, (length & 0x7F) as u8 | 0x80, (length >> 7) as u8];

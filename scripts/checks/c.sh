@@ -35,7 +35,7 @@ library=$prefix/lib/libpendratsoa.so
 
 exported_names
 
-# The program of the page, by pkg-config where it is there; the page has every call's refusals.
+# The program of the page, by pkg-config where it is there; the page has every call's errors.
 awk '/^```c$/ { is_code = 1; next } /^```$/ { is_code = 0 } is_code' docs/C.md > "$work/page.c"
 sed -n 's/^It prints `\(.*\)`\..*/\1/p' docs/C.md > "$work/wanted"
 if command -v pkg-config > /dev/null; then
@@ -99,7 +99,7 @@ python=
 ! command -v python3 > /dev/null || python=python3
 [ -n "$python" ] || without 'the example in Python' python3
 
-# listed NAME STREAM VERSION: the examples list a stream alike, and but for the names behind calls as the lister does
+# listed NAME STREAM VERSION: the examples list a stream alike, and but for the names after calls as the lister does
 listed() {
   "$work/static" "$3" < "$2" > "$work/out" 2> "$work/err"
   outcome "$1 at $3" $?
@@ -169,7 +169,7 @@ for listing in listing listing.py; do
   fi
 done
 status=
-# Python itself refuses to start on a folder
+# Python itself does not start on a folder
 "$work/static" < "$work" > "$work/out" 2> "$work/err"
 status=$?
 fails 'an input that is a folder' 1 listing 'input failed'

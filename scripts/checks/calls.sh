@@ -3,14 +3,14 @@
 #
 # The last version is the same in the library, in the programs, in the tools and on pages. A call for C is the same in
 # journal_ffi, the header, the package for Python and the crate for Rust, and has tests, adversarial calls and a
-# promise. Each crate has a sentence in crates/README.md and a line in docs/ARCHITECTURE.md, each folder of tests/ one in
-# its page, and each public call of shared_core is in the tests of the public API. It reads the code as it stands. What
+# promise. Each crate has a sentence in crates/README.md and a line in docs/ARCHITECTURE.md, each folder of tests/ one
+# in its page, and each public call of shared_core is in the tests of the public API. It reads the code as it is. What
 # differs is shown above the last line.
 set -u
 cd "$(dirname "$0")/../.." || exit 1
 . scripts/checks/lib.sh
 
-# The last version: that of the library, those that callers from other languages and the test vectors can ask for, and what
+# The last version: that of the library, those that callers from other languages and the test vectors can name, and what
 # pages and comments say. The programs ask the library for it.
 last=$(sed -n '/fn maximum_supported_version/,/^    }$/s/^        Version::V\([0-9]*\)$/\1/p' \
   crates/shared_core_base/src/version.rt)
@@ -26,7 +26,8 @@ find README.md conformance bench/README.md bench/src docs include examples pytho
 grep " to $last\$" "$work/values" > "$work/lines"
 same "the last version of shared_core_base, and pages and comments" "$work/values" "$work/lines"
 
-# The calls for C: a line each, its name and what it takes in C's words. In journal_ffi a slice is one parameter, and memory another.
+# The calls for C: a line each, its name and what it takes in C's words. In journal_ffi a slice is one parameter, and
+# memory another.
 cat crates/journal_ffi/src/*.rt | awk '
   /^pub extern "C" fn journal_/ { text = ""; inside = 1 }
   inside { text = text $0 }
@@ -131,7 +132,7 @@ done < "$work/names" > "$work/absent"
 [ -s "$work/names" ] && [ ! -s "$work/absent" ]
 outcome "the names of docs/LANGUAGES.md: not in the sources: $(tr '\n' ' ' < "$work/absent")" $?
 
-# It has tests, is called by nobody who means well, and stands in the table of promises.
+# It has tests, is among the adversarial calls, and is in the table of promises.
 grep -oh 'journal_[a-z_]*(' tests/ffi/*.rt.in | sed 's/(//' | sort -u > "$work/lines"
 same "the calls and the tests of tests/ffi" "$work/values" "$work/lines"
 sed -n 's/^    \[[A-Z_]*\] = {"\(journal_[a-z_]*\)".*/\1/p' tests/c/hostile_calls.c | sort > "$work/lines"

@@ -1,5 +1,5 @@
 #!/bin/sh
-# The library gives the answers of all of conformance/*.txt; with the word '-' those on standard input.
+# The library gives the results of all of conformance/*.txt; with the word '-' those on standard input.
 #
 # It runs the proved program of crates/test_vectors where `rt ci` or `rt run` has built it, else it builds one without
 # the proofs, which is slow: it needs a minute for some ten thousand lines. Each line that fails is shown with the

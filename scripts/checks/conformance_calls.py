@@ -86,7 +86,7 @@ def main():
             continue
         try:
             found = result_of(question)
-        except Exception as error:  # a line that breaks a law, or that a call refuses otherwise
+        except Exception as error:  # a line that breaks a law, or that a call rejects otherwise
             found = repr(error)
         if found == expected:
             passed += 1

@@ -1,5 +1,5 @@
 #!/bin/sh
-# journal_dump on examples, refused arguments and what fails; its lines beside protobuf, jq and Python.
+# journal_dump on examples, wrong arguments and what fails; its lines beside protobuf, jq and Python.
 #
 # It runs the proved program, also with each allocation failing in turn, and compares standard output, the
 # whole of standard error and the status. jq and Python's json read each line of the dumps of adversarial streams, and
@@ -153,7 +153,7 @@ if command -v cc > /dev/null && cc -O2 -shared -fPIC -o "$work/refuse.so" "$top/
   request=0
   requests=0
   wrong=0
-  # at last none is refused, since fewer are made
+  # at last none fails, since fewer are made
   while [ "$request" -le "$requests" ] && [ "$wrong" -lt 5 ]; do
     request=$((request + 1))
     REFUSE=$request LD_PRELOAD=$work/refuse.so "$program" < cut_short > "$out" 2> "$err" 3> "$work/requests"

@@ -1,9 +1,10 @@
 # What runs a command once for each of its allocations, with that one failing, and at last with none. A check says
 # '. scripts/checks/each_refused.sh' after lib.sh; the command has tests/c/refuse.c, by LD_PRELOAD or linked into it.
 
-# sweep FIRST IS_RIGHT INPUT COMMAND..: runs the command with each second request refused, from the first one on, until none is
+# sweep FIRST IS_RIGHT INPUT COMMAND..: runs the command with each second allocation failing, from this one on, until
+# none fails
 sweep() {
-  request=$1
+  number=$1
   room=$work/$1
   is_right=$2
   input=$3
@@ -11,27 +12,27 @@ sweep() {
   mkdir -p "$room"
   right=0
   wrong=0
-  refused=yes
-  while [ "$refused" = yes ] && [ "$wrong" -lt 5 ]; do
-    REFUSE=$request "$@" < "$input" > "$room/out" 2> "$room/err" 3> "$room/requests"
+  is_failing=yes
+  while [ "$is_failing" = yes ] && [ "$wrong" -lt 5 ]; do
+    REFUSE=$number "$@" < "$input" > "$room/out" 2> "$room/err" 3> "$room/allocations"
     status=$?
-    requests=0
-    read -r requests < "$room/requests"
-    [ "$requests" -ge "$request" ] || refused=no
+    allocations=0
+    read -r allocations < "$room/allocations"
+    [ "$allocations" -ge "$number" ] || is_failing=no
     if ! "$is_right"; then
       wrong=$((wrong + 1))
-      [ "$refused" = yes ] && what="request $request refused" || what='no request refused'
+      [ "$is_failing" = yes ] && what="allocation $number failing" || what='no allocation failing'
       echo "failed: $name: $what: status $status, standard output and standard error:"
       cat "$room/out" "$room/err"
-    elif [ "$refused" = yes ]; then
+    elif [ "$is_failing" = yes ]; then
       right=$((right + 1))
     fi
-    request=$((request + 2))
+    number=$((number + 2))
   done
-  echo "$right $wrong $requests" > "$room/counts"
+  echo "$right $wrong $allocations" > "$room/counts"
 }
 
-# refuse_each NAME IS_RIGHT INPUT COMMAND..: runs the command with each request refused, half of them at a time, and counts
+# refuse_each NAME IS_RIGHT INPUT COMMAND..: runs the command with each allocation failing, half of them at a time
 refuse_each() {
   name=$1
   shift
@@ -39,16 +40,16 @@ refuse_each() {
   sweep 2 "$@" > "$work/2.log" &
   wait
   cat "$work/1.log" "$work/2.log"
-  refusals=0
+  failures=0
   for half in 1 2; do
-    read -r right wrong requests < "$work/$half/counts"
-    refusals=$((refusals + right))
+    read -r right wrong allocations < "$work/$half/counts"
+    failures=$((failures + right))
     failed=$((failed + wrong))
   done
-  passed=$((passed + refusals))
-  echo "$name: $refusals of $requests requests refused in turn"
-  if [ "$requests" -eq 0 ]; then
-    echo "failed: $name: no request for memory is seen"
+  passed=$((passed + failures))
+  echo "$name: $failures of $allocations allocations failed in turn"
+  if [ "$allocations" -eq 0 ]; then
+    echo "failed: $name: no allocation is seen"
     failed=$((failed + 1))
   fi
 }

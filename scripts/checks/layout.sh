@@ -1,5 +1,5 @@
 #!/bin/sh
-# The sources are in the layout of `rt fmt`, and the old texts of each mutant occur once.
+# The layout of `rt fmt`, lines of at most 120 characters, and mutants whose old texts occur once.
 #
 # The gate proves nothing of a crate with a file in another layout, and a mutant whose text has moved shows nothing;
 # both are seen here within seconds.

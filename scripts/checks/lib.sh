@@ -37,7 +37,7 @@ left_out() {
   echo "$check: $1: not run, since $2"
 }
 
-# without WHAT TOOL: says that a part is not run for want of a tool
+# without WHAT TOOL: says that a part is not run, since a tool is missing
 without() {
   left_out "$1" "there is no $2"
 }
@@ -170,8 +170,8 @@ printed() {
 # What the programs have in common where something fails: $program prints one line on the standard error, and ends with
 # the status $failure.
 
-# refused WHY ARGUMENT..: these arguments are refused, with the status 2: nothing is written, and the standard error says
-# an error that has this text
+# refused WHY ARGUMENT..: these arguments are rejected, with the status 2: nothing is written, and the standard error
+# says an error that has this text
 refused() {
   why=$1
   shift
@@ -282,8 +282,8 @@ add() {
   failed=$((failed + ${1%% *}))
 }
 
-# unproved_crate NAME LIBRARY..: makes a copy of the crates' sources with one more crate, which uses these libraries; $crate
-# is its folder, whose src/ is empty
+# unproved_crate NAME LIBRARY..: makes a copy of the crates' sources with one more crate, which uses these libraries;
+# $crate is its folder, whose src/ is empty
 unproved_crate() {
   for crate in crates/*; do
     for part in src specs proofs; do

@@ -161,7 +161,7 @@ shortened_outputs "$work/long" "$work/long.stdout"
 
 # With a closed output the program stops at the first line, which the first message of 27 bytes makes: the chunks that
 # it has read by then show their size by what is left for the next command.
-# left ARGUMENT BYTES FILE: so many bytes are left
+# left ARGUMENT BYTES FILE: this number of bytes is left
 left() {
   {
     "$program" ${1:+"$1"} 2> "$err" >&-

@@ -1,8 +1,8 @@
 # Lists a stream as journal_list is to list it, by the rule of items and nothing of the library:
 #   od -An -v -t u1 STREAM | awk [-v version=9] -f list_stream.awk proto/types.txt -
 #
-# Eight bytes are a header: the code in the first two, bit 7 of the third asks for an acknowledgement, the length in the
-# last four. A code without a name that is below 1024 stands for no type, and its eight bytes are an item, but not at
+# Eight bytes are a header: the code in the first two, bit 7 of the third requests an acknowledgement, the length in the
+# last four. A code without a name that is below 1024 is unknown, and its eight bytes are an item, but not at
 # version 9. Else the item goes on for its length.
 function number(text,  i, value) {
   value = 0

@@ -1,5 +1,5 @@
 #!/bin/sh
-# Links, paths, worked lines and the names behind promises in pages lead somewhere; the README shows what runs.
+# Links, paths, worked lines and the names in tables of promises lead somewhere; the README shows what runs.
 #
 # Each link, anchor and path of this repository in `code`, the length of lines, the index of decisions, each worked line
 # of conformance, the test vectors of each rule, the README's page of code and the dump that it shows, in a table of
@@ -179,8 +179,8 @@ while IFS= read -r line; do
   fi
 done < "$work/shown"
 
-# names behind promises: each `Name` or `path::name` of a table's last column is a word of the code or the definitions
-# of the crate in the heading, of one that it stands on, or of one that the column names; or it is a crate
+# names in tables of promises: each `Name` or `path::name` of a table's last column is a word of the code or the
+# definitions of the crate in the heading, of one that it depends on, or of one that the column names; or it is a crate
 for crate in crates/*/; do
   crate=${crate#crates/}
   crate=${crate%/}

@@ -2,11 +2,11 @@
 # Each allocation of journal_list and journal_diff fails in turn; that of the tests is in tests.sh.
 #
 # The programs run once for each allocation that they make, with that one failing, and at last with none. journal_list
-# has to write its listing, or whole lines at the beginning of it and that memory is short, and journal_diff its
-# verdict, or nothing and that memory is short; both succeed if no allocation fails.
+# has to write its listing, or whole lines at the beginning of it and that it is out of memory, and journal_diff its
+# verdict, or nothing and that it is out of memory; both succeed if no allocation fails.
 #
-# It takes the programs that rt ci has proved and built, and tests/c/refuse.c, which counts their requests and refuses
-# one. Two runs go at a time. Each refused request counts as one.
+# It takes the programs that rt ci has proved and built, and tests/c/refuse.c, which counts their allocations and makes
+# one of them fail. Two runs go at a time. Each failed allocation counts as one.
 set -u
 cd "$(dirname "$0")/../.." || exit 1
 . scripts/checks/lib.sh
@@ -24,8 +24,8 @@ if ! cc -O2 -shared -fPIC -o "$work/refuse.so" tests/c/refuse.c -ldl; then
   finish
 fi
 
-# Whether a run was right, of which $status, $room/out and $room/err are what came of it, and $refused says whether a
-# request was refused.
+# Whether a run was right: its results are $status, $room/out and $room/err, and $is_failing says whether an allocation
+# failed.
 
 is_right_listing() {
   complaint=''
@@ -33,7 +33,7 @@ is_right_listing() {
   case $status:$complaint in
     0:) cmp -s "$room/out" "$listing" ;;
     '1:journal_list: out of memory')
-      [ "$refused" = yes ] && head -n "$(wc -l < "$room/out")" "$listing" | cmp -s - "$room/out"
+      [ "$is_failing" = yes ] && head -n "$(wc -l < "$room/out")" "$listing" | cmp -s - "$room/out"
       ;;
     *) false ;;
   esac
@@ -44,7 +44,7 @@ is_right_verdict() {
   read -r complaint < "$room/err"
   case $status:$complaint in
     "$verdict_status:") cmp -s "$room/out" "$work/verdict" ;;
-    '2:journal_diff: out of memory') [ "$refused" = yes ] && [ ! -s "$room/out" ] ;;
+    '2:journal_diff: out of memory') [ "$is_failing" = yes ] && [ ! -s "$room/out" ] ;;
     *) false ;;
   esac
 }

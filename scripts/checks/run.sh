@@ -1,7 +1,7 @@
 #!/bin/sh
 # scripts/run.sh: help and errors before anything is built, from any folder, and a program that is built unproved once.
 #
-# An rt that does nothing but say that it was called stands in the way of the toolchain's where nothing may be built.
+# An rt that does nothing but say that it was called comes before the toolchain's where nothing may be built.
 set -u
 cd "$(dirname "$0")/../.." || exit 1
 . scripts/checks/lib.sh
@@ -22,7 +22,7 @@ run_sh() {
   status=$?
 }
 
-# refused LINE ARGUMENT..: it has to refuse the arguments in this line, and to call no rt
+# refused LINE ARGUMENT..: it has to reject the arguments with this line, and to call no rt
 refused() {
   line=$1
   shift

@@ -47,7 +47,7 @@ for listing in examples/streams/*.stdout; do
   agreed "the lister on $stream" $?
 done
 
-# listed SIZE BOUND: lists the stream of the work folder in chunks of this size, in so many KiB of address space
+# listed SIZE BOUND: lists the stream of the work folder in chunks of this size, in this number of KiB of address space
 if (ulimit -v 131072) 2> "$err"; then
   listed() {
     (ulimit -v "$2" && "$program" "$1" $version) < "$work/stream" > "$out" 2> "$err"
@@ -67,7 +67,7 @@ until listed 65536 "$need" 2> "$work/shell" || [ "$need" -ge 65536 ]; do
 done
 
 # in_pieces NAME HELD TIMES SIZE..: the stream, in chunks of these sizes. Beyond what the program needs for nothing it
-# has a mebibyte, 160 bytes for each chunk of the most bytes that it has to hold, and so many times these bytes: twice
+# has a mebibyte, 160 bytes for each chunk of the most bytes that it has to hold, and a multiple of these bytes: twice
 # where they are joined.
 in_pieces() {
   name=$1
@@ -92,7 +92,7 @@ stream unknown 2097152 1
 in_pieces 'unknown headers' 8 1 1 7 4096 65536
 
 # These two come to a header that promises more than there is, and no message of them is ever joined. The seed of the
-# first is one with two unknown headers in front.
+# first is one with two unknown headers before it.
 for length in 131072 2097152; do
   sizes='7 4096 65536'
   [ "$length" -gt 131072 ] || sizes="1 $sizes"
@@ -102,7 +102,7 @@ for length in 131072 2097152; do
   in_pieces "$length bytes after a promise of 4 GiB" "$length" 1 $sizes
 done
 
-# The longest message is joined. Each type has to stand in the listing, and each kind of line.
+# The longest message is joined. Each type has to be in the listing, and each kind of line.
 stream mixed 2097152 1
 longest=$(awk '$1 != "unknown" && $2 > longest { longest = $2 } END { print longest }' "$work/listing")
 in_pieces 'mixed frames' "$longest" 2 1 7 4096 65536

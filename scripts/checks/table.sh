@@ -1,5 +1,5 @@
 #!/bin/sh
-# The protocol's description is what was written by hand from the protocol itself.
+# The description of the protocol agrees with what is hand-written from the protocol itself.
 #
 # proto/journal.proto is compared with the codes and the lines of conformance/, with the tables of the program that
 # writes comparisons, and with the rules of bench/src/rules.rs. What is written from the description is the check

@@ -1,7 +1,7 @@
 #!/bin/sh
 # The tests of tests/, compiled and run without proofs; also of the folders alone that are named.
 #
-# They check the public API by its types, and what calls answer and print where no contract says it. `rt try --test`
+# They check the public API by its types, and what calls return and print where no contract says it. `rt try --test`
 # compiles all of them as one crate, in a temporary copy of the sources, and stops at each fault of memory. Each test
 # counts as one, and each folder has a line. Then each test of tests/out_of_memory runs once for each allocation that it
 # makes, with that one failing (tests/c/refuse.c), and has to pass; each such run counts as one.

@@ -1,8 +1,9 @@
 #!/bin/sh
 # Comments and pages use the field's words, and not the dialect of earlier versions.
 #
-# Each line below is a pattern (of awk) and the better words. It is searched in pages and in comments, code in backquotes
-# left out, also where it goes over the end of a line. A word with honest other uses is here only in the wrong phrase.
+# Each line below is a pattern (of awk) and the better words. It is searched in pages, comments and docstrings, code in
+# backquotes left out, also where it goes over the end of a line. A word with honest other uses is here only in the wrong
+# phrase.
 set -u
 cd "$(dirname "$0")/../.." || exit 1
 . scripts/checks/lib.sh
@@ -36,9 +37,21 @@ answers (how|what|whether|the|a|an|its|no) |returns
 is answered|is returned
 stands? as it (was|stood)|is unchanged
 stands? in one another|are nested
+stands? for no type|unknown code
+so many (bytes|more|times)|a number of
+[Ll]ays? (a|one|the) [a-z]+ over|merge
+ spelled |encoded
+(is|are) (not )*to be had|is available, or is missing
+goes on where it stands|is merged into what is there
+ stood |was
+ [Rr]efus(e|es|ing) |reject
+ behind (it|that|them|these|those|promises?)[ ,.;:]|after
+nobody|adversarial, or no caller
+(is|are) mended|is fixed
+[Tt]hat it is asked|that it is called
 END
 
-git ls-files -- '*.md' '*.rt' '*.antt' '*.proto' '*.py' '*.sh' '*.awk' '*.c' '*.h' '*.rs' '*.go' '*.rb' '*.js' '*.ts' '*.mts' > "$work/files"
+git ls-files -- '*.md' '*.rt' '*.rt.in' '*.antt' '*.proto' '*.py' '*.sh' '*.awk' '*.c' '*.h' '*.rs' '*.go' '*.rb' '*.js' '*.ts' '*.mts' > "$work/files"
 # shellcheck disable=SC2046 # the names are split; none has a blank
 awk -v patterns="$work/patterns" -v self=scripts/checks/words.sh '
   BEGIN {
@@ -56,11 +69,13 @@ awk -v patterns="$work/patterns" -v self=scripts/checks/words.sh '
     before = ""
     fenced = 0
     marks = ""
-    if (FILENAME ~ /\.(rt|proto|rs|go)$/) marks = "//[/!]?"
+    if (FILENAME ~ /\.(rt|rt\.in|proto|rs|go)$/) marks = "//[/!]?"
     if (FILENAME ~ /\.antt$/) marks = "--+"
     if (FILENAME ~ /\.(py|sh|awk|rb)$/) marks = "#+"
     if (FILENAME ~ /\.(c|h|js|ts|mts)$/) marks = "(/[*]+|[*]|//)"
     page = FILENAME ~ /\.md$/
+    python = FILENAME ~ /\.py$/
+    docstring = 0
     files++
   }
   FILENAME == self || /@generated/ { next }
@@ -69,8 +84,14 @@ awk -v patterns="$work/patterns" -v self=scripts/checks/words.sh '
   {
     text = $0
     if (!page) {
-      if (text !~ "^ *" marks "( |$)") { before = ""; next }
-      sub("^ *" marks " ?", "", text)
+      # a docstring of Python, from its quotes to its quotes
+      quotes = python ? gsub(/"""/, "", text) : 0
+      is_docstring = docstring || quotes > 0
+      if (quotes % 2 == 1) docstring = !docstring
+      if (!is_docstring) {
+        if (text !~ "^ *" marks "( |$)") { before = ""; next }
+        sub("^ *" marks " ?", "", text)
+      }
     }
     sub(/^ +/, "", text)
     gsub(/`[^`]*`/, "`", text)

@@ -1,10 +1,10 @@
 # Writes an adversarial stream, the same for the same kind, size and seed:
 #   LC_ALL=C awk -v kind=KIND -v size=BYTES -v seed=SEED -f write_stream.awk proto/types.txt
 #
-# random: any bytes. unknown: headers alone whose codes stand for no type. promise: a header that promises 4,294,967,295
+# random: any bytes. unknown: headers alone whose codes are unknown. promise: a header that promises 4,294,967,295
 # bytes, and any bytes after it. mixed: frames of all types and of custom ones with any payload, unknown headers between
 # them, and at the end a frame of which the last byte is missing. skipped: the same with unknown headers that have the
-# payload that they say. Bits of headers that say nothing are any.
+# payload that they say. Ignored bits of headers are random.
 function number(text,  i, value) {
   value = 0
   for (i = 1; i <= length(text); i++) value = value * 16 + index("0123456789abcdef", substr(text, i, 1)) - 1

@@ -1,7 +1,7 @@
 /*
- * Reads each constant of pendratsoa.h by its name, beside literal answers of the library: constants
+ * Reads each constant of pendratsoa.h by its name, beside literal results of the library: constants
  *
- * It prints the name of each constant that says what the library answers, and a line that begins with 'wrong: ' for
+ * It prints the name of each constant that says what the library returns, and a line that begins with 'wrong: ' for
  * each other; then its status is 1. scripts/checks/c.sh looks that no constant of the header is missing.
  *
  * It is linked with the static library and --wrap of malloc and realloc, so that an allocation can be refused.
@@ -92,7 +92,7 @@ static void numbers_of_the_protocol(void) {
 }
 
 static void items(void) {
-    /* completion 1 with the value "x", which asks for an acknowledgement; a message of no type */
+    /* completion 1 with the value "x", which requests an acknowledgement; a message of an unknown type */
     const uint8_t proposal[] = {0, 5, 0x80, 0, 0, 0, 0, 5, 0x08, 1, 0x72, 1, 'x'};
     const uint8_t unknown[] = {0, 8, 0, 0, 0, 0, 0, 2, 0, 3};
     uint64_t item[7] = {0, 0, 0, 0, 0, 0, 99};

@@ -1,22 +1,22 @@
 /*
- * Calls the library for C as nobody does who means well: hostile_calls [--heap] SEED COUNT [THREADS]
+ * Makes adversarial calls of the library for C: hostile_calls [--heap] SEED COUNT [THREADS]
  *
  * Each call is handed random slices and numbers, among them slices of no length that are null. A slice ends at a page
  * that nothing may touch, or begins after one, and has guard bytes at its other side. A call is made again with room of
  * every size from none to what is needed, with too few numbers and with too many, and with each of its allocations
  * failing in turn. After each call
  *
- * - what is read is unchanged, and so are the guards and what is to be written, but for the bytes of the answer
+ * - what is read is unchanged, and so are the guards and what is to be written, but for the bytes of the result
  *   where there is room;
- * - the answer is one that the header lists, and the same whatever the room;
+ * - the result is one that the header lists, and the same whatever the room;
  * - a failed allocation is JOURNAL_OUT_OF_MEMORY, and a call without a failed one never returns that;
  * - no memory is held.
  *
- * Every fourth case is made on purpose, by turns, for a kind of answer of a call: each refusal that it lists but
- * JOURNAL_TOO_LONG, each kind of item, id with result and verdict, and the rest of what it answers. Of 10,000 calls and
- * more, whatever the seed, each kind has to have been answered; one that was not is named.
+ * Every fourth case is made on purpose, in turn for each kind of result of each call: each error that it lists but
+ * JOURNAL_TOO_LONG, each kind of item, id with result and verdict, and the rest of what it returns. In 10,000 calls and
+ * more, whatever the seed, each kind has to have been returned; one that was not is named.
  *
- * Each thread makes the same calls, COUNT at least, and has to have the same answers. With --heap the slices are blocks
+ * Each thread makes the same calls, COUNT at least, and has to have the same results. With --heap the slices are blocks
  * of malloc of exactly their length, for valgrind to watch.
  *
  * It is linked with the static library and --wrap of malloc, realloc and free; scripts/checks/c.sh does so.
@@ -44,27 +44,27 @@ void *__real_malloc(size_t size);
 void *__real_realloc(void *block, size_t size);
 void __real_free(void *block);
 
-/* The requests of the call that a thread makes, the one of them to be refused (0: none), whether it was, and the blocks
-   that are held. */
-static __thread struct { long requests, refuse, held; int is_refused; } heap;
+/* The allocations of the call that a thread makes, the one of them that is to fail (0: none), whether it did, and the
+   blocks that are held. */
+static __thread struct { long allocations, failing, held; int has_failed; } heap;
 
-static int is_refused(void) {
-    heap.requests++;
-    if (heap.requests != heap.refuse) {
+static int fails_now(void) {
+    heap.allocations++;
+    if (heap.allocations != heap.failing) {
         return 0;
     }
-    heap.is_refused = 1;
+    heap.has_failed = 1;
     return 1;
 }
 
 void *__wrap_malloc(size_t size) {
-    void *block = is_refused() ? NULL : __real_malloc(size);
+    void *block = fails_now() ? NULL : __real_malloc(size);
     heap.held += block != NULL;
     return block;
 }
 
 void *__wrap_realloc(void *block, size_t size) {
-    void *moved = is_refused() ? NULL : __real_realloc(block, size);
+    void *moved = fails_now() ? NULL : __real_realloc(block, size);
     heap.held += !block && moved;
     return moved;
 }
@@ -81,15 +81,15 @@ enum call {
     NOTIFICATION, HEADER_EQ, DIFFERENCE, VERDICT, CALLS
 };
 
-#define REFUSALS 8
-#define BIT(refusal) (1u << -(refusal))
+#define ERRORS 8
+#define BIT(error) (1u << -(error))
 #define UNKNOWN BIT(JOURNAL_UNKNOWN)
 #define MALFORMED BIT(JOURNAL_MALFORMED)
 #define MEMORY BIT(JOURNAL_OUT_OF_MEMORY)
 #define NO_ROOM BIT(JOURNAL_NO_ROOM)
 #define TOO_LONG BIT(JOURNAL_TOO_LONG)
 
-/* The most kinds of answers that are no refusals: an id of each kind with a result of each kind. */
+/* The most kinds of results that are no errors: an id of each kind with a result of each kind. */
 #define KINDS 15
 
 static const struct {
@@ -97,7 +97,7 @@ static const struct {
     int inputs;
     size_t numbers;
     int writes;
-    unsigned refusals;
+    unsigned errors;
     int kinds;
 } listed[CALLS] = {
     [LIBRARY_VERSION] = {"journal_library_version", 0, 0, 1, 0, 1},
@@ -158,7 +158,7 @@ struct work {
     long cases;
     uint64_t digest;
     long turn;
-    long answers[CALLS][REFUSALS];
+    long results[CALLS][ERRORS];
     long kinds[CALLS][KINDS];
     uint8_t *regions[PLACES];
     struct slice slices[PLACES];
@@ -174,13 +174,13 @@ static void fail(const char *why) {
     exit(2);
 }
 
-static void wrong(const struct work *work, const struct request *request, const char *what, int64_t answer) {
+static void wrong(const struct work *work, const struct request *request, const char *what, int64_t result) {
     flockfile(stdout);
-    printf("wrong: %s: %s: answer %" PRId64 ", room %zu, numbers %zu, version %" PRIu32 ", code 0x%04x, ",
-           listed[request->call].name, what, answer, work->slices[OUT].length, work->slices[NUMBERS].length / 8,
+    printf("wrong: %s: %s: result %" PRId64 ", room %zu, numbers %zu, version %" PRIu32 ", code 0x%04x, ",
+           listed[request->call].name, what, result, work->slices[OUT].length, work->slices[NUMBERS].length / 8,
            request->version, request->code);
-    printf("schema %" PRIu32 ", flag %" PRIu32 ", request %ld refused; seed %" PRIu64 ", case %ld\n", request->schema,
-           request->ignore_payloads, heap.refuse, work->seed, work->cases);
+    printf("schema %" PRIu32 ", flag %" PRIu32 ", allocation %ld failing; seed %" PRIu64 ", case %ld\n",
+           request->schema, request->ignore_payloads, heap.failing, work->seed, work->cases);
     for (int i = 0; i < listed[request->call].inputs; i++) {
         printf("  input %d:", i);
         for (size_t k = 0; k < request->source[i].length; k++) {
@@ -457,11 +457,11 @@ static int64_t make(const struct request *r, const struct slice *slices) {
     }
 }
 
-/* Which of its kinds the answer of a call is that is no refusal. */
-static int kind_of(enum call call, int64_t answer, const uint64_t *numbers) {
+/* Which of its kinds the result of a call is that is no error. */
+static int kind_of(enum call call, int64_t result, const uint64_t *numbers) {
     switch (call) {
-    case NEXT: return answer > 0 ? JOURNAL_SKIPPED + 1 : (int)numbers[JOURNAL_ITEM_KIND];
-    case IS_WELL_FORMED: case HEADER_EQ: return (int)answer;
+    case NEXT: return result > 0 ? JOURNAL_SKIPPED + 1 : (int)numbers[JOURNAL_ITEM_KIND];
+    case IS_WELL_FORMED: case HEADER_EQ: return (int)result;
     case NOTIFICATION: return (int)(5 * numbers[JOURNAL_NOTIFICATION_ID] + numbers[JOURNAL_NOTIFICATION_RESULT]);
     case VERDICT: return (int)numbers[JOURNAL_VERDICT_KIND];
     default: return 0;
@@ -469,10 +469,11 @@ static int kind_of(enum call call, int64_t answer, const uint64_t *numbers) {
 }
 
 /* Makes a call with so much room, looks at all that the header says of any call, and keeps what was written. */
-static int64_t called(struct work *work, const struct request *request, size_t room, size_t numbers_room, long refuse) {
+static int64_t called(struct work *work, const struct request *request, size_t room, size_t numbers_room,
+                      long failing) {
     enum call call = request->call;
     size_t written = 0, numbers = 0;
-    int64_t answer;
+    int64_t result;
 
     for (int i = 0; i < 2; i++) {
         place(work, FIRST + i, request->source[i].length);
@@ -482,54 +483,54 @@ static int64_t called(struct work *work, const struct request *request, size_t r
     }
     place(work, NUMBERS, 8 * numbers_room);
     place(work, OUT, room);
-    heap.requests = 0;
-    heap.refuse = refuse;
-    heap.is_refused = 0;
+    heap.allocations = 0;
+    heap.failing = failing;
+    heap.has_failed = 0;
     heap.held = 0;
     maker = work;
     made = request;
-    answer = make(request, work->slices);
+    result = make(request, work->slices);
     made = NULL;
     work->calls++;
 
-    if (answer >= 0) {
-        written = listed[call].writes && (uint64_t)answer <= room ? (size_t)answer : 0;
-        numbers = call == NEXT && answer > 0 ? 0 : listed[call].numbers;
-    } else if (answer <= -REFUSALS || !(listed[call].refusals & BIT(answer))) {
-        wrong(work, request, "a refusal that the header does not list", answer);
+    if (result >= 0) {
+        written = listed[call].writes && (uint64_t)result <= room ? (size_t)result : 0;
+        numbers = call == NEXT && result > 0 ? 0 : listed[call].numbers;
+    } else if (result <= -ERRORS || !(listed[call].errors & BIT(result))) {
+        wrong(work, request, "an error that the header does not list", result);
     } else {
-        work->answers[call][-answer]++;
+        work->results[call][-result]++;
     }
     if (heap.held != 0) {
-        wrong(work, request, "memory is held after the call", answer);
+        wrong(work, request, "memory is held after the call", result);
     }
-    if (heap.is_refused != (answer == JOURNAL_OUT_OF_MEMORY)) {
-        wrong(work, request, "a request for memory was refused and is not answered, or the other way round", answer);
+    if (heap.has_failed != (result == JOURNAL_OUT_OF_MEMORY)) {
+        wrong(work, request, "an allocation failed and the result is another, or the other way round", result);
     }
-    if (heap.requests > 0 && !(listed[call].refusals & MEMORY)) {
-        wrong(work, request, "it asks for memory", answer);
+    if (heap.allocations > 0 && !(listed[call].errors & MEMORY)) {
+        wrong(work, request, "it allocates", result);
     }
     for (int i = 0; i < 2; i++) {
         const struct slice *slice = &work->slices[FIRST + i];
         if (!stands(slice, slice->length) ||
             (slice->length > 0 && memcmp(slice->at, request->source[i].bytes, slice->length) != 0)) {
-            wrong(work, request, "what is only read was written", answer);
+            wrong(work, request, "what is only read was written", result);
         }
     }
     if (8 * numbers > work->slices[NUMBERS].length || !stands(&work->slices[NUMBERS], 8 * numbers)) {
-        wrong(work, request, "numbers that are not the answer's were written", answer);
+        wrong(work, request, "numbers that are not the result's were written", result);
     }
     if (!stands(&work->slices[OUT], written)) {
-        wrong(work, request, "bytes that are not the answer's were written", answer);
+        wrong(work, request, "bytes that are not the result's were written", result);
     }
     if (numbers > 0) {
         memcpy(work->numbers, work->slices[NUMBERS].at, 8 * numbers);
         digest(work, work->numbers, 8 * numbers);
     }
-    if (answer >= 0) {
-        int kind = kind_of(call, answer, work->numbers);
+    if (result >= 0) {
+        int kind = kind_of(call, result, work->numbers);
         if (kind < 0 || kind >= listed[call].kinds) {
-            wrong(work, request, "an answer of no kind that the header lists", answer);
+            wrong(work, request, "a result of no kind that the header lists", result);
         }
         work->kinds[call][kind]++;
     }
@@ -537,29 +538,29 @@ static int64_t called(struct work *work, const struct request *request, size_t r
         memcpy(work->written, work->slices[OUT].at, written);
         digest(work, work->written, written);
     }
-    digest(work, &answer, sizeof answer);
+    digest(work, &result, sizeof result);
     for (int i = 0; i < PLACES; i++) {
         if (work->slices[i].block) {
             __real_free(work->slices[i].block);
         }
     }
-    return answer;
+    return result;
 }
 
-/* Makes a call as `called` does, which has to answer as before, with the same numbers, and the same bytes where there
+/* Makes a call as `called` does, which has to have the same result, the same numbers, and the same bytes where there
    is room for them. */
-static void again(struct work *work, const struct request *request, int64_t answer, size_t room, size_t numbers_room) {
+static void again(struct work *work, const struct request *request, int64_t result, size_t room, size_t numbers_room) {
     static __thread uint8_t bytes[REGION];
     uint64_t numbers[JOURNAL_ITEM_NUMBERS];
-    size_t length = listed[request->call].writes && answer > 0 && answer <= REGION ? (size_t)answer : 0;
+    size_t length = listed[request->call].writes && result > 0 && result <= REGION ? (size_t)result : 0;
 
     memcpy(numbers, work->numbers, sizeof numbers);
     memcpy(bytes, work->written, length);
-    if (called(work, request, room, numbers_room, 0) != answer) {
-        wrong(work, request, "another answer than before", answer);
+    if (called(work, request, room, numbers_room, 0) != result) {
+        wrong(work, request, "another result than before", result);
     }
     if (memcmp(numbers, work->numbers, sizeof numbers) != 0 || memcmp(bytes, work->written, length) != 0) {
-        wrong(work, request, "the same answer with other numbers or bytes", answer);
+        wrong(work, request, "the same result with other numbers or bytes", result);
     }
 }
 
@@ -618,7 +619,7 @@ static void make_request(struct work *work, struct request *request) {
     }
 }
 
-/* Cases that are made for a kind of answer. */
+/* Cases that are made for a kind of result. */
 
 static void put_text(struct source *source, const char *text, size_t length) {
     source->length = 0;
@@ -679,8 +680,8 @@ static void put_notification(struct source *source, int id, int result) {
     }
 }
 
-/* Makes a request of the one that is there whose answer is of a kind, or this refusal where that is not 0. */
-static void make_wanted(struct work *work, struct request *request, int kind, int refusal) {
+/* Changes a request so that its result is of a kind, or this error if that is not 0. */
+static void make_wanted(struct work *work, struct request *request, int kind, int error) {
     struct source *first = &request->source[0], *second = &request->source[1];
     enum call call = request->call;
 
@@ -706,10 +707,10 @@ static void make_wanted(struct work *work, struct request *request, int kind, in
         first->length = kind > JOURNAL_SKIPPED ? below(work, 8) : first->length;
         break;
     case NOTIFICATION:
-        put_notification(first, refusal == JOURNAL_NO_ID ? 3 : kind / 5, refusal == JOURNAL_NO_RESULT ? 5 : kind % 5);
+        put_notification(first, error == JOURNAL_NO_ID ? 3 : kind / 5, error == JOURNAL_NO_RESULT ? 5 : kind % 5);
         break;
     case VERDICT:
-        put_journals(work, request->source, refusal == JOURNAL_OUT_OF_MEMORY ? JOURNAL_HEADER_MISMATCH : kind);
+        put_journals(work, request->source, error == JOURNAL_OUT_OF_MEMORY ? JOURNAL_HEADER_MISMATCH : kind);
         break;
     case MERGE: case HEADER_EQ: case DIFFERENCE:
         PUT(second, A_CALL);
@@ -717,13 +718,13 @@ static void make_wanted(struct work *work, struct request *request, int kind, in
     default:
         break;
     }
-    if (refusal == JOURNAL_MALFORMED || (call == IS_WELL_FORMED && !refusal && kind == 0)) {
+    if (error == JOURNAL_MALFORMED || (call == IS_WELL_FORMED && !error && kind == 0)) {
         put_byte(listed[call].inputs > 1 && one_of(work, 2) ? second : first, 0x07);
     }
-    if (call == HEADER_EQ && !refusal && kind == 0) {
+    if (call == HEADER_EQ && !error && kind == 0) {
         PUT(first, "\x0A\x01s");
     }
-    if (refusal == JOURNAL_UNKNOWN) {
+    if (error == JOURNAL_UNKNOWN) {
         request->version = one_of(work, 2) ? below(work, JOURNAL_FIRST_VERSION)
                                            : JOURNAL_LAST_VERSION + 1 + below(work, 300);
         request->schema = JOURNAL_SCHEMAS + below(work, 300);
@@ -734,73 +735,73 @@ static void make_wanted(struct work *work, struct request *request, int kind, in
     }
 }
 
-/* The next kind of an answer in turn, which is made on purpose: of a call, and a refusal where that is not 0. */
-static void next_turn(struct work *work, struct request *request, int *refusal) {
+/* The next kind of a result in turn, which is made on purpose: of a call, and an error if that is not 0. */
+static void next_turn(struct work *work, struct request *request, int *error) {
     for (;;) {
-        long turn = work->turn++ % (CALLS * (KINDS + REFUSALS));
-        int kind = (int)(turn % (KINDS + REFUSALS));
+        long turn = work->turn++ % (CALLS * (KINDS + ERRORS));
+        int kind = (int)(turn % (KINDS + ERRORS));
 
-        request->call = (enum call)(turn / (KINDS + REFUSALS));
-        *refusal = kind < KINDS ? 0 : KINDS - kind;
-        if (*refusal == 0 ? kind < listed[request->call].kinds
-                          : (listed[request->call].refusals & ~TOO_LONG & BIT(*refusal)) != 0) {
-            make_wanted(work, request, *refusal ? 0 : kind, *refusal);
+        request->call = (enum call)(turn / (KINDS + ERRORS));
+        *error = kind < KINDS ? 0 : KINDS - kind;
+        if (*error == 0 ? kind < listed[request->call].kinds
+                          : (listed[request->call].errors & ~TOO_LONG & BIT(*error)) != 0) {
+            make_wanted(work, request, *error ? 0 : kind, *error);
             return;
         }
     }
 }
 
-/* Room for an answer, or none where no region is so long. */
-static size_t room_for(int64_t answer) {
-    return answer <= REGION - GUARD ? (size_t)answer : 0;
+/* Room for a result, or none where no region is so long. */
+static size_t room_for(int64_t result) {
+    return result <= REGION - GUARD ? (size_t)result : 0;
 }
 
 /* Makes a call in all ways. */
 static void try_case(struct work *work, struct request *request) {
     enum call call;
     size_t numbers, room;
-    int64_t answer;
-    int refusal = 0;
+    int64_t result;
+    int error = 0;
 
     make_request(work, request);
     if (work->cases % 4 == 0) {
-        next_turn(work, request, &refusal);
+        next_turn(work, request, &error);
     }
     call = request->call;
     numbers = listed[call].numbers;
     room = listed[call].writes ? 1024 : 0;
     work->cases++;
-    answer = called(work, request, room, numbers, 0);
-    if (listed[call].writes && answer > 0 && answer <= REGION - GUARD) {
-        size_t needed = (size_t)answer;
+    result = called(work, request, room, numbers, 0);
+    if (listed[call].writes && result > 0 && result <= REGION - GUARD) {
+        size_t needed = (size_t)result;
         if (needed > room) {
             called(work, request, needed, numbers, 0);
         }
         for (size_t less = needed <= 24 ? 0 : needed - 1; less < needed + 2; less++) {
-            again(work, request, answer, less, numbers);
+            again(work, request, result, less, numbers);
         }
-        again(work, request, answer, below(work, (uint32_t)needed), numbers);
-        again(work, request, answer, 0, numbers);
+        again(work, request, result, below(work, (uint32_t)needed), numbers);
+        again(work, request, result, 0, numbers);
     }
     if (numbers > 0) {
-        int64_t refusal = called(work, request, room, below(work, (uint32_t)numbers), 0);
-        if (refusal != JOURNAL_NO_ROOM && (answer >= 0 || refusal != answer)) {
-            wrong(work, request, "too few numbers are taken", refusal);
+        int64_t error = called(work, request, room, below(work, (uint32_t)numbers), 0);
+        if (error != JOURNAL_NO_ROOM && (result >= 0 || error != result)) {
+            wrong(work, request, "too few numbers are taken", error);
         }
-        if (answer >= 0) {
-            again(work, request, answer, listed[call].writes ? room_for(answer) : 0, numbers + 1 + below(work, 4));
+        if (result >= 0) {
+            again(work, request, result, listed[call].writes ? room_for(result) : 0, numbers + 1 + below(work, 4));
         }
     }
-    if ((listed[call].refusals & MEMORY) && (refusal == JOURNAL_OUT_OF_MEMORY || one_of(work, 4))) {
-        long refuse = 0;
+    if ((listed[call].errors & MEMORY) && (error == JOURNAL_OUT_OF_MEMORY || one_of(work, 4))) {
+        long failing = 0;
         do {
-            refuse++;
-        } while (refuse < 100 && called(work, request, room, numbers, refuse) == JOURNAL_OUT_OF_MEMORY);
-        if (answer >= 0) {
-            again(work, request, answer, listed[call].writes ? room_for(answer) : 0, numbers);
+            failing++;
+        } while (failing < 100 && called(work, request, room, numbers, failing) == JOURNAL_OUT_OF_MEMORY);
+        if (result >= 0) {
+            again(work, request, result, listed[call].writes ? room_for(result) : 0, numbers);
         }
     }
-    if (call == IS_WELL_FORMED && answer == 1 && request->source[0].length <= POOLED) {
+    if (call == IS_WELL_FORMED && result == 1 && request->source[0].length <= POOLED) {
         uint32_t slot = below(work, POOL);
         work->pool[request->schema][slot].length = (uint8_t)request->source[0].length;
         memcpy(work->pool[request->schema][slot].bytes, request->source[0].bytes, request->source[0].length);
@@ -871,26 +872,26 @@ int main(int argc, char **argv) {
     for (long i = 0; i < threads; i++) {
         pthread_join(started[i], NULL);
         if (works[i].digest != works[0].digest) {
-            printf("wrong: thread %ld has other answers than the first\n", i);
+            printf("wrong: thread %ld has other results than the first\n", i);
             failed++;
         }
     }
     for (int call = 0; call < CALLS; call++) {
-        memory += works[0].answers[call][-JOURNAL_OUT_OF_MEMORY];
-        for (int refusal = 1; works[0].count >= 10000 && refusal < REFUSALS; refusal++) {
-            if ((listed[call].refusals & ~TOO_LONG) >> refusal & 1 && works[0].answers[call][refusal] == 0) {
-                printf("wrong: %s never answered -%d\n", listed[call].name, refusal);
+        memory += works[0].results[call][-JOURNAL_OUT_OF_MEMORY];
+        for (int error = 1; works[0].count >= 10000 && error < ERRORS; error++) {
+            if ((listed[call].errors & ~TOO_LONG) >> error & 1 && works[0].results[call][error] == 0) {
+                printf("wrong: %s never returned -%d\n", listed[call].name, error);
                 failed++;
             }
         }
         for (int kind = 0; works[0].count >= 10000 && kind < listed[call].kinds; kind++) {
             if (works[0].kinds[call][kind] == 0) {
-                printf("wrong: %s never had an answer of kind %d\n", listed[call].name, kind);
+                printf("wrong: %s never had a result of kind %d\n", listed[call].name, kind);
                 failed++;
             }
         }
     }
-    printf("%ld calls of %d in %ld threads, %ld with a request for memory refused, answers %016" PRIx64 "\n",
+    printf("%ld calls of %d in %ld threads, %ld with a failed allocation, results %016" PRIx64 "\n",
            works[0].calls, CALLS, threads, memory, works[0].digest);
     free(works);
     free(started);

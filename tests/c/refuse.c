@@ -1,5 +1,5 @@
 /* Makes one allocation of a program fail: the one whose number, from 1, is in REFUSE (0: none). When the program ends,
-   the number of requests that it made goes to file descriptor 3. It is loaded by LD_PRELOAD, or, with WRAPPED, linked
+   the number of its allocations goes to file descriptor 3. It is loaded by LD_PRELOAD, or, with WRAPPED, linked
    into a program that has an allocator of its own (--wrap=malloc --wrap=realloc), where it does nothing without
    REFUSE. */
 #define _GNU_SOURCE
@@ -10,17 +10,17 @@
 #include <stdlib.h>
 #include <unistd.h>
 
-static long requests;
+static long allocations;
 
-/* Whether this request is the refused one. */
-static int is_refused(void)
+/* Whether this allocation is the one that fails. */
+static int fails_now(void)
 {
-    static long refused = -1;
-    if (refused < 0) {
+    static long failing = -1;
+    if (failing < 0) {
         const char *number = getenv("REFUSE");
-        refused = number ? atol(number) : 0;
+        failing = number ? atol(number) : 0;
     }
-    if (++requests != refused)
+    if (++allocations != failing)
         return 0;
     errno = ENOMEM;
     return 1;
@@ -33,18 +33,18 @@ void *__real_realloc(void *block, size_t size);
 
 void *__wrap_malloc(size_t size)
 {
-    return is_refused() ? NULL : __real_malloc(size);
+    return fails_now() ? NULL : __real_malloc(size);
 }
 
 void *__wrap_realloc(void *block, size_t size)
 {
-    return is_refused() ? NULL : __real_realloc(block, size);
+    return fails_now() ? NULL : __real_realloc(block, size);
 }
 
 #else
 
-/* The function of this name that is after ours. */
-static void *behind(const char *name)
+/* The next function of this name after this one. */
+static void *next_of(const char *name)
 {
     void *function = dlsym(RTLD_NEXT, name);
     if (!function)
@@ -56,52 +56,52 @@ void *malloc(size_t size)
 {
     static void *(*granted)(size_t);
     if (!granted)
-        *(void **)&granted = behind("malloc");
-    return is_refused() ? NULL : granted(size);
+        *(void **)&granted = next_of("malloc");
+    return fails_now() ? NULL : granted(size);
 }
 
 void *calloc(size_t count, size_t size)
 {
     static void *(*granted)(size_t, size_t);
     if (!granted)
-        *(void **)&granted = behind("calloc");
-    return is_refused() ? NULL : granted(count, size);
+        *(void **)&granted = next_of("calloc");
+    return fails_now() ? NULL : granted(count, size);
 }
 
 void *realloc(void *block, size_t size)
 {
     static void *(*granted)(void *, size_t);
     if (!granted)
-        *(void **)&granted = behind("realloc");
-    return is_refused() ? NULL : granted(block, size);
+        *(void **)&granted = next_of("realloc");
+    return fails_now() ? NULL : granted(block, size);
 }
 
 void *aligned_alloc(size_t alignment, size_t size)
 {
     static void *(*granted)(size_t, size_t);
     if (!granted)
-        *(void **)&granted = behind("aligned_alloc");
-    return is_refused() ? NULL : granted(alignment, size);
+        *(void **)&granted = next_of("aligned_alloc");
+    return fails_now() ? NULL : granted(alignment, size);
 }
 
 int posix_memalign(void **block, size_t alignment, size_t size)
 {
     static int (*granted)(void **, size_t, size_t);
     if (!granted)
-        *(void **)&granted = behind("posix_memalign");
-    return is_refused() ? ENOMEM : granted(block, alignment, size);
+        *(void **)&granted = next_of("posix_memalign");
+    return fails_now() ? ENOMEM : granted(block, alignment, size);
 }
 
 #endif
 
-__attribute__((destructor)) static void say_requests(void)
+__attribute__((destructor)) static void say_allocations(void)
 {
 #ifdef WRAPPED
     if (!getenv("REFUSE"))
         return;
 #endif
     char text[32];
-    int length = snprintf(text, sizeof text, "%ld\n", requests);
+    int length = snprintf(text, sizeof text, "%ld\n", allocations);
     if (length > 0 && write(3, text, (size_t)length) < 0)
         _exit(127);
 }

@@ -16,7 +16,8 @@ SOURCE = "proto/journal.proto"
 
 HEADING = "Commands compared: their names, whether two are the same but for what replay may change, and how they differ."
 
-# Modules that are written by hand, and whether other crates see them. What is written holds impls alone, which need no name.
+# Modules that are written by hand, and whether other crates see them. What is written holds impls alone, which need no
+# name.
 BY_HAND = {"difference": True, "equality": True, "laws": True, "name": True, "printed": False}
 
 # The function that writes the line of a field, by its presence and its kind.
@@ -73,7 +74,7 @@ class Command:
         self.check_entry()
 
     def check_entry(self):
-        """Refuses a command without a name, and a field that is compared and neither printed nor the name."""
+        """Rejects a command without a name, and a field that is compared and neither printed nor the name."""
         name = self.row(name_number())
         if name is None or isinstance(name, OneOf) or (name.presence, name.kind) != ("plain", "text"):
             refuse(f"{self.message.name} has no text {name_number()}, its name", self.message.line)
@@ -118,7 +119,7 @@ class Source:
         self.body = []
 
     def use(self, module, name):
-        """Brings a name of a module into scope, and answers it."""
+        """Brings a name of a module into scope, and returns it."""
         self.uses.setdefault(module, set()).add(name)
         return name
 
@@ -282,7 +283,7 @@ def write_command(command, shared):
     return source.text()
 
 
-def answers(command):
+def chained_lines(command):
     """The proof that a command's lines follow each other."""
     path = f"Rattle.{CRATE}.proofs.{command.module}.{command.message.name}CommandMessageHeaderDiff.write_lines.Goals"
     counts = {}
@@ -332,7 +333,7 @@ def texts():
                 printed[module] = (f"{crate}::{module}", enum), oneof
         if len(command.printed()) > 1:
             proofs = f"crates/{CRATE}/proofs/{command.module}/{command.message.name}CommandMessageHeaderDiff/write_lines"
-            found[f"{proofs}/Answers.antt"] = answers(command)
+            found[f"{proofs}/Answers.antt"] = chained_lines(command)
     for module, (path, oneof) in printed.items():
         source = Source(f"`{path[1]}` printed.")
         write_printed_oneof(source, path, oneof)

@@ -17,7 +17,7 @@ SOURCE = "tools/generators/comparisons.py"
 PAGE = ROOT / "conformance" / "README.md"
 
 HEAD = """\
-# Commands compared: the one that was recorded with the one that the code makes now. Above each line stands what it is,
+# Commands compared: the one that was recorded with the one that the code makes now. Above each line is what it is,
 # and the text of the difference, where there is one; characters that do not print are escaped there, and spaces at the
 # end left out.
 """
@@ -83,7 +83,7 @@ def rows_of(command):
 
 
 def varint(number):
-    """A number in its shortest spelling."""
+    """The shortest encoding of a number."""
     out = bytearray()
     while number >= 128:
         out.append(number % 128 + 128)
@@ -281,18 +281,18 @@ def question(command, actual, expected):
     return f"compare {command}Command {hexadecimal(actual)} {hexadecimal(expected)}"
 
 
-def case(about, command, actual, expected, answers=None, text=None, spelled=(None, None)):
-    """The line of two commands, and above it what it is. Answers and text that are given were written by hand. A
-    payload that is spelled otherwise than the canonical one is given too."""
+def case(about, command, actual, expected, verdicts=None, text=None, encoded=(None, None)):
+    """The line of two commands, and above it what it is. Verdicts and text that are given are hand-written. A
+    payload that is not canonical is given too."""
     found = [sameness(command, actual, expected, ignore_payloads) for ignore_payloads in (False, True)]
     lines = difference(command, actual, expected)
-    if answers is not None and found != answers.split():
-        sys.exit(f"generate.py: comparisons: {about}: {found}, and not {answers}")
+    if verdicts is not None and found != verdicts.split():
+        sys.exit(f"generate.py: comparisons: {about}: {found}, and not {verdicts}")
     if text is not None and lines != text:
         sys.exit(f"generate.py: comparisons: {about}: {lines!r}, and not {text!r}")
     payloads = [
         given if given is not None else payload(rows_of(command), message)
-        for message, given in zip((actual, expected), spelled)
+        for message, given in zip((actual, expected), encoded)
     ]
     remarks = [f"# {command}: {about}"]
     for name in PRINTED[command].split():
@@ -300,8 +300,8 @@ def case(about, command, actual, expected, answers=None, text=None, spelled=(Non
         only = difference(command, {name: actual.get(name)}, {name: expected.get(name)})
         if only:
             remarks.append(f"#{shown(only[1:])}")
-    answer = f"{found[0]} {found[1]} {hexadecimal(lines.encode())}"
-    return "\n".join(remarks) + f"\n{question(command, *payloads)} = {answer}\n"
+    result = f"{found[0]} {found[1]} {hexadecimal(lines.encode())}"
+    return "\n".join(remarks) + f"\n{question(command, *payloads)} = {result}\n"
 
 
 def malformed(about, command, actual, expected):
@@ -616,8 +616,8 @@ def worked_cases():
 def whole_cases():
     yield "Each command: every field another."
     for command, (actual, expected, text) in PAIRS.items():
-        answers = "same same" if command == "Input" else "other other"
-        yield case("every field another", command, actual, expected, answers, text)
+        verdicts = "same same" if command == "Input" else "other other"
+        yield case("every field another", command, actual, expected, verdicts, text)
 
     yield "Each command: the same, with every field and with none."
     for command, (actual, _, _) in PAIRS.items():
@@ -782,7 +782,7 @@ def value_cases():
         ("the greatest letter", b"\xf4\x8f\xbf\xbf"),
         ("beyond the greatest letter", b"\xf4\x90\x80\x80"),
         ("half a pair, which is no letter", b"\xed\xa0\x80"),
-        ("a letter in a longer spelling", b"\xc0\xaf"),
+        ("a letter in an overlong encoding", b"\xc0\xaf"),
         ("every byte once", bytes(range(256))),
     ]
     for about, content in contents:
@@ -813,7 +813,7 @@ def bytes_cases():
         ("a letter that is cut off", "\u4e2d".encode()[:-1]),
         ("half a pair, which is no letter", b"\xed\xa0\x80"),
         ("beyond the greatest letter", b"\xf4\x90\x80\x80"),
-        ("a letter in a longer spelling", b"\xc0\xaf"),
+        ("a letter in an overlong encoding", b"\xc0\xaf"),
     ]
     for about, content in contents:
         yield case(about, "GetLazyState", {"key": content}, {"key": b"a"})
@@ -851,7 +851,7 @@ def state_key_cases():
             "beginnings of letters, and bytes alone", bytes.fromhex("61f18080e180c262806380bf64"),
             "a\ufffd\ufffd\ufffdb\ufffdc\ufffd\ufffdd",
         ),
-        ("letters in longer spellings", bytes.fromhex("c0afe080bff0818241"), "\ufffd" * 8 + "A"),
+        ("letters in overlong encodings", bytes.fromhex("c0afe080bff0818241"), "\ufffd" * 8 + "A"),
         ("halves of pairs", bytes.fromhex("eda080edbfbfedaf41"), "\ufffd" * 8 + "A"),
         ("beyond the greatest letter", bytes.fromhex("f4919293ff4180bf42"), "\ufffd" * 5 + "A" + "\ufffd" * 2 + "B"),
         ("beginnings of letters of three and four bytes", bytes.fromhex("e180e2f09192f1bf41"), "\ufffd" * 4 + "A"),
@@ -875,30 +875,30 @@ def state_key_cases():
         yield case(about, "GetEagerStateKeys", {"value": {"keys": actual}}, {"value": {"keys": expected}})
 
 
-def spelling_cases():
-    yield "Payloads that are spelled otherwise: what they mean is compared."
+def encoding_cases():
+    yield "Payloads that are not canonical: what they mean is compared."
     sleep = {"wake_up_time": 300, "result_completion_id": 1, "name": "a"}
     yield case(
         "the fields in another order, and longer numbers", "Sleep", sleep, sleep,
-        spelled=(None, bytes.fromhex("62016158810008ac8200")),
+        encoded=(None, bytes.fromhex("62016158810008ac8200")),
     )
     run = {"result_completion_id": 2, "name": "a"}
     canonical = payload(rows_of("Run"), run)
     yield case(
-        "a field twice, of which the last counts", "Run", run, run, spelled=(bytes.fromhex("5801") + canonical, None)
+        "a field twice, of which the last counts", "Run", run, run, encoded=(bytes.fromhex("5801") + canonical, None)
     )
     yield case(
-        "fields that no command has", "Run", run, run, spelled=(bytes.fromhex("9806079b0608019c06") + canonical, None)
+        "fields that no command has", "Run", run, run, encoded=(bytes.fromhex("9806079b0608019c06") + canonical, None)
     )
-    yield case("defaults that are written", "ClearState", {}, {}, spelled=(bytes.fromhex("0a006200"), None))
+    yield case("defaults that are written", "ClearState", {}, {}, encoded=(bytes.fromhex("0a006200"), None))
     failed = {"result": ("failure", failure(5, "x"))}
     yield case(
         "the last member of a oneof counts, and its records are joined", "Output", failed, failed,
-        spelled=(bytes.fromhex("72030a01787a0208057a03120178"), None),
+        encoded=(bytes.fromhex("72030a01787a0208057a03120178"), None),
     )
     yield case(
         "a value in two records", "SetState", {"key": b"a", "value": value(b"y")}, {"key": b"a", "value": value(b"x")},
-        spelled=(bytes.fromhex("0a01611a030a01781a030a0179"), None),
+        encoded=(bytes.fromhex("0a01611a030a01781a030a0179"), None),
     )
 
 
@@ -924,7 +924,7 @@ MAKERS = (
     bytes_cases,
     text_cases,
     state_key_cases,
-    spelling_cases,
+    encoding_cases,
     malformed_cases,
 )
 

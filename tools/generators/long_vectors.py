@@ -13,7 +13,7 @@ MALFORMED = "malformed"
 
 
 def varint(number):
-    """A number in its shortest spelling."""
+    """The shortest encoding of a number."""
     out = bytearray()
     while number >= 128:
         out.append(number % 128 + 128)
@@ -26,17 +26,17 @@ def lengthy(number, content):
     return varint(8 * number + 2) + varint(len(content)) + content
 
 
-def written(answer):
-    return (answer.hex() or "-") if isinstance(answer, bytes) else answer
+def written(result):
+    return (result.hex() or "-") if isinstance(result, bytes) else result
 
 
-def line(*words, answer):
+def line(*words, result):
     case = " ".join(word.hex() or "-" if isinstance(word, bytes) else word for word in words)
-    return f"{case} = {written(answer)}\n"
+    return f"{case} = {written(result)}\n"
 
 
-def payload(schema, content, answer):
-    return line("payload", schema, content, answer=answer)
+def payload(schema, content, result):
+    return line("payload", schema, content, result=result)
 
 
 def header(code, length, flag=0):
@@ -144,11 +144,11 @@ def far_below_the_last_level():
 def merged_chains():
     yield "# Merging does not add levels: each payload counts its own."
     whole = suspension(chain(100))
-    yield line("merge", "SuspensionMessage", whole, b"\x22\x00", answer=whole)
-    yield line("merge", "SuspensionMessage", whole, whole, answer=suspension(lengthy(4, chain(99)) * 2))
-    yield line("merge", "Future", chain(101), b"\x22\x00", answer=chain(101) + b"\x22\x00")
-    yield line("merge", "SuspensionMessage", suspension(chain(101)), b"\x22\x00", answer=MALFORMED)
-    yield line("merge", "SuspensionMessage", b"\x22\x00", suspension(chain(101)), answer=MALFORMED)
+    yield line("merge", "SuspensionMessage", whole, b"\x22\x00", result=whole)
+    yield line("merge", "SuspensionMessage", whole, whole, result=suspension(lengthy(4, chain(99)) * 2))
+    yield line("merge", "Future", chain(101), b"\x22\x00", result=chain(101) + b"\x22\x00")
+    yield line("merge", "SuspensionMessage", suspension(chain(101)), b"\x22\x00", result=MALFORMED)
+    yield line("merge", "SuspensionMessage", b"\x22\x00", suspension(chain(101)), result=MALFORMED)
 
 
 def frames_of_chains():
@@ -159,14 +159,14 @@ def frames_of_chains():
     whole = suspension(chain(100, b"\x0a\x01\x64", lambda number: lengthy(1, varint(number))))
     lists = lengthy(1, bytes(range(1, 101)))
     for version in (5, 6):
-        yield line("frame", "Suspension", str(version), whole, answer=header(1, len(lists)) + lists)
+        yield line("frame", "Suspension", str(version), whole, result=header(1, len(lists)) + lists)
     for version in (7, 8):
-        yield line("frame", "Suspension", str(version), whole, answer=header(1, len(whole)) + whole)
+        yield line("frame", "Suspension", str(version), whole, result=header(1, len(whole)) + whole)
 
     yield "# There is no frame of 101 futures, since they are no payload."
     whole = suspension(chain(101, b"\x0a\x01\x01", lambda number: b"\x0a\x01\x01"))
     for version in (5, 6, 7, 8):
-        yield line("frame", "Suspension", str(version), whole, answer=MALFORMED)
+        yield line("frame", "Suspension", str(version), whole, result=MALFORMED)
 
     yield (
         "# A value of 101 futures, which no payload means, is a list before version 7: this is the payload of its "
@@ -174,7 +174,7 @@ def frames_of_chains():
     )
     lists = lengthy(1, b"\x01" * 101)
     yield payload("SuspensionMessageV6", lists, lists)
-    yield line("stream", "6", header(1, len(lists)) + lists, answer="Suspension 103, rest 0")
+    yield line("stream", "6", header(1, len(lists)) + lists, result="Suspension 103, rest 0")
     lists = lengthy(1, bytes(range(1, 102)))
     yield payload("SuspensionMessageV6", lists, lists)
 
@@ -219,9 +219,9 @@ def lengths():
     yield "# A payload of more than 65,535 bytes decoded and encoded, and its frame in chunks."
     key = lengthy(1, pattern(65_536))
     frame = header(0x0402, len(key)) + key
-    yield line("frame", "GetLazyStateCommand", "8", key, answer=frame)
+    yield line("frame", "GetLazyStateCommand", "8", key, result=frame)
     yield line(
-        "stream", "8", frame[:5], frame[5:20_000], frame[20_000:], answer=f"GetLazyStateCommand {len(key)}, rest 0"
+        "stream", "8", frame[:5], frame[5:20_000], frame[20_000:], result=f"GetLazyStateCommand {len(key)}, rest 0"
     )
 
 

@@ -22,7 +22,8 @@ SCALARS = {
     "bytes": ('bytes = "bytes"', "::prost::bytes::Bytes"),
 }
 KINDS = {"u32": "U32", "u64": "U64", "bool": "Bool", "enum": "Enum", "text": "Text", "bytes": "Bytes"}
-# For each kind: whether a plain field is more than its default, if that is no 0, and how serde is given a value, if not as it is.
+# For each kind: whether a plain field is more than its default, if that is no 0, and how serde is given a value, if not
+# as it is.
 IS_SET = {"bool": "{0}", "text": "!{0}.is_empty()", "bytes": "!{0}.is_empty()"}
 WRITTEN = {"u64": "&Quoted({0})", "bytes": "&Base64({0})"}
 LABELS = {"plain": "Plain", "optional": "Optional", "message": "Optional", "repeated": "Repeated"}

@@ -216,7 +216,7 @@ def read(text):
 
 
 def check(found):
-    """Refuses what no file can be made of, with the place of it: what protoc refuses too, and what the library lacks."""
+    """Rejects what no file can be made of, with the place of it: what protoc rejects too, and what the library lacks."""
     known, places = {}, {}
     for message in found:
         if message.name in known:
@@ -237,7 +237,7 @@ def check(found):
 
 
 def check_message(message, known):
-    """Refuses a message with options or fields that cannot be."""
+    """Rejects a message with options or fields that cannot be."""
     name = message.name
     if not message.comment:
         refuse(f"{name} has no comment, which its record would have", message.line)
@@ -278,7 +278,7 @@ def check_message(message, known):
 
 
 def check_cycles(found):
-    """Refuses a message that holds itself, but those whose records are hand-written."""
+    """Rejects a message that holds itself, but those whose records are hand-written."""
     held = {message.name: [field.message for field in fields_of(message) if field.message] for message in found}
     lines = {message.name: message.line for message in found}
 
@@ -302,7 +302,7 @@ def check_cycles(found):
 
 
 def check_notification(message, template):
-    """Refuses a notification whose rows are none of the template's: each is a part of one of these, and no two of the
+    """Rejects a notification whose rows are none of the template's: each is a part of one of these, and no two of the
     same one."""
     homes = {field.number: (row.name, field) for row in template.rows for field in members_of(row)}
     taken = {}

@@ -1,4 +1,4 @@
-"""Random cases with the answers of prost and of the rules, conformance/random_*.txt, which a program of bench/
+"""Random cases with the results of prost and of the rules, conformance/random_*.txt, which a program of bench/
 writes."""
 import pathlib
 import subprocess

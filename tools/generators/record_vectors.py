@@ -135,14 +135,14 @@ def frame(name, code, version, text):
     if name == "ProposeRunCompletionMessage" and version >= 7:
         flag = 0x80
     if name == "SuspensionMessage" and version < 7:
-        # what is awaited stands in the text in the order of the three lists: that of a future before that of the
+        # what is awaited is in the text in the order of the three lists: that of a future before that of the
         # futures in it
         payload = encoded("SuspensionMessageV6", " ".join(re.findall(r"\bwaiting_\w+: \S+", text)))
     return bytes.fromhex(code) + bytes([flag, 0]) + len(payload).to_bytes(4, "big") + payload
 
 
 def hexadecimal(content):
-    """Bytes as a line spells them."""
+    """Bytes as a line has them."""
     return content.hex() or "-"
 
 

@@ -96,7 +96,8 @@ TYPE_OF = {message.name: last.type_name() for message, last in earlier()}
 # What the enums of oneofs derive beside Debug, PartialEq and Drop, by message and oneof.
 DERIVED = {("NotificationTemplate", "id"): ["Eq", "Hash"]}
 
-# Modules that are written by hand, those that other crates see and those that they do not, and what is shown of them beside records.
+# Modules that are written by hand, those that other crates see and those that they do not, and what is shown of them
+# beside records.
 BY_HAND = {
     PARTS_CRATE: ["conversions", "laws", "notification", "texts", *(snake(name) for name in HAND_WRITTEN)],
     "shared_core_runtime": ["flat_suspension", "versions"],
@@ -504,7 +505,7 @@ def crate_files(crate):
 
 
 def check_hand_written():
-    """Refuses a description whose hand-written record has other fields, at other numbers or of other kinds."""
+    """Rejects a description whose hand-written record has other fields, at other numbers or of other kinds."""
     table = {message.name: message for message in messages()}
     for name in HAND_WRITTEN:
         path = f"crates/{PARTS_CRATE}/src/{snake(name)}.rt"

@@ -1,5 +1,5 @@
 // The page's script: it lists the lines of journal_dump that are in the page, joins them by their ids, and shows one.
-// A text of a journal becomes a text node and nothing else; the page's policy refuses all other ways.
+// A text of a journal becomes a text node and nothing else; the page's policy forbids all other ways.
 "use strict";
 
 const byId = (id) => document.getElementById(id);

@@ -1,8 +1,9 @@
-//! Measures the program journal_diff beside the peer's comparison, on two journals that are the same, and prints a table in Markdown:
-//! journals PROGRAM FOLDER [LENGTH ..]
+//! Measures the program journal_diff beside the peer's comparison, on two journals that are the same, and prints a
+//! table in Markdown: journals PROGRAM FOLDER [LENGTH ..]
 //!
-//! PROGRAM is journal_diff, FOLDER is where the journals are written, and each LENGTH is how many bytes one has at least, of which there are three if
-//! none is said. Both sides run as programs of their own, in turn. `journals --peer RECORDED REPLAYED` is the peer's.
+//! PROGRAM is journal_diff, FOLDER is where the journals are written, and each LENGTH is how many bytes one has at
+//! least, of which there are three if none is said. Both sides run as programs of their own, in turn. `journals --peer
+//! RECORDED REPLAYED` is the peer's.
 
 use std::env;
 use std::fs::File;
@@ -61,7 +62,7 @@ fn row(program: &str, folder: &Path, length: usize) -> io::Result<()> {
     if best.line != best_peer.line {
         return Err(io::Error::new(
             io::ErrorKind::Other,
-            format!("two answers: {}{}", best.line, best_peer.line),
+            format!("two verdicts: {}{}", best.line, best_peer.line),
         ));
     }
     for _ in 1..MEASUREMENTS {

@@ -1,9 +1,10 @@
 //! Measures the programs journal_dump and journal_list beside the peer's, and prints a table in Markdown:
 //! programs DUMP LIST FOLDER [LENGTH]
 //!
-//! DUMP and LIST are this project's programs, FOLDER is where streams and lines are written, of which it keeps the streams that are measured, by their
-//! names, and LENGTH is how many bytes one of these has at least. The peer's programs `dump` and `list` are beside this one. Before a row is
-//! measured, both sides have to write the same lines, byte for byte.
+//! DUMP and LIST are this project's programs, FOLDER is where streams and lines are written, of which it keeps the
+//! streams that are measured, by their names, and LENGTH is how many bytes one of these has at least. The peer's
+//! programs `dump` and `list` are beside this one. Before a row is measured, both sides have to write the same lines,
+//! byte for byte.
 
 use std::env;
 use std::error::Error;

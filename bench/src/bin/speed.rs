@@ -1,10 +1,11 @@
-//! Measures the library and the peer side by side, and prints a table in Markdown:
-//! speed [--check] [--only WORKLOAD] [--side ours|peer] [--what items|messages|encode|encode_into|encode_spare|encode_shared|payloads|headers] [--piece N] [--row NAME] [--size N]
-//! [--rounds N] [--protocol 5..9]
+//! Measures the library and the peer side by side, and prints a table in Markdown: speed [--check] [--only WORKLOAD]
+//! [--side ours|peer] [--what items|messages|encode|encode_into|encode_spare|encode_shared|payloads|headers] [--piece
+//! N] [--row NAME] [--size N] [--rounds N] [--protocol 5..9]
 //!
-//! With --side nothing is compared or printed: that side alone goes over the workload that many times, for a profiler. Before a table is printed,
-//! and by `speed --check` alone, the allocations show that the rounds are made and the chunks used that are requested. The workload `calls`
-//! has no peer: it is what a call from C costs over the same work inside the library.
+//! With --side nothing is compared or printed: that side alone goes over the workload that many times, for a profiler.
+//! Before a table is printed, and by `speed --check` alone, the allocations show that the rounds are made and the
+//! chunks used that are requested. The workload `calls` has no peer: it is what a call from C costs over the same work
+//! inside the library.
 
 use std::env;
 use std::fmt;
@@ -32,7 +33,8 @@ const MEASUREMENTS: usize = 15;
 /// How long a measurement takes at least.
 const LENGTH: Duration = Duration::from_millis(40);
 
-/// Of an adversarial message there are more and shorter measurements, so that some are undisturbed also where the machine does other work.
+/// Of an adversarial message there are more and shorter measurements, so that some are undisturbed also where the
+/// machine does other work.
 const HOSTILE_MEASUREMENTS: usize = 150;
 const HOSTILE_LENGTH: Duration = Duration::from_millis(1);
 
@@ -337,7 +339,8 @@ impl<'a> Bench<'a> {
         Ok(start.elapsed())
     }
 
-    /// How many rounds make a measurement: twice as many, until it is long enough for what is done once only to count little.
+    /// How many rounds make a measurement: twice as many, until it is long enough for what is done once only to count
+    /// little.
     fn rounds(&mut self, length: Duration) -> Result<usize, Failed> {
         let mut rounds = self.what.least_rounds();
         while self.time(Side::Peer, rounds)? < length {
@@ -366,7 +369,7 @@ impl<'a> Bench<'a> {
         Ok(self.of_a_round(side)? as f64 / self.workload.frames.len() as f64)
     }
 
-    /// Allocations of a round: what a further one asks for. What is done once only counts for none.
+    /// Allocations of a round: those of a further round. What is done only once does not count.
     fn of_a_round(&mut self, side: Side) -> Result<u64, Failed> {
         let once = self.counted(side, 1)?;
         Ok(self.counted(side, 2)?.saturating_sub(once))
@@ -463,8 +466,8 @@ impl Growing {
         Ok(())
     }
 
-    /// That both sides read the message as the same, that a further round asks for as much memory as the one before, and that what is asked for
-    /// does not grow faster than the message.
+    /// That both sides read the message as the same, that a further round allocates as much as the one before, and that
+    /// what is allocated does not grow faster than the message.
     fn check(&self) -> Result<(), Failed> {
         let name = self.hostile.name;
         let frame = &self.workloads[0].frames[0];
@@ -482,7 +485,7 @@ impl Growing {
                 let length = bench.workload.stream.len() as f64;
                 if further != 3 * of_a_round || of_a_round as f64 > most * length {
                     return Err(Failed(format!(
-                        "{name}, {side:?}: {of_a_round} requests for memory in a round, {further} in three, at most {most:.3} for a byte"
+                        "{name}, {side:?}: {of_a_round} allocations in a round, {further} in three, at most {most:.3} for a byte"
                     )));
                 }
                 // a list of elements that is moved to twice the room asks some times more
@@ -493,7 +496,8 @@ impl Growing {
     }
 }
 
-/// What is asked of the library from here, over and over, or of itself inside: what is between the two is what a call from C costs.
+/// Work that is done once with one call for each round, and once within one call: the difference is what a call from C
+/// costs.
 struct Crossing {
     name: &'static str,
     work: Work,
@@ -502,7 +506,8 @@ struct Crossing {
 enum Work {
     /// Whether a payload is well-formed for a schema.
     WellFormed(usize, &'static [u8]),
-    /// The items of a stream, of which there is this number: a call for each from here, and inside a decoder, which hands out each payload.
+    /// The items of a stream, of which there is this number: a call for each from here, and inside a decoder, which
+    /// hands out each payload.
     Items(Workload),
 }
 
@@ -574,7 +579,7 @@ impl Crossing {
         Ok(())
     }
 
-    /// That both ask for the same memory for a payload, and that journal_next asks for none.
+    /// That both allocate the same for a payload, and that journal_next does not allocate.
     fn check(&self) -> Result<(), Failed> {
         let requests = |rounds| -> Result<(u64, u64), Failed> {
             // SAFETY: count.c reads a counter, here and below
@@ -595,7 +600,7 @@ impl Crossing {
             Ok(())
         } else {
             Err(Failed(format!(
-                "{}: {outside} requests for memory from here, {inside} inside",
+                "{}: {outside} allocations from here, {inside} inside",
                 self.name
             )))
         }
@@ -656,15 +661,16 @@ fn check_comparisons(workload: &Workload, what: What, side: Side) -> Result<(), 
     match Bench::new(workload, what, 0).of_a_round(side)? {
         0 => Ok(()),
         requests => Err(Failed(format!(
-            "{} {}, {side:?}: {requests} requests for memory in a round",
+            "{} {}, {side:?}: {requests} allocations in a round",
             workload.name,
             what.name()
         ))),
     }
 }
 
-/// That a side makes the rounds that are requested of it, each with the same allocations, which are none where a buffer is used again; and that
-/// it takes the stream in the chunks that are requested of it: each payload that straddles chunks has to be joined.
+/// That a side makes the rounds that are requested of it, each with the same allocations, which are none where a buffer
+/// is used again; and that it takes the stream in the chunks that are requested of it: each payload that straddles
+/// chunks has to be joined.
 fn check_rounds(workload: &Workload, what: What, side: Side) -> Result<(), Failed> {
     let failed = |why| {
         Failed(format!(
@@ -678,7 +684,7 @@ fn check_rounds(workload: &Workload, what: What, side: Side) -> Result<(), Faile
     let of_a_round = bench.of_a_round(side)?;
     let twice = bench.counted(side, 2)?;
     let more = bench.counted(side, 5)?;
-    // of frames that share blocks, a round asks for none or for several, as the blocks come
+    // of frames that share blocks, a round allocates none or several, as the blocks are used up
     if what == What::EncodeShared {
         return Ok(());
     }
@@ -687,7 +693,7 @@ fn check_rounds(workload: &Workload, what: What, side: Side) -> Result<(), Faile
     let asks = !matches!(what, What::EncodeInto | What::EncodeSpare) || makes_lists;
     if (of_a_round > 0) != asks || more.saturating_sub(twice) != 3 * of_a_round {
         return Err(failed(format!(
-            "{of_a_round} requests for memory in a round, {twice} in two and {more} in five"
+            "{of_a_round} allocations in a round, {twice} in two and {more} in five"
         )));
     }
     if !what.takes_pieces() {
@@ -697,7 +703,7 @@ fn check_rounds(workload: &Workload, what: What, side: Side) -> Result<(), Faile
     let straddling = workload.straddling(PIECE);
     if of_a_round < whole + straddling {
         return Err(failed(format!(
-            "{of_a_round} requests for memory in pieces and {whole} whole, for {straddling} payloads across pieces"
+            "{of_a_round} allocations in chunks and {whole} whole, for {straddling} payloads that straddle chunks"
         )));
     }
     Ok(())

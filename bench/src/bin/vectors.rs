@@ -1,10 +1,10 @@
-//! Writes test vectors: random cases with the answers of the peer and of the rules.
+//! Writes test vectors: random cases with the results of the peer and of the rules.
 //!
 //! - vectors [SEED [COUNT]]: to standard output, COUNT of them;
 //! - vectors --write FOLDER: the files of random cases that conformance/ has, for tools/generate.py.
 //!
-//! Where the two readers differ, and not as is known, the case is printed on standard error and the status is 1. The number of known
-//! differences is printed there too.
+//! Where the two readers differ, and not as is known, the case is printed on standard error and the status is 1. The
+//! number of known differences is printed there too.
 
 use std::env;
 use std::fmt;
@@ -42,7 +42,7 @@ impl fmt::Display for Failed {
     fn fmt(&self, f: &mut fmt::Formatter<'_>) -> fmt::Result {
         match self {
             Failed::Differ(failed) => {
-                write!(f, "the readers differ: {}\n{}", failed.case, failed.answers)
+                write!(f, "the readers differ: {}\n{}", failed.case, failed.results)
             }
             Failed::Io(error) => write!(f, "{error}"),
         }
@@ -57,7 +57,7 @@ fn print(seed: u64, count: u64) -> Result<(), Failed> {
         let case = any_handy(&mut Random::new(seed, case));
         let verdict = judge(&case)?;
         departures += usize::from(verdict.departs);
-        writeln!(out, "{case} = {}", verdict.answer)?;
+        writeln!(out, "{case} = {}", verdict.result)?;
     }
     out.flush()?;
     tell(departures);
@@ -75,10 +75,10 @@ fn write(folder: &Path) -> Result<(), Failed> {
 }
 
 fn tell(departures: usize) {
-    eprintln!("known departure, prost refuses a skipped record on the last level: {departures}");
+    eprintln!("known difference, prost rejects a skipped record on the last level: {departures}");
 }
 
-/// Does what the command line asks for, if it asks for anything.
+/// Does what the command line says, if it says anything.
 fn run(words: &[&str]) -> Option<Result<(), Failed>> {
     Some(match words {
         [] => print(SEED, COUNT),

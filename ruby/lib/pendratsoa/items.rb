@@ -15,7 +15,7 @@ module Pendratsoa
     end
 
     # The message of a type, which is given by its code or by its name as "SleepCommand", with a payload. It requests an
-    # acknowledgement if the header of its type does at this version. The payload is taken as it is: `frame` refuses one
+    # acknowledgement if the header of its type does at this version. The payload is taken as it is: `frame` rejects one
     # that is malformed. Unknown if there is no such version or type.
     def self.of(type, payload = "", version: 8)
       code = type.is_a?(String) ? Pendratsoa.type_code(type) : type

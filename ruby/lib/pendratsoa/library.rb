@@ -60,7 +60,7 @@ module Pendratsoa
       FUNCTIONS.fetch(function).call(*parameters)
     end
 
-    # Numbers of 64 bits that a function writes: yields the room for so many, and returns them.
+    # Numbers of 64 bits that a function writes: yields room for a number of them, and returns them.
     def self.numbers(count)
       Fiddle::Pointer.malloc(8 * count, Fiddle::RUBY_FREE) do |room|
         yield room

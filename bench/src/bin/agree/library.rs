@@ -1,4 +1,4 @@
-//! The answers of the library to random cases.
+//! The results of the library for random cases.
 
 use pendratsoa::{next_item, Item, Next};
 use pendratsoa_bench::cases::{any, any_piece};
@@ -14,7 +14,7 @@ use pendratsoa_bench::tally::Tally;
 /// The version from which on an unknown code is skipped with its payload.
 const SKIPS: u32 = 9;
 
-/// Compares random cases by the words SEED, COUNT and FIRST, where these are no others. Answers whether all agree.
+/// Compares random cases by the words SEED, COUNT and FIRST, where these are no others. Returns whether all agree.
 pub fn compare(words: &[String]) -> Option<bool> {
     let [seed, count, first] = options(words)?;
     let mut tally = Tally::default();
@@ -49,7 +49,7 @@ fn compare_case(tally: &mut Tally, random: &mut Random) {
     };
     let verdict = match case.judge() {
         Ok(verdict) => verdict,
-        Err(answers) => return tally.fails(kind, case, answers),
+        Err(results) => return tally.fails(kind, case, results),
     };
     if verdict.departs {
         tally.departs();
@@ -57,8 +57,8 @@ fn compare_case(tally: &mut Tally, random: &mut Random) {
     match &case {
         Case::Payload { schema, payload } | Case::Record { schema, payload } => {
             let ours = ours::canonical(*schema, payload);
-            equal(tally, kind, &case, &written(&ours), &verdict.answer);
-            let is_well_formed = usize::from(verdict.answer != MALFORMED).to_string();
+            equal(tally, kind, &case, &written(&ours), &verdict.result);
+            let is_well_formed = usize::from(verdict.result != MALFORMED).to_string();
             let ours_is = number(ours::is_well_formed(*schema, payload));
             equal(
                 tally,
@@ -81,7 +81,7 @@ fn compare_case(tally: &mut Tally, random: &mut Random) {
         }
         Case::Merge { schema, payloads } => {
             let ours = merge(*schema, payloads);
-            equal(tally, kind, &case, &written(&ours), &verdict.answer);
+            equal(tally, kind, &case, &written(&ours), &verdict.result);
         }
         Case::Frame {
             message_type,
@@ -91,7 +91,7 @@ fn compare_case(tally: &mut Tally, random: &mut Random) {
             let rounds = random.below(3);
             let code = message_type.code;
             let ours = ours::frame_once(*version, code, payload);
-            equal(tally, kind, &case, &written(&ours), &verdict.answer);
+            equal(tally, kind, &case, &written(&ours), &verdict.result);
             let calls: [FrameCall; 4] = [
                 ours::frame_to,
                 ours::frame_into,
@@ -100,7 +100,7 @@ fn compare_case(tally: &mut Tally, random: &mut Random) {
             ];
             for call in calls {
                 let ours = ours::frame(call, *version, code, payload, rounds);
-                equal(tally, kind, &case, &written(&ours), &verdict.answer);
+                equal(tally, kind, &case, &written(&ours), &verdict.result);
             }
         }
         Case::Stream { version, pieces } => {
@@ -108,9 +108,9 @@ fn compare_case(tally: &mut Tally, random: &mut Random) {
             let piece = any_piece(random, stream.len());
             let rounds = random.below(3);
             let ours = list(*version, &stream, piece, rounds);
-            equal(tally, kind, &case, &ours, &verdict.answer);
+            equal(tally, kind, &case, &ours, &verdict.result);
             let next = list_by_next(*version, &stream);
-            equal(tally, "items of streams", &case, &next, &verdict.answer);
+            equal(tally, "items of streams", &case, &next, &verdict.result);
             compare_messages(tally, &case, *version, &stream, piece, rounds);
         }
     }
@@ -182,8 +182,8 @@ fn compare_messages(
     let (expected, departs) = messages_by_rules(version, stream);
     let peer = peer::messages(version, stream, piece, rounds).ok();
     if peer != expected && !departs {
-        let answers = format!("  prost:     {peer:?}\n  the rules: {expected:?}");
-        return tally.fails(KIND, case, answers);
+        let results = format!("  prost:     {peer:?}\n  the rules: {expected:?}");
+        return tally.fails(KIND, case, results);
     }
     let expected = expected.map_or_else(|| MALFORMED.into(), |count| count.to_string());
     equal(tally, KIND, case, &ours, &expected);
@@ -207,33 +207,33 @@ fn messages_by_rules(version: u32, stream: &[u8]) -> (Option<usize>, bool) {
     (count, departs)
 }
 
-/// Bytes or a refusal, as a line has them.
-fn written(answer: &Result<Vec<u8>, Refusal>) -> String {
-    match answer {
+/// Bytes or an error, as a line has them.
+fn written(result: &Result<Vec<u8>, Refusal>) -> String {
+    match result {
         Ok(bytes) => hex(bytes),
         Err(refusal) => refusal.to_string(),
     }
 }
 
-/// A number or a refusal.
-fn number(answer: Result<usize, Refusal>) -> String {
-    match answer {
+/// A number or an error.
+fn number(result: Result<usize, Refusal>) -> String {
+    match result {
         Ok(number) => number.to_string(),
         Err(refusal) => refusal.to_string(),
     }
 }
 
-/// Compares two answers.
+/// Compares two results.
 fn equal(tally: &mut Tally, kind: &'static str, case: &Case, ours: &str, expected: &str) {
     if ours == expected {
         tally.passes(kind);
     } else {
-        let answers = format!("  ours:     {ours}\n  expected: {expected}");
-        tally.fails(kind, format_args!("{kind}, {case}"), answers);
+        let results = format!("  ours:     {ours}\n  expected: {expected}");
+        tally.fails(kind, format_args!("{kind}, {case}"), results);
     }
 }
 
-/// The numbers that are refused, and room that is one too short, of which the words are refused, and the bytes not.
+/// Numbers that are rejected, and room that is one too short, which is an error for words and not for bytes.
 fn compare_refusals(tally: &mut Tally) {
     use Refusal::{NoRoom, Unknown};
     // an end, and then a code of no type
@@ -243,7 +243,7 @@ fn compare_refusals(tally: &mut Tally) {
     const KIND: &str = "refusals of numbers and room";
     let mut words = [0; 2];
     let mut out = [0; 8];
-    let answers = [
+    let results = [
         (ours::items(4, &STREAM, 0, 1, &mut words), Err(Unknown)),
         (ours::items(10, &STREAM, 0, 1, &mut words), Err(Unknown)),
         (ours::items(5, &STREAM, 0, 1, &mut words[..1]), Err(NoRoom)),
@@ -269,15 +269,15 @@ fn compare_refusals(tally: &mut Tally) {
         (ours::frame_into(8, END, &[], 1, &mut out[..7]), Ok(8)),
         (ours::frame_into(8, END, &[], 1, &mut out), Ok(8)),
     ];
-    for (place, (ours, expected)) in answers.into_iter().enumerate() {
+    for (place, (ours, expected)) in results.into_iter().enumerate() {
         if ours == expected {
             tally.passes(KIND);
         } else {
-            let answers = format!("  ours:     {ours:?}\n  expected: {expected:?}");
+            let results = format!("  ours:     {ours:?}\n  expected: {expected:?}");
             tally.fails(
                 KIND,
                 format_args!("{KIND}, the one at place {place}"),
-                answers,
+                results,
             );
         }
     }

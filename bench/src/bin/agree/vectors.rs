@@ -5,7 +5,7 @@ use std::fs;
 use pendratsoa_bench::conformance::{lines, Line};
 use pendratsoa_bench::tally::Tally;
 
-/// Compares the answer of each line of the files. Answers whether all agree.
+/// Compares the result of each line of the files. Returns whether all agree.
 pub fn compare(files: &[String]) -> Option<bool> {
     let mut tally = Tally::default();
     for file in files {
@@ -26,9 +26,9 @@ fn compare_lines(tally: &mut Tally, file: &str, text: &str) {
             continue;
         };
         match line.case.judge() {
-            Err(answers) => tally.fails(KIND, case, answers),
-            Ok(verdict) if verdict.answer != line.answer => {
-                tally.fails(KIND, case, format_args!("  expected: {}", verdict.answer));
+            Err(results) => tally.fails(KIND, case, results),
+            Ok(verdict) if verdict.result != line.expected => {
+                tally.fails(KIND, case, format_args!("  expected: {}", verdict.result));
             }
             Ok(verdict) => {
                 tally.passes(KIND);
