@@ -247,6 +247,26 @@ shortened_outputs() {
   ended 'a reader that ends' "$failure" "$work/first" ${3:+"$3"}
 }
 
+# gone_reader ARGUMENT..: a pipe whose reader is gone before the first write, of which nothing is said
+gone_reader() {
+  mkfifo "$work/gone" "$work/go"
+  (
+    exec 4> "$work/gone"
+    read -r _ < "$work/go"
+    "$program" "$@" >&4 2> "$err"
+    echo $? > "$work/status"
+  ) &
+  writer=$!
+  exec 5< "$work/gone"
+  exec 5<&-
+  echo > "$work/go"
+  wait "$writer"
+  status=$(cat "$work/status")
+  rm "$work/gone" "$work/go"
+  : > "$out"
+  ended "a reader that is gone: $*" "$failure" /dev/null
+}
+
 # little_memory INPUT LINES ARGUMENT..: after this input begins a message of 4 GiB, and 128 MiB of address space do not
 # hold the 192 MiB of it that come; the lines of what comes before it are written
 little_memory() {

@@ -9,9 +9,9 @@ mod diff;
 mod inputs;
 
 use crate::arguments::{Arguments, parse_arguments};
-use crate::diff::diff;
+use crate::diff::{DiffError, diff};
 use crate::inputs::{Inputs, open};
-use command_line::{arguments, fail, report};
+use command_line::{Pipe, arguments, fail, report};
 use std::io;
 use std::process::ExitCode;
 
@@ -21,17 +21,20 @@ const PROGRAM: &str = "journal_diff";
 fn compare(rt: &HostRuntime, asked: &Arguments<'_>, inputs: Inputs) -> ExitCode
     requires { 5 ≤ version_number asked.now.version }
 {
+    let mut output = Pipe::new(rt.stdout());
     let answer = diff(
         rt.alloc(),
         asked.version,
         inputs.recorded,
         inputs.replayed,
         asked.ignore_payloads,
-        &mut rt.stdout(),
+        &mut output,
     );
     match answer {
         Ok(true) => ExitCode::SUCCESS,
         Ok(false) => ExitCode::from(1),
+        // a reader that is gone is not told
+        Err(DiffError::Output) if output.is_broken() => ExitCode::from(2),
         Err(error) => fail(rt, PROGRAM, error, 2),
     }
 }
