@@ -5,7 +5,7 @@
 #       the listing of a stream, of examples/streams/replay without arguments
 #   scripts/run.sh [--proved] diff [--ignore-payloads] [--protocol 5..9] RECORDED REPLAYED
 #       where two journals differ
-#   scripts/run.sh [--proved] dump [--protocol 5..9] [--type NAME].. [--no-payload] [FILE]
+#   scripts/run.sh [--proved] dump [--protocol 5..9] [--type NAME].. [--no-payload] [--strict] [FILE]
 #       a stream as JSON, the standard input if none is given
 #   scripts/run.sh [--proved] view [OPTION].. STREAM [OTHER] [-o FILE]
 #       a page that shows a journal, or two side by side
@@ -193,7 +193,7 @@ case $command in
     exec "$program" "$@"
     ;;
   dump)
-    check_arguments ' --no-payload --protocol --type ' 1 "$@"
+    check_arguments ' --no-payload --protocol --strict --type ' 1 "$@"
     build
     exec "$program" "$@"
     ;;

@@ -111,7 +111,7 @@ def read_journal(words, path, most):
         "items": items,
         "shown": len(lines),
         "bytes": rest["offset"] + rest["rest"],
-        "lines": [*lines, last],
+        "lines": [*lines, last if len(last) <= LINE_CHARACTERS else shortened(last)],
     }
 
 

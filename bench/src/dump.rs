@@ -25,6 +25,7 @@ pub fn dump(version: u32, input: impl Read, output: &mut impl Write) -> io::Resu
             let line = Line {
                 version,
                 offset,
+                word: stream.word(),
                 item,
             };
             serde_json::to_writer(&mut lines, &line)?;
@@ -33,7 +34,10 @@ pub fn dump(version: u32, input: impl Read, output: &mut impl Write) -> io::Resu
         }
         output.write_all(&lines)?;
     }
-    let rest = json!({ "offset": stream.offset(), "rest": stream.pending() });
+    let mut rest = json!({ "offset": stream.offset(), "rest": stream.pending() });
+    if stream.pending() > 0 {
+        rest["bytes"] = base64::encode(stream.pending_bytes()).into();
+    }
     writeln!(output, "{rest}")?;
     output.flush()
 }
@@ -42,6 +46,8 @@ pub fn dump(version: u32, input: impl Read, output: &mut impl Write) -> io::Resu
 struct Line {
     version: u32,
     offset: u64,
+    /// The word of its header.
+    word: u64,
     item: Item,
 }
 
@@ -49,29 +55,39 @@ impl Serialize for Line {
     fn serialize<S: Serializer>(&self, serializer: S) -> Result<S::Ok, S::Error> {
         let mut line = serializer.serialize_map(None)?;
         line.serialize_entry("offset", &self.offset)?;
-        write_item(self.version, &self.item, &mut line)?;
+        write_item(self, &mut line)?;
         line.end()
     }
 }
 
-fn write_item<O: SerializeMap>(version: u32, item: &Item, line: &mut O) -> Result<(), O::Error> {
-    match item {
-        Item::Message(header, payload) => write_message(version, *header, payload, line),
+fn write_item<O: SerializeMap>(of: &Line, line: &mut O) -> Result<(), O::Error> {
+    match &of.item {
+        Item::Message(header, payload) => write_message(of, *header, payload, line),
         Item::Unknown(code) => {
             line.serialize_entry("unknown", &true)?;
-            line.serialize_entry("code", code)
+            line.serialize_entry("code", code)?;
+            write_header(of, line)
         }
         Item::Skipped(code, payload) => {
             line.serialize_entry("skipped", &true)?;
             line.serialize_entry("code", code)?;
             line.serialize_entry("length", &payload.len())?;
+            write_header(of, line)?;
             line.serialize_entry("bytes", &Base64(payload))
         }
     }
 }
 
+/// Writes the bytes of a header that is not as one would write it.
+fn write_header<O: SerializeMap>(of: &Line, line: &mut O) -> Result<(), O::Error> {
+    if of.word == of.item.word() {
+        return Ok(());
+    }
+    line.serialize_entry("header", &Base64(&of.word.to_be_bytes()))
+}
+
 fn write_message<O: SerializeMap>(
-    version: u32,
+    of: &Line,
     header: Header,
     payload: &Bytes,
     line: &mut O,
@@ -86,8 +102,9 @@ fn write_message<O: SerializeMap>(
     if code == PROPOSE_RUN_COMPLETION {
         line.serialize_entry("requestedAck", &header.acknowledge)?;
     }
+    write_header(of, line)?;
     match code {
-        SUSPENSION if version < FUTURES => write_record::<SuspensionMessageV6, O>(payload, line),
+        SUSPENSION if of.version < FUTURES => write_record::<SuspensionMessageV6, O>(payload, line),
         _ => with_message!(
             code,
             Record => write_record::<Record, O>(payload, line),

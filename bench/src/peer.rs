@@ -122,6 +122,8 @@ pub struct Decoder {
     pending: usize,
     /// The eight bytes after which the payload has not come yet.
     head: Option<Head>,
+    /// The word of the last header that was taken.
+    word: u64,
     /// Whether a message of an unknown type is skipped with its payload.
     skips: bool,
 }
@@ -132,6 +134,7 @@ impl Decoder {
             pieces: VecDeque::new(),
             pending: 0,
             head: None,
+            word: 0,
             skips: version >= SKIPS,
         }
     }
@@ -148,11 +151,27 @@ impl Decoder {
         self.pending + self.head.map_or(0, |_| HEADER)
     }
 
+    /// The word of the header of the last item.
+    pub fn word(&self) -> u64 {
+        self.word
+    }
+
+    /// The bytes that came and that no item has taken.
+    pub fn pending_bytes(&self) -> Vec<u8> {
+        let head = self.head.map(|_| self.word.to_be_bytes());
+        let mut bytes = Vec::from_iter(head.into_iter().flatten());
+        self.pieces.iter().for_each(|piece| bytes.extend(piece));
+        bytes
+    }
+
     /// The next item, where all of it has come.
     pub fn next_item(&mut self) -> Option<Item> {
         let head = match self.head.take() {
             Some(head) => head,
-            None => Head::read(self.take_word()?),
+            None => {
+                self.word = self.take_word()?;
+                Head::read(self.word)
+            }
         };
         if let (Head::Unknown { code, .. }, false) = (head, self.skips) {
             return Some(Item::Unknown(code));

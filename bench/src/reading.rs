@@ -47,6 +47,16 @@ impl<R: Read> Reading<R> {
         self.decoder.next_item()
     }
 
+    /// The word of the header of the last item.
+    pub fn word(&self) -> u64 {
+        self.decoder.word()
+    }
+
+    /// The bytes that were read and are in no item.
+    pub fn pending_bytes(&self) -> Vec<u8> {
+        self.decoder.pending_bytes()
+    }
+
     /// How many bytes were read that are in no item yet.
     pub fn pending(&self) -> u64 {
         self.decoder.pending() as u64

@@ -70,8 +70,11 @@ dump 0 '{"offset":0,"skipped":true,"code":8,"length":8,"bytes":"AAMAAAAAAAA="}
 {"offset":16,"rest":0}' '' --protocol 9 unknown_type
 dump 0 '{"offset":0,"skipped":true,"code":8,"length":8}
 {"offset":16,"rest":0}' '' --protocol 9 --no-payload unknown_type
+cut='journal_dump: offset 21: 8 bytes after the last whole item'
 dump 0 '{"offset":13,"type":"CustomEntry(64513)","code":64513,"length":0,"bytes":""}
-{"offset":21,"rest":8}' '' --type 'CustomEntry(64513)' cut_short
+{"offset":21,"rest":8,"bytes":"BAAAAP////8="}' "$cut" --type 'CustomEntry(64513)' cut_short
+dump 0 '{"offset":13,"type":"CustomEntry(64513)","code":64513,"length":0}
+{"offset":21,"rest":8}' "$cut" --type 'CustomEntry(64513)' --no-payload cut_short
 
 # Two custom entries, the second with the highest code that there is
 printf '\374\000\000\000\000\000\000\000\377\377\000\000\000\000\000\000' > "$work/custom"
@@ -81,6 +84,34 @@ dump 0 "$first
 {\"offset\":16,\"rest\":0}" '' --type 'CustomEntry(64512)' "$work/custom"
 dump 0 "$second
 {\"offset\":16,\"rest\":0}" '' --type 'CustomEntry(65535)' "$work/custom"
+
+# A header that is not the one which would be written by what its line says is shown in base64, also without payloads;
+# and so are the bytes in no item.
+printf '\000\003\200\000\000\000\000\000\000\005\200\001\000\000\000\000\000\005\200\000\000\000\000\000\000\010\000\000\000\000\000\001\000\010\377\377\000\000\000\000x' > "$work/odd"
+odd='{"offset":0,"type":"End","code":3,"length":0,"header":"AAOAAAAAAAA="'
+last='journal_dump: offset 40: 1 byte after the last whole item'
+flagged='"type":"ProposeRunCompletion","code":5,"length":0,"requestedAck":true'
+unknown='{"offset":24,"unknown":true,"code":8,"header":"AAgAAAAAAAE="}
+{"offset":32,"unknown":true,"code":8,"header":"AAj//wAAAAA="}'
+dump 0 "$odd,\"message\":{}}
+{\"offset\":8,$flagged,\"header\":\"AAWAAQAAAAA=\",\"message\":{}}
+{\"offset\":16,$flagged,\"message\":{}}
+$unknown
+{\"offset\":40,\"rest\":1,\"bytes\":\"eA==\"}" "$last" "$work/odd"
+dump 0 "$odd}
+{\"offset\":8,$flagged,\"header\":\"AAWAAQAAAAA=\"}
+{\"offset\":16,$flagged}
+$unknown
+{\"offset\":40,\"rest\":1}" "$last" --no-payload "$work/odd"
+dump 0 "$odd,\"message\":{}}
+{\"offset\":8,$flagged,\"header\":\"AAWAAQAAAAA=\",\"message\":{}}
+{\"offset\":16,$flagged,\"message\":{}}
+{\"offset\":24,\"skipped\":true,\"code\":8,\"length\":1,\"bytes\":\"AA==\"}
+{\"offset\":33,\"rest\":8,\"bytes\":\"CP//AAAAAHg=\"}" 'journal_dump: offset 33: 8 bytes after the last whole item' \
+  --protocol 9 "$work/odd"
+printf '\000\010\001\000\000\000\000\001x' > "$work/odd_skipped"
+dump 0 '{"offset":0,"skipped":true,"code":8,"length":1,"header":"AAgBAAAAAAE=","bytes":"eA=="}
+{"offset":9,"rest":0}' '' --protocol 9 "$work/odd_skipped"
 
 # A suspension has another schema before V7; a malformed payload ends nothing.
 printf '\000\001\000\000\000\000\000\026\n\003\001\256\002\022\003\003\260\002\032\004t\303\2515\032\004t\303\2516\000\003\000\000\000\000\000\001\n' > "$work/v6"
@@ -93,6 +124,29 @@ dump 0 "{\"offset\":0,\"type\":\"Suspension\",\"code\":1,\"length\":22,\"message
 $end" '' --protocol 7 "$work/v6"
 dump 0 '{"offset":30,"type":"End","code":3,"length":1}
 {"offset":39,"rest":0}' '' --no-payload --type End "$work/v6"
+
+# With --strict an unknown code, a malformed payload and bytes in no item are a failure, the first with its offset.
+dump 0 "$whole" '' --strict replay
+dump 2 "$old
+$end" 'journal_dump: offset 30: the payload of End is not well-formed' --strict --protocol 6 "$work/v6"
+dump 2 '{"offset":0,"type":"Suspension","code":1,"length":22}
+{"offset":30,"type":"End","code":3,"length":1}
+{"offset":39,"rest":0}' 'journal_dump: offset 30: the payload of End is not well-formed' --strict --no-payload "$work/v6"
+dump 0 "$old
+{\"offset\":39,\"rest\":0}" '' --strict --type Suspension --protocol 6 "$work/v6"
+code='journal_dump: offset 0: unknown protocol.message code 0x8'
+dump 2 '{"offset":8,"type":"End","code":3,"length":0,"message":{}}
+{"offset":16,"rest":0}' "$code" --strict --type End unknown_type
+dump 2 '{"offset":16,"rest":0}' "$code" --strict --protocol 9 --type End unknown_type
+cat unknown_type "$work/v6" cut_short > "$work/troubles"
+dump 2 '{"offset":76,"rest":8}' "$code
+journal_dump: offset 76: 8 bytes after the last whole item" --strict --type Error --no-payload "$work/troubles"
+cat replay > "$work/cut"
+printf '\000' >> "$work/cut"
+dump 2 "$start
+$input
+$state
+{\"offset\":56,\"rest\":1,\"bytes\":\"AA==\"}" 'journal_dump: offset 56: 1 byte after the last whole item' --strict "$work/cut"
 
 # A type's name may be in any case, and end with Message; several have commas between.
 dump 0 "$input
@@ -161,7 +215,7 @@ if command -v cc > /dev/null && cc -O2 -shared -fPIC -o "$work/refuse.so" "$top/
     read -r requests < "$work/requests"
     complaint=$(cat "$err")
     case $status:$complaint in
-      0:) "$program" < cut_short | cmp -s - "$out" ;;
+      "0:$cut") "$program" < cut_short 2> "$work/said" | cmp -s - "$out" ;;
       '1:journal_dump: out of memory') "$program" < cut_short 2> "$work/said" | head -n "$(wc -l < "$out")" | cmp -s - "$out" ;;
       *) false ;;
     esac
@@ -177,7 +231,8 @@ fi
 cd "$top" || exit 1
 "$program" < "$run/stdin" > "$out" 2> "$err"
 status=$?
-[ "$status" -eq 0 ] && cmp -s "$run/stdout" "$out" && [ ! -s "$err" ]
+[ "$status" -eq 0 ] && cmp -s "$run/stdout" "$out" &&
+  [ "$(cat "$err")" = 'journal_dump: offset 2851: 11 bytes after the last whole item' ]
 outcome 'the stored run' $?
 # a payload of 17 MiB, which comes in many chunks
 content=17825792

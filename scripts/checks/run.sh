@@ -33,7 +33,7 @@ refused() {
 
 listed='usage: run.sh [--proved] list [--protocol 5..9] [STREAM] [BYTES] [v9]'
 compared='usage: run.sh [--proved] diff [--ignore-payloads] [--protocol 5..9] RECORDED REPLAYED'
-dumped='usage: run.sh [--proved] dump [--protocol 5..9] [--type NAME].. [--no-payload] [FILE]'
+dumped='usage: run.sh [--proved] dump [--protocol 5..9] [--type NAME].. [--no-payload] [--strict] [FILE]'
 for how in '' --proved; do
   refused 'run.sh: no such file: nothing' $how list nothing
   refused 'run.sh: a folder: .' $how list .

@@ -66,6 +66,15 @@ def frame(code, payload, flag=0):
     return code.to_bytes(2, "big") + flag.to_bytes(2, "big") + len(payload).to_bytes(4, "big") + payload
 
 
+def base64_of(data):
+    return base64.b64encode(data).decode()
+
+
+def header_of(more, plain):
+    """The member of a header that is not the one which would be written."""
+    return {} if more[:8] == plain[:8] else {"header": base64_of(more[:8])}
+
+
 class Stream:
     """A stream, and the lines of its dump."""
 
@@ -85,14 +94,16 @@ class Stream:
         value = printed(getattr(self.kinds, kind or name + "Message"), payload)
         head = {"type": name, "code": code, "length": len(payload)}
         if name == "ProposeRunCompletion":
-            head["requestedAck"] = flag == 0x8000
+            head["requestedAck"] = flag & 0x8000 != 0
         shown = {"message": value}
         if value is None:
-            shown = {"malformed": True, "bytes": base64.b64encode(payload).decode()}
-        self.put(frame(code, payload, flag), **head, **shown)
+            shown = {"malformed": True, "bytes": base64_of(payload)}
+        more = frame(code, payload, flag)
+        plain = frame(code, payload, 0x8000 if head.get("requestedAck") else 0)
+        self.put(more, **head, **header_of(more, plain), **shown)
 
     def end(self, rest):
-        self.put(rest, rest=len(rest))
+        self.put(rest, rest=len(rest), **({"bytes": base64_of(rest)} if rest else {}))
         return self.bytes, "".join(line + "\n" for line in self.lines)
 
 
@@ -119,11 +130,12 @@ def future_of(kinds, levels):
 
 def stored(kinds):
     """The stream of the stored run: each message with every field, with each member of its oneofs, and empty; texts with every escape; ninety
-    levels; a malformed payload between two good ones; items that are no messages; and a rest."""
+    levels; a malformed payload between two good ones; headers with bits that say nothing; items that are no messages; and a rest."""
     stream = Stream(kinds)
     for name, payload in records():
         if name.endswith("Message"):
-            stream.message(name[: -len("Message")], payload, 0x8000 if payload else 0)
+            short = name[: -len("Message")]
+            stream.message(short, payload, 0x8000 if payload and short == "ProposeRunCompletion" else 0)
     text = "".join(map(chr, range(0x20))) + "\"\\/\x7f\u0080\u2028\u2029\ufffd\U0001f600"
     stream.message("Error", kinds.ErrorMessage(message=text).SerializeToString())
     stream.message("InputCommand", kinds.InputCommandMessage(headers=[kinds.Header()], name="\0").SerializeToString())
@@ -135,6 +147,14 @@ def stored(kinds):
     stream.put(frame(0xFC01, b"\xff\x00custom"), type="CustomEntry(64513)", code=0xFC01, length=8, bytes="/wBjdXN0b20=")
     stream.put(frame(8, b""), unknown=True, code=8)
     stream.message("End", b"\x0a\x01x")
+    for flag in (0x8000, 1, 0x7FFF):
+        stream.message("End", b"", flag)
+    for flag in (1, 0x8001, 0xFFFF):
+        stream.message("ProposeRunCompletion", b"", flag)
+    stream.message("Start", b"\x08", 0x4000)
+    stream.put(frame(0xFC01, b"", 0x8000), type="CustomEntry(64513)", code=0xFC01, length=0, header="/AGAAAAAAAA=", bytes="")
+    stream.put(frame(8, b"", 0x8000), unknown=True, code=8, header="AAiAAAAAAAA=")
+    stream.put(frame(8, b"x")[:8], unknown=True, code=8, header="AAgAAAAAAAE=")
     return stream.end(frame(3, b"12345678")[:11])
 
 
@@ -188,8 +208,11 @@ def dump_random(kinds, seed, count, command):
     stream = Stream(kinds)
     for _ in range(count):
         for name in stream.codes:
-            stream.message(name, payload_of(r, getattr(kinds, name + "Message")))
-    given, wanted = stream.end(b"")
+            flag = r.choice([0, 0, 0, 0x8000, 1, r.getrandbits(16)])
+            stream.message(name, payload_of(r, getattr(kinds, name + "Message")), flag)
+    rest, end = r.randbytes(r.randrange(2, 8)), len(stream.bytes)
+    given, wanted = stream.end(rest)
+    told = f"journal_dump: offset {end}: {len(rest)} bytes after the last whole item\n"
     run = subprocess.run(command, input=given, capture_output=True, check=False)
     lines = run.stdout.decode().split("\n")[:-1]
     passed = failed = 0
@@ -201,7 +224,7 @@ def dump_random(kinds, seed, count, command):
             failed += 1
             if failed < 5:
                 print(f"failed: line {number}:\n  is     {line}\n  is not {want}")
-    if run.returncode != 0 or len(lines) != len(stream.lines) or run.stderr:
+    if run.returncode != 0 or len(lines) != len(stream.lines) or run.stderr.decode() != told:
         failed += 1
         print(f"failed: status {run.returncode}, {len(lines)} lines, standard error: {run.stderr.decode()}")
     print(f"{passed} passed, {failed} failed")

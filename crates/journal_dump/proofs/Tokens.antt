@@ -1,14 +1,18 @@
 -- The tokens of an object's members, one after the other.
-use Rattle.std.proofs.Common.{◌≡◌, ℕ, List, [], ◌++◌, Bool, true, false, Option, Some, None, refl, ap, ◌∙◌, append_assoc}
+use Rattle.std.proofs.Common.{◌≡◌, ℕ, List, [], ◌∷◌, ◌++◌, Bool, true, false, cond, Option, Some, None, refl, ap, ◌∙◌, append_assoc}
 use Rattle.std.specs.Prelude.{codes}
-use Rattle.json.specs.Token.{Token}
+use Rattle.std.specs.Int.{w64, to_be_bytes}
+use Rattle.std.specs.Prelude.{◌==◌}
+use Rattle.base64.specs.GeneralPurpose.{encode_of}
+use Rattle.base64.specs.Engines.{standard}
+use Rattle.json.specs.Token.{Token, key, string}
 use Rattle.json.specs.Json.{Members, member, no_members, boolean}
 use Rattle.json.specs.Tree.{members_tokens}
 use Rattle.shared_core_wire.specs.Acceptance.{accepts_payload}
 use Rattle.shared_core_codec.specs.Table.{table}
 use Rattle.shared_core_codec.specs.Payloads.{IsAccepted, payload_meaning}
 use Rattle.shared_core_json.specs.Form.{value_json}
-use Rattle.journal_dump.specs.Lines.{ack_tokens, ack_members, bytes_json, payload_members}
+use Rattle.journal_dump.specs.Lines.{ack_tokens, ack_members, bytes_json, header_members, header_tokens, payload_members}
 
 pub then_tokens : (old new front rest : List Token) → new ≡ old ++ front → new ++ rest ≡ old ++ (front ++ rest)
 then_tokens old new front rest e = ap (λ (ts : List Token). ts ++ rest) e ∙ append_assoc old front rest
@@ -33,3 +37,37 @@ pub head_then : (old a b c d x y z : List Token) (flag : Option Bool) (others : 
 head_then old a b c d x y z flag others e f g h =
     then_ack c d flag others h ∙ then_tokens b c z (members_tokens (ack_members flag others)) g
     ∙ then_tokens a b y (z ++ members_tokens (ack_members flag others)) f ∙ then_tokens old a x (y ++ (z ++ members_tokens (ack_members flag others))) e
+
+pub then_header : (old new : List Token) (word written : ℕ) (others : Members) → new ≡ old ++ header_tokens word written → new ++ members_tokens others ≡ old ++ members_tokens (header_members word written others)
+then_header old new word written others e = by (word == written) e
+  where
+    bytes : List ℕ
+    bytes = to_be_bytes w64 word
+
+    shown : List Token
+    shown = key (codes "header") ∷ string (encode_of standard bytes) ∷ []
+
+    by : (b : Bool) → new ≡ old ++ cond b [] shown
+        → new ++ members_tokens others ≡ old ++ members_tokens (cond b others (member (codes "header") (bytes_json bytes) others))
+    by true is = then_tokens old new [] (members_tokens others) is
+    by false is = then_tokens old new shown (members_tokens others) is
+
+-- the same with the bytes of the header
+pub head_with_header : (old a b c d f x y z : List Token) (flag : Option Bool) (word written : ℕ) (others : Members) → a ≡ old ++ x → b ≡ a ++ y → c ≡ b ++ z → d ≡ c ++ ack_tokens flag → f ≡ d ++ header_tokens word written
+    → f ++ members_tokens others ≡ old ++ (x ++ (y ++ (z ++ members_tokens (ack_members flag (header_members word written others)))))
+head_with_header old a b c d f x y z flag word written others e g h i j =
+    then_header d f word written others j ∙ head_then old a b c d x y z flag (header_members word written others) e g h i
+
+-- a flag and a code, and the bytes of a header
+pub code_with_header : (old a b c x y : List Token) (word written : ℕ) (others : Members) → a ≡ old ++ x → b ≡ a ++ y → c ≡ b ++ header_tokens word written
+    → c ++ members_tokens others ≡ old ++ (x ++ (y ++ members_tokens (header_members word written others)))
+code_with_header old a b c x y word written others e f g =
+    then_header b c word written others g ∙ then_tokens a b y (members_tokens (header_members word written others)) f
+    ∙ then_tokens old a x (y ++ members_tokens (header_members word written others)) e
+
+-- the same with a length
+pub length_with_header : (old a b c d x y z : List Token) (word written : ℕ) (others : Members) → a ≡ old ++ x → b ≡ a ++ y → c ≡ b ++ z → d ≡ c ++ header_tokens word written
+    → d ++ members_tokens others ≡ old ++ (x ++ (y ++ (z ++ members_tokens (header_members word written others))))
+length_with_header old a b c d x y z word written others e f g h =
+    code_with_header a b c d y z word written others f g h
+    ∙ then_tokens old a x (y ++ (z ++ members_tokens (header_members word written others))) e

@@ -1,9 +1,15 @@
 -- What is written when a dump ends.
-use Rattle.std.specs.Prelude.{◌≡◌, ℕ, true, List, Result, Option}
+use Rattle.std.specs.Prelude.{◌≡◌, ℕ, Bool, true, if◌then◌else◌, List, Result, Option, Some, None}
+use Rattle.shared_core_base.specs.MessageType.{code_of}
 use Rattle.shared_core.specs.declared.encoding.item.Item.{Item}
-use Rattle.shared_core.specs.declared.encoding.item.Item.TheVariants.{Message}
+use Rattle.shared_core.specs.declared.encoding.item.Item.TheVariants.{Message, Unknown, Skipped}
 use Rattle.shared_core.specs.Visiting.{schema_at}
+use Rattle.shared_core_wire.specs.Acceptance.{accepts_payload}
+use Rattle.shared_core_codec.specs.Table as schema
 use Rattle.stream_lines.specs.declared.error.PrintError.{PrintError}
+use Rattle.stream_lines.specs.declared.report.Report.{Report}
+use Rattle.stream_lines.specs.declared.report.Trouble.{Trouble}
+use Rattle.stream_lines.specs.declared.report.Trouble.TheVariants.{UnknownCode, Malformed}
 use Rattle.stream_lines.specs.Printing.{ArePrinted}
 use Rattle.journal_dump.specs.declared.options.Options.{Options}
 use Rattle.journal_dump.specs.Canonical.{IsLongFor}
@@ -19,6 +25,24 @@ HasLongPayload options item = ⊥
 abbrev pub IsLong : Options → Item → Type 0
 IsLong options item = (is_asked_for options.codes.now (item_code item) ≡ true) × HasLongPayload options item
 
+-- Whether a payload is well-formed for a schema; without a schema every payload is.
+abbrev pub is_well_formed_for : Option ℕ → List ℕ → Bool
+is_well_formed_for None payload = true
+is_well_formed_for (Some s) payload = accepts_payload schema.table 100 s payload
+
+-- What is wrong with an item: a code that is no type's, or of a selected message a payload that is not well-formed.
+abbrev pub wrong_of : Options → Item → Option Trouble
+wrong_of options (Message message) =
+    if is_asked_for options.codes.now (code_of message.header.ty)
+    then (if is_well_formed_for (schema_at options.version message.header.ty) message.payload then None else Some (Malformed message.header.ty))
+    else None
+wrong_of options (Unknown code) = Some (UnknownCode code)
+wrong_of options (Skipped code payload) = Some (UnknownCode code)
+
+-- What the report has of an item: what is wrong with it, if the options are strict.
+abbrev pub trouble_of : Options → Item → Option Trouble
+trouble_of options item = if options.strict then wrong_of options item else None
+
 -- For the bytes that were read, the lines of their items are written, as far as the result says.
-abbrev pub IsDumped : Options → Result (Unit {0}) PrintError → List ℕ → List ℕ → Option (List ℕ) → Type 0
-IsDumped options result read written left = ArePrinted (line_of options) rest_line (IsLong options) options.version result read written left
+abbrev pub IsDumped : Options → Result Report PrintError → List ℕ → List ℕ → Option (List ℕ) → Type 0
+IsDumped options result read written left = ArePrinted (line_of options) (rest_line options) (IsLong options) (trouble_of options) options.version result read written left

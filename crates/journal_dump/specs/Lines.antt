@@ -1,6 +1,7 @@
 -- The lines of a dump: one JSON object for each selected item of a stream, and last one for the remaining bytes.
-use Rattle.std.specs.Prelude.{ℕ, Bool, true, ◌||◌, List, [], ◌∷◌, ◌++◌, length, codes, decimal, nat_eq, ◌==◌, if◌then◌else◌, Option, Some, None}
+use Rattle.std.specs.Prelude.{ℕ, ◌+◌, ◌*◌, ◌^◌, Bool, true, nat_lt, ◌&&◌, ◌||◌, List, [], ◌∷◌, ◌++◌, length, codes, decimal, nat_eq, ◌==◌, if◌then◌else◌, Option, Some, None}
 use Rattle.std.specs.List.{list_any}
+use Rattle.std.specs.Int.{w64, to_be_bytes}
 use Rattle.base64.specs.GeneralPurpose.{encode_of}
 use Rattle.base64.specs.Engines.{standard}
 use Rattle.json.specs.Token.{Token}
@@ -8,6 +9,7 @@ use Rattle.json.specs.Json.{Json, boolean, number, string, object, Members, no_m
 use Rattle.json.specs.Tree.{json_tokens}
 use Rattle.json.specs.Print.{print}
 use Rattle.shared_core_base.specs.MessageType.{code_of, debug_name_of}
+use Rattle.shared_core_base.specs.MessageHeader.{word_of}
 use Rattle.shared_core_wire.specs.Acceptance.{accepts_payload}
 use Rattle.shared_core_codec.specs.Table as schema
 use Rattle.shared_core_codec.specs.Payloads.{payload_meaning}
@@ -40,28 +42,58 @@ abbrev pub ack_tokens : Option Bool → List Token
 ack_tokens None = []
 ack_tokens (Some flag) = Token.key (codes "requestedAck") ∷ Token.boolean flag ∷ []
 
+-- The word that the header of an item is written as, by what its line says: its code, its length, and the request for an
+-- acknowledgement.
+abbrev pub written_word : Item → ℕ
+written_word (Message message) = word_of message.header
+written_word (Unknown code) = code * 2 ^ 48
+written_word (Skipped code payload) = code * 2 ^ 48 + length payload
+
+-- The members before others that have the bytes of a header, if its word is not the one that it is written as.
+abbrev pub header_members : ℕ → ℕ → Members → Members
+header_members word written others =
+    if word == written then others else member (codes "header") (bytes_json (to_be_bytes w64 word)) others
+
+-- Their tokens, without those of the others.
+abbrev pub header_tokens : ℕ → ℕ → List Token
+header_tokens word written =
+    if word == written then [] else Token.key (codes "header") ∷ Token.string (encode_of standard (to_be_bytes w64 word)) ∷ []
+
 -- A number before others.
 abbrev pub number_member : List ℕ → ℕ → Members → Members
 number_member name n others = member name (number (decimal n)) others
 
--- The members of an item after its offset.
-abbrev pub item_members : Options → Item → Members
-item_members options (Message message) =
+-- The members of an unknown code after its offset, by the word of its header.
+abbrev pub unknown_members : ℕ → ℕ → Members
+unknown_members word code =
+    member (codes "unknown") (boolean true)
+    (number_member (codes "code") code
+    (header_members word (written_word (Unknown code)) no_members))
+
+-- The members of a skipped message after its offset, by the word of its header.
+abbrev pub skipped_members : Options → ℕ → ℕ → List ℕ → Members
+skipped_members options word code payload =
+    member (codes "skipped") (boolean true)
+    (number_member (codes "code") code
+    (number_member (codes "length") (length payload)
+    (header_members word (written_word (Skipped code payload))
+    (if options.payloads then member (codes "bytes") (bytes_json payload) no_members else no_members))))
+
+-- The members of an item after its offset, by the word of its header.
+abbrev pub item_members : Options → ℕ → Item → Members
+item_members options word (Message message) =
     member (codes "type") (string (debug_name_of message.header.ty))
     (number_member (codes "code") (code_of message.header.ty)
     (number_member (codes "length") (length message.payload)
     (ack_members message.header.requested_ack
-    (if options.payloads then payload_members (schema_at options.version message.header.ty) message.payload else no_members))))
-item_members options (Unknown code) = member (codes "unknown") (boolean true) (number_member (codes "code") code no_members)
-item_members options (Skipped code payload) =
-    member (codes "skipped") (boolean true)
-    (number_member (codes "code") code
-    (number_member (codes "length") (length payload)
-    (if options.payloads then member (codes "bytes") (bytes_json payload) no_members else no_members)))
+    (header_members word (written_word (Message message))
+    (if options.payloads then payload_members (schema_at options.version message.header.ty) message.payload else no_members)))))
+item_members options word (Unknown code) = unknown_members word code
+item_members options word (Skipped code payload) = skipped_members options word code payload
 
--- The object of an item that begins at an offset of the stream.
-abbrev pub item_json : Options → ℕ → Item → Json
-item_json options at item = object (number_member (codes "offset") at (item_members options item))
+-- The object of an item that begins at an offset of the stream, with this word as its header.
+abbrev pub item_json : Options → ℕ → ℕ → Item → Json
+item_json options at word item = object (number_member (codes "offset") at (item_members options word item))
 
 -- The code of an item.
 abbrev pub item_code : Item → ℕ
@@ -77,10 +109,17 @@ is_asked_for wanted code = (length wanted == 0) || list_any (λ x. nat_eq x code
 abbrev pub json_line : Json → List ℕ
 json_line json = print (json_tokens json) ++ codes "\n"
 
--- The line of an item that begins at an offset, if it is selected.
-abbrev pub line_of : Options → ℕ → Item → List ℕ
-line_of options at item = if is_asked_for options.codes.now (item_code item) then json_line (item_json options at item) else []
+-- The line of an item that begins at an offset, with this word as its header, if it is selected.
+abbrev pub line_of : Options → ℕ → ℕ → Item → List ℕ
+line_of options at word item =
+    if is_asked_for options.codes.now (item_code item) then json_line (item_json options at word item) else []
 
--- The last line: the offset of the bytes that are in no item, and how many they are.
-abbrev pub rest_line : ℕ → ℕ → List ℕ
-rest_line at count = json_line (object (number_member (codes "offset") at (number_member (codes "rest") count no_members)))
+-- The member of the bytes that are in no item, if there are any and payloads are printed.
+abbrev pub rest_members : Options → List ℕ → Members
+rest_members options rest =
+    if options.payloads && nat_lt 0 (length rest) then member (codes "bytes") (bytes_json rest) no_members else no_members
+
+-- The last line: the offset of the bytes that are in no item, how many they are, and these bytes.
+abbrev pub rest_line : Options → ℕ → List ℕ → List ℕ
+rest_line options at rest =
+    json_line (object (number_member (codes "offset") at (number_member (codes "rest") (length rest) (rest_members options rest))))

@@ -20,6 +20,8 @@ pub struct Arguments<'a> {
     pub codes: Vec<u16>,
     /// Whether payloads are printed.
     pub payloads: bool,
+    /// Whether what is wrong with a stream is a failure.
+    pub strict: bool,
 }
 
 /// The version of an argument, if it is a supported one.
@@ -90,6 +92,10 @@ fn command<'a>(alloc: Global) -> Result<Command<'a>, AllocError> {
         .long("no-payload")
         .action(ArgAction::SetTrue)
         .help("Leaves out what is in messages");
+    let strict = Arg::new(alloc, "strict")
+        .long("strict")
+        .action(ArgAction::SetTrue)
+        .help("Ends with status 2 if there is an unknown code, a malformed payload or a rest");
     let path = Arg::new(alloc, "file")
         .value_name("FILE")
         .default_value("-")
@@ -99,6 +105,7 @@ fn command<'a>(alloc: Global) -> Result<Command<'a>, AllocError> {
         .about("Prints a stream of the protocol as JSON, one object a line for each of its items.")
         .arg(no_payload)?
         .arg(protocol)?
+        .arg(strict)?
         .arg(types)?
         .arg(path)
 }
@@ -128,5 +135,6 @@ pub fn parse_arguments<'a>(alloc: Global, arguments: &'a [String]) -> Result<Arg
         version,
         codes,
         payloads: !matches.get_flag("no-payload"),
+        strict: matches.get_flag("strict"),
     })
 }

@@ -8,7 +8,7 @@ ghost use Rattle.journal_dump.specs.Dump.{IsDumped};
 use crate::options::Options;
 use std::alloc::Global;
 use std::io::{Read, Write};
-use stream_lines::{PrintError, print_lines};
+use stream_lines::{PrintError, Report, print_lines};
 
 /// The number of bytes that are read at a time.
 const PIECE: usize = 65536;
@@ -17,13 +17,14 @@ const PIECE: usize = 65536;
 ///
 /// It reads at most 65,536 bytes at a time, and ends as `print_lines` says. `TooLong` comes only if payloads are
 /// printed and one of the items after the written lines is a selected message whose canonical payload has more bytes
-/// than 32 bits can count.
+/// than 32 bits can count. If the options are strict, the report has the first item whose code is no type's, or which
+/// is a selected message whose payload is not well-formed for its type at the version.
 pub fn dump<R: Read, W: Write>(
     alloc: Global,
     options: &Options<'_>,
     input: &mut R,
     output: &mut W,
-) -> Result<(), PrintError>
+) -> Result<Report, PrintError>
     requires spoken { 5 ≤ version_number options.now.version }
     ensures { (read : List ℕ) × (written : List ℕ)
         × Consumes (R.remaining input.old) (R.remaining input.new) read

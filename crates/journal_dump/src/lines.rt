@@ -1,6 +1,6 @@
 //! The lines of a dump.
 
-ghost use Rattle.std.specs.Prelude.{◌≡◌, ◌∷◌, ◌++◌, [], true, codes, decimal, OnOk, IfOk, IfErr};
+ghost use Rattle.std.specs.Prelude.{◌≡◌, ◌∷◌, ◌++◌, [], true, codes, decimal, length, OnOk, IfOk, IfErr};
 ghost use Rattle.base64.specs.GeneralPurpose.{encode_of};
 ghost use Rattle.base64.specs.Engines.{standard};
 ghost use Rattle.json.specs.Token.{key, number, boolean, end_object};
@@ -10,9 +10,10 @@ ghost use Rattle.shared_core.specs.declared.encoding.item.Item.TheVariants as va
 ghost use Rattle.shared_core_base.specs.MessageType.{debug_name_of};
 ghost use Rattle.journal_dump.specs.Canonical.{IsLongFor};
 ghost use Rattle.stream_lines.specs.Printing.{IsLack};
-ghost use Rattle.journal_dump.specs.Dump.{HasLongPayload};
+ghost use Rattle.journal_dump.specs.Dump.{HasLongPayload, is_well_formed_for, wrong_of};
 ghost use Rattle.shared_core.specs.Visiting.{schema_at};
-ghost use Rattle.journal_dump.specs.Lines.{payload_members, ack_tokens, item_members, item_json};
+ghost use Rattle.journal_dump.specs.Lines.{payload_members, ack_tokens, header_tokens, item_members, item_json};
+ghost use Rattle.journal_dump.specs.Lines.{number_member, rest_members, skipped_members, unknown_members};
 ghost use Rattle.journal_dump.specs.Lines.{item_code as code_of_item, is_asked_for, line_of, rest_line};
 
 use crate::messages::canonical_of;
@@ -21,34 +22,53 @@ use crate::scratch::Scratch;
 use base64::engine::general_purpose::STANDARD;
 use bytes::Bytes;
 use json::Writer;
-use shared_core::encoding::{Item, RawMessage};
+use shared_core::encoding::{Decoder, Item, RawMessage};
 use shared_core::header::MessageType;
+use shared_core::messages::schema_at;
 use shared_core::version::Version;
+use shared_core::wire::is_well_formed;
 use shared_core_json::{JsonError, write_message};
 use std::alloc::{AllocError, Global};
 use std::mem;
-use stream_lines::{LinePrinter, PrintError};
+use stream_lines::{LinePrinter, PrintError, Trouble};
+
+/// What a code is multiplied by in the word of a header.
+const CODE_UNIT: u128 = 1 << 48;
 
 /// Prints the lines of items by these options.
 impl<'a> LinePrinter for Options<'a> {
-    ghost use Rattle.journal_dump.specs.Dump.{IsLong};
+    ghost use Rattle.journal_dump.specs.Dump.{IsLong, trouble_of};
 
     type Scratch = Scratch;
 
     ghost item_line = { line_of };
 
-    ghost rest_line = { λ options. rest_line };
+    ghost rest_line = { rest_line };
 
     ghost is_long = { IsLong };
 
+    ghost item_trouble = { trouble_of };
+
     fn scratch(&self, alloc: Global) -> Scratch {
         Scratch::new(alloc)
+    }
+
+    fn trouble(&self, item: &Item) -> Option<Trouble> {
+        if !self.strict {
+            return None;
+        }
+        match item {
+            Item::Message(message) => message_trouble(self, message),
+            Item::Unknown(code) => Some(Trouble::UnknownCode(*code)),
+            Item::Skipped(code, _) => Some(Trouble::UnknownCode(*code)),
+        }
     }
 
     fn print_item(
         &self,
         alloc: Global,
         offset: u128,
+        word: u64,
         item: Item,
         scratch: &mut Scratch,
         lines: Vec<u8>,
@@ -59,7 +79,7 @@ impl<'a> LinePrinter for Options<'a> {
         let mut line = mem::replace(&mut scratch.line, Vec::new(alloc));
         line.clear();
         let mut out = Writer::new(line);
-        write_item(alloc, self, offset, &item, scratch, &mut out)?;
+        write_item(alloc, self, offset, word, &item, scratch, &mut out)?;
         scratch.line = out.into_inner();
         Ok(append_line(scratch.line.as_slice(), lines)?)
     }
@@ -68,15 +88,38 @@ impl<'a> LinePrinter for Options<'a> {
         &self,
         alloc: Global,
         offset: u128,
-        count: u64,
+        rest: &Decoder,
         lines: Vec<u8>,
     ) -> Result<Vec<u8>, AllocError> {
         let mut out = Writer::new(Vec::new(alloc));
         out.begin_object()?;
-        write_offset(&mut out, offset, &mut String::new(alloc))?;
-        write_number(&mut out, "rest", count)?;
+        write_rest(self, offset, rest, &mut String::new(alloc), &mut out)?;
         out.end_object()?;
         append_line(out.into_inner().as_slice(), lines)
+    }
+}
+
+/// That the payload of a selected message is not well-formed.
+fn message_trouble(options: &Options<'_>, message: &RawMessage) -> Option<Trouble>
+    ensures { result ≡ wrong_of options.now (variant.Message message.now) }
+{
+    let ty = message.ty();
+    if !is_asked_for(options.codes, u16::from(ty)) {
+        return None;
+    }
+    if is_well_formed_for(schema_at(options.version, ty), message.payload()) {
+        return None;
+    }
+    Some(Trouble::Malformed(ty))
+}
+
+/// Whether a payload is well-formed for a schema. Without a schema every payload is.
+fn is_well_formed_for(schema: Option<u32>, payload: &Bytes) -> bool
+    ensures { result ≡ is_well_formed_for schema payload.now }
+{
+    match schema {
+        Some(schema) => is_well_formed(schema, payload.as_slice()),
+        None => true,
     }
 }
 
@@ -108,50 +151,128 @@ fn is_asked_for(codes: &[u16], code: u16) -> bool
     codes.is_empty() || codes.contains(&code)
 }
 
+/// Writes the members of the bytes that are in no item.
+fn write_rest(
+    options: &Options<'_>,
+    offset: u128,
+    rest: &Decoder,
+    text: &mut String,
+    out: &mut Writer,
+) -> Result<(), AllocError>
+    ensures tokens { OnOk result (out.new.tokens ++ end_object ∷ [] ≡ out.old.tokens
+        ++ members_tokens (number_member (codes "offset") offset
+        (number_member (codes "rest") (length rest.now.bytes) (rest_members options.now rest.now.bytes)))) }
+    ensures before { out.new.before ≡ out.old.before }
+{
+    write_offset(out, offset, text)?;
+    let count = rest.pending();
+    write_number(out, "rest", count)?;
+    if options.payloads && count > 0 {
+        write_bytes(out, "bytes", rest.copy_pending()?.as_slice(), text)?;
+    }
+    Ok(())
+}
+
 /// Writes the object of an item.
 fn write_item(
     alloc: Global,
     options: &Options<'_>,
     offset: u128,
+    word: u64,
     item: &Item,
     scratch: &mut Scratch,
     out: &mut Writer,
 ) -> Result<(), PrintError>
     ensures tokens { OnOk result (out.new.tokens ≡ out.old.tokens
-        ++ json_tokens (item_json options.now offset item.now)) }
+        ++ json_tokens (item_json options.now offset word item.now)) }
     ensures before { out.new.before ≡ out.old.before }
     ensures lack { IfErr result (IsLack (HasLongPayload options.now item.now)) }
 {
     out.begin_object()?;
     write_offset(out, offset, &mut scratch.text)?;
+    write_members(alloc, options, word, item, scratch, out)?;
+    Ok(out.end_object()?)
+}
+
+/// Writes the members of an item after its offset.
+fn write_members(
+    alloc: Global,
+    options: &Options<'_>,
+    word: u64,
+    item: &Item,
+    scratch: &mut Scratch,
+    out: &mut Writer,
+) -> Result<(), PrintError>
+    ensures tokens { OnOk result (out.new.tokens ++ end_object ∷ [] ≡ out.old.tokens
+        ++ members_tokens (item_members options.now word item.now)) }
+    ensures before { out.new.before ≡ out.old.before }
+    ensures lack { IfErr result (IsLack (HasLongPayload options.now item.now)) }
+{
     match item {
-        Item::Message(message) => write_message_members(alloc, options, message, scratch, out)?,
-        Item::Unknown(code) => {
-            write_flag(out, "unknown", true)?;
-            write_number(out, "code", *code as u64)?;
+        Item::Message(message) => {
+            write_message_members(alloc, options, word, message, scratch, out)?;
         }
+        Item::Unknown(code) => write_unknown(word, *code, &mut scratch.text, out)?,
         Item::Skipped(code, payload) => {
-            write_flag(out, "skipped", true)?;
-            write_number(out, "code", *code as u64)?;
-            write_number(out, "length", payload.len() as u64)?;
-            if options.payloads {
-                write_bytes(out, payload, &mut scratch.text)?;
-            }
+            write_skipped(options, word, *code, payload, &mut scratch.text, out)?;
         }
     }
-    Ok(out.end_object()?)
+    Ok(())
+}
+
+/// Writes the members of an unknown code after its offset.
+fn write_unknown(
+    word: u64,
+    code: u16,
+    text: &mut String,
+    out: &mut Writer,
+) -> Result<(), AllocError>
+    ensures tokens { OnOk result (out.new.tokens ++ end_object ∷ [] ≡ out.old.tokens
+        ++ members_tokens (unknown_members word code)) }
+    ensures before { out.new.before ≡ out.old.before }
+{
+    write_flag(out, "unknown", true)?;
+    write_number(out, "code", code as u64)?;
+    write_header(out, word, u128::from(code) * CODE_UNIT, text)?;
+    Ok(())
+}
+
+/// Writes the members of a skipped message after its offset.
+fn write_skipped(
+    options: &Options<'_>,
+    word: u64,
+    code: u16,
+    payload: &Bytes,
+    text: &mut String,
+    out: &mut Writer,
+) -> Result<(), AllocError>
+    ensures tokens { OnOk result (out.new.tokens ++ end_object ∷ [] ≡ out.old.tokens
+        ++ members_tokens (skipped_members options.now word code payload.now)) }
+    ensures before { out.new.before ≡ out.old.before }
+{
+    write_flag(out, "skipped", true)?;
+    write_number(out, "code", code as u64)?;
+    write_number(out, "length", payload.len() as u64)?;
+    // in memory a payload may be longer than a header can say
+    let written = u128::from(code) * CODE_UNIT + payload.len() as u128;
+    write_header(out, word, written, text)?;
+    if options.payloads {
+        write_bytes(out, "bytes", payload, text)?;
+    }
+    Ok(())
 }
 
 /// Writes the members of a message after its offset.
 fn write_message_members(
     alloc: Global,
     options: &Options<'_>,
+    word: u64,
     message: &RawMessage,
     scratch: &mut Scratch,
     out: &mut Writer,
 ) -> Result<(), PrintError>
     ensures tokens { OnOk result (out.new.tokens ++ end_object ∷ [] ≡ out.old.tokens
-        ++ members_tokens (item_members options.now (variant.Message message.now))) }
+        ++ members_tokens (item_members options.now word (variant.Message message.now))) }
     ensures before { out.new.before ≡ out.old.before }
     ensures lack { IfErr result (IsLack ((options.now.payloads ≡ true)
         × IsLongFor (schema_at options.now.version message.now.header.ty) message.now.payload)) }
@@ -160,7 +281,9 @@ fn write_message_members(
     write_type(out, ty, &mut scratch.text)?;
     write_number(out, "code", u16::from(ty) as u64)?;
     write_number(out, "length", message.payload().len() as u64)?;
-    write_ack(out, message.header().requested_ack())?;
+    let header = message.header();
+    write_ack(out, header.requested_ack())?;
+    write_header(out, word, u128::from(u64::from(header)), &mut scratch.text)?;
     if options.payloads {
         write_payload(alloc, options.version, ty, message.payload(), scratch, out)?;
     }
@@ -186,10 +309,10 @@ fn write_payload(
             out.key("message")?;
             write_message(out, &mut scratch.text, schema, scratch.canonical.as_slice())?;
         }
-        Ok(None) => write_bytes(out, payload, &mut scratch.text)?,
+        Ok(None) => write_bytes(out, "bytes", payload, &mut scratch.text)?,
         Err(JsonError::Malformed) => {
             write_flag(out, "malformed", true)?;
-            write_bytes(out, payload, &mut scratch.text)?;
+            write_bytes(out, "bytes", payload, &mut scratch.text)?;
         }
         Err(JsonError::TooLong) => return Err(PrintError::TooLong),
         Err(JsonError::OutOfMemory) => return Err(PrintError::OutOfMemory),
@@ -260,13 +383,35 @@ fn write_ack(out: &mut Writer, flag: Option<bool>) -> Result<(), AllocError>
     }
 }
 
-/// Writes bytes in base64 as the member `bytes`.
-fn write_bytes(out: &mut Writer, bytes: &[u8], text: &mut String) -> Result<(), AllocError>
-    ensures tokens { OnOk result (out.new.tokens ≡ out.old.tokens ++ (key (codes "bytes") ∷ token.string (encode_of standard bytes.now) ∷ [])) }
+/// Writes the bytes of a header as the member `header`, if its word is not the one that it is written as.
+fn write_header(
+    out: &mut Writer,
+    word: u64,
+    written: u128,
+    text: &mut String,
+) -> Result<(), AllocError>
+    ensures tokens { OnOk result (out.new.tokens ≡ out.old.tokens ++ header_tokens word written) }
+    ensures before { out.new.before ≡ out.old.before }
+{
+    if u128::from(word) == written {
+        return Ok(());
+    }
+    write_bytes(out, "header", &word.to_be_bytes(), text)
+}
+
+/// Writes bytes in base64 as a member.
+fn write_bytes(
+    out: &mut Writer,
+    name: &str,
+    bytes: &[u8],
+    text: &mut String,
+) -> Result<(), AllocError>
+    ensures tokens { OnOk result (out.new.tokens ≡ out.old.tokens
+        ++ (key name.now ∷ token.string (encode_of standard bytes.now) ∷ [])) }
     ensures before { out.new.before ≡ out.old.before }
 {
     text.clear();
     STANDARD.encode_string(bytes, text)?;
-    out.key("bytes")?;
+    out.key(name)?;
     out.string(text.as_str())
 }

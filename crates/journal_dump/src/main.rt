@@ -14,19 +14,54 @@ mod scratch;
 use crate::arguments::parse_arguments;
 use crate::dump::dump;
 use crate::options::Options;
-use command_line::{arguments, fail, open_file, report};
+use command_line::{Pipe, arguments, fail, open_file, report};
 use std::io;
 use std::io::Read;
 use std::process::ExitCode;
+use stream_lines::{PrintError, Report, Trouble};
 
 const PROGRAM: &str = "journal_dump";
+
+/// Says what is wrong first with the stream, and that it has bytes in no item, and returns the status.
+fn end(rt: &HostRuntime, options: &Options<'_>, found: &Report) -> ExitCode {
+    // there is nothing to do if the standard error fails too
+    if let Some((offset, trouble)) = found.trouble {
+        let _ = match trouble {
+            Trouble::UnknownCode(code) => {
+                eprintln!(rt;
+                    "{PROGRAM}: offset {offset}: unknown protocol.message code 0x{code:x}"
+                )
+            }
+            Trouble::Malformed(ty) => {
+                let name = ty.debug_name();
+                eprintln!(rt;
+                    "{PROGRAM}: offset {offset}: the payload of {name} is not well-formed"
+                )
+            }
+        };
+    }
+    if found.rest > 0 {
+        let bytes = if found.rest == 1 { "byte" } else { "bytes" };
+        let _ = eprintln!(rt;
+            "{PROGRAM}: offset {}: {} {bytes} after the last whole item",
+            found.end, found.rest
+        );
+    }
+    if options.strict && (found.trouble.is_some() || found.rest > 0) {
+        return ExitCode::from(2);
+    }
+    ExitCode::SUCCESS
+}
 
 /// Dumps an input, and returns the status.
 fn dump_input<R: Read>(rt: &HostRuntime, options: &Options<'_>, input: &mut R) -> ExitCode
     requires { 5 ≤ version_number options.now.version }
 {
-    match dump(rt.alloc(), options, input, &mut rt.stdout()) {
-        Ok(()) => ExitCode::SUCCESS,
+    let mut output = Pipe::new(rt.stdout());
+    match dump(rt.alloc(), options, input, &mut output) {
+        Ok(found) => end(rt, options, &found),
+        // whose reader is gone is told nothing
+        Err(PrintError::Output) if output.is_broken() => ExitCode::FAILURE,
         Err(error) => fail(rt, PROGRAM, error, 1),
     }
 }
@@ -47,6 +82,7 @@ fn main(rt: HostRuntime) -> ExitCode {
         version: asked.version,
         codes: asked.codes.as_slice(),
         payloads: asked.payloads,
+        strict: asked.strict,
     };
     if asked.path == "-" {
         return dump_input(&rt, &options, &mut rt.stdin());

@@ -11,4 +11,6 @@ pub struct Options<'a> {
     pub codes: &'a [u16],
     /// Whether payloads are printed.
     pub payloads: bool,
+    /// Whether the report has the first item with which something is wrong.
+    pub strict: bool,
 }

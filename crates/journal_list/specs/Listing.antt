@@ -1,10 +1,11 @@
 -- The listing of a stream of frames: a line for each item, and last the count of the bytes that are in no item.
-use Rattle.std.specs.Prelude.{ℕ, Bool, true, List, [], ◌++◌, false, length, codes, decimal, Result, Ok, Err, Option, Some}
+use Rattle.std.specs.Prelude.{◌≡◌, ℕ, Bool, true, List, [], ◌++◌, false, length, codes, decimal, Result, Ok, Err, Option, Some, None}
 use Rattle.std.specs.Fmt.{digits}
 use Rattle.shared_core_base.specs.declared.version.Version.{Version}
 use Rattle.shared_core_base.specs.MessageType.{debug_name_of}
 use Rattle.shared_core.specs.declared.encoding.item.Item.{Item}
 use Rattle.shared_core.specs.declared.encoding.item.Item.TheVariants.{Message, Unknown, Skipped}
+use Rattle.stream_lines.specs.declared.report.Report.{Report}
 use Rattle.stream_lines.specs.declared.error.PrintError.{PrintError}
 use Rattle.stream_lines.specs.declared.error.PrintError.TheVariants as print_error
 use Rattle.stream_lines.specs.Printing.{ArePrinted}
@@ -29,17 +30,19 @@ line_of (Skipped code payload) =
 abbrev pub rest_line : ℕ → List ℕ
 rest_line count = codes "rest " ++ (decimal count ++ codes "\n")
 
--- The result of printing a stream for each result of a listing.
-abbrev pub printed_of : Result (Unit {0}) ListError → Result (Unit {0}) PrintError
-printed_of (Ok done) = Ok done
-printed_of (Err Input) = Err print_error.Input
-printed_of (Err Output) = Err print_error.Output
-printed_of (Err OutOfMemory) = Err print_error.OutOfMemory
+-- The result of printing a stream, for each result of a listing.
+abbrev pub IsPrintedAs : Result (Unit {0}) ListError → Result Report PrintError → Type 0
+IsPrintedAs (Ok done) printed = (report : Report) × (printed ≡ Ok report)
+IsPrintedAs (Err Input) printed = printed ≡ Err print_error.Input
+IsPrintedAs (Err Output) printed = printed ≡ Err print_error.Output
+IsPrintedAs (Err OutOfMemory) printed = printed ≡ Err print_error.OutOfMemory
 
 -- For the bytes that were read, the lines of their items are written, as far as the result says; no item is too long
 -- for its line.
 abbrev pub IsListed : Version → Result (Unit {0}) ListError → List ℕ → List ℕ → Option (List ℕ) → Type 0
-IsListed version result read written left = ArePrinted (λ at. line_of) (λ at. rest_line) (λ item. ⊥) version (printed_of result) read written left
+IsListed version result read written left =
+    (printed : Result Report PrintError) × IsPrintedAs result printed
+    × ArePrinted (λ at word. line_of) (λ at rest. rest_line (length rest)) (λ item. ⊥) (λ item. None) version printed read written left
 
 -- The text of an error.
 abbrev pub error_text : ListError → List ℕ

@@ -1,5 +1,5 @@
 //! The listing of a stream, from any reader to any writer.
-ghost use Rattle.std.specs.Prelude.{◌≡◌, ◌≤◌, ◌++◌, ℕ, List, OnOk};
+ghost use Rattle.std.specs.Prelude.{◌≡◌, ◌≤◌, ◌++◌, ℕ, List, None, length, OnOk};
 ghost use Rattle.std.specs.Io.KnownBytes.{Appends, Consumes};
 ghost use Rattle.std.specs.String.{string_bytes};
 ghost use Rattle.shared_core_base.specs.declared.version.Version.TheVariants.{V8};
@@ -8,11 +8,11 @@ ghost use Rattle.journal_list.specs.Listing.{ack_text, line_of, IsListed};
 ghost use Rattle.journal_list.specs.Listing as text;
 
 use crate::error::ListError;
-use shared_core::encoding::Item;
+use shared_core::encoding::{Decoder, Item};
 use shared_core::version::Version;
 use std::alloc::{AllocError, Global};
 use std::io::{Read, Write};
-use stream_lines::{LinePrinter, PrintError, print_lines};
+use stream_lines::{LinePrinter, PrintError, Trouble, print_lines};
 
 /// The listing of a V8 stream, as `list_at` writes it.
 pub fn list<R: Read, W: Write>(
@@ -54,7 +54,7 @@ pub fn list_at<R: Read, W: Write>(
         × IsListed version result read written (R.remaining input.new) }
 {
     match print_lines(alloc, version, &Listing, input, output, piece) {
-        Ok(()) => Ok(()),
+        Ok(_) => Ok(()),
         Err(PrintError::Input) => Err(ListError::Input),
         Err(PrintError::Output) => Err(ListError::Output),
         Err(PrintError::OutOfMemory) => Err(ListError::OutOfMemory),
@@ -70,20 +70,27 @@ impl LinePrinter for Listing {
     /// The text of a line, which is reused.
     type Scratch = String;
 
-    ghost item_line = { λ listing at. text.line_of };
+    ghost item_line = { λ listing at word. text.line_of };
 
-    ghost rest_line = { λ listing at. text.rest_line };
+    ghost rest_line = { λ listing at rest. text.rest_line (length rest) };
 
     ghost is_long = { λ listing item. ⊥ };
 
+    ghost item_trouble = { λ listing item. None };
+
     fn scratch(&self, alloc: Global) -> String {
         String::new(alloc)
+    }
+
+    fn trouble(&self, _item: &Item) -> Option<Trouble> {
+        None
     }
 
     fn print_item(
         &self,
         _alloc: Global,
         _offset: u128,
+        _word: u64,
         item: Item,
         line: &mut String,
         lines: Vec<u8>,
@@ -99,9 +106,10 @@ impl LinePrinter for Listing {
         &self,
         alloc: Global,
         _offset: u128,
-        count: u64,
+        rest: &Decoder,
         lines: Vec<u8>,
     ) -> Result<Vec<u8>, AllocError> {
+        let count = rest.pending();
         let mut line = String::new(alloc);
         writeln!(line, "rest {count}")?;
         let mut lines = lines;

@@ -1,11 +1,14 @@
 -- What is written when the printing of a stream ends: a line for each of its items, and last one for the bytes that are
 -- in none.
-use Rattle.std.specs.Prelude.{◌≡◌, ◌⊎◌, ℕ, ◌+◌, List, [], ◌∷◌, ◌++◌, length, codes, Result, Ok, Err, Option}
+use Rattle.std.specs.Prelude.{◌≡◌, ◌⊎◌, ℕ, ◌+◌, List, [], ◌∷◌, ◌++◌, length, drop, codes, Result, Ok, Err, Option, None}
+use Rattle.std.specs.Option.{option_map, option_or}
 use Rattle.std.specs.Io.KnownBytes.{Consumes, Keeps, IsAtEnd}
 use Rattle.shared_core_base.specs.declared.version.Version.{Version}
 use Rattle.shared_core.specs.declared.encoding.item.Item.{Item}
 use Rattle.shared_core.specs.declared.encoding.item.Item.TheVariants.{Message, Unknown, Skipped}
-use Rattle.shared_core.specs.Items.{IsItemsThen, SplitsInto}
+use Rattle.shared_core.specs.Items.{front_word, IsItemsThen, SplitsInto}
+use Rattle.stream_lines.specs.declared.report.Report.{Report}
+use Rattle.stream_lines.specs.declared.report.Trouble.{Trouble}
 use Rattle.stream_lines.specs.declared.error.PrintError.{PrintError}
 use Rattle.stream_lines.specs.declared.error.PrintError.TheVariants.{Input, Output, OutOfMemory, TooLong}
 
@@ -20,14 +23,31 @@ abbrev pub items_size : List Item → ℕ
 items_size [] = 0
 items_size (item ∷ items) = item_size item + items_size items
 
--- The lines of items, the first of which begins at an offset.
-abbrev pub lines : (ℕ → Item → List ℕ) → ℕ → List Item → List ℕ
-lines line at [] = []
-lines line at (item ∷ items) = line at item ++ lines line (at + item_size item) items
+-- The lines of items that the bytes begin with, the first of which begins at an offset: each by its offset, the word of
+-- its header and the item.
+abbrev pub lines : (ℕ → ℕ → Item → List ℕ) → ℕ → List ℕ → List Item → List ℕ
+lines line at bytes [] = []
+lines line at bytes (item ∷ items) =
+    line at (front_word bytes) item ++ lines line (at + item_size item) (drop (item_size item) bytes) items
 
 -- All that is written for a stream of these items and these remaining bytes: the lines of the items, and the last line.
-abbrev pub all_lines : (ℕ → Item → List ℕ) → (ℕ → ℕ → List ℕ) → List Item → List ℕ → List ℕ
-all_lines line last items rest = lines line 0 items ++ last (items_size items) (length rest)
+abbrev pub all_lines : (ℕ → ℕ → Item → List ℕ) → (ℕ → List ℕ → List ℕ) → List ℕ → List Item → List ℕ → List ℕ
+all_lines line last stream items rest = lines line 0 stream items ++ last (items_size items) rest
+
+-- What is wrong with an item that begins at an offset, with that offset.
+abbrev pub trouble_at : (Item → Option Trouble) → ℕ → Item → Option (ℕ × Trouble)
+trouble_at trouble at item = option_map (λ what. (at, what)) (trouble item)
+
+-- What is wrong first with items, the first of which begins at an offset.
+abbrev pub first_trouble : (Item → Option Trouble) → ℕ → List Item → Option (ℕ × Trouble)
+first_trouble trouble at [] = None
+first_trouble trouble at (item ∷ items) = option_or (trouble_at trouble at item) (first_trouble trouble (at + item_size item) items)
+
+-- The report on a stream of these items and these remaining bytes.
+pub record IsReport (trouble : Item → Option Trouble) (items : List Item) (rest : List ℕ) (report : Report) : Type 0 where
+  pub first : report.trouble ≡ first_trouble trouble 0 items
+  pub end : report.end ≡ items_size items
+  pub count : report.rest ≡ length rest
 
 -- The most bytes that can be pending without a whole item: a header, and all but one byte of its payload.
 abbrev pub most_pending : ℕ
@@ -48,24 +68,26 @@ IsLack is_long TooLong = is_long
 IsLack is_long error = ⊥
 
 -- What is written for each result, for a stream of these items and these remaining bytes, and what the reader has left:
--- all lines, at the input's end; the lines of all items; a prefix of these or, at the input's end, of all lines; the
+-- all lines and the report, at the input's end; the lines of all items; a prefix of these or, at the input's end, of all lines; the
 -- lines of the first items; or those of the items before one that is too long.
-abbrev pub StandsWritten : (ℕ → Item → List ℕ) → (ℕ → ℕ → List ℕ) → (Item → Type 0) → Result (Unit {0}) PrintError → List Item → List ℕ → List ℕ → Option (List ℕ) → Type 0
-StandsWritten line last is_long (Ok _) items rest written left = IsAtEnd left × (written ≡ all_lines line last items rest)
-StandsWritten line last is_long (Err Input) items rest written left = written ≡ lines line 0 items
-StandsWritten line last is_long (Err Output) items rest written left =
-    Begins written (lines line 0 items) ⊎ (IsAtEnd left × Begins written (all_lines line last items rest))
-StandsWritten line last is_long (Err OutOfMemory) items rest written left = (done : List Item) × Begins done items × (written ≡ lines line 0 done)
-StandsWritten line last is_long (Err TooLong) items rest written left =
-    (done : List Item) × (front : List Item) × (item : Item) × Begins (done ++ (front ++ item ∷ [])) items × is_long item × (written ≡ lines line 0 done)
+abbrev pub StandsWritten : (ℕ → ℕ → Item → List ℕ) → (ℕ → List ℕ → List ℕ) → (Item → Type 0) → (Item → Option Trouble) → Result Report PrintError → List ℕ → List Item → List ℕ → List ℕ → Option (List ℕ) → Type 0
+StandsWritten line last is_long trouble (Ok report) stream items rest written left =
+    IsAtEnd left × (written ≡ all_lines line last stream items rest) × IsReport trouble items rest report
+StandsWritten line last is_long trouble (Err Input) stream items rest written left = written ≡ lines line 0 stream items
+StandsWritten line last is_long trouble (Err Output) stream items rest written left =
+    Begins written (lines line 0 stream items) ⊎ (IsAtEnd left × Begins written (all_lines line last stream items rest))
+StandsWritten line last is_long trouble (Err OutOfMemory) stream items rest written left =
+    (done : List Item) × Begins done items × (written ≡ lines line 0 stream done)
+StandsWritten line last is_long trouble (Err TooLong) stream items rest written left =
+    (done : List Item) × (front : List Item) × (item : Item) × Begins (done ++ (front ++ item ∷ [])) items × is_long item × (written ≡ lines line 0 stream done)
 
 -- The bytes that were read split into these items and these remaining bytes, as every stream does in one way, and what
 -- is written is as the result says.
-pub record ArePrinted (line : ℕ → Item → List ℕ) (last : ℕ → ℕ → List ℕ) (is_long : Item → Type 0) (version : Version) (result : Result (Unit {0}) PrintError) (read written : List ℕ) (left : Option (List ℕ)) : Type 0 where
+pub record ArePrinted (line : ℕ → ℕ → Item → List ℕ) (last : ℕ → List ℕ → List ℕ) (is_long : Item → Type 0) (trouble : Item → Option Trouble) (version : Version) (result : Result Report PrintError) (read written : List ℕ) (left : Option (List ℕ)) : Type 0 where
   pub items : List Item
   pub rest : List ℕ
   pub split : SplitsInto version read items rest
-  pub stands : StandsWritten line last is_long result items rest written left
+  pub stands : StandsWritten line last is_long trouble result read items rest written left
 
 -- What one read took of the reader's bytes, by its result: a chunk, which is empty only at the end; nothing if it
 -- failed; or bytes that could not be stored.

@@ -5,7 +5,9 @@ pub mod error;
 pub mod line_printer;
 pub mod output;
 pub mod print;
+pub mod report;
 
 pub use crate::error::PrintError;
 pub use crate::line_printer::LinePrinter;
 pub use crate::print::print_lines;
+pub use crate::report::{Report, Trouble};

@@ -1,11 +1,13 @@
 //! The trait of printers, which make the lines of items.
 
-ghost use Rattle.std.specs.Prelude.{◌≡◌, ◌++◌, ℕ, List, IfErr, IfOk};
+ghost use Rattle.std.specs.Prelude.{◌≡◌, ◌++◌, ℕ, List, Option, IfErr, IfOk};
 ghost use Rattle.shared_core.specs.declared.encoding.item.Item.{Item as AnyItem};
 ghost use Rattle.stream_lines.specs.Printing.{IsLack};
+ghost use Rattle.stream_lines.specs.declared.report.Trouble.{Trouble as AnyTrouble};
 
 use crate::error::PrintError;
-use shared_core::encoding::Item;
+use crate::report::Trouble;
+use shared_core::encoding::{Decoder, Item};
 use std::alloc::{AllocError, Global};
 
 /// Makes the lines of items.
@@ -13,38 +15,47 @@ pub trait LinePrinter {
     /// Buffers in which lines are made, one after the other. Their contents do not matter.
     type Scratch: Drop;
 
-    /// The line of an item that begins at an offset of the stream; nothing if it is not printed.
-    ghost item_line: { Self → ℕ → AnyItem → List ℕ };
+    /// The line of an item that begins at an offset of the stream, with this word as its header; nothing if it is not
+    /// printed.
+    ghost item_line: { Self → ℕ → ℕ → AnyItem → List ℕ };
 
-    /// The last line, by the offset of the bytes that are in no item, and their number.
-    ghost rest_line: { Self → ℕ → ℕ → List ℕ };
+    /// The last line, by the offset of the bytes that are in no item, and these bytes.
+    ghost rest_line: { Self → ℕ → List ℕ → List ℕ };
 
     /// Holds of the items for which `print_item` may return `TooLong`.
     ghost is_long: { Self → AnyItem → Type 0 };
 
+    /// What is wrong with an item, as far as the report of a printing has it.
+    ghost item_trouble: { Self → AnyItem → Option AnyTrouble };
+
     /// Returns empty buffers.
     fn scratch(&self, alloc: Global) -> Self::Scratch;
 
-    /// Appends the line of an item that begins at an offset of the stream. Returns `TooLong` only if the item is too
-    /// long for a line.
+    /// What is wrong with an item, if the report is to have it.
+    fn trouble(&self, item: &Item) -> Option<Trouble>
+        ensures trouble { result ≡ item_trouble self.now item.now };
+
+    /// Appends the line of an item that begins at an offset of the stream, with this word as its header. Returns
+    /// `TooLong` only if the item is too long for a line.
     fn print_item(
         &self,
         alloc: Global,
         offset: u128,
+        word: u64,
         item: Item,
         scratch: &mut Self::Scratch,
         lines: Vec<u8>,
     ) -> Result<Vec<u8>, PrintError>
-        ensures line { IfOk result (λ now. now.items ≡ lines.items ++ item_line self.now offset item) }
+        ensures line { IfOk result (λ now. now.items ≡ lines.items ++ item_line self.now offset word item) }
         ensures lack { IfErr result (IsLack (is_long self.now item)) };
 
-    /// Appends the last line.
+    /// Appends the last line. The bytes that are in no item are those that the decoder has pending.
     fn print_rest(
         &self,
         alloc: Global,
         offset: u128,
-        count: u64,
+        rest: &Decoder,
         lines: Vec<u8>,
     ) -> Result<Vec<u8>, AllocError>
-        ensures line { IfOk result (λ now. now.items ≡ lines.items ++ rest_line self.now offset count) };
+        ensures line { IfOk result (λ now. now.items ≡ lines.items ++ rest_line self.now offset rest.now.bytes) };
 }

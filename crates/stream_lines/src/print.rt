@@ -1,17 +1,21 @@
 //! The loop that reads a stream and writes its lines.
 
-ghost use Rattle.std.specs.Prelude.{◌≡◌, ◌<◌, ◌≤◌, ◌-◌, ◌++◌, ℕ, List, length, IfOk, IfErr, OnOk};
+ghost use Rattle.std.specs.Prelude.{◌≡◌, ◌+◌, ◌<◌, ◌≤◌, ◌-◌, ◌++◌, ℕ, List, length, IfOk, IfErr, IfSome, OnOk};
+ghost use Rattle.std.specs.Prelude.{MatchOption};
 ghost use Rattle.std.specs.Io.KnownBytes.{Appends, Consumes};
 ghost use Rattle.shared_core_base.specs.Version.{version_number};
-ghost use Rattle.shared_core.specs.Items.{SplitsInto};
+ghost use Rattle.shared_core.specs.Items.{front_word, NoItemBegins, SplitsInto, TakesItem};
 ghost use Rattle.shared_core.specs.declared.encoding.item.Item.{Item as AnyItem};
+ghost use Rattle.std.specs.Option.{option_or};
 ghost use Rattle.stream_lines.specs.Printing.{lines, most_pending, ArePrinted, IsLack, IsLongIn, IsRead};
+ghost use Rattle.stream_lines.specs.Printing.{trouble_at, first_trouble};
 
 use crate::error::PrintError;
 use crate::line_printer::LinePrinter;
 use crate::output::write_whole;
+use crate::report::{Report, Trouble};
 use bytes::Bytes;
-use shared_core::encoding::{Decoder, PushError};
+use shared_core::encoding::{Decoder, Item, PushError};
 use shared_core::version::Version;
 use std::alloc::{AllocError, Global};
 use std::io::{Read, Write};
@@ -20,10 +24,11 @@ use std::io::{Read, Write};
 /// in no item.
 ///
 /// It reads at most `piece` bytes at a time, from 1 to 65,536, and writes the lines of the items that a chunk completes
-/// before it reads the next. `Ok` comes only if the reader has no byte left, and then all is written. After `Input` the
-/// lines of all items of what was read are written; after `Output` a prefix of these lines, or of all if the input had
-/// ended; after `OutOfMemory` and `TooLong` the lines of the first items. `TooLong` comes only if one of the items
-/// after them is too long for a line.
+/// before it reads the next. `Ok` comes only if the reader has no byte left, and then all is written; the report says
+/// with which item something is wrong first, by the printer, and which bytes are in no item. After `Input` the lines of
+/// all items of what was read are written; after `Output` a prefix of these lines, or of all if the input had ended;
+/// after `OutOfMemory` and `TooLong` the lines of the first items. `TooLong` comes only if one of the items after them
+/// is too long for a line.
 pub fn print_lines<P: LinePrinter, R: Read, W: Write>(
     alloc: Global,
     version: Version,
@@ -31,7 +36,7 @@ pub fn print_lines<P: LinePrinter, R: Read, W: Write>(
     input: &mut R,
     output: &mut W,
     piece: usize,
-) -> Result<(), PrintError>
+) -> Result<Report, PrintError>
     requires spoken { 5 ≤ version_number version }
     requires low { 1 ≤ piece }
     requires high { piece ≤ 65536 }
@@ -39,28 +44,37 @@ pub fn print_lines<P: LinePrinter, R: Read, W: Write>(
         × Consumes (R.remaining input.old) (R.remaining input.new) read
         × Appends (W.contents output.old) (W.contents output.new) written
         × ArePrinted (P.item_line printer.now) (P.rest_line printer.now)
-        (P.is_long printer.now) version result read written (R.remaining input.new) }
+        (P.is_long printer.now) (P.item_trouble printer.now) version result read written (R.remaining input.new) }
 {
     let mut decoder = Decoder::new(alloc, version);
     let mut scratch = printer.scratch(alloc);
     let mut text = Vec::new(alloc);
     let mut buffer = Vec::from_elem(alloc, 0u8, piece)?;
     let buffer = buffer.as_mut_slice();
+    let mut trouble = None;
     // 2^64 - 1 reads may give more bytes than 64 bits can count
     let mut total = 0u128;
     for _ in 0..u64::MAX {
         let bytes = read_piece(alloc, input, buffer)?;
         if bytes.is_empty() {
             text.clear();
-            let pending = decoder.pending();
-            let offset = total - pending as u128;
-            let text = printer.print_rest(alloc, offset, pending, text)?;
+            let rest = decoder.pending();
+            let end = total - rest as u128;
+            let text = printer.print_rest(alloc, end, &decoder, text)?;
             write_whole(output, text.as_slice())?;
-            return Ok(());
+            return Ok(Report { trouble, end, rest });
         }
         total += bytes.len() as u128;
         feed(&mut decoder, bytes)?;
-        text = print_items(alloc, printer, &mut decoder, total, &mut scratch, text)?;
+        text = print_items(
+            alloc,
+            printer,
+            &mut decoder,
+            total,
+            &mut scratch,
+            &mut trouble,
+            text,
+        )?;
         write_whole(output, text.as_slice())?;
     }
     Err(PrintError::Input)
@@ -91,19 +105,59 @@ fn feed(decoder: &mut Decoder, piece: Bytes) -> Result<(), AllocError>
     }
 }
 
-/// Makes a text of the lines of the decoder's whole items, after `total` bytes of the stream have come.
+/// The next item with the word of its header, which an item does not hold all of; `None` if no whole one remains.
+#[tactic(auto, using(crate::proofs::Progress::none_without_header))]
+fn next_item(decoder: &mut Decoder) -> Result<Option<(u64, Item)>, AllocError>
+    ensures taken { IfOk result (λ found. MatchOption found
+        (NoItemBegins decoder.old.version decoder.old.bytes × (decoder.new.bytes ≡ decoder.old.bytes)
+        × (length decoder.new.bytes ≤ most_pending))
+        (λ next. (next.0 ≡ front_word decoder.old.bytes)
+        × TakesItem decoder.old.version decoder.old.bytes next.1 decoder.new.bytes)) }
+    ensures shorter { IfOk result (λ found.
+        IfSome found (λ next. length decoder.new.bytes + 8 ≤ length decoder.old.bytes)) }
+    ensures version { decoder.new.version ≡ decoder.old.version }
+{
+    let Some(word) = decoder.next_word() else {
+        return Ok(None);
+    };
+    let Some(item) = decoder.next_item()? else {
+        return Ok(None);
+    };
+    Ok(Some((word, item)))
+}
+
+/// What is wrong first: what was found before, or else what is wrong with this item.
+fn first<P: LinePrinter>(
+    printer: &P,
+    offset: u128,
+    item: &Item,
+    found: Option<(u128, Trouble)>,
+) -> Option<(u128, Trouble)>
+    ensures { result ≡ option_or found (trouble_at (P.item_trouble printer.now) offset item.now) }
+{
+    match found {
+        Some(_) => found,
+        None => Some((offset, printer.trouble(item)?)),
+    }
+}
+
+/// Makes a text of the lines of the decoder's whole items, after `total` bytes of the stream have come, and notes what
+/// is wrong first.
 fn print_items<P: LinePrinter>(
     alloc: Global,
     printer: &P,
     decoder: &mut Decoder,
     total: u128,
     scratch: &mut P::Scratch,
+    trouble: &mut Option<(u128, Trouble)>,
     text: Vec<u8>,
 ) -> Result<Vec<u8>, PrintError>
     requires came { length decoder.old.bytes ≤ total }
     ensures printed { IfOk result (λ now. (items : List AnyItem)
         × SplitsInto decoder.old.version decoder.old.bytes items decoder.new.bytes
-        × (now.items ≡ lines (P.item_line printer.now) (total - length decoder.old.bytes) items)) }
+        × (now.items ≡ lines (P.item_line printer.now) (total - length decoder.old.bytes) decoder.old.bytes items)
+        × (trouble.new ≡ option_or trouble.old (first_trouble (P.item_trouble printer.now)
+        (total - length decoder.old.bytes) items))) }
     ensures version { decoder.new.version ≡ decoder.old.version }
     ensures short { IfOk result (λ now. length decoder.new.bytes ≤ most_pending) }
     ensures lack { IfErr result (IsLack (IsLongIn (P.is_long printer.now) decoder.old.version decoder.old.bytes)) }
@@ -111,8 +165,9 @@ fn print_items<P: LinePrinter>(
     let mut text = text;
     text.clear();
     let mut offset = total - decoder.pending() as u128;
-    while let Some(item) = decoder.next_item()? {
-        text = printer.print_item(alloc, offset, item, scratch, text)?;
+    while let Some((word, item)) = next_item(decoder)? {
+        *trouble = first(printer, offset, &item, *trouble);
+        text = printer.print_item(alloc, offset, word, item, scratch, text)?;
         offset = total - decoder.pending() as u128;
     }
     Ok(text)

@@ -4,9 +4,10 @@ use Rattle.json.specs.Token.{key, string, number, end_object}
 use Rattle.json.specs.Json.{no_members}
 use Rattle.json.specs.Tree.{members_tokens}
 use Rattle.shared_core_base.specs.MessageType.{code_of, debug_name_of}
+use Rattle.shared_core_base.specs.MessageHeader.{word_of}
 use Rattle.shared_core.specs.Visiting.{schema_at}
-use Rattle.journal_dump.specs.Lines.{ack_tokens, payload_members}
-use Rattle.journal_dump.proofs.Tokens.{head_then}
+use Rattle.journal_dump.specs.Lines.{ack_tokens, header_tokens, payload_members}
+use Rattle.journal_dump.proofs.Tokens.{head_with_header}
 use Rattle.journal_dump.proofs.lines.write_message_members.Goals as goal
 
 pub returns-in_ok-write_payload-clause-tokens : goal.returns-in_ok-write_payload-clause-tokens
@@ -16,9 +17,10 @@ returns-in_ok-write_payload-clause-tokens c =
     let code : c.write_number.new.out.tokens ≡ c.write_type.new.out.tokens ++ (key (codes "code") ∷ number (decimal (code_of message.header.ty)) ∷ []) = search rules in
     let len : c.write_number-2.new.out.tokens ≡ c.write_number.new.out.tokens ++ (key (codes "length") ∷ number (decimal (length message.payload)) ∷ []) = search rules in
     let ack : c.write_ack.new.out.tokens ≡ c.write_number-2.new.out.tokens ++ ack_tokens message.header.requested_ack = search rules in
+    let head : c.write_header.new.out.tokens ≡ c.write_ack.new.out.tokens ++ header_tokens c.args.word (word_of message.header) = search rules in
     let members = payload_members (schema_at c.args.options.now.version message.header.ty) message.payload in
-    let last : c.write_payload.new.out.tokens ++ (end_object ∷ []) ≡ c.write_ack.new.out.tokens ++ members_tokens members = search rules in
-    rw c.if-options.true (last ∙ head_then c.args.out.now.tokens _ _ _ _ _ _ _ message.header.requested_ack members ty code len ack)
+    let last : c.write_payload.new.out.tokens ++ (end_object ∷ []) ≡ c.write_header.new.out.tokens ++ members_tokens members = search rules in
+    rw c.if-options.true (last ∙ head_with_header c.args.out.now.tokens _ _ _ _ _ _ _ _ message.header.requested_ack c.args.word (word_of message.header) members ty code len ack head)
 
 pub returns-else-options-clause-tokens : goal.returns-else-options-clause-tokens
 returns-else-options-clause-tokens c =
@@ -27,4 +29,5 @@ returns-else-options-clause-tokens c =
     let code : c.write_number.new.out.tokens ≡ c.write_type.new.out.tokens ++ (key (codes "code") ∷ number (decimal (code_of message.header.ty)) ∷ []) = search rules in
     let len : c.write_number-2.new.out.tokens ≡ c.write_number.new.out.tokens ++ (key (codes "length") ∷ number (decimal (length message.payload)) ∷ []) = search rules in
     let ack : c.write_ack.new.out.tokens ≡ c.write_number-2.new.out.tokens ++ ack_tokens message.header.requested_ack = search rules in
-    rw c.if-options.false (head_then c.args.out.now.tokens _ _ _ _ _ _ _ message.header.requested_ack no_members ty code len ack)
+    let head : c.write_header.new.out.tokens ≡ c.write_ack.new.out.tokens ++ header_tokens c.args.word (word_of message.header) = search rules in
+    rw c.if-options.false (head_with_header c.args.out.now.tokens _ _ _ _ _ _ _ _ message.header.requested_ack c.args.word (word_of message.header) no_members ty code len ack head)

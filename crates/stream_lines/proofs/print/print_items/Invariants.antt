@@ -1,7 +1,8 @@
 use Rattle.std.proofs.Common.{◌≡◌, ◌-◌, ◌≤◌, List, length}
 use Rattle.shared_core.specs.declared.encoding.item.Item.{Item}
 use Rattle.shared_core.specs.Items.{IsItemsThen}
-use Rattle.stream_lines.specs.Printing.{lines}
+use Rattle.std.specs.Option.{option_or}
+use Rattle.stream_lines.specs.Printing.{first_trouble, lines}
 use Rattle.stream_lines.proofs.print.print_items.Given as goal
 
 abbrev pub invariant-loop-text : goal.invariant-loop-text
@@ -10,7 +11,8 @@ invariant-loop-text g l =
     × (length l.decoder.bytes ≤ l.total)
     × (l.offset ≡ l.total - length l.decoder.bytes)
     × (items : List Item) × IsItemsThen l.fn.decoder.version l.fn.decoder.bytes items l.decoder.bytes
-    × (l.text.items ≡ lines (g.P.LinePrinter.item_line l.printer) (l.total - length l.fn.decoder.bytes) items)
+    × (l.text.items ≡ lines (g.P.LinePrinter.item_line l.printer) (l.total - length l.fn.decoder.bytes) l.fn.decoder.bytes items)
+    × (l.trouble ≡ option_or l.fn.trouble (first_trouble (g.P.LinePrinter.item_trouble l.printer) (l.total - length l.fn.decoder.bytes) items))
 
 abbrev pub decreases-loop-text : goal.decreases-loop-text
 decreases-loop-text g l = length l.decoder.bytes

@@ -1,0 +1,23 @@
+//! What the printing of a whole stream found.
+
+use shared_core::header::MessageType;
+
+/// What is wrong with an item.
+#[derive(Clone, Copy, Debug, PartialEq, Eq, Drop)]
+pub enum Trouble {
+    /// The code of its header is no type's.
+    UnknownCode(u16),
+    /// Its payload is not well-formed for its type.
+    Malformed(MessageType),
+}
+
+/// What the printing of a whole stream found.
+#[derive(Clone, Copy, Debug, PartialEq, Eq, Drop)]
+pub struct Report {
+    /// The first item with which something is wrong: the offset where it begins, and what is wrong.
+    pub trouble: Option<(u128, Trouble)>,
+    /// The offset of the bytes that are in no item.
+    pub end: u128,
+    /// The number of these bytes.
+    pub rest: u64,
+}
