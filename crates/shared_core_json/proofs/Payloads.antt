@@ -22,6 +22,7 @@ use Rattle.shared_core_wire.proofs.Runs.{and_split}
 use Rattle.shared_core_wire.proofs.EncodingLaws.{encodable, record_encoded}
 use Rattle.shared_core_codec.specs.Table.{table}
 use Rattle.shared_core_codec.specs.Payloads.{payload_meaning}
+use Rattle.shared_core_codec.specs.Canonicity.{IsCanonical}
 use Rattle.shared_core_codec.proofs.Tables.{are_schemas}
 use Rattle.shared_core_json.specs.Fields.{schema_fields, names_of}
 use Rattle.shared_core_json.specs.Form.{value_json}
@@ -84,3 +85,7 @@ decoded_encoding s payload bytes v e f c = record {
   low = meaning_levels table 100 s payload;
   canonical = c ∙ ap (canonical_payload table s) e;
 }
+
+-- a canonical payload
+pub canonical_encoding : (s : ℕ) (payload : List ℕ) → IsCanonical s payload → IsEncoding s (payload_meaning s payload) payload
+canonical_encoding s payload c = decoded_encoding s payload payload (payload_meaning s payload) refl c.fits c.canonical

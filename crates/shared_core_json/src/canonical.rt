@@ -1,10 +1,11 @@
-//! Decoding a payload, writing it canonically, and from there as JSON.
+//! The JSON of a payload: of its canonical payload, which is made first if it is not canonical already.
 
 ghost use Rattle.std.specs.Prelude.{◌≡◌, ◌≤◌, ◌^◌, IfOk, OnOk};
 ghost use Rattle.std.specs.Result.{IsErrOf};
 ghost use Rattle.std.specs.Str.{IsUtf8};
 ghost use Rattle.shared_core_wire.specs.Canonical.{canonical_payload, size};
 ghost use Rattle.shared_core_wire.specs.Fitting.{Fits};
+ghost use Rattle.shared_core_wire.specs.Value.{Parts};
 ghost use Rattle.shared_core_codec.specs.Table.{table};
 ghost use Rattle.shared_core_codec.specs.Payloads.{IsAccepted, payload_meaning};
 ghost use Rattle.json.specs.Lex.{tokens};
@@ -17,8 +18,9 @@ use crate::error::JsonError;
 use crate::write::write_message;
 use bytes::Bytes;
 use json::Writer;
+use shared_core_codec::canonical::is_canonical;
 use shared_core_codec::record::{WireRecord, decode_payload};
-use std::alloc::Global;
+use std::alloc::{AllocError, Global};
 
 /// Overwrites the buffer with the canonical payload of what a payload means. `Malformed` if the payload is not
 /// well-formed for the message; `TooLong` if the canonical payload has more than 4,294,967,295 bytes; `OutOfMemory` if
@@ -54,8 +56,9 @@ fn encode_over<M: WireRecord>(message: &M, canonical: &mut Vec<u8>) -> Result<()
     Ok(())
 }
 
-/// Returns the JSON of a payload of the message whose schema is at this index of the table. The errors are those of
-/// `write_canonical`.
+/// Returns the JSON of a payload of the message whose schema is at this index of the table. A canonical payload is
+/// printed as it is; any other is decoded and written canonically first. The errors are those of `write_canonical`.
+#[tactic(auto, using(crate::proofs::Payloads::canonical_encoding))]
 pub fn json_of<M: WireRecord>(
     alloc: Global,
     schema: u32,
@@ -71,10 +74,24 @@ pub fn json_of<M: WireRecord>(
     ensures malformed { IsErrOf result Malformed → ¬ (IsAccepted M.schema payload.now) }
     ensures too_long { IsErrOf result TooLong → IsTooLong M.schema payload.now }
 {
+    if is_canonical(schema, payload.as_slice()) {
+        return Ok(print(alloc, schema, payload.as_slice())?);
+    }
     let mut canonical = Vec::new(alloc);
     write_canonical::<M>(alloc, payload, &mut canonical)?;
+    Ok(print(alloc, schema, canonical.as_slice())?)
+}
+
+/// Returns the JSON of what a canonical payload means.
+fn print(alloc: Global, schema: u32, canonical: &[u8]) -> Result<Vec<u8>, AllocError>
+    ensures text { IfOk result (λ text. (v : Parts) → IsEncoding schema v canonical.now
+        → text.items ≡ json_text schema v) }
+    ensures utf8 { IfOk result (λ text. IsUtf8 text.items) }
+    ensures reads_back { IfOk result (λ text. (v : Parts) → IsEncoding schema v canonical.now
+        → tokens text.items ≡ json_tokens (value_json schema v)) }
+{
     let mut out = Writer::new(Vec::new(alloc));
     let mut base64 = String::new(alloc);
-    write_message(&mut out, &mut base64, schema, canonical.as_slice())?;
+    write_message(&mut out, &mut base64, schema, canonical)?;
     Ok(out.into_inner())
 }
