@@ -30,7 +30,7 @@ not_installed() {
 
 top=$(cd "$(dirname "$0")/.." && pwd)
 header=$top/include/pendratsoa.h
-programs='journal_list journal_diff journal_dump'
+programs='journal_list journal_diff journal_dump journal_make'
 action=install
 machine=x86_64-unknown-linux-gnu
 libdir=lib

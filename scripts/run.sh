@@ -7,9 +7,11 @@
 #       where two journals differ
 #   scripts/run.sh [--proved] dump [--protocol 5..9] [--type NAME].. [--no-payload] [--strict] [FILE]
 #       a stream as JSON, the standard input if none is given
+#   scripts/run.sh [--proved] make [--protocol 5..9] [FILE]
+#       a stream of JSON lines, of the standard input if none is given
 #   scripts/run.sh [--proved] view [OPTION].. STREAM [OTHER] [-o FILE]
 #       a page that shows a journal, or two side by side
-#   scripts/run.sh list|diff|dump|view --help
+#   scripts/run.sh list|diff|dump|make|view --help
 #       what docs/PROGRAMS.md says of the program
 #
 # The first run without the proofs builds the program, in less than a minute, and keeps it. With --proved every crate
@@ -20,7 +22,7 @@ set -eu
 top=$(cd "$(dirname "$0")/.." && pwd)
 
 usage() {
-  sed -n '2,17s/^# \{0,1\}//p' "$top/scripts/run.sh"
+  sed -n '2,19s/^# \{0,1\}//p' "$top/scripts/run.sh"
 }
 
 # fail WHY: prints in one line why the program is not run, and ends
@@ -194,6 +196,11 @@ case $command in
     ;;
   dump)
     check_arguments ' --no-payload --protocol --strict --type ' 1 "$@"
+    build
+    exec "$program" "$@"
+    ;;
+  make)
+    check_arguments ' --protocol ' 1 "$@"
     build
     exec "$program" "$@"
     ;;

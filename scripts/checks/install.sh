@@ -8,7 +8,7 @@ set -u
 cd "$(dirname "$0")/../.." || exit 1
 . scripts/checks/lib.sh
 
-programs='journal_list journal_diff journal_dump'
+programs='journal_list journal_diff journal_dump journal_make'
 for name in $programs; do
   program_of "$name"
   [ -n "$program" ] || not_run "$why"
@@ -48,6 +48,8 @@ prints "$work/verdict" journal_diff "$streams/recorded" "$streams/recorded"
 prints "$streams/replay.stdout" journal_list "$streams/replay"
 prints "$streams/replay.stdout" journal_list - 3 --protocol 7
 prints "$streams/replay.dump" journal_dump "$streams/replay"
+(cd "$work" && alone "$prefix/bin/journal_make" "$streams/replay.dump") > "$out" 2> "$err"
+same 'journal_make, installed' "$streams/replay" "$out"
 for name in $programs; do
   echo "$name $version" > "$work/version"
   prints "$work/version" $name --version

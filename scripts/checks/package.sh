@@ -7,7 +7,7 @@ cd "$(dirname "$0")/../.." || exit 1
 . scripts/checks/lib.sh
 
 needs dpkg-deb dpkg
-for name in journal_list journal_diff journal_dump; do
+for name in journal_list journal_diff journal_dump journal_make; do
   program_of "$name"
   [ -n "$program" ] || not_run "$why"
 done
@@ -39,6 +39,8 @@ find "$work/root" -type l ! -exec test -e {} \; -print > "$err"
 outcome 'each link leads somewhere' $?
 "$work/root/usr/bin/journal_dump" examples/streams/replay > "$out" 2> "$err"
 same 'journal_dump of the package' examples/streams/replay.dump "$out"
+"$work/root/usr/bin/journal_make" examples/streams/replay.dump > "$out" 2> "$err"
+same 'journal_make of the package' examples/streams/replay "$out"
 cc -I "$work/root/usr/include" examples/c/listing.c "$work/root/usr/lib/x86_64-linux-gnu/libpendratsoa.so" \
   -o "$work/listing" 2> "$err"
 LD_LIBRARY_PATH=$work/root/usr/lib/x86_64-linux-gnu "$work/listing" < examples/streams/replay > "$out" 2>> "$err"

@@ -34,6 +34,7 @@ refused() {
 listed='usage: run.sh [--proved] list [--protocol 5..9] [STREAM] [BYTES] [v9]'
 compared='usage: run.sh [--proved] diff [--ignore-payloads] [--protocol 5..9] RECORDED REPLAYED'
 dumped='usage: run.sh [--proved] dump [--protocol 5..9] [--type NAME].. [--no-payload] [--strict] [FILE]'
+made='usage: run.sh [--proved] make [--protocol 5..9] [FILE]'
 for how in '' --proved; do
   refused 'run.sh: no such file: nothing' $how list nothing
   refused 'run.sh: a folder: .' $how list .
@@ -58,6 +59,10 @@ for how in '' --proved; do
   refused 'run.sh: a folder: .' $how dump .
   refused 'run.sh: no such file: -' $how dump -
   refused "run.sh: --protocol is from 5 to 9, and not '4'" $how dump --protocol 4 'a stream'
+  refused "$made" $how make --type Start 'a stream'
+  refused "$made" $how make 'a stream' 'a stream'
+  refused 'run.sh: a folder: .' $how make .
+  refused "run.sh: --protocol is from 5 to 9, and not '4'" $how make --protocol 4 'a stream'
   for name in Nothing '' '.*' 'CustomEntry(64511)' 'CustomEntry(065535)' 'CustomEntry(65536)'; do
     refused "run.sh: --type: proto/types.txt has no '$name'" $how dump --type "$name" 'a stream'
   done
@@ -69,7 +74,7 @@ shown() {
   outcome "$1" $?
 }
 
-for command in list diff dump; do
+for command in list diff dump make; do
   run_sh $command --help
   shown "run.sh $command --help"
   grep -q "^usage: run.sh .*\] $command " "$out" && grep -q "^    journal_$command " "$out" &&

@@ -12,6 +12,7 @@ DECLARED = {
     "journal_list": "crates/journal_list/src/arguments.rt",
     "journal_diff": "crates/journal_diff/src/arguments.rt",
     "journal_dump": "crates/journal_dump/src/arguments.rt",
+    "journal_make": "crates/journal_make/src/arguments.rt",
 }
 
 # Where the library says which versions it supports.

@@ -11,7 +11,7 @@ SOURCE = "docs/PROGRAMS.md, docs/C.md and include/pendratsoa.h"
 # The day on which the text of the pages last changed.
 DATE = "2026-11-24"
 
-PROGRAMS = ("journal_list", "journal_diff", "journal_dump")
+PROGRAMS = ("journal_list", "journal_diff", "journal_dump", "journal_make")
 
 # What docs/C.md says that belongs into the page of the library: the heading there, and the section's name here.
 LIBRARY_SECTIONS = (

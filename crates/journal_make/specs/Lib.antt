@@ -1,0 +1,6 @@
+pub mod Errors
+pub mod Appending
+pub mod Members
+pub mod Lines
+pub mod Made
+pub mod Steps

@@ -1,0 +1,64 @@
+-- The members of a line, by their names.
+use Rattle.std.specs.Prelude.{ℕ, Bool, true, false, not, ◌&&◌, ◌||◌, List, codes, if◌then◌else◌, Option, option_and_then}
+use Rattle.std.specs.Option.{is_none, option_or}
+use Rattle.std.specs.Str.{bytes_eq}
+use Rattle.json.specs.Json.{Json, null, boolean, number, string, array, object, Members, no_members, member}
+use Rattle.json.specs.Find.{get}
+use Rattle.shared_core_json_reader.specs.Reading.{present}
+
+-- Whether a key is one of those that say what an item is.
+abbrev pub says_item : List ℕ → Bool
+says_item key =
+    ((((bytes_eq key (codes "type") || bytes_eq key (codes "code")) || bytes_eq key (codes "message")) || bytes_eq key (codes "unknown"))
+    || (bytes_eq key (codes "header") || bytes_eq key (codes "requestedAck"))) || bytes_eq key (codes "ack")
+
+-- Whether a key is one of those that give bytes, or say that these are after the last item.
+abbrev pub says_bytes : List ℕ → Bool
+says_bytes key = (bytes_eq key (codes "bytes") || bytes_eq key (codes "payload")) || bytes_eq key (codes "rest")
+
+-- Whether a key is one of those that a dump has besides, which are passed over.
+abbrev pub is_passed_over : List ℕ → Bool
+is_passed_over key =
+    ((bytes_eq key (codes "offset") || bytes_eq key (codes "length")) || bytes_eq key (codes "malformed")) || bytes_eq key (codes "skipped")
+
+-- Whether a line may have a member with this key.
+abbrev pub is_known : List ℕ → Bool
+is_known key = (says_item key || says_bytes key) || is_passed_over key
+
+-- Whether a member has this key.
+abbrev pub has_key : List ℕ → Members → Bool
+has_key key no_members = false
+has_key key (member k j ms) = if bytes_eq k key then true else has_key key ms
+
+-- Whether each key is one that a line may have, and none comes twice.
+abbrev pub are_members : Members → Bool
+are_members no_members = true
+are_members (member k j ms) = if is_known k then (if has_key k ms then false else are_members ms) else false
+
+-- Whether a value is an object of such members.
+abbrev pub has_members : Json → Bool
+has_members null = false
+has_members (boolean b) = false
+has_members (number s) = false
+has_members (string s) = false
+has_members (array js) = false
+has_members (object ms) = are_members ms
+
+-- The value of a member, if it is there and is not null.
+abbrev pub given : List ℕ → Json → Option Json
+given name j = option_and_then present (get name j)
+
+-- The value of a member by either of its names.
+abbrev pub given_either : List ℕ → List ℕ → Json → Option Json
+given_either name other j = option_or (given name j) (given other j)
+
+-- Whether both names have values.
+abbrev pub gives_both : List ℕ → List ℕ → Json → Bool
+gives_both name other j = not (is_none (given name j)) && not (is_none (given other j))
+
+-- Whether a value is an object with the members of a line, of which no two are names of the same.
+unfoldable pub is_line : Json → Bool
+is_line j =
+    if has_members j
+    then not (gives_both (codes "bytes") (codes "payload") j) && not (gives_both (codes "requestedAck") (codes "ack") j)
+    else false

@@ -1,0 +1,52 @@
+-- How lines are taken, one by one and chunk by chunk.
+use Rattle.std.specs.Prelude.{◌≡◌, ℕ, suc, ◌+◌, List, [], ◌∷◌, ◌++◌, length, Option, Some, None, Result, Ok, Err}
+use Rattle.stream_lines.specs.Printing.{Begins}
+use Rattle.journal_make.specs.declared.error.MakeError.{MakeError}
+use Rattle.journal_make.specs.declared.error.MakeError.TheVariants.{Input, Output, OutOfMemory, Line}
+use Rattle.journal_make.specs.declared.make.Lines.{Lines}
+use Rattle.journal_make.specs.declared.make.Refused.{Refused}
+use Rattle.journal_make.specs.Made.{made, counted, AreLines, BeginWith}
+
+-- A line was taken, or is not: what it means is appended, or nothing; nothing is said where memory ran out.
+abbrev pub LineIsTaken : {E : Type 0} → (List ℕ → Option (List ℕ)) → Result (Option Refused) E → Lines → Lines → Type 0
+LineIsTaken means (Ok None) old new =
+    (bytes : List ℕ) × (means old.pending.items ≡ Some bytes) × (new.made.items ≡ old.made.items ++ bytes) × (new.pending.items ≡ []) × (new.taken ≡ counted (suc old.taken))
+LineIsTaken means (Ok (Some refused)) old new =
+    (means old.pending.items ≡ None) × (new.made.items ≡ old.made.items) × (refused.number ≡ counted (suc old.taken))
+LineIsTaken means (Err lack) old new = Unit {0}
+
+-- The lines that some bytes end were taken, or those before one that is not.
+abbrev pub AreTaken : (List ℕ → Option (List ℕ)) → List ℕ → Option Refused → Lines → Lines → Type 0
+AreTaken means bytes None old new =
+    (lines : List (List ℕ)) × (more : List ℕ) × AreLines bytes lines new.pending.items × (made means lines ≡ Some more)
+    × (new.made.items ≡ old.made.items ++ more) × (new.taken ≡ counted (old.taken + length lines))
+AreTaken means bytes (Some refused) old new =
+    (lines : List (List ℕ)) × (line rest more : List ℕ) × BeginWith bytes (lines ++ line ∷ []) rest × (made means lines ≡ Some more)
+    × (new.made.items ≡ old.made.items ++ more) × (means line ≡ None) × (refused.number ≡ counted (suc (old.taken + length lines)))
+
+-- They were taken so, unless memory ran out.
+abbrev pub IsTaken : {E : Type 0} → (List ℕ → Option (List ℕ)) → List ℕ → Result (Option Refused) E → Lines → Lines → Type 0
+IsTaken means bytes (Ok refused) old new = AreTaken means bytes refused old new
+IsTaken means bytes (Err lack) old new = Unit {0}
+
+-- What is written where lines are taken that some bytes end: what they mean, or a prefix of it, or what those before one
+-- mean that is not taken; nothing where memory ran out.
+abbrev pub IsStep : (List ℕ → Option (List ℕ)) → List ℕ → Result (Unit {0}) MakeError → List ℕ → Lines → Lines → Type 0
+IsStep means bytes (Ok done) written old new =
+    (lines : List (List ℕ)) × AreLines bytes lines new.pending.items × (made means lines ≡ Some written) × (new.made.items ≡ []) × (new.taken ≡ counted (old.taken + length lines))
+IsStep means bytes (Err Input) written old new = ⊥
+IsStep means bytes (Err Output) written old new =
+    (lines : List (List ℕ)) × (rest more : List ℕ) × BeginWith bytes lines rest × (made means lines ≡ Some more) × Begins written more
+IsStep means bytes (Err OutOfMemory) written old new = written ≡ []
+IsStep means bytes (Err (Line number error)) written old new =
+    (lines : List (List ℕ)) × (line rest : List ℕ) × BeginWith bytes (lines ++ line ∷ []) rest × (made means lines ≡ Some written)
+    × (means line ≡ None) × (number ≡ counted (suc (old.taken + length lines)))
+
+-- What is written where the pending bytes are taken as the last line: what it means, or a prefix of that, or nothing.
+abbrev pub IsFinished : (List ℕ → Option (List ℕ)) → Result (Unit {0}) MakeError → List ℕ → Lines → Type 0
+IsFinished means (Ok done) written lines = means lines.pending.items ≡ Some written
+IsFinished means (Err Input) written lines = ⊥
+IsFinished means (Err Output) written lines = (bytes : List ℕ) × (means lines.pending.items ≡ Some bytes) × Begins written bytes
+IsFinished means (Err OutOfMemory) written lines = written ≡ []
+IsFinished means (Err (Line number error)) written lines =
+    (written ≡ []) × (means lines.pending.items ≡ None) × (number ≡ counted (suc lines.taken))

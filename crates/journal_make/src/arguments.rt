@@ -1,0 +1,53 @@
+//! Parsing the command line.
+
+use clap::error::ErrorKind;
+use clap::{Arg, Command, Error};
+use shared_core::version::Version;
+use std::alloc::{AllocError, Global};
+
+/// The parsed command line.
+#[derive(Drop)]
+pub struct Arguments<'a> {
+    /// The path of the lines, or `-` for the standard input.
+    pub path: &'a str,
+    /// The version of the protocol.
+    pub version: Version,
+}
+
+/// The version of an argument, if it is a supported one.
+fn version_of(word: &str) -> Option<Version> {
+    Version::from_number(word.parse().ok()?)
+}
+
+/// The clap definition of the command line.
+fn command<'a>(alloc: Global) -> Result<Command<'a>, AllocError> {
+    let protocol = Arg::new(alloc, "protocol")
+        .long("protocol")
+        .value_name("VERSION")
+        .value_parser(Version::supported_numbers())
+        .default_value("8")
+        .help("The version of the protocol of the stream");
+    let path = Arg::new(alloc, "file")
+        .value_name("FILE")
+        .default_value("-")
+        .help("The lines: a file, or - for the standard input");
+    Command::new(alloc, "journal_make")
+        .version("0.1.0")
+        .about("Makes a stream of the protocol of JSON, one object a line for each of its items.")
+        .arg(protocol)?
+        .arg(path)
+}
+
+/// Parses the arguments after the program's name. The error is an invalid argument, or a request for the help or the
+/// version.
+pub fn parse_arguments<'a>(alloc: Global, arguments: &'a [String]) -> Result<Arguments<'a>, Error> {
+    let mut command = command(alloc)?;
+    let matches = command.try_get_matches_from_mut(arguments)?;
+    let Some(version) = matches.get_str("protocol").and_then(version_of) else {
+        return Err(command.error(ErrorKind::InvalidValue, "a version is from 5 to 9")?);
+    };
+    Ok(Arguments {
+        path: matches.get_str("file").unwrap_or("-"),
+        version,
+    })
+}

@@ -1,0 +1,134 @@
+//! The errors of `make`, and why a line is not taken.
+
+use shared_core_json_reader::Reason;
+use std::alloc::AllocError;
+use std::error::Error;
+use std::fmt;
+use stream_lines::output::OutputFailed;
+
+/// Why a line is not taken.
+#[derive(Clone, Copy, Debug, PartialEq, Eq, Drop)]
+pub enum LineReason {
+    /// It is not JSON, or one of its members is not what it is to be.
+    Json(Reason),
+    /// It has neither a type nor a code.
+    NoType,
+    /// No named type has the name; the type of a custom entry is given by its code.
+    UnknownType,
+    /// The type's name is not that of the code's type.
+    OtherType,
+    /// It has no message and no bytes, and does not say that there are none.
+    NoPayload,
+    /// It has more than one of a message, bytes, and the word that there are none.
+    SeveralPayloads,
+    /// It has a message, but the payloads of its code have no schema.
+    NoSchema,
+    /// It says whether an acknowledgement is asked for, which headers of its type cannot.
+    NoFlag,
+    /// A header is not eight bytes long.
+    HeaderLength,
+    /// Its payload has more bytes than 32 bits can count.
+    TooLong,
+    /// It is of the bytes after the last item, and has members of an item.
+    ItemInRest,
+    /// It is of bytes after the last item, which it does not have.
+    NoBytes,
+}
+
+impl fmt::Display for LineReason {
+    ghost use Rattle.std.specs.Prelude.{Some};
+    ghost use Rattle.journal_make.specs.Errors.{reason_text};
+
+    ghost output = { λ reason. Some (reason_text reason) };
+
+    fn fmt<W: fmt::Write>(&self, f: &mut fmt::Formatter<W>) -> fmt::Result {
+        match self {
+            LineReason::Json(reason) => write!(f, "{reason}"),
+            LineReason::NoType => f.write_str("neither a type nor a code"),
+            LineReason::UnknownType => f.write_str("no named type has this name"),
+            LineReason::OtherType => f.write_str("not the name of the code's type"),
+            LineReason::NoPayload => f.write_str("no message and no bytes"),
+            LineReason::SeveralPayloads => f.write_str("more than one payload"),
+            LineReason::NoSchema => f.write_str("no messages have this code"),
+            LineReason::NoFlag => f.write_str("the type has no such flag"),
+            LineReason::HeaderLength => f.write_str("not eight bytes"),
+            LineReason::TooLong => f.write_str("the payload is too long for a header"),
+            LineReason::ItemInRest => f.write_str("the rest is no item"),
+            LineReason::NoBytes => f.write_str("a rest without its bytes"),
+        }
+    }
+}
+
+/// Why a line is not taken, and where.
+#[derive(Debug, Drop)]
+pub struct LineError {
+    pub reason: LineReason,
+    /// Where the line stops being JSON, in bytes from its beginning; absent if it is JSON.
+    pub offset: Option<usize>,
+    /// The members and indices that lead to what was not taken, as `message.headers[2].key`; empty if that is the line.
+    pub path: String,
+}
+
+impl fmt::Display for LineError {
+    fn fmt<W: fmt::Write>(&self, f: &mut fmt::Formatter<W>) -> fmt::Result {
+        let reason = self.reason;
+        if let Some(offset) = self.offset {
+            return write!(f, "{reason} at byte {offset}");
+        }
+        if self.path.is_empty() {
+            return write!(f, "{reason}");
+        }
+        let path = self.path.as_str();
+        write!(f, "{path}: {reason}")
+    }
+}
+
+impl Error for LineError {}
+
+/// The error of `make`: why it ended before the end of its input.
+#[derive(Debug, Drop)]
+pub enum MakeError {
+    /// A read failed, or 2^64 - 1 reads met no end.
+    Input,
+    /// A write failed, or wrote no byte.
+    Output,
+    /// A line, or what it means, could not be allocated.
+    OutOfMemory,
+    /// The line of this number, from 1, is not taken. Its number is at most 2^64 - 1.
+    Line(u64, LineError),
+}
+
+impl fmt::Display for MakeError {
+    fn fmt<W: fmt::Write>(&self, f: &mut fmt::Formatter<W>) -> fmt::Result {
+        match self {
+            MakeError::Input => f.write_str("input failed"),
+            MakeError::Output => f.write_str("output failed"),
+            MakeError::OutOfMemory => f.write_str("out of memory"),
+            MakeError::Line(number, error) => write!(f, "{number}: {error}"),
+        }
+    }
+}
+
+impl Error for MakeError {}
+
+impl From<AllocError> for MakeError {
+    ghost use Rattle.std.specs.Prelude.{◌≡◌};
+    ghost use Rattle.journal_make.specs.declared.error.MakeError.TheVariants.{OutOfMemory};
+
+    ghost from_gives = { λ _ error. error ≡ OutOfMemory };
+
+    fn from(_error: AllocError) -> MakeError {
+        MakeError::OutOfMemory
+    }
+}
+
+impl From<OutputFailed> for MakeError {
+    ghost use Rattle.std.specs.Prelude.{◌≡◌};
+    ghost use Rattle.journal_make.specs.declared.error.MakeError.TheVariants.{Output};
+
+    ghost from_gives = { λ _ error. error ≡ Output };
+
+    fn from(_error: OutputFailed) -> MakeError {
+        MakeError::Output
+    }
+}

@@ -1,0 +1,418 @@
+//! The bytes that a line means: the header and the payload of an item, or the bytes after the last one.
+
+ghost use Rattle.std.specs.Prelude.{◌≡◌, ◌++◌, Some, option_and_then, IfOk, IfErr, OnOk, MatchResult};
+ghost use Rattle.json.specs.Value.{value_view as json_view};
+ghost use Rattle.json.specs.Find.{as_str};
+ghost use Rattle.shared_core_base.specs.MessageType.{type_of};
+ghost use Rattle.shared_core.specs.Visiting.{schema_at};
+ghost use Rattle.shared_core_json_reader.specs.Scalars.{bytes_read};
+ghost use Rattle.journal_make.specs.Errors.{lack};
+ghost use Rattle.journal_make.specs.Lines.{code_read, code_named, is_name_of, code_if, line_code};
+ghost use Rattle.journal_make.specs.Lines.{message_said, nothing_said, line_payload};
+ghost use Rattle.journal_make.specs.Lines.{has_flag, line_flag, word, is_alone, header_given, line_header, framed};
+ghost use Rattle.journal_make.specs.Lines.{item_said, says_no_item, rest_said, line_said};
+ghost use Rattle.journal_make.specs.Lines.{is_space, is_blank, line_made};
+ghost use Rattle.journal_make.specs.Appending.{Appends, Refuses};
+
+use crate::error::{LineError, LineReason};
+use crate::members::{check_line, given, given_either};
+use crate::refuse::{out_of_memory, refuse, refuse_json};
+use json::{Scratch, Value};
+use shared_core::header::MessageType;
+use shared_core::messages::schema_at;
+use shared_core::version::Version;
+use shared_core_json_reader::{
+    Reason, payload_of_value, read_bytes, read_u32, read_u64, value_of_text,
+};
+use std::alloc::{AllocError, Global};
+
+// ---- the code
+
+/// The code that a value is.
+fn read_code(alloc: Global, value: &Value<'_>) -> Result<u16, LineError>
+    ensures { MatchResult result (λ code. code_read (json_view value.now) ≡ Some code)
+        (Refuses (code_read (json_view value.now))) }
+{
+    match read_u32(value) {
+        Ok(code) if code < 65536 => Ok(code as u16),
+        Ok(_) => Err(refuse(alloc, LineReason::Json(Reason::OutOfRange), "code")),
+        Err(reason) => Err(refuse(alloc, LineReason::Json(reason), "code")),
+    }
+}
+
+/// The name that a value is.
+fn read_name<'a>(alloc: Global, value: &Value<'a>) -> Result<&'a str, LineError>
+    ensures { MatchResult result (λ name. as_str (json_view value.now) ≡ Some name.now)
+        (Refuses (as_str (json_view value.now))) }
+{
+    match value.as_str() {
+        Some(name) => Ok(name),
+        None => Err(refuse(alloc, LineReason::Json(Reason::WrongKind), "type")),
+    }
+}
+
+/// The code of the named type that has this name.
+fn code_named(name: &[u8]) -> Option<u16>
+    ensures { result ≡ code_named name.now }
+{
+    match MessageType::from_name(name) {
+        Some(ty) => Some(u16::from(ty)),
+        None => None,
+    }
+}
+
+/// Whether this is the name of a type.
+fn is_name_of(alloc: Global, ty: MessageType, name: &str) -> Result<bool, AllocError>
+    ensures { IfOk result (λ is. is ≡ is_name_of (Some ty) name.now) }
+{
+    match ty {
+        MessageType::CustomEntry(_) => {
+            let printed = ty.debug_name().to_string(alloc)?;
+            Ok(printed.as_str() == name)
+        }
+        ty => Ok(ty.variant_name() == name),
+    }
+}
+
+/// A code, if its type has this name.
+fn code_if(alloc: Global, code: u16, name: &str) -> Result<u16, LineError>
+    ensures { MatchResult result (λ said. code_if code name.now ≡ Some said)
+        (Refuses (code_if code name.now)) }
+{
+    let Ok(ty) = MessageType::try_from(code) else {
+        return Err(refuse(alloc, LineReason::OtherType, "type"));
+    };
+    match is_name_of(alloc, ty, name) {
+        Ok(true) => Ok(code),
+        Ok(false) => Err(refuse(alloc, LineReason::OtherType, "type")),
+        Err(_) => Err(out_of_memory(alloc)),
+    }
+}
+
+/// The code that the type and the code of a line say.
+fn code_of(alloc: Global, line: &Value<'_>) -> Result<u16, LineError>
+    ensures { MatchResult result (λ code. line_code (json_view line.now) ≡ Some code)
+        (Refuses (line_code (json_view line.now))) }
+{
+    let ty = given("type", line);
+    let Some(code) = given("code", line) else {
+        let Some(ty) = ty else {
+            return Err(refuse(alloc, LineReason::NoType, ""));
+        };
+        let name = read_name(alloc, ty)?;
+        return match code_named(name.as_bytes()) {
+            Some(code) => Ok(code),
+            None => Err(refuse(alloc, LineReason::UnknownType, "type")),
+        };
+    };
+    let code = read_code(alloc, code)?;
+    match ty {
+        Some(ty) => code_if(alloc, code, read_name(alloc, ty)?),
+        None => Ok(code),
+    }
+}
+
+// ---- the payload
+
+/// The bytes that a value is, in base64.
+fn bytes_of(alloc: Global, value: &Value<'_>, member: &str) -> Result<Vec<u8>, LineError>
+    ensures { MatchResult result (λ bytes. bytes_read (json_view value.now) ≡ Some bytes.items)
+        (Refuses (bytes_read (json_view value.now))) }
+{
+    match read_bytes(alloc, value) {
+        Ok(bytes) => Ok(bytes),
+        Err(reason) => Err(refuse(alloc, LineReason::Json(reason), member)),
+    }
+}
+
+/// The name of the member that gives bytes.
+fn bytes_name(line: &Value<'_>) -> &'static str {
+    match given("bytes", line) {
+        Some(_) => "bytes",
+        None => "payload",
+    }
+}
+
+/// The schema of the messages that have a code.
+fn schema_of(version: Version, code: u16) -> Option<u32>
+    ensures { result ≡ option_and_then (schema_at version) (type_of code) }
+{
+    match MessageType::try_from(code) {
+        Ok(ty) => schema_at(version, ty),
+        Err(_) => None,
+    }
+}
+
+/// The payload of a message.
+fn message_of(
+    alloc: Global,
+    version: Version,
+    code: u16,
+    message: &Value<'_>,
+) -> Result<Vec<u8>, LineError>
+    ensures { MatchResult result (λ bytes. message_said version code (json_view message.now) ≡ Some bytes.items)
+        (Refuses (message_said version code (json_view message.now))) }
+{
+    let Some(schema) = schema_of(version, code) else {
+        return Err(refuse(alloc, LineReason::NoSchema, "message"));
+    };
+    match payload_of_value(alloc, schema, message) {
+        Ok(payload) => Ok(payload),
+        Err(error) => Err(refuse_json(alloc, &error, "message")),
+    }
+}
+
+/// The payload of an item that is a header alone.
+fn nothing_of(alloc: Global, value: &Value<'_>) -> Result<Vec<u8>, LineError>
+    ensures { MatchResult result (λ bytes. nothing_said (json_view value.now) ≡ Some bytes.items)
+        (Refuses (nothing_said (json_view value.now))) }
+{
+    match value.as_bool() {
+        Some(true) => Ok(Vec::new(alloc)),
+        _ => Err(refuse(alloc, LineReason::Json(Reason::WrongKind), "unknown")),
+    }
+}
+
+/// The payload that a line says.
+fn payload_of(
+    alloc: Global,
+    version: Version,
+    code: u16,
+    line: &Value<'_>,
+) -> Result<Vec<u8>, LineError>
+    ensures { MatchResult result (λ payload. line_payload version code (json_view line.now) ≡ Some payload.items)
+        (Refuses (line_payload version code (json_view line.now))) }
+{
+    let message = given("message", line);
+    let bytes = given_either("bytes", "payload", line);
+    let unknown = given("unknown", line);
+    match (message, bytes, unknown) {
+        (Some(message), None, None) => message_of(alloc, version, code, message),
+        (None, Some(bytes), None) => bytes_of(alloc, bytes, bytes_name(line)),
+        (None, None, Some(unknown)) => nothing_of(alloc, unknown),
+        (None, None, None) => Err(refuse(alloc, LineReason::NoPayload, "")),
+        _ => Err(refuse(alloc, LineReason::SeveralPayloads, "")),
+    }
+}
+
+// ---- the header
+
+/// Whether the headers of a code's type can ask for an acknowledgement.
+fn has_flag(code: u16) -> bool
+    ensures { result ≡ has_flag (type_of code) }
+{
+    match MessageType::try_from(code) {
+        Ok(ty) => ty.allows_ack(),
+        Err(_) => false,
+    }
+}
+
+/// Whether a line asks for an acknowledgement.
+fn flag_of(alloc: Global, code: u16, line: &Value<'_>) -> Result<bool, LineError>
+    ensures { MatchResult result (λ flag. line_flag code (json_view line.now) ≡ Some flag)
+        (Refuses (line_flag code (json_view line.now))) }
+{
+    let Some(value) = given_either("requestedAck", "ack", line) else {
+        return Ok(false);
+    };
+    if !has_flag(code) {
+        return Err(refuse(alloc, LineReason::NoFlag, ""));
+    }
+    match value.as_bool() {
+        Some(flag) => Ok(flag),
+        None => Err(refuse(alloc, LineReason::Json(Reason::WrongKind), "requestedAck")),
+    }
+}
+
+/// The word of a header.
+fn word(code: u16, flag: bool, size: u32) -> u64
+    ensures { result ≡ word code flag size }
+{
+    let flag = if flag { 140_737_488_355_328 } else { 0 };
+    u64::from(code) * 281_474_976_710_656 + flag + u64::from(size)
+}
+
+/// Whether a line says that there is no payload.
+fn is_alone(line: &Value<'_>) -> bool
+    ensures { result ≡ is_alone (json_view line.now) }
+{
+    given("unknown", line).is_some()
+}
+
+/// Appends the header that eight given bytes say: without a payload all of them, and otherwise the first four, which
+/// are the code and the flags, and the length of the payload.
+fn append_given(
+    alloc: Global,
+    alone: bool,
+    size: usize,
+    header: &[u8],
+    out: &mut Vec<u8>,
+) -> Result<(), LineError>
+    ensures { Appends result (header_given alone size header.now) out.old.items out.new.items }
+{
+    if header.len() != 8 {
+        return Err(refuse(alloc, LineReason::HeaderLength, "header"));
+    }
+    if alone {
+        return append(alloc, header, out);
+    }
+    let Ok(size) = u32::try_from(size) else {
+        return Err(refuse(alloc, LineReason::TooLong, ""));
+    };
+    append(alloc, &header[..4], out)?;
+    append(alloc, &size.to_be_bytes(), out)
+}
+
+/// Appends a header, of a payload of this size.
+fn append_header(
+    alloc: Global,
+    code: u16,
+    flag: bool,
+    size: usize,
+    line: &Value<'_>,
+    out: &mut Vec<u8>,
+) -> Result<(), LineError>
+    ensures { Appends result (line_header code flag size (json_view line.now)) out.old.items out.new.items }
+{
+    if let Some(header) = given("header", line) {
+        let header = bytes_of(alloc, header, "header")?;
+        return append_given(alloc, is_alone(line), size, header.as_slice(), out);
+    }
+    let Ok(size) = u32::try_from(size) else {
+        return Err(refuse(alloc, LineReason::TooLong, ""));
+    };
+    append(alloc, &word(code, flag, size).to_be_bytes(), out)
+}
+
+// ---- lines
+
+/// Appends bytes.
+fn append(alloc: Global, bytes: &[u8], out: &mut Vec<u8>) -> Result<(), LineError>
+    ensures ok { OnOk result (out.new.items ≡ out.old.items ++ bytes.now) }
+    ensures err { IfErr result (λ error. error.reason ≡ lack) }
+{
+    match out.extend_from_slice(bytes) {
+        Ok(()) => Ok(()),
+        Err(_) => Err(out_of_memory(alloc)),
+    }
+}
+
+/// Appends a header and its payload.
+fn append_framed(
+    alloc: Global,
+    code: u16,
+    flag: bool,
+    payload: &[u8],
+    line: &Value<'_>,
+    out: &mut Vec<u8>,
+) -> Result<(), LineError>
+    ensures { Appends result (framed code flag (json_view line.now) payload.now) out.old.items out.new.items }
+{
+    append_header(alloc, code, flag, payload.len(), line, out)?;
+    append(alloc, payload, out)
+}
+
+/// Appends the bytes of an item.
+#[tactic(auto, unfolding(crate::specs::Lines::item_said))]
+fn append_item(
+    alloc: Global,
+    version: Version,
+    line: &Value<'_>,
+    out: &mut Vec<u8>,
+) -> Result<(), LineError>
+    ensures { Appends result (item_said version (json_view line.now)) out.old.items out.new.items }
+{
+    let code = code_of(alloc, line)?;
+    let flag = flag_of(alloc, code, line)?;
+    let payload = payload_of(alloc, version, code, line)?;
+    append_framed(alloc, code, flag, payload.as_slice(), line, out)
+}
+
+/// Whether a line has none of the members that say what an item is.
+fn says_no_item(line: &Value<'_>) -> bool
+    ensures { result ≡ says_no_item (json_view line.now) }
+{
+    given("type", line).is_none()
+        && given("code", line).is_none()
+        && given("message", line).is_none()
+        && given("unknown", line).is_none()
+        && given("header", line).is_none()
+        && given_either("requestedAck", "ack", line).is_none()
+}
+
+/// The bytes after the last item.
+#[tactic(auto, unfolding(crate::specs::Lines::rest_said))]
+fn rest_of(alloc: Global, rest: &Value<'_>, line: &Value<'_>) -> Result<Vec<u8>, LineError>
+    ensures { MatchResult result (λ bytes. rest_said (json_view rest.now) (json_view line.now) ≡ Some bytes.items)
+        (Refuses (rest_said (json_view rest.now) (json_view line.now))) }
+{
+    if !says_no_item(line) {
+        return Err(refuse(alloc, LineReason::ItemInRest, "rest"));
+    }
+    if let Some(bytes) = given_either("bytes", "payload", line) {
+        return bytes_of(alloc, bytes, bytes_name(line));
+    }
+    match read_u64(rest) {
+        Ok(0) => Ok(Vec::new(alloc)),
+        Ok(_) => Err(refuse(alloc, LineReason::NoBytes, "rest")),
+        Err(reason) => Err(refuse(alloc, LineReason::Json(reason), "rest")),
+    }
+}
+
+/// Appends the bytes that the value of a line means.
+#[tactic(auto, unfolding(crate::specs::Lines::line_said))]
+fn append_said(
+    alloc: Global,
+    version: Version,
+    line: &Value<'_>,
+    out: &mut Vec<u8>,
+) -> Result<(), LineError>
+    ensures { Appends result (line_said version (json_view line.now)) out.old.items out.new.items }
+{
+    check_line(alloc, line)?;
+    let Some(rest) = given("rest", line) else {
+        return append_item(alloc, version, line, out);
+    };
+    let bytes = rest_of(alloc, rest, line)?;
+    append(alloc, bytes.as_slice(), out)
+}
+
+/// Whether a byte is a space, a tab or a carriage return.
+fn is_space(byte: u8) -> bool
+    ensures { result ≡ is_space byte }
+{
+    byte == b' ' || byte == b'\t' || byte == b'\r'
+}
+
+/// Whether a line has nothing but spaces, tabs and carriage returns.
+fn is_blank(line: &[u8]) -> bool
+    ensures { result ≡ is_blank line.now }
+{
+    for byte in line {
+        if !is_space(*byte) {
+            return false;
+        }
+    }
+    true
+}
+
+/// Appends the bytes that a line means, without its newline; none for a blank one. After an error nothing is appended,
+/// unless memory ran out.
+#[tactic(auto, unfolding(crate::specs::Lines::line_made))]
+pub fn append_line(
+    alloc: Global,
+    version: Version,
+    line: &[u8],
+    out: &mut Vec<u8>,
+) -> Result<(), LineError>
+    ensures { Appends result (line_made version line.now) out.old.items out.new.items }
+{
+    if is_blank(line) {
+        return Ok(());
+    }
+    let mut scratch = Scratch::new(alloc);
+    match value_of_text(alloc, line, &mut scratch) {
+        Ok(value) => append_said(alloc, version, &value, out),
+        Err(error) => Err(refuse_json(alloc, &error, "")),
+    }
+}
