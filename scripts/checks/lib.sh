@@ -222,9 +222,9 @@ failing_outputs() {
   fi
 }
 
-# shortened_outputs INPUT LINES [LINE]: an output that fails before all of these lines, which are more than 100 KiB, are
-# written: a file that may not grow past 200 blocks, and a pipe whose reader ends after three lines, of which this line is
-# said, or nothing (the program has the signal SIGPIPE ignored)
+# shortened_outputs INPUT LINES: an output that fails before all of these lines, which are more than 100 KiB, are
+# written: a file that may not grow past 200 blocks, and a pipe whose reader ends after three lines, of which nothing is
+# said (the program has the signal SIGPIPE ignored)
 shortened_outputs() {
   if (trap '' XFSZ && ulimit -f 200) 2> "$work/shell"; then
     (
@@ -244,7 +244,7 @@ shortened_outputs() {
   } | head -n 3 > "$out"
   status=$(cat "$work/status")
   head -n 3 "$2" > "$work/first"
-  ended 'a reader that ends' "$failure" "$work/first" ${3:+"$3"}
+  ended 'a reader that ends' "$failure" "$work/first"
 }
 
 # gone_reader ARGUMENT..: a pipe whose reader is gone before the first write, of which nothing is said
