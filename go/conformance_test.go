@@ -113,7 +113,21 @@ func payloadVector(names []string, data [][]byte) (string, error) {
 	if err != nil || canonicalErr != nil || !bytes.Equal(json, canonicalJSON) {
 		return "", fmt.Errorf("the JSON is %s, %v, of the canonical payload %s, %v", json, err, canonicalJSON, canonicalErr)
 	}
+	if err := readBack(schema, json, canonical); err != nil {
+		return "", err
+	}
 	return digits(canonical), nil
+}
+
+// readBack returns an error if a JSON text is not read as this payload.
+func readBack(schema int, json, canonical []byte) error {
+	payload, err := Payload(schema, json)
+	if err != nil {
+		return fmt.Errorf("the payload of %s: %v", json, err)
+	} else if !bytes.Equal(payload, canonical) {
+		return fmt.Errorf("the payload of %s is %x, and not %x", json, payload, canonical)
+	}
+	return nil
 }
 
 func mergeVector(names []string, data [][]byte) (string, error) {
@@ -212,5 +226,12 @@ func jsonVector(names []string, data [][]byte) (string, error) {
 		return "", err
 	}
 	json, err := ToJSON(schema, data[0])
-	return string(json), err
+	if err != nil {
+		return "", err
+	}
+	canonical, err := Canonical(schema, data[0])
+	if err != nil {
+		return "", err
+	}
+	return string(json), readBack(schema, json, canonical)
 }

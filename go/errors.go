@@ -22,6 +22,8 @@ var (
 	ErrNoID = errors.New("has no id")
 	// ErrNoResult: a notification has an id and no result.
 	ErrNoResult = errors.New("has no result")
+	// ErrJSON: a JSON text means no value of its schema. A JSONError wraps it.
+	ErrJSON = errors.New("JSON that means no value of its schema")
 	// ErrNegative: a length is negative.
 	ErrNegative = errors.New("negative")
 	// ErrUnexpected: the library returned the number of an error or of a kind that this package does not know, as a

@@ -56,6 +56,9 @@ func TestKindsAreThoseOfTheHeader(t *testing.T) {
 	for kind := VerdictSame; kind <= VerdictBadReplayed; kind++ {
 		kinds[strings.ToUpper(strings.TrimPrefix(kind.String(), "Verdict"))] = int64(kind)
 	}
+	for reason := ReasonNotJSON; reason <= ReasonTooDeep; reason++ {
+		kinds[strings.ToUpper(strings.TrimPrefix(reason.String(), "Reason"))] = int64(reason)
+	}
 	numbers := map[string]int64{}
 	for name, number := range defined(t, `(?m)^#define JOURNAL_(\w+) (\d+)\b`) {
 		numbers[strings.ReplaceAll(name, "_", "")] = number
@@ -65,10 +68,13 @@ func TestKindsAreThoseOfTheHeader(t *testing.T) {
 			t.Errorf("%s is %d, and in the header %d", name, kind, number)
 		}
 	}
-	if len(kinds) != 15 {
+	if len(kinds) != 23 {
 		t.Errorf("there are %d kinds", len(kinds))
 	}
 	if text := fmt.Sprint(VerdictKind(7), ResultKind(-1), IDKind(99)); text != "VerdictKind(7) ResultKind(-1) IDKind(99)" {
+		t.Error(text)
+	}
+	if text := fmt.Sprint(JSONReason(0), JSONReason(9)); text != "JSONReason(0) JSONReason(9)" {
 		t.Error(text)
 	}
 }

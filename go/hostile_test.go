@@ -17,7 +17,7 @@ import (
 
 // known returns whether an error is one that a call may return for its bytes.
 func known(err error) bool {
-	for _, target := range []error{nil, ErrMalformed, ErrUnknown, ErrNoID, ErrNoResult} {
+	for _, target := range []error{nil, ErrMalformed, ErrUnknown, ErrNoID, ErrNoResult, ErrJSON} {
 		if errors.Is(err, target) {
 			return true
 		}
@@ -68,13 +68,14 @@ func callAll(t *testing.T, random *rand.Rand) {
 	isWellFormed, formedErr := IsWellFormed(schema, first)
 	canonical, canonicalErr := Canonical(schema, first)
 	_, mergeErr := Merge(schema, first, second)
-	_, jsonErr := ToJSON(schema, first)
+	json, jsonErr := ToJSON(schema, first)
+	_, readErr := Payload(schema, second)
 	_, notificationErr := ReadNotification(code, first)
 	_, equalErr := HeaderEq(code, first, second, random.Intn(2) == 0)
 	_, differenceErr := Difference(code, first, second)
 	_, verdictErr := CompareJournals(version, randomStream(random), randomStream(random), random.Intn(2) == 0)
 	for _, err := range []error{schemaErr, nameErr, codeErr, headerErr, frameErr, formedErr, canonicalErr, mergeErr,
-		jsonErr, notificationErr, equalErr, differenceErr, verdictErr} {
+		jsonErr, readErr, notificationErr, equalErr, differenceErr, verdictErr} {
 		if !known(err) {
 			t.Errorf("%d, %#04x, %d, %x, %x: %v", version, code, schema, first, second, err)
 		}
@@ -84,6 +85,9 @@ func callAll(t *testing.T, random *rand.Rand) {
 	}
 	if again, err := Canonical(schema, canonical); canonicalErr == nil && (err != nil || !bytes.Equal(again, canonical)) {
 		t.Errorf("schema %d, %x: canonical %x, and then %x, %v", schema, first, canonical, again, err)
+	}
+	if read, err := Payload(schema, json); jsonErr == nil && (err != nil || !bytes.Equal(read, canonical)) {
+		t.Errorf("schema %d, %s: read as %x, %v, and not as %x", schema, json, read, err, canonical)
 	}
 	if frameErr == nil && frame == nil {
 		t.Errorf("%d, %#04x, %x: no frame", version, code, first)

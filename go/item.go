@@ -72,6 +72,20 @@ func NewMessage(version int, code uint16, payload []byte) (Message, error) {
 	return Message{version, code, payload, header[2]&0x80 != 0}, nil
 }
 
+// MessageFromJSON returns the message of a named type that a JSON text means. Its payload is canonical, and it requests
+// an acknowledgement if the header of its type does at this version. The errors are those of Schema and Payload.
+func MessageFromJSON(version int, code uint16, json []byte) (Message, error) {
+	schema, err := Schema(version, code)
+	if err != nil {
+		return Message{}, err
+	}
+	payload, err := Payload(schema, json)
+	if err != nil {
+		return Message{}, err
+	}
+	return NewMessage(version, code, payload)
+}
+
 // Type returns the name of the message's type, as "SleepCommand", or "CustomEntry(64513)" of a custom entry. It is
 // empty if no type has the code, which no message of a stream has.
 func (m Message) Type() string {

@@ -40,6 +40,10 @@ const (
 	itemPayload = C.JOURNAL_ITEM_PAYLOAD
 	itemNumbers = C.JOURNAL_ITEM_NUMBERS
 
+	readKind    = C.JOURNAL_READ_KIND
+	readOffset  = C.JOURNAL_READ_OFFSET
+	readNumbers = C.JOURNAL_READ_NUMBERS
+
 	notificationID         = C.JOURNAL_NOTIFICATION_ID
 	notificationNumber     = C.JOURNAL_NOTIFICATION_NUMBER
 	notificationNameLength = C.JOURNAL_NOTIFICATION_NAME_LENGTH
@@ -49,6 +53,29 @@ const (
 	verdictKind    = C.JOURNAL_VERDICT_KIND
 	verdictIndex   = C.JOURNAL_VERDICT_INDEX
 	verdictNumbers = C.JOURNAL_VERDICT_NUMBERS
+)
+
+// read is the kind of a JSON text that means a value.
+const read = C.JOURNAL_READ
+
+// Why a JSON text is not taken.
+const (
+	// ReasonNotJSON: it is not JSON, or not UTF-8, or nested more than one thousand levels deep.
+	ReasonNotJSON JSONReason = C.JOURNAL_NOT_JSON
+	// ReasonUnknownMember: a member has no name of a field of its message.
+	ReasonUnknownMember JSONReason = C.JOURNAL_UNKNOWN_MEMBER
+	// ReasonRepeatedMember: a member comes twice, by whichever of its names.
+	ReasonRepeatedMember JSONReason = C.JOURNAL_REPEATED_MEMBER
+	// ReasonSeveralMembers: two members of one oneof are there.
+	ReasonSeveralMembers JSONReason = C.JOURNAL_SEVERAL_MEMBERS
+	// ReasonWrongKind: a value is of another kind than its field.
+	ReasonWrongKind JSONReason = C.JOURNAL_WRONG_KIND
+	// ReasonOutOfRange: a number is not whole, or not in the range of its field.
+	ReasonOutOfRange JSONReason = C.JOURNAL_OUT_OF_RANGE
+	// ReasonNotBase64: a string for bytes is not base64.
+	ReasonNotBase64 JSONReason = C.JOURNAL_NOT_BASE64
+	// ReasonTooDeep: a message is nested more than one hundred levels deep.
+	ReasonTooDeep JSONReason = C.JOURNAL_TOO_DEEP
 )
 
 // The kinds of a notification's id.
@@ -159,6 +186,11 @@ func journalMerge(schema uint32, first, second, out []byte) int64 {
 
 func journalJSON(schema uint32, payload, out []byte) int64 {
 	return int64(C.journal_json(C.uint32_t(schema), pointer(payload), count(payload), pointer(out), count(out)))
+}
+
+func journalPayloadOfJSON(schema uint32, json []byte, numbers []uint64, out []byte) int64 {
+	return int64(C.journal_payload_of_json(C.uint32_t(schema), pointer(json), count(json),
+		numbersPointer(numbers), count(numbers), pointer(out), count(out)))
 }
 
 func journalNotification(code uint16, payload []byte, numbers []uint64, out []byte) int64 {

@@ -145,6 +145,35 @@ int64_t journal_merge(uint32_t schema, const uint8_t *first, size_t first_length
  */
 int64_t journal_json(uint32_t schema, const uint8_t *payload, size_t payload_length, uint8_t *out, size_t room);
 
+/* What kind of a result it is when a JSON text is read: a payload, or why there is none. */
+#define JOURNAL_READ 0            /* the text means a value, whose canonical payload is written */
+#define JOURNAL_NOT_JSON 1        /* it is not JSON, or not UTF-8, or nested more than one thousand levels deep */
+#define JOURNAL_UNKNOWN_MEMBER 2  /* a member has no name of a field of its message */
+#define JOURNAL_REPEATED_MEMBER 3 /* a member comes twice, by whichever of its names */
+#define JOURNAL_SEVERAL_MEMBERS 4 /* two members of one oneof are there */
+#define JOURNAL_WRONG_KIND 5      /* a value is of another kind than its field */
+#define JOURNAL_OUT_OF_RANGE 6    /* a number is not whole, or not in the range of its field */
+#define JOURNAL_NOT_BASE64 7      /* a string for bytes is not base64 */
+#define JOURNAL_TOO_DEEP 8        /* a message is nested more than one hundred levels deep */
+
+/* The indices of the numbers of a JSON text. */
+#define JOURNAL_READ_KIND 0   /* one of the nine kinds */
+#define JOURNAL_READ_OFFSET 1 /* where the text stops being JSON, in bytes from its first; 0 if it is JSON */
+#define JOURNAL_READ_NUMBERS 2
+
+/*
+ * Reads a JSON text in protobuf's own form (docs/FORMAT.md). Writes two numbers, and as bytes the canonical payload of
+ * what the text means, or the path to what is not taken, as "headers[2].key", if it is JSON. Returns how many bytes
+ * these are; if there is no room for them, the numbers are written nevertheless. A text that is not taken is no error
+ * of the call: the kind tells.
+ *
+ * In this order: JOURNAL_UNKNOWN if no schema has the number, JOURNAL_NO_ROOM if `numbers` has room for fewer than two,
+ * JOURNAL_TOO_LONG if the payload would have more than 4,294,967,295 bytes; JOURNAL_OUT_OF_MEMORY from the second on.
+ */
+int64_t journal_payload_of_json(uint32_t schema, const uint8_t *json, size_t json_length, uint64_t *numbers,
+                                size_t numbers_room,
+                                uint8_t *out, size_t room);
+
 /*
  * Notifications.
  */

@@ -43,6 +43,15 @@ export type Item = Message | UnknownCode | Skipped;
 export class Message {
   constructor(version: number, code: number, payload: Uint8Array, requiresAck?: boolean);
 
+  /**
+   * The message of a type that JSON means: a text in protobuf's form, its UTF-8, or the object that `json` returns. Its
+   * payload is canonical, and it requests an acknowledgement if the header of its type does at the version.
+   * @param version the protocol version, by default 8
+   * @throws {JsonError} it means no such message
+   * @throws {Unknown} the version is none, or no named type has the code or the name
+   */
+  static fromJson(type: number | NamedType, json: string | Uint8Array | JsonObject, version?: number): Message;
+
   readonly kind: 'message';
 
   /** The protocol version of its stream. */
@@ -254,6 +263,13 @@ export function merge(schema: Schema, first: Uint8Array, second: Uint8Array): Ui
  */
 export function toJson(schema: Schema, payload: Uint8Array): string;
 
+/**
+ * The canonical payload of what a JSON text means, which is in protobuf's own form: a text, or its UTF-8.
+ * @throws {JsonError} it means no value of the schema
+ * @throws {TooLong}
+ */
+export function payload(schema: Schema, json: string | Uint8Array): Uint8Array;
+
 // Notifications.
 
 /** The id and the result of a notification. */
@@ -398,6 +414,28 @@ export class NoId extends JournalError {
 /** A notification has an id, and no result. */
 export class NoResult extends JournalError {
   readonly code: 'JOURNAL_NO_RESULT';
+}
+
+/** A JSON text means no value of its schema. */
+export class JsonError extends JournalError {
+  readonly code: 'JOURNAL_JSON_ERROR';
+
+  /** Why. */
+  readonly reason:
+    | 'notJson'
+    | 'unknownMember'
+    | 'repeatedMember'
+    | 'severalMembers'
+    | 'wrongKind'
+    | 'outOfRange'
+    | 'notBase64'
+    | 'tooDeep';
+
+  /** Where the text stops being JSON, in bytes of its UTF-8, or undefined if it is JSON. */
+  readonly offset: number | undefined;
+
+  /** What leads to what is not taken, as `'headers[2].key'`; empty if the text is not JSON. */
+  readonly path: string;
 }
 
 /** A source ended within an item; `value` is the number of bytes of it that came. */

@@ -13,6 +13,7 @@ export {
   libraryVersion,
   merge,
   notification,
+  payload,
   schema,
   toJson,
   typeCode,
@@ -21,6 +22,7 @@ export {
 export {
   Incomplete,
   JournalError,
+  JsonError,
   Malformed,
   NoId,
   NoResult,

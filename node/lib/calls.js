@@ -1,7 +1,7 @@
 // The calls over numbers, names and payloads.
 
 import { addon } from './addon.js';
-import { notKnown, refusal, wrongKind } from './errors.js';
+import { notKnown, notTaken, refusal, wrongKind } from './errors.js';
 import { schemaNumber } from './schemas.js';
 
 /** The versions from the first to the last. */
@@ -9,6 +9,19 @@ export const { FIRST_VERSION, LAST_VERSION } = addon;
 
 const UNKNOWN = -5;
 const encoder = new TextEncoder();
+
+// What a JSON text is read as, by its number: a payload, or why there is none.
+const READINGS = [
+  'read',
+  'notJson',
+  'unknownMember',
+  'repeatedMember',
+  'severalMembers',
+  'wrongKind',
+  'outOfRange',
+  'notBase64',
+  'tooDeep',
+];
 
 // The kinds of a notification's id and result, and of a verdict, by their numbers.
 const ID_KINDS = ['completionId', 'signalId', 'signalName'];
@@ -25,6 +38,7 @@ const VERDICT_KINDS = [
 
 // What calls write to. No JavaScript runs between a call and the reading of it.
 const scratch = new Uint8Array(65536);
+const readNumbers = new BigUint64Array(2);
 const notificationNumbers = new BigUint64Array(4);
 const verdictNumbers = new BigUint64Array(2);
 
@@ -78,6 +92,19 @@ export function toJson(schema, payload) {
   const given = { call: 'toJson', schema, payload };
   const number = known(schema, given);
   return text(written((out) => addon.json(number, payload, out), given));
+}
+
+export function payload(schema, json) {
+  const given = { call: 'payload', schema, json };
+  const number = known(schema, given);
+  const utf8 = typeof json === 'string' ? utf8Of(json) : json;
+  const found = written((out) => addon.payloadOfJson(number, utf8, readNumbers, out), given);
+  const [kind, offset] = Array.from(readNumbers, Number);
+  const reading = kindOf(READINGS, kind, given, 'kind of JSON text');
+  if (reading === 'read') {
+    return bytes(found);
+  }
+  throw notTaken(given, { reason: reading, offset: reading === 'notJson' ? offset : undefined, path: text(found) });
 }
 
 export function notification(code, payload) {
@@ -137,6 +164,12 @@ function bytes(found) {
 /** Bytes that were written, as a text. */
 function text(found) {
   return Buffer.from(found.buffer, found.byteOffset, found.byteLength).toString('utf8');
+}
+
+/** A text as UTF-8. Half a surrogate, which has none, becomes a byte that is in no text; nothing after it matters. */
+function utf8Of(json) {
+  const end = json.search(/\p{Surrogate}/u);
+  return end < 0 ? encoder.encode(json) : Buffer.concat([encoder.encode(json.slice(0, end)), Buffer.of(0xff)]);
 }
 
 /** The number of a schema. What is neither a number nor a name, the addon does not take. */

@@ -68,6 +68,20 @@ export class NoResult extends JournalError {
   }
 }
 
+/** A JSON text means no value of its schema. */
+export class JsonError extends JournalError {
+  static {
+    identify(this, 'JOURNAL_JSON_ERROR');
+  }
+
+  constructor(message, { reason, offset, path, ...details } = {}) {
+    super(message, details);
+    this.reason = reason;
+    this.offset = offset;
+    this.path = path;
+  }
+}
+
 /** A source ended within an item. */
 export class Incomplete extends JournalError {
   static {
@@ -82,6 +96,18 @@ function identify(ErrorClass, code) {
     code: { value: code, configurable: true, writable: true },
   });
 }
+
+// Why a JSON text is not taken.
+const REASONS = {
+  notJson: 'not JSON',
+  unknownMember: 'unknown member',
+  repeatedMember: 'repeated member',
+  severalMembers: 'several members of a oneof',
+  wrongKind: 'wrong kind of value',
+  outOfRange: 'out of range',
+  notBase64: 'not base64',
+  tooDeep: 'too deep',
+};
 
 // The error that each negative number of the library is, which of the arguments it is about, and what is wrong with it.
 const REFUSALS = new Map([
@@ -115,6 +141,14 @@ export function notKnown(call, what, number) {
   return new JournalError(message, { call });
 }
 
+/** The error that a JSON text is not taken: for a reason, at an offset, by the path to what is not taken. */
+export function notTaken({ call, json }, { reason, offset, path }) {
+  const where = offset === undefined ? '' : ` at byte ${offset}`;
+  const why = `${path === '' ? '' : `${path}: `}${REASONS[reason]}${where}`;
+  const details = { call, argument: 'json', value: json, reason, offset, path };
+  return new JsonError(`${call}: json ${shown(json)}: ${why}`, details);
+}
+
 /** The error that a source ended with bytes that are in no item, and how many. */
 export function incomplete(call, rest) {
   const message = `${call}: the source ended within an item, after ${byteCount(rest)} of it`;
@@ -142,7 +176,7 @@ function unknownNumber(given) {
 }
 
 function longPayload(given) {
-  return 'payloadLength' in given ? 'payloadLength' : payloadOf(given);
+  return ['payloadLength', 'json'].find((argument) => argument in given) ?? payloadOf(given);
 }
 
 function payloadOf(given) {

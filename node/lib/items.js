@@ -1,6 +1,6 @@
 // The items of a stream.
 
-import { canonical, frame, notification, schema, toJson, typeName } from './calls.js';
+import { canonical, frame, header, notification, payload, schema, toJson, typeCode, typeName } from './calls.js';
 import { isCommandCode, isNotificationCode } from './protocol.js';
 
 /** A message of a stream. */
@@ -12,6 +12,13 @@ export class Message {
     this.code = code;
     this.payload = payload;
     this.requiresAck = requiresAck;
+  }
+
+  static fromJson(type, json, version = 8) {
+    const code = typeof type === 'string' ? typeCode(type) : type;
+    const read = payload(schema(version, code), isPlainObject(json) ? JSON.stringify(json) : json);
+    // the flag is the high bit of the third byte
+    return new Message(version, code, read, header(version, code, read.length)[2] >= 0x80);
   }
 
   get type() {
@@ -45,6 +52,11 @@ export class Message {
   notification() {
     return notification(this.code, this.payload);
   }
+}
+
+/** Whether a value is an object as JSON has them, and of no class. */
+function isPlainObject(value) {
+  return typeof value === 'object' && value !== null && [Object.prototype, null].includes(Object.getPrototypeOf(value));
 }
 
 /** Eight bytes whose code is no type's, before version 9. */

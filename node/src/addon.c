@@ -64,6 +64,12 @@ static int64_t json(const struct arguments *arguments) {
                         arguments->out.length);
 }
 
+static int64_t payload_of_json(const struct arguments *arguments) {
+    return journal_payload_of_json(arguments->schema, arguments->first.bytes, arguments->first.length,
+                                   arguments->numbers, arguments->numbers_room, arguments->out.bytes,
+                                   arguments->out.length);
+}
+
 static int64_t notification(const struct arguments *arguments) {
     return journal_notification(arguments->code, arguments->first.bytes, arguments->first.length, arguments->numbers,
                                 arguments->numbers_room, arguments->out.bytes, arguments->out.length);
@@ -105,6 +111,7 @@ static const struct function FUNCTIONS[] = {
     {"canonical", canonical, {SCHEMA, PAYLOAD, OUT}},
     {"merge", merge, {SCHEMA, FIRST, SECOND, OUT}},
     {"json", json, {SCHEMA, PAYLOAD, OUT}},
+    {"payloadOfJson", payload_of_json, {SCHEMA, JSON, NUMBERS, OUT}},
     {"notification", notification, {CODE, PAYLOAD, NUMBERS, OUT}},
     {"headerEq", header_eq, {CODE, FIRST, SECOND, IGNORE_PAYLOADS}},
     {"difference", difference, {CODE, FIRST, SECOND, OUT}},

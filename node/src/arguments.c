@@ -11,6 +11,7 @@ static const char *const NAMES[] = {
     [NAME] = "name",
     [CHUNK] = "chunk",
     [PAYLOAD] = "payload",
+    [JSON] = "json",
     [FIRST] = "first",
     [SECOND] = "second",
     [RECORDED] = "recorded",
@@ -171,8 +172,9 @@ static enum reading read_array(napi_env env, enum parameter parameter, napi_valu
 
 static enum reading read_bytes(napi_env env, enum parameter parameter, napi_value value, struct slice *slice) {
     void *bytes = NULL;
-    enum reading reading =
-        read_array(env, parameter, value, napi_uint8_array, "a Uint8Array", &bytes, &slice->length);
+    /* a text is encoded before it comes here */
+    const char *has_to_be = parameter == JSON ? "a string or a Uint8Array" : "a Uint8Array";
+    enum reading reading = read_array(env, parameter, value, napi_uint8_array, has_to_be, &bytes, &slice->length);
 
     slice->bytes = bytes;
     return reading;
@@ -207,6 +209,7 @@ static enum reading read_argument(napi_env env, enum parameter parameter, napi_v
     case NAME:
     case CHUNK:
     case PAYLOAD:
+    case JSON:
     case FIRST:
     case RECORDED:
         return read_bytes(env, parameter, value, &arguments->first);

@@ -23,6 +23,7 @@ enum parameter {
     NAME,
     CHUNK,
     PAYLOAD,
+    JSON,
     FIRST,
     SECOND,
     RECORDED,

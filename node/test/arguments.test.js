@@ -60,6 +60,7 @@ const CALLS = {
   canonical: { schema: 0, payload: NONE },
   merge: { schema: 0, first: NONE, second: NONE },
   toJson: { schema: 0, payload: NONE },
+  payload: { schema: 0, json: Buffer.from('{}') },
   notification: { code: 0xfbff, payload: hex('10112200') },
   headerEq: { code: 0x0400, first: NONE, second: NONE },
   difference: { code: 0x0400, first: NONE, second: NONE },
@@ -80,6 +81,7 @@ const ADDON_CALLS = {
   canonical: [0, NONE, new Uint8Array(8)],
   merge: [0, NONE, NONE, new Uint8Array(8)],
   json: [0, NONE, new Uint8Array(8)],
+  payloadOfJson: [0, NONE, new BigUint64Array(2), new Uint8Array(8)],
   notification: [0xfbff, hex('10112200'), new BigUint64Array(4), new Uint8Array(8)],
   headerEq: [0x0400, NONE, NONE, false],
   difference: [0x0400, NONE, NONE, new Uint8Array(8)],
@@ -91,11 +93,12 @@ for (const [name, given] of Object.entries(CALLS)) {
     pendratsoa[name](...Object.values(given));
     for (const [argument, value] of Object.entries(given)) {
       for (const wrong of typeof value === 'number' ? NO_NUMBERS : NO_BYTES) {
-        // a schema may be a name
-        const isName = argument === 'schema' && typeof wrong === 'string';
+        // a schema may be a name, and JSON a text
+        const isText = ['schema', 'json'].includes(argument) && typeof wrong === 'string';
+        const otherwise = argument === 'json' ? pendratsoa.JsonError : pendratsoa.Unknown;
         const expected = { name: 'TypeError', code: 'ERR_INVALID_ARG_TYPE', message: mentions(argument) };
         const call = () => pendratsoa[name](...Object.values({ ...given, [argument]: wrong }));
-        assert.throws(call, isName ? pendratsoa.Unknown : expected);
+        assert.throws(call, isText ? otherwise : expected);
       }
     }
     assert.throws(() => pendratsoa[name](), TypeError);

@@ -131,6 +131,79 @@ test('a view of any memory', () => {
   }
 });
 
+test('payloads of JSON', () => {
+  const json = ' { "name" : "\\u0078" , "wake_up_time" : 0.5e1 } ';
+  for (const text of ['{"wakeUpTime":"5","name":"x"}', json, Buffer.from(json), Uint8Array.from(Buffer.from(json))]) {
+    assert.deepEqual(pendratsoa.payload('SleepCommandMessage', text), hex('0805620178'));
+  }
+  for (const schema of pendratsoa.schemaNames.keys()) {
+    assert.deepEqual(pendratsoa.payload(schema, '{}'), hex(''));
+  }
+  const text = 'a\u00e9\u{1f600}'.repeat(20_000);
+  assert.deepEqual(pendratsoa.payload(ERROR_MESSAGE, JSON.stringify({ message: text })), errorMessage(text));
+});
+
+test('JSON that is not taken', () => {
+  const deep = '{"nestedFutures":['.repeat(102) + ']}'.repeat(102);
+  for (const [schema, json, reason, offset, path, why] of [
+    ['Value', '', 'notJson', 0, '', 'not JSON at byte 0'],
+    ['Value', Buffer.from('{"content":"\xff"}', 'latin1'), 'notJson', 12, '', 'not JSON at byte 12'],
+    ['ErrorMessage', '{"message":"\u00e9\ud83d"}', 'notJson', 14, '', 'not JSON at byte 14'],
+    ['Value', '{"a":1}', 'unknownMember', undefined, 'a', 'a: unknown member'],
+    ['Value', '{"content":"","content":""}', 'repeatedMember', undefined, 'content', 'content: repeated member'],
+    [
+      'ProposeRunCompletionMessage',
+      '{"value":"","failure":{}}',
+      'severalMembers',
+      undefined,
+      'failure',
+      'failure: several members of a oneof',
+    ],
+    ['Value', '[]', 'wrongKind', undefined, '', 'wrong kind of value'],
+    [
+      'InputCommandMessage',
+      '{"headers":[{},{"key":1}]}',
+      'wrongKind',
+      undefined,
+      'headers[1].key',
+      'headers[1].key: wrong kind of value',
+    ],
+    ['SleepCommandMessage', '{"wakeUpTime":-1}', 'outOfRange', undefined, 'wakeUpTime', 'wakeUpTime: out of range'],
+    ['Value', '{"content":"a"}', 'notBase64', undefined, 'content', 'content: not base64'],
+  ]) {
+    assert.throws(
+      () => pendratsoa.payload(schema, json),
+      (error) => {
+        assert.ok(error instanceof pendratsoa.JsonError);
+        assert.equal(error.code, 'JOURNAL_JSON_ERROR');
+        assert.deepEqual([error.reason, error.offset, error.path], [reason, offset, path]);
+        assert.deepEqual([error.call, error.argument, error.value], ['payload', 'json', json]);
+        assert.ok(error.message.startsWith('payload: json ') && error.message.endsWith(`: ${why}`), error.message);
+        return true;
+      },
+    );
+  }
+  assert.throws(() => pendratsoa.payload('Future', deep), { name: 'JsonError', reason: 'tooDeep' });
+  assert.throws(() => pendratsoa.payload(53, '{}'), { name: 'Unknown', argument: 'schema' });
+});
+
+test('messages of JSON', () => {
+  const message = Message.fromJson('ProposeRunCompletion', '{"resultCompletionId":1,"value":"eA=="}');
+  assert.deepEqual(message, new Message(8, PROPOSE_RUN_COMPLETION, hex('0801720178'), true));
+  assert.deepEqual(Message.fromJson(message.code, message.json()), message);
+  assert.deepEqual(Message.fromJson(SUSPENSION, { waitingCompletions: [1] }, 6).payload, hex('0a0101'));
+  assert.throws(() => Message.fromJson(SUSPENSION, { waitingCompletions: [1] }, 7), pendratsoa.JsonError);
+  assert.throws(() => Message.fromJson(CUSTOM_ENTRY, '{}'), pendratsoa.Unknown);
+  assert.throws(() => Message.fromJson('Sleep', '{}'), pendratsoa.Unknown);
+  assert.throws(() => Message.fromJson(SUSPENSION, '{}', 4), pendratsoa.Unknown);
+  const circular = {};
+  circular.value = circular;
+  for (const json of [undefined, null, 5, [], new Map(), new ArrayBuffer(2), new Date(0), () => '{}', circular]) {
+    assert.throws(() => Message.fromJson(SUSPENSION, json), TypeError);
+  }
+  assert.throws(() => Message.fromJson('SleepCommand', { wakeUpTime: 5n }), TypeError);
+});
+
 test('a message', () => {
   const message = new Message(8, 0x0400, hex('72070a05696e707574'));
   assert.equal(message.kind, 'message');

@@ -1,8 +1,8 @@
 // The test vectors of ../../conformance by the calls of the package: node conformance.js
 //
 // Lines of the kind `record` have no call. Besides, a stream is the same byte by byte, a canonical payload is its own
-// result and has the same JSON, a frame is a header and the canonical payload, and a command is the same as itself. The
-// last line is 'N passed, M failed'.
+// result and has the same JSON, which is read as this payload, a frame is a header and the canonical payload, and a
+// command is the same as itself. The last line is 'N passed, M failed'.
 
 import assert from 'node:assert/strict';
 import { readdirSync } from 'node:fs';
@@ -18,6 +18,7 @@ import {
   headerEq,
   isWellFormed,
   merge,
+  payload as payloadOf,
   schema,
   toJson,
   typeCode,
@@ -32,15 +33,22 @@ const KINDS = {
   frame: [2, frameResult],
   stream: [1, streamResult],
   compare: [1, compareResult],
-  json: [1, toJson],
+  json: [1, jsonResult],
 };
 
 function payloadResult(name, payload) {
   const result = canonical(name, payload);
   assert.equal(isWellFormed(name, payload), true);
   assert.deepEqual(canonical(name, result), result);
-  assert.equal(toJson(name, payload), toJson(name, result));
+  assert.equal(jsonResult(name, payload), toJson(name, result));
   return digits(result);
+}
+
+function jsonResult(name, payload) {
+  const json = toJson(name, payload);
+  assert.deepEqual(payloadOf(name, json), canonical(name, payload));
+  assert.deepEqual(payloadOf(name, Buffer.from(json)), canonical(name, payload));
+  return json;
 }
 
 function mergeResult(name, first, ...others) {

@@ -105,6 +105,23 @@ int64_t journal_merge(uint32_t schema, const uint8_t *first, size_t first_length
     return MERGED;
 }
 
+/* A text of the kind that its first byte is. */
+int64_t journal_payload_of_json(uint32_t schema, const uint8_t *json, size_t json_length, uint64_t *numbers,
+                                size_t numbers_room, uint8_t *out, size_t room) {
+    (void)schema;
+    (void)out;
+    (void)room;
+    if (numbers_room < JOURNAL_READ_NUMBERS) {
+        return JOURNAL_NO_ROOM;
+    }
+    if (json_length == 0) {
+        return JOURNAL_TOO_LONG;
+    }
+    numbers[JOURNAL_READ_KIND] = json[0];
+    numbers[JOURNAL_READ_OFFSET] = 0;
+    return 0;
+}
+
 int64_t journal_json(uint32_t schema, const uint8_t *payload, size_t payload_length, uint8_t *out, size_t room) {
     (void)schema;
     (void)payload;

@@ -71,6 +71,16 @@ test('notifications of other kinds', () => {
   assert.throws(() => pendratsoa.notification(0xfbff, hex('ff0000ff')), notKnown('notification', 'kind of id 255'));
 });
 
+test('JSON texts of other kinds', () => {
+  assert.throws(() => pendratsoa.payload(0, hex('08')), { name: 'JsonError', reason: 'tooDeep' });
+  assert.throws(() => pendratsoa.payload(0, hex('09')), notKnown('payload', 'kind of JSON text 9'));
+  assert.throws(() => pendratsoa.payload(0, ''), {
+    name: 'TooLong',
+    argument: 'json',
+    message: "payload: json '': more than 4,294,967,295 bytes",
+  });
+});
+
 test('verdicts of other kinds', () => {
   assert.equal(pendratsoa.compareJournals(8, hex('06'), NONE).kind, 'badReplayed');
   assert.throws(() => pendratsoa.compareJournals(8, hex('07'), NONE), notKnown('compareJournals', 'kind of verdict 7'));

@@ -5,14 +5,24 @@ import test from 'node:test';
 import { setFlagsFromString } from 'node:v8';
 import { runInNewContext } from 'node:vm';
 
-import { JournalError, Stream, canonical, compareJournals, frame, notification, toJson, typeCode } from 'pendratsoa';
+import {
+  JournalError,
+  Stream,
+  canonical,
+  compareJournals,
+  frame,
+  notification,
+  payload,
+  toJson,
+  typeCode,
+} from 'pendratsoa';
 
 import { bytesOf, hex, joined } from './support.js';
 
 setFlagsFromString('--expose-gc');
 const collectGarbage = runInNewContext('gc');
 
-// As many rounds as PENDRATSOA_ROUNDS says; each makes some twenty calls and fails in four.
+// As many rounds as PENDRATSOA_ROUNDS says; each makes some twenty calls and fails in five.
 const ROUNDS = Number(process.env.PENDRATSOA_ROUNDS ?? 2000);
 // What is allowed to be more afterwards, of what is counted and of what the process takes.
 const GROWTH = 2 ** 20;
@@ -30,12 +40,14 @@ function round(index) {
     message.frame();
   }
   compareJournals(8, RECORDED, RECORDED);
+  payload(ERROR_MESSAGE, '{"message":"text"}');
   notification(0xfbff, hex('1a0473746f702a030a0178'));
   frame(8, 1, hex('22120a010122080a010222030a010122030a0103'));
   for (const call of [
     () => canonical(ERROR_MESSAGE, hex('12')),
     () => canonical(ERROR_MESSAGE, 'text'),
     () => typeCode('none'),
+    () => payload(ERROR_MESSAGE, '{"message":"text","code":"one"}'),
     () => new Stream().feed(undefined),
   ]) {
     assert.throws(call, (error) => error instanceof JournalError || error instanceof TypeError);

@@ -5,6 +5,7 @@ import {
   Incomplete,
   Item,
   JournalError,
+  JsonError,
   JsonValue,
   LAST_VERSION,
   Malformed,
@@ -27,6 +28,7 @@ import {
   libraryVersion,
   merge,
   notification,
+  payload,
   schema,
   schemaNames,
   toJson,
@@ -100,6 +102,10 @@ export function calls(): void {
     canonical('Value', bytes),
     merge(numbers[0] ?? 0, bytes, bytes),
     new Message(8, 0, bytes).canonical(),
+    payload('Value', '{}'),
+    payload(1, bytes),
+    Message.fromJson('SleepCommand', { wakeUpTime: 5 }).payload,
+    Message.fromJson(8, '{}', LAST_VERSION).payload,
   ];
   const flags: boolean[] = [
     isWellFormed('Void', arrays[0] ?? bytes),
@@ -112,6 +118,8 @@ export function calls(): void {
   identified(notification(0xfbff, bytes));
   // @ts-expect-error there is no such schema
   canonical('Values', bytes);
+  // @ts-expect-error a number is no text
+  payload('Value', 5);
   // @ts-expect-error a version is a number
   schema('8', index);
   // @ts-expect-error the names are constant
@@ -124,6 +132,10 @@ export function caught(error: unknown): string {
   if (error instanceof Malformed) {
     const code: 'JOURNAL_MALFORMED' = error.code;
     return code;
+  }
+  if (error instanceof JsonError) {
+    const offset: Same<JsonError['offset'], number | undefined> = true;
+    return error.reason === 'notJson' ? `${error.offset} ${offset}` : error.path;
   }
   if (error instanceof Incomplete) {
     return error.value.toFixed();

@@ -29,12 +29,24 @@ from ._calls import (
     library_version,
     merge,
     notification,
+    payload,
     schema,
     to_json,
     type_code,
     type_name,
 )
-from ._errors import JournalError, Malformed, NoId, NoResult, NoRoom, OutOfMemory, TooLong, Unknown
+from ._errors import (
+    JournalError,
+    JsonError,
+    JsonReason,
+    Malformed,
+    NoId,
+    NoResult,
+    NoRoom,
+    OutOfMemory,
+    TooLong,
+    Unknown,
+)
 from ._items import Item, Message, Skipped, UnknownCode
 from ._protocol import SCHEMA_NAMES
 from ._request import FIRST_VERSION, LAST_VERSION, SCHEMAS, BytesLike, Schema
@@ -49,6 +61,8 @@ __all__ = [
     "IdKind",
     "Item",
     "JournalError",
+    "JsonError",
+    "JsonReason",
     "Malformed",
     "Message",
     "NoId",
@@ -75,6 +89,7 @@ __all__ = [
     "library_version",
     "merge",
     "notification",
+    "payload",
     "schema",
     "to_json",
     "type_code",

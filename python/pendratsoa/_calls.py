@@ -6,8 +6,9 @@ from dataclasses import dataclass
 from enum import IntEnum
 from typing import Type, TypeVar, Union
 
+from ._errors import JsonReason
 from ._library import library
-from ._request import BytesLike, NotificationNumbers, Request, Schema, VerdictNumbers
+from ._request import BytesLike, NotificationNumbers, ReadNumbers, Request, Schema, VerdictNumbers
 
 
 class IdKind(IntEnum):
@@ -146,6 +147,21 @@ def to_json(schema: Schema, payload: BytesLike) -> str:
     return request.written(library.journal_json, request.schema(), *request.data("payload")).decode()
 
 
+def payload(schema: Schema, json: Union[str, BytesLike]) -> bytes:
+    """The canonical payload of what a JSON text means, which is in protobuf's own form: a text, or its UTF-8 in bytes.
+
+    `JsonError` if it means no value of the schema; `Unknown` if there is no such schema; `TooLong`, `OutOfMemory`.
+    """
+    request = Request("payload", schema=schema, json=json)
+    numbers = ReadNumbers()
+    parameters = request.schema(), *request.json("json"), numbers, len(numbers)
+    found = request.written(library.journal_payload_of_json, *parameters)
+    kind, offset = numbers
+    if kind == 0:
+        return found
+    raise request.not_taken(_kind_of(request, JsonReason, kind, "a JSON text"), offset, found.decode())
+
+
 def notification(code: int, payload: BytesLike) -> Notification:
     """The id and the result of a notification.
 
@@ -195,7 +211,7 @@ def compare_journals(version: int, recorded: BytesLike, replayed: BytesLike, ign
     return Verdict(_kind_of(request, VerdictKind, kind, "a verdict"), index, text)
 
 
-Kind = TypeVar("Kind", IdKind, ResultKind, VerdictKind)
+Kind = TypeVar("Kind", JsonReason, IdKind, ResultKind, VerdictKind)
 
 
 def _kind_of(request: Request, kinds: Type[Kind], number: int, what: str) -> Kind:

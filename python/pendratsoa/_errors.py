@@ -2,6 +2,7 @@
 
 from __future__ import annotations
 
+from enum import IntEnum
 from typing import Dict, Optional, Type
 
 
@@ -47,6 +48,42 @@ class NoId(JournalError, ValueError):
 
 class NoResult(JournalError, ValueError):
     """A notification has an id, and no result."""
+
+
+class JsonReason(IntEnum):
+    """Why a JSON text is not taken."""
+
+    NOT_JSON = 1
+    UNKNOWN_MEMBER = 2
+    REPEATED_MEMBER = 3
+    SEVERAL_MEMBERS = 4
+    WRONG_KIND = 5
+    OUT_OF_RANGE = 6
+    NOT_BASE64 = 7
+    TOO_DEEP = 8
+
+
+class JsonError(JournalError, ValueError):
+    """A JSON text means no value of its schema.
+
+    `reason` says why. `offset` is where the text stops being JSON, in bytes of its UTF-8, and None if it is JSON; then
+    `path` leads to what is not taken, as "headers[2].key".
+    """
+
+    def __init__(
+        self,
+        *texts: str,
+        call: Optional[str] = None,
+        argument: Optional[str] = None,
+        value: object = None,
+        reason: JsonReason = JsonReason.NOT_JSON,
+        offset: Optional[int] = None,
+        path: str = "",
+    ) -> None:
+        super().__init__(*texts, call=call, argument=argument, value=value)
+        self.reason = reason
+        self.offset = offset
+        self.path = path
 
 
 # the error of each negative number that the library returns

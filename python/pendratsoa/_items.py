@@ -5,7 +5,7 @@ from __future__ import annotations
 import dataclasses
 import json
 from dataclasses import dataclass
-from typing import Any, Optional, Union
+from typing import Any, Mapping, Optional, Union
 
 from . import _calls
 from ._calls import Notification
@@ -39,6 +39,19 @@ class Message:
         header = _calls.header(version, code, length)
         # the flag is the high bit of the third byte
         return cls(version, code, data, header[2] >= 0x80)
+
+    @classmethod
+    def from_json(
+        cls, type: Union[int, str], json: Union[str, BytesLike, Mapping[str, Any]], version: int = 8
+    ) -> Message:
+        """The message of a type that JSON means: a text in protobuf's form, its UTF-8 in bytes, or what `json` returns.
+
+        Its payload is canonical, and it requests an acknowledgement if the header of its type does at this version.
+        `JsonError` if the text means no such message; `Unknown` if there is no such version or type, or the type is
+        that of a custom entry.
+        """
+        code = _calls.type_code(type) if isinstance(type, str) else type
+        return cls.of(code, _calls.payload(_calls.schema(version, code), _text_of(json)), version)
 
     @property
     def type(self) -> str:
@@ -131,3 +144,8 @@ def _fields(item: Union[Message, Skipped]) -> str:
     """An item as dataclasses show it, with a long payload cut short."""
     fields = (f"{field.name}={shown(getattr(item, field.name))}" for field in dataclasses.fields(item))
     return f"{type(item).__name__}({', '.join(fields)})"
+
+
+def _text_of(value: Union[str, BytesLike, Mapping[str, Any]]) -> Union[str, BytesLike]:
+    """JSON as a text, where it is a value of Python."""
+    return json.dumps(dict(value), allow_nan=False) if isinstance(value, Mapping) else value

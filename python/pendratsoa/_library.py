@@ -26,6 +26,7 @@ PARAMETERS = {
     "journal_canonical": _U32 + _SLICE + _SLICE,
     "journal_merge": _U32 + _SLICE + _SLICE + _SLICE,
     "journal_json": _U32 + _SLICE + _SLICE,
+    "journal_payload_of_json": _U32 + _SLICE + _SLICE + _SLICE,
     "journal_notification": _U16 + _SLICE + _SLICE + _SLICE,
     "journal_header_eq": _U16 + _SLICE + _SLICE + _U32,
     "journal_difference": _U16 + _SLICE + _SLICE + _SLICE,

@@ -7,7 +7,19 @@ import functools
 import operator
 from typing import Any, Callable, Optional, SupportsIndex, Tuple, Type, Union, cast
 
-from ._errors import ERRORS, JournalError, Malformed, NoId, NoResult, NoRoom, OutOfMemory, TooLong, Unknown
+from ._errors import (
+    ERRORS,
+    JournalError,
+    JsonError,
+    JsonReason,
+    Malformed,
+    NoId,
+    NoResult,
+    NoRoom,
+    OutOfMemory,
+    TooLong,
+    Unknown,
+)
 from ._library import library
 from ._protocol import SCHEMA_NAMES
 
@@ -30,12 +42,25 @@ TEXTS = {
     TooLong: "the result would have more than 4,294,967,295 bytes",
 }
 
+# why a JSON text is not taken
+REASONS = {
+    JsonReason.NOT_JSON: "not JSON",
+    JsonReason.UNKNOWN_MEMBER: "unknown member",
+    JsonReason.REPEATED_MEMBER: "repeated member",
+    JsonReason.SEVERAL_MEMBERS: "several members of a oneof",
+    JsonReason.WRONG_KIND: "wrong kind of value",
+    JsonReason.OUT_OF_RANGE: "out of range",
+    JsonReason.NOT_BASE64: "not base64",
+    JsonReason.TOO_DEEP: "too deep",
+}
+
 # what comes after the numbers that fit into 16 and 32 bits
 U16_END = 1 << 16
 U32_END = 1 << 32
 
 # the numbers that calls write
 ItemNumbers = ctypes.c_uint64 * 6
+ReadNumbers = ctypes.c_uint64 * 2
 NotificationNumbers = ctypes.c_uint64 * 4
 VerdictNumbers = ctypes.c_uint64 * 2
 
@@ -100,7 +125,16 @@ class Request:
         data = str.encode(value, "utf-8", "surrogatepass")
         return data, len(data)
 
-    def data(self, argument: str) -> Tuple[bytes, int]:
+    def json(self, argument: str) -> Tuple[bytes, int]:
+        """A JSON text, which is a text or its UTF-8 in bytes, and its length in bytes."""
+        value = self.arguments[argument]
+        if isinstance(value, str):
+            data, length = self.text(argument)
+            self.size += length
+            return data, length
+        return self.data(argument, "a str or bytes-like")
+
+    def data(self, argument: str, what: str = "bytes-like") -> Tuple[bytes, int]:
         """Bytes and their number. All but `bytes` are copied: they could change while the call runs."""
         data = self.arguments[argument]
         # and not a class below it, whose length could be another
@@ -108,7 +142,7 @@ class Request:
             try:
                 data = memoryview(cast(BytesLike, data)).tobytes()
             except TypeError:
-                raise TypeError(f"{self.call}: {argument} must be bytes-like, not {type(data).__name__}") from None
+                raise TypeError(f"{self.call}: {argument} must be {what}, not {type(data).__name__}") from None
         self.size += len(data)
         return data, len(data)
 
@@ -136,6 +170,21 @@ class Request:
         """An error of this call, about one of its arguments or none."""
         value = self.arguments.get(argument) if argument else None
         return kind(f"{self.call}: {text}", call=self.call, argument=argument, value=value)
+
+    def not_taken(self, reason: JsonReason, offset: int, path: str) -> JsonError:
+        """The error of a JSON text that is not taken."""
+        value = self.arguments["json"]
+        is_json = reason is not JsonReason.NOT_JSON
+        why = f"{path}: {REASONS[reason]}" if path else REASONS[reason]
+        return JsonError(
+            f"{self.call}: json {shown(value)}: {why if is_json else f'{why} at byte {offset}'}",
+            call=self.call,
+            argument="json",
+            value=value,
+            reason=reason,
+            offset=None if is_json else offset,
+            path=path,
+        )
 
     def unexpected(self, what: str) -> JournalError:
         """The error that a later library may return something new."""

@@ -5,7 +5,7 @@ import re
 import unittest
 
 import pendratsoa
-from pendratsoa import IdKind, ResultKind, VerdictKind, _errors, _library
+from pendratsoa import IdKind, JsonReason, ResultKind, VerdictKind, _errors, _library
 from support import HEADER, TOP, defined
 
 
@@ -16,7 +16,7 @@ class TestConstants(unittest.TestCase):
 
     def test_kinds(self):
         numbers = defined(r"\d+")
-        for kind in (*IdKind, *ResultKind, *VerdictKind):
+        for kind in (*JsonReason, *IdKind, *ResultKind, *VerdictKind):
             self.assertEqual(numbers[kind.name], kind)
 
     def test_versions_and_schemas(self):

@@ -4,7 +4,18 @@ import pickle
 import unittest
 
 import pendratsoa
-from pendratsoa import JournalError, Malformed, NoId, NoResult, NoRoom, OutOfMemory, Stream, TooLong, Unknown
+from pendratsoa import (
+    JournalError,
+    JsonError,
+    Malformed,
+    NoId,
+    NoResult,
+    NoRoom,
+    OutOfMemory,
+    Stream,
+    TooLong,
+    Unknown,
+)
 from support import CALL_COMMAND, CUSTOM_ENTRY, SET_STATE_COMMAND, SIGNAL_NOTIFICATION, replaced, returning
 
 BAD = b"\x12"
@@ -176,6 +187,12 @@ class TestErrors(unittest.TestCase):
                 "a result of the kind 5",
             ),
             (
+                "journal_payload_of_json",
+                returning(0, 9, 0),
+                lambda: pendratsoa.payload(0, "{}"),
+                "a JSON text of the kind 9",
+            ),
+            (
                 "journal_verdict",
                 returning(0, 7, 0),
                 lambda: pendratsoa.compare_journals(8, b"", b""),
@@ -193,6 +210,7 @@ class TestErrors(unittest.TestCase):
             (OutOfMemory, MemoryError),
             (TooLong, OverflowError),
             (Unknown, LookupError),
+            (JsonError, ValueError),
             (NoId, ValueError),
             (NoResult, ValueError),
         ):

@@ -63,7 +63,7 @@ class TestArguments(unittest.TestCase):
     def test_every_kind_in_every_place(self):
         for call in FUNCTIONS:
             names = [name for name in inspect.signature(call).parameters if name != "ignore_payloads"]
-            good = {"version": 8, "code": 0x0400, "schema": 13, "name": "SleepCommand", "payload_length": 0}
+            good = {"version": 8, "code": 0x0400, "schema": 13, "name": "SleepCommand", "payload_length": 0, "json": "{}"}
             good = {name: good.get(name, b"") for name in names}
             refused = 0
             for name, value in itertools.product(names, values()):
@@ -86,6 +86,8 @@ class TestArguments(unittest.TestCase):
                     self.tried(call)
             self.tried(Message.of, value, value, value)
             self.tried(Message.of, "SleepCommand", value)
+            self.tried(Message.from_json, value, value, value)
+            self.tried(Message.from_json, "SleepCommand", value)
 
     def test_streams_of_every_kind(self):
         for value in values():
@@ -112,6 +114,7 @@ class TestArguments(unittest.TestCase):
             (lambda: pendratsoa.canonical(0, "text"), "canonical: payload must be bytes-like, not str"),
             (lambda: pendratsoa.canonical(None, b""), "canonical: schema must be an int, not NoneType"),
             (lambda: pendratsoa.merge(0, b"", 5), "merge: second must be bytes-like, not int"),
+            (lambda: pendratsoa.payload(0, 5), "payload: json must be a str or bytes-like, not int"),
             (lambda: Stream().feed("text"), "feed: data must be bytes-like, not str"),
             (lambda: Stream("8"), "Stream: version must be an int, not str"),
         ):
@@ -171,9 +174,12 @@ class TestMemory(unittest.TestCase):
             item.json()
             item.frame()
             item.canonical()
+            Message.from_json(item.code, item.json())
         for _ in range(2):
             with self.assertRaises(pendratsoa.Malformed):
                 pendratsoa.to_json(13, b"\xff" * 1000)
+            with self.assertRaises(pendratsoa.JsonError):
+                pendratsoa.payload(13, '{"message":"text","code":"one"}')
             with self.assertRaises(pendratsoa.NoId):
                 pendratsoa.notification(SIGNAL_NOTIFICATION, b"")
 

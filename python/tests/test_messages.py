@@ -3,6 +3,7 @@
 import copy
 import dataclasses
 import pickle
+import types as types_module
 import unittest
 
 import pendratsoa
@@ -35,6 +36,37 @@ class TestMaking(unittest.TestCase):
             self.assertRaises(pendratsoa.Unknown, Message.of, *arguments)
         for arguments in ((None,), (1.5,), ("SleepCommand", "text"), ("SleepCommand", 5), ("SleepCommand", b"", "8")):
             self.assertRaises(TypeError, Message.of, *arguments)
+
+
+class TestFromJson(unittest.TestCase):
+    TEXT = '{"resultCompletionId":1,"value":"eA=="}'
+
+    def test_texts_and_values(self):
+        for version, flag in ((6, False), (7, True), (9, True)):
+            made = Message(version, PROPOSE_RUN_COMPLETION, PROPOSAL, flag)
+            for json in (self.TEXT, self.TEXT.encode(), made.json(), types_module.MappingProxyType(made.json())):
+                self.assertEqual(Message.from_json("ProposeRunCompletion", json, version), made)
+                self.assertEqual(Message.from_json(PROPOSE_RUN_COMPLETION, json, version=version), made)
+
+    def test_by_the_schema_of_its_version(self):
+        value = {"waitingCompletions": [1]}
+        self.assertEqual(Message.from_json(SUSPENSION, value, 6).payload, bytes.fromhex("0a0101"))
+        self.assertRaises(pendratsoa.JsonError, Message.from_json, SUSPENSION, value)
+
+    def test_what_does_not_exist(self):
+        for arguments in (("Sleep", "{}"), (8, "{}"), (SUSPENSION, "{}", 4), (CUSTOM_ENTRY, "{}"), (1 << 16, "{}")):
+            self.assertRaises(pendratsoa.Unknown, Message.from_json, *arguments)
+
+    def test_what_is_no_json(self):
+        for json in (None, 5, [], object(), {"a": object()}, {(1, 2): 3}):
+            self.assertRaises(TypeError, Message.from_json, "SleepCommand", json)
+        circular = {}
+        circular["value"] = circular
+        for json in (circular, {"wakeUpTime": float("nan")}):
+            self.assertRaises(ValueError, Message.from_json, "SleepCommand", json)
+        with self.assertRaises(pendratsoa.JsonError) as raised:
+            Message.from_json("SleepCommand", {"name": "\ud800"})
+        self.assertEqual(raised.exception.reason, pendratsoa.JsonReason.NOT_JSON)
 
 
 class TestMessage(unittest.TestCase):

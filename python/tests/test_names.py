@@ -66,10 +66,13 @@ class TestNames(unittest.TestCase):
                 (lambda: pendratsoa.canonical(schema, b""), "schema", schema),
                 (lambda: pendratsoa.merge(schema, b"", b""), "schema", schema),
                 (lambda: pendratsoa.to_json(schema, b""), "schema", schema),
+                (lambda: pendratsoa.payload(schema, "{}"), "schema", schema),
                 (lambda: pendratsoa.compare_journals(version, b"", b""), "version", version),
                 (lambda: Stream(version), "version", version),
                 (lambda: Message.of(code), "code", code),
                 (lambda: Message.of(CALL_COMMAND, b"", version), "version", version),
+                (lambda: Message.from_json(code, "{}"), "code", code),
+                (lambda: Message.from_json(CALL_COMMAND, "{}", version), "version", version),
             ):
                 with self.assertRaises(pendratsoa.Unknown) as unknown:
                     call()

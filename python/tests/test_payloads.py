@@ -1,11 +1,13 @@
 """Payloads by their schemas, frames, notifications and comparisons."""
 
 import array
+import json
+import pickle
 import sys
 import unittest
 
 import pendratsoa
-from pendratsoa import IdKind, Message, Notification, ResultKind, Verdict, VerdictKind
+from pendratsoa import IdKind, JsonError, JsonReason, Message, Notification, ResultKind, Verdict, VerdictKind
 from support import CALL_COMMAND, CALL_COMPLETION, RECORDED, REPLAYED, SET_STATE_COMMAND, SIGNAL_NOTIFICATION
 
 
@@ -59,6 +61,82 @@ class TestPayloads(unittest.TestCase):
         ):
             self.assertEqual(pendratsoa.canonical(12, data), bytes.fromhex("0a0401020304"))
             self.assertEqual(pendratsoa.merge(12, b"", data), bytes.fromhex("0a0401020304"))
+
+
+class TestReading(unittest.TestCase):
+    def test_one_value_in_many_forms(self):
+        json = ' { "name" : "\\u0078" , "wake_up_time" : 0.5e1 } '
+        for text in ('{"wakeUpTime":"5","name":"x"}', json, json.encode(), bytearray(json.encode())):
+            found = pendratsoa.payload("SleepCommandMessage", text)
+            self.assertEqual(found, bytes.fromhex("0805620178"))
+            self.assertIs(type(found), bytes)
+        for schema in range(pendratsoa.SCHEMAS):
+            self.assertEqual(pendratsoa.payload(schema, "{}"), b"")
+
+    def test_a_text_that_is_not_ascii(self):
+        text = "a\u00e9\U0001f600" * 1000
+        found = pendratsoa.payload(13, json.dumps({"message": text}))
+        self.assertEqual(json.loads(pendratsoa.to_json(13, found)), {"message": text})
+
+    def test_what_is_not_taken(self):
+        for schema, text, reason, offset, path, why in (
+            ("Value", "", JsonReason.NOT_JSON, 0, "", "not JSON at byte 0"),
+            ("Value", b'{"content":"\xff"}', JsonReason.NOT_JSON, 12, "", "not JSON at byte 12"),
+            ("ErrorMessage", '{"message":"\u00e9\ud83d"}', JsonReason.NOT_JSON, 14, "", "not JSON at byte 14"),
+            ("Value", '{"a":1}', JsonReason.UNKNOWN_MEMBER, None, "a", "a: unknown member"),
+            (
+                "Value",
+                '{"content":"","content":""}',
+                JsonReason.REPEATED_MEMBER,
+                None,
+                "content",
+                "content: repeated member",
+            ),
+            (
+                "ProposeRunCompletionMessage",
+                '{"value":"","failure":{}}',
+                JsonReason.SEVERAL_MEMBERS,
+                None,
+                "failure",
+                "failure: several members of a oneof",
+            ),
+            ("Value", "[]", JsonReason.WRONG_KIND, None, "", "wrong kind of value"),
+            (
+                "InputCommandMessage",
+                '{"headers":[{},{"key":1}]}',
+                JsonReason.WRONG_KIND,
+                None,
+                "headers[1].key",
+                "headers[1].key: wrong kind of value",
+            ),
+            (
+                "SleepCommandMessage",
+                '{"wakeUpTime":-1}',
+                JsonReason.OUT_OF_RANGE,
+                None,
+                "wakeUpTime",
+                "wakeUpTime: out of range",
+            ),
+            ("Value", '{"content":"a"}', JsonReason.NOT_BASE64, None, "content", "content: not base64"),
+        ):
+            with self.subTest(text), self.assertRaises(JsonError) as raised:
+                pendratsoa.payload(schema, text)
+            error = raised.exception
+            self.assertEqual((error.reason, error.offset, error.path), (reason, offset, path))
+            self.assertEqual((error.call, error.argument, error.value), ("payload", "json", text))
+            self.assertTrue(str(error).startswith("payload: json ") and str(error).endswith(f": {why}"), str(error))
+            again = pickle.loads(pickle.dumps(error))
+            self.assertEqual((again.reason, again.offset, again.path), (reason, offset, path))
+
+    def test_too_deep(self):
+        for levels, reason in ((101, None), (102, JsonReason.TOO_DEEP), (600, JsonReason.NOT_JSON)):
+            text = '{"nestedFutures":[' * (levels - 1) + "{}" + "]}" * (levels - 1)
+            try:
+                pendratsoa.payload("Future", text)
+            except JsonError as error:
+                self.assertEqual(error.reason, reason)
+            else:
+                self.assertIsNone(reason)
 
 
 class TestNotifications(unittest.TestCase):

@@ -44,7 +44,9 @@ class TestConformance < Minitest::Test
     canonical = Pendratsoa.canonical(schema, payload)
     assert is_well_formed
     assert_equal canonical, Pendratsoa.canonical(schema, canonical)
-    assert_equal Pendratsoa.to_json(schema, payload), Pendratsoa.to_json(schema, canonical)
+    json = Pendratsoa.to_json(schema, payload)
+    assert_equal json, Pendratsoa.to_json(schema, canonical)
+    assert_equal canonical, Pendratsoa.payload(schema, json)
     digits(canonical)
   end
 
@@ -81,6 +83,8 @@ class TestConformance < Minitest::Test
   end
 
   def json_result(schema, payload)
-    Pendratsoa.to_json(schema, payload)
+    json = Pendratsoa.to_json(schema, payload)
+    assert_equal Pendratsoa.canonical(schema, payload), Pendratsoa.payload(schema, json)
+    json
   end
 end

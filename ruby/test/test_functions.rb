@@ -20,6 +20,9 @@ class TestConstants < Minitest::Test
     [Pendratsoa::ID_KINDS, Pendratsoa::RESULT_KINDS, Pendratsoa::VERDICT_KINDS].each do |kinds|
       kinds.each_with_index { |kind, number| assert_equal number, defined_numbers[kind.to_s.upcase], kind }
     end
+    Pendratsoa::JSON_REASONS.each_with_index do |reason, index|
+      assert_equal index + 1, defined_numbers[reason.to_s.upcase], reason
+    end
     assert_equal [3, 5, 7],
                  [Pendratsoa::ID_KINDS, Pendratsoa::RESULT_KINDS, Pendratsoa::VERDICT_KINDS].map(&:length)
   end
@@ -147,6 +150,60 @@ class TestPayloads < Minitest::Test
     assert_error(Pendratsoa::Malformed, 'difference: second "\n" is not well-formed') do
       Pendratsoa.difference(CODES[:set_state], "", "\n")
     end
+  end
+end
+
+class TestReading < Minitest::Test
+  SLEEP = "SleepCommandMessage"
+
+  def test_one_value_in_many_forms
+    ['{"wakeUpTime":"5","name":"x"}', " { \"name\" : \"\\u0078\" , \"wake_up_time\" : 0.5e1 } "].each do |json|
+      payload = Pendratsoa.payload(SLEEP, json)
+      assert_equal unhex("0805620178"), payload
+      assert_equal Encoding::BINARY, payload.encoding
+    end
+    Pendratsoa::SCHEMAS.times { |schema| assert_equal "", Pendratsoa.payload(schema, "{}") }
+  end
+
+  def test_what_is_not_taken
+    deep = "#{'{"nestedFutures":[' * 102}#{"]}" * 102}"
+    [
+      ["Value", "", :not_json, 0, "", '"": not JSON at byte 0'],
+      ["Value", "{\"content\":\"\xff\"}", :not_json, 12, "", '"{\"content\":\"\xFF\"}": not JSON at byte 12'],
+      ["Value", '{"a":1}', :unknown_member, nil, "a", '"{\"a\":1}": a: unknown member'],
+      [SLEEP, '{"name":"","name":""}', :repeated_member, nil, "name",
+       '"{\"name\":\"\",\"name\":\"\"}": name: repeated member'],
+      ["ProposeRunCompletionMessage", '{"value":"","failure":{}}', :several_members, nil, "failure",
+       '"{\"value\":\"\",\"failure\":{}}": failure: several members of a oneof'],
+      ["Value", "[]", :wrong_kind, nil, "", '"[]": wrong kind of value'],
+      ["InputCommandMessage", '{"headers":[{},{"key":1}]}', :wrong_kind, nil, "headers[1].key",
+       '"{\"headers\":[{},{\"key\":1}]}": headers[1].key: wrong kind of value'],
+      [SLEEP, '{"wakeUpTime":-1}', :out_of_range, nil, "wakeUpTime", '"{\"wakeUpTime\":-1}": wakeUpTime: out of range'],
+      ["Value", '{"content":"a"}', :not_base64, nil, "content", '"{\"content\":\"a\"}": content: not base64']
+    ].each do |schema, json, reason, offset, path, text|
+      error = assert_error(Pendratsoa::JsonError, "payload: json #{text}") { Pendratsoa.payload(schema, json) }
+      offset ? assert_equal(offset, error.offset) : assert_nil(error.offset)
+      assert_equal [reason, path, "payload", :json, json],
+                   [error.reason, error.path, error.call, error.argument, error.value]
+    end
+    error = assert_raises(Pendratsoa::JsonError) { Pendratsoa.payload("Future", deep) }
+    assert_equal :too_deep, error.reason
+    assert_operator error.message.length, :<, 5000
+  end
+
+  def test_messages
+    message = Pendratsoa::Message.from_json("ProposeRunCompletion", '{"resultCompletionId":1,"value":"eA=="}')
+    assert_equal [8, CODES[:propose_run_completion], unhex("0801720178"), true], message.to_a
+    assert_equal message, Pendratsoa::Message.from_json(message.code, message.json)
+    assert_equal unhex("0a0101"), Pendratsoa::Message.from_json(1, { waitingCompletions: [1] }, version: 6).payload
+    assert_raises(Pendratsoa::JsonError) { Pendratsoa::Message.from_json(1, { waitingCompletions: [1] }, version: 8) }
+    assert_raises(Pendratsoa::Unknown) { Pendratsoa::Message.from_json(CODES[:custom_entry], "{}") }
+    assert_raises(Pendratsoa::Unknown) { Pendratsoa::Message.from_json("Sleep", "{}") }
+    assert_raises(Pendratsoa::Unknown) { Pendratsoa::Message.from_json(1, "{}", version: 4) }
+    [nil, 5, [1], :"{}"].each { |json| assert_raises(TypeError) { Pendratsoa::Message.from_json(1, json) } }
+    circular = {}
+    circular["value"] = circular
+    assert_raises(JSON::NestingError) { Pendratsoa::Message.from_json(0x0400, circular) }
   end
 end
 

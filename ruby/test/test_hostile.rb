@@ -17,6 +17,7 @@ class TestArguments < Minitest::Test
     canonical: [[:schema, 13], [:bytes, ""]],
     merge: [[:schema, 13], [:bytes, ""], [:bytes, ""]],
     to_json: [[:schema, 13], [:bytes, ""]],
+    payload: [[:schema, 13], [:bytes, "{}"]],
     notification: [[:code, Helper::CODES[:signal]], [:bytes, "\x10\x11\x22\x00"]],
     header_eq?: [[:code, Helper::CODES[:call]], [:bytes, ""], [:bytes, ""]],
     difference: [[:code, Helper::CODES[:call]], [:bytes, ""], [:bytes, ""]],
@@ -148,6 +149,8 @@ class TestLaterLibrary < Minitest::Test
     assert_equal 8, stream.rest
     returning(0, [3, 0, 0, 0]) { assert_raises(Pendratsoa::Error) { Pendratsoa.notification(0x8000, "") } }
     returning(0, [0, 0, 0, 5]) { assert_raises(Pendratsoa::Error) { Pendratsoa.notification(0x8000, "") } }
+    returning(0, [9, 0]) { assert_raises(Pendratsoa::Error) { Pendratsoa.payload(13, "{}") } }
+    returning(0, [1 << 63, 0]) { assert_raises(Pendratsoa::Error) { Pendratsoa.payload(13, "{}") } }
     returning(0, [7, 0]) { assert_raises(Pendratsoa::Error) { Pendratsoa.compare_journals(8, "", "") } }
     returning(0, [1 << 63, 0]) { assert_raises(Pendratsoa::Error) { Pendratsoa.compare_journals(8, "", "") } }
   end

@@ -4,6 +4,7 @@ use std::error;
 use std::fmt;
 
 use crate::ffi::Refusal;
+use crate::reading::JsonError;
 
 /// Why a call fails, and which of its arguments is the reason.
 #[derive(Clone, Debug, PartialEq, Eq, Hash)]
@@ -23,6 +24,8 @@ pub enum Error {
     NoId(Argument),
     /// A notification has an id, and no result.
     NoResult(Argument),
+    /// A JSON text means no value of its schema.
+    Json(JsonError),
     /// The library returned this, which the crate does not know, as a later version of the library may.
     Unexpected(String),
 }
@@ -43,6 +46,8 @@ pub enum Argument {
     PayloadLength(usize),
     /// The one payload of a call, of this length in bytes.
     Payload(usize),
+    /// A JSON text, of this length in bytes.
+    Json(usize),
     /// The first payload of a call that has two, of this length in bytes.
     First(usize),
     /// The second payload of a call that has two, of this length in bytes.
@@ -96,6 +101,7 @@ impl fmt::Display for Error {
             }
             Error::NoId(argument) => write!(f, "{argument} has no id"),
             Error::NoResult(argument) => write!(f, "{argument} has an id, and no result"),
+            Error::Json(error) => write!(f, "the JSON text: {error}"),
             Error::Unexpected(what) => {
                 write!(
                     f,
@@ -117,6 +123,7 @@ impl fmt::Display for Argument {
             Argument::Name(name) => write!(f, "the name {name:?}"),
             Argument::PayloadLength(length) => write!(f, "the payload length {length}"),
             Argument::Payload(length) => write!(f, "the payload of {length} bytes"),
+            Argument::Json(length) => write!(f, "the JSON text of {length} bytes"),
             Argument::First(length) => write!(f, "the first payload of {length} bytes"),
             Argument::Second(length) => write!(f, "the second payload of {length} bytes"),
         }
@@ -155,6 +162,10 @@ mod tests {
             (
                 Error::Unknown(Argument::Name("a\"\n".to_owned())),
                 "the name \"a\\\"\\n\" is unknown, or not of the kind that the call is for",
+            ),
+            (
+                Error::TooLong(Argument::Json(3)),
+                "the JSON text of 3 bytes is too long for a header, or becomes so",
             ),
             (
                 Error::NoId(Argument::Payload(2)),

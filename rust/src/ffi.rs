@@ -62,6 +62,15 @@ mod c {
             out: *mut u8,
             room: usize,
         ) -> i64;
+        pub fn journal_payload_of_json(
+            schema: u32,
+            json: *const u8,
+            json_length: usize,
+            numbers: *mut u64,
+            numbers_room: usize,
+            out: *mut u8,
+            room: usize,
+        ) -> i64;
         pub fn journal_notification(
             code: u16,
             payload: *const u8,
@@ -253,6 +262,25 @@ pub(crate) fn json(schema: u32, payload: &[u8]) -> Result<Vec<u8>> {
     unsafe {
         written(2 * payload.len() + 128, |out, room| {
             c::journal_json(schema, payload.as_ptr(), payload.len(), out, room)
+        })
+    }
+}
+
+/// Returns the payload, or the path to what is not taken, and writes the two numbers.
+pub(crate) fn payload_of_json(schema: u32, json: &[u8], numbers: &mut [u64; 2]) -> Result<Vec<u8>> {
+    // SAFETY: the call reads the text, writes the two numbers and at most `room` bytes, and returns how many bytes
+    // they are
+    unsafe {
+        written(json.len(), |out, room| {
+            c::journal_payload_of_json(
+                schema,
+                json.as_ptr(),
+                json.len(),
+                numbers.as_mut_ptr(),
+                numbers.len(),
+                out,
+                room,
+            )
         })
     }
 }

@@ -5,6 +5,7 @@ use crate::error::{narrowed, Argument, Error};
 use crate::ffi;
 use crate::message_type::MessageType;
 use crate::notification::{notification, Notification};
+use crate::reading::payload;
 
 const MESSAGE: u64 = 0;
 const UNKNOWN_CODE: u64 = 1;
@@ -94,6 +95,31 @@ impl<'a> Message<'a> {
             requires_ack,
             payload,
         })
+    }
+
+    /// The message of a named type that a JSON text means, as it would come in a stream of the version. Its payload,
+    /// which is canonical, takes the place of what the buffer holds.
+    ///
+    /// `Error::Json` if the text means no such message, `Error::Unknown` if the number is no version's or the code no
+    /// named type's; `Error::TooLong`, `Error::OutOfMemory`. After an error the buffer is unchanged.
+    ///
+    /// ```
+    /// use pendratsoa::{Message, MessageType};
+    ///
+    /// let mut payload = Vec::new();
+    /// let code = MessageType::SleepCommand.code();
+    /// let message = Message::from_json(8, code, r#"{"wakeUpTime": 5}"#, &mut payload)?;
+    /// assert_eq!(message.json()?, r#"{"wakeUpTime":"5"}"#);
+    /// # Ok::<(), pendratsoa::Error>(())
+    /// ```
+    pub fn from_json(
+        version: u32,
+        code: u16,
+        json: impl AsRef<[u8]>,
+        buffer: &'a mut Vec<u8>,
+    ) -> Result<Message<'a>, Error> {
+        *buffer = payload(schema(version, code)?, json)?;
+        Message::new(version, code, buffer)
     }
 
     /// The type, or `None` if this crate knows none of the code, as of a type that a later library has.

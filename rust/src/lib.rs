@@ -15,9 +15,9 @@
 //! ```
 //!
 //! The library decides everything about the protocol; this crate turns its numbers into types. Each call of
-//! `pendratsoa.h` is a function here, of the same name without `journal_`, but for three: `journal_next` is
-//! [`next_item`] and, over chunks, [`Decoder`]; `journal_json` is [`to_json`]; `journal_verdict` is
-//! [`compare_journals`].
+//! `pendratsoa.h` is a function here, of the same name without `journal_`, but for four: `journal_next` is
+//! [`next_item`] and, over chunks, [`Decoder`]; `journal_json` is [`to_json`]; `journal_payload_of_json` is
+//! [`payload`]; `journal_verdict` is [`compare_journals`].
 //!
 //! - Items borrow the bytes of their stream, and are copied nowhere.
 //! - What fails says so by an [`Error`]; a failed allocation is one, too.
@@ -38,6 +38,7 @@ mod item;
 mod journals;
 mod message_type;
 mod notification;
+mod reading;
 mod schema;
 
 pub use calls::{
@@ -50,6 +51,7 @@ pub use item::{next_item, Item, Message, Next, Skipped, UnknownCode};
 pub use journals::{compare_journals, Verdict, VerdictKind};
 pub use message_type::MessageType;
 pub use notification::{notification, Notification, NotificationId, NotificationResult};
+pub use reading::{payload, JsonError, JsonReason};
 pub use schema::Schema;
 
 /// The first protocol version.

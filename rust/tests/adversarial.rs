@@ -4,8 +4,9 @@ use std::io::{self, ErrorKind, Read};
 
 use pendratsoa::{
     canonical, compare_journals, difference, frame, header, header_eq, is_well_formed, merge,
-    next_item, notification, schema, to_json, type_code, type_name, Argument, Decoder, Error, Item,
-    MessageType, Next, Schema, VerdictKind, FIRST_VERSION, LAST_VERSION,
+    next_item, notification, payload, schema, to_json, type_code, type_name, Argument, Decoder,
+    Error, Item, JsonReason, Message, MessageType, Next, Schema, VerdictKind, FIRST_VERSION,
+    LAST_VERSION,
 };
 
 /// A generator of numbers that are the same in every run (splitmix64).
@@ -123,6 +124,9 @@ fn schemas_that_do_not_exist() {
             assert_eq!(canonical(number, payload), Err(unknown.clone()));
             assert_eq!(merge(number, payload, payload), Err(unknown.clone()));
             assert_eq!(to_json(number, payload), Err(unknown.clone()));
+        }
+        for json in ["{}", "{", ""] {
+            assert_eq!(payload(number, json), Err(unknown.clone()));
         }
     }
 }
@@ -396,6 +400,119 @@ fn payloads_of_noise() {
             }
             [false, _] => assert_eq!(merged, Err(Error::Malformed(Argument::First(first.len())))),
         }
+    }
+}
+
+/// The reason for which a text is not taken, where it stops being JSON, and the path to what is not taken.
+fn refused(schema: Schema, json: &[u8]) -> (JsonReason, Option<usize>, String) {
+    match payload(schema.number(), json) {
+        Err(Error::Json(error)) => (error.reason, error.offset, error.path),
+        other => panic!("{other:?}"),
+    }
+}
+
+#[test]
+fn texts_that_are_not_taken() {
+    use JsonReason::*;
+    for (schema, json, reason, offset, path) in [
+        (Schema::Value, &b""[..], NotJson, Some(0), ""),
+        (
+            Schema::Value,
+            b"{\"content\":\"\xFF\"}",
+            NotJson,
+            Some(12),
+            "",
+        ),
+        (Schema::Value, b"{} {}", NotJson, Some(3), ""),
+        (Schema::Value, b"{\"a\":1}", UnknownMember, None, "a"),
+        (
+            Schema::Value,
+            b"{\"content\":null,\"content\":null}",
+            RepeatedMember,
+            None,
+            "content",
+        ),
+        (
+            Schema::ProposeRunCompletionMessage,
+            b"{\"value\":\"\",\"failure\":{}}",
+            SeveralMembers,
+            None,
+            "failure",
+        ),
+        (Schema::Value, b"[]", WrongKind, None, ""),
+        (
+            Schema::InputCommandMessage,
+            b"{\"headers\":[{},{\"key\":1}]}",
+            WrongKind,
+            None,
+            "headers[1].key",
+        ),
+        (
+            Schema::SleepCommandMessage,
+            b"{\"wakeUpTime\":-1}",
+            OutOfRange,
+            None,
+            "wakeUpTime",
+        ),
+        (
+            Schema::Value,
+            b"{\"content\":\"a\"}",
+            NotBase64,
+            None,
+            "content",
+        ),
+    ] {
+        assert_eq!(refused(schema, json), (reason, offset, path.to_owned()));
+    }
+    let deep = ["{\"nestedFutures\":[".repeat(102), "]}".repeat(102)].concat();
+    let (reason, offset, _) = refused(Schema::Future, deep.as_bytes());
+    assert_eq!((reason, offset), (TooDeep, None));
+}
+
+#[test]
+fn texts_of_noise() {
+    let mut random = Random(4);
+    for round in 0..5000 {
+        let schema = round % Schema::ALL.len() as u32;
+        let json = match to_json(schema, &random.bytes(12)) {
+            Ok(json) => json,
+            Err(_) => "{\"name\":\"x\"}".to_owned(),
+        };
+        let mut json = json.into_bytes();
+        for _ in 0..random.below(3) {
+            let place = random.below(json.len());
+            json[place] = b"{}[]:,\"\\0-.eE \xFF"[random.below(16)];
+        }
+        match payload(schema, &json) {
+            Ok(found) => assert_eq!(canonical(schema, &found), Ok(found)),
+            Err(Error::Json(error)) => {
+                assert_eq!(error.offset.is_some(), error.reason == JsonReason::NotJson);
+                assert!(error.offset.unwrap_or(0) <= json.len());
+            }
+            Err(other) => panic!("{other:?}"),
+        }
+    }
+}
+
+#[test]
+fn messages_of_json() {
+    let mut buffer = vec![7; 9];
+    for (version, code, json) in [
+        (8, 0xFC01, "{}"),
+        (8, 4, "{}"),
+        (4, 0x0400, "{}"),
+        (8, 0x0400, "{\"value\":1}"),
+    ] {
+        assert!(Message::from_json(version, code, json, &mut buffer).is_err());
+        assert_eq!(buffer, [7; 9]);
+    }
+    let code = MessageType::ProposeRunCompletion.code();
+    let json = r#"{"resultCompletionId":1,"value":"eA=="}"#;
+    for (version, requires_ack) in [(6, false), (7, true), (9, true)] {
+        let message = Message::from_json(version, code, json, &mut buffer).unwrap();
+        assert_eq!(message.payload, [0x08, 1, 0x72, 1, b'x']);
+        assert_eq!(message.requires_ack, requires_ack);
+        assert_eq!(message.json().unwrap(), json);
     }
 }
 

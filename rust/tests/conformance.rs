@@ -1,8 +1,8 @@
 //! The test vectors of conformance/, by the calls of the crate. The last line is 'N passed, M failed'.
 //!
 //! Lines of the kind `record` have no call. What else follows from a line is tested with it: a stream is the same byte
-//! by byte, a canonical payload is its own result and has the same JSON, a frame is a header and the canonical payload,
-//! and a command is the same as itself.
+//! by byte, a canonical payload is its own result and has the same JSON, which is read as this payload, a frame is a
+//! header and the canonical payload, and a command is the same as itself.
 
 use std::error::Error as StdError;
 use std::fs;
@@ -10,8 +10,8 @@ use std::path::Path;
 use std::process::ExitCode;
 
 use pendratsoa::{
-    canonical, difference, frame, header, header_eq, is_well_formed, merge, schema, to_json,
-    type_code, Decoder, Error, Item, Schema,
+    canonical, difference, frame, header, header_eq, is_well_formed, merge, payload, schema,
+    to_json, type_code, Decoder, Error, Item, Schema,
 };
 
 type Outcome = Result<String, Box<dyn StdError>>;
@@ -108,21 +108,23 @@ fn hex(bytes: &[u8]) -> String {
     bytes.iter().map(|byte| format!("{byte:02x}")).collect()
 }
 
-fn on_payload(name: &str, payload: &str) -> Outcome {
-    let (schema, payload) = (number(name)?, bytes(payload)?);
-    let found = canonical(schema, &payload);
+fn on_payload(name: &str, input: &str) -> Outcome {
+    let (schema, input) = (number(name)?, bytes(input)?);
+    let found = canonical(schema, &input);
     law(
         "what has a canonical encoding is well-formed",
-        is_well_formed(schema, &payload)? == found.is_ok(),
+        is_well_formed(schema, &input)? == found.is_ok(),
     )?;
     let found = found?;
     law(
         "a canonical payload is its own",
         canonical(schema, &found)? == found,
     )?;
+    let json = to_json(schema, &input)?;
+    law("its JSON is the same", to_json(schema, &found)? == json)?;
     law(
-        "its JSON is the same",
-        to_json(schema, &found)? == to_json(schema, &payload)?,
+        "its JSON is read back",
+        payload(schema, &json).as_ref() == Ok(&found),
     )?;
     Ok(hex(&found))
 }
@@ -217,6 +219,12 @@ fn on_compare(name: &str, first: &str, second: &str) -> Outcome {
     Ok(words.join(" "))
 }
 
-fn on_json(name: &str, payload: &str) -> Outcome {
-    Ok(to_json(number(name)?, &bytes(payload)?)?)
+fn on_json(name: &str, input: &str) -> Outcome {
+    let (schema, input) = (number(name)?, bytes(input)?);
+    let json = to_json(schema, &input)?;
+    law(
+        "JSON is read as the canonical payload",
+        payload(schema, &json) == canonical(schema, &input),
+    )?;
+    Ok(json)
 }

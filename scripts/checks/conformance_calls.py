@@ -1,8 +1,9 @@
 """Checks the test vectors on standard input by the calls for C: conformance_calls.py < LINES
 
 It takes the package for Python, which has to be installed or in PYTHONPATH. Lines of the kind `record` have no call.
-Besides, a stream is the same byte by byte, a canonical payload is its own canonical payload and has the same JSON, a
-frame is a header and the canonical payload, and a command is the same as itself. The last line is 'N passed, M failed'.
+Besides, a stream is the same byte by byte, a canonical payload is its own canonical payload and has the same JSON, JSON
+is read as the canonical payload, a frame is a header and the canonical payload, and a command is the same as itself. The
+last line is 'N passed, M failed'.
 """
 
 import sys
@@ -15,7 +16,9 @@ def payload(schema, data):
     result = pendratsoa.canonical(schema, data)
     assert pendratsoa.is_well_formed(schema, data)
     assert pendratsoa.canonical(schema, result) == result
-    assert pendratsoa.to_json(schema, data) == pendratsoa.to_json(schema, result)
+    text = pendratsoa.to_json(schema, data)
+    assert pendratsoa.to_json(schema, result) == text
+    assert pendratsoa.payload(schema, text) == result
     return result.hex()
 
 
@@ -61,7 +64,9 @@ def compare(type_, first, second):
 
 
 def json(schema, data):
-    return pendratsoa.to_json(schema, data)
+    text = pendratsoa.to_json(schema, data)
+    assert pendratsoa.payload(schema, text) == pendratsoa.canonical(schema, data)
+    return text
 
 
 KINDS = {"payload": payload, "merge": merge, "frame": frame, "stream": stream, "compare": compare, "json": json}

@@ -177,11 +177,48 @@ static void verdicts(void) {
     is("JOURNAL_VERDICT_NUMBERS", (long long)numbers[2], 99);
 }
 
+static void readings(void) {
+    static const struct { const char *name, *text; uint32_t schema; uint64_t kind, offset; } rows[] = {
+        {"JOURNAL_READ", "{\"serviceName\": \"s\"}", 33, JOURNAL_READ, 0},
+        {"JOURNAL_NOT_JSON", "{\"serviceName\": s}", 33, JOURNAL_NOT_JSON, 16},
+        {"JOURNAL_UNKNOWN_MEMBER", "{\"service\": \"s\"}", 33, JOURNAL_UNKNOWN_MEMBER, 0},
+        {"JOURNAL_REPEATED_MEMBER", "{\"key\": \"\", \"key\": \"\"}", 33, JOURNAL_REPEATED_MEMBER, 0},
+        {"JOURNAL_SEVERAL_MEMBERS", "{\"value\": \"\", \"failure\": {}}", 15, JOURNAL_SEVERAL_MEMBERS, 0},
+        {"JOURNAL_WRONG_KIND", "{\"headers\": {}}", 33, JOURNAL_WRONG_KIND, 0},
+        {"JOURNAL_OUT_OF_RANGE", "{\"resultCompletionId\": 1.5}", 33, JOURNAL_OUT_OF_RANGE, 0},
+        {"JOURNAL_NOT_BASE64", "{\"parameter\": \"a\"}", 33, JOURNAL_NOT_BASE64, 0},
+    };
+    uint64_t numbers[3] = {0, 0, 99};
+    char deep[4096] = "";
+    size_t room = 0;
+
+    while (journal_payload_of_json(33, (const uint8_t *)"{}", 2, numbers, room, NULL, 0) < 0) {
+        room++;
+    }
+    IS(JOURNAL_READ_NUMBERS, room);
+    for (size_t i = 0; i < COUNT(rows); i++) {
+        journal_payload_of_json(rows[i].schema, (const uint8_t *)rows[i].text, strlen(rows[i].text), numbers, 3, NULL, 0);
+        is(rows[i].name, (long long)rows[i].kind, (long long)numbers[0]);
+        IS_AT(numbers, JOURNAL_READ_KIND, i);
+        IS_AT(numbers, JOURNAL_READ_OFFSET, rows[i].offset);
+    }
+    for (int level = 0; level <= 101; level++) {
+        strcat(deep, "{\"nestedFutures\":[");
+    }
+    for (int level = 0; level <= 101; level++) {
+        strcat(deep, "]}");
+    }
+    journal_payload_of_json(7, (const uint8_t *)deep, strlen(deep), numbers, 3, NULL, 0);
+    IS(JOURNAL_TOO_DEEP, numbers[0]);
+    is("JOURNAL_READ_NUMBERS", (long long)numbers[2], 99);
+}
+
 int main(void) {
     refusals();
     numbers_of_the_protocol();
     items();
     notifications();
     verdicts();
+    readings();
     return failed;
 }

@@ -78,7 +78,7 @@ void __wrap_free(void *block) {
 
 enum call {
     LIBRARY_VERSION, SCHEMA, TYPE_NAME, TYPE_CODE, NEXT, HEADER, FRAME, IS_WELL_FORMED, CANONICAL, MERGE, JSON,
-    NOTIFICATION, HEADER_EQ, DIFFERENCE, VERDICT, CALLS
+    PAYLOAD_OF_JSON, NOTIFICATION, HEADER_EQ, DIFFERENCE, VERDICT, CALLS
 };
 
 #define ERRORS 8
@@ -111,6 +111,8 @@ static const struct {
     [CANONICAL] = {"journal_canonical", 1, 0, 1, UNKNOWN | MALFORMED | MEMORY | TOO_LONG, 1},
     [MERGE] = {"journal_merge", 2, 0, 1, UNKNOWN | MALFORMED | MEMORY | TOO_LONG, 1},
     [JSON] = {"journal_json", 1, 0, 1, UNKNOWN | MALFORMED | MEMORY | TOO_LONG, 1},
+    [PAYLOAD_OF_JSON] = {"journal_payload_of_json", 1, JOURNAL_READ_NUMBERS, 1, UNKNOWN | MEMORY | TOO_LONG | NO_ROOM,
+                         JOURNAL_TOO_DEEP + 1},
     [NOTIFICATION] = {"journal_notification", 1, JOURNAL_NOTIFICATION_NUMBERS, 1,
                       UNKNOWN | MALFORMED | MEMORY | TOO_LONG | NO_ROOM | BIT(JOURNAL_NO_ID) | BIT(JOURNAL_NO_RESULT),
                       KINDS},
@@ -323,6 +325,31 @@ static void put_payload(struct work *work, struct source *source, uint32_t schem
     }
 }
 
+/* A text for a schema: the JSON of a payload, as it is, changed, cut or with another one after it, or any bytes. */
+static void put_json(struct work *work, struct source *source, uint32_t schema) {
+    struct source payload;
+    int64_t length;
+
+    payload.length = 0;
+    put_payload(work, &payload, schema);
+    length = journal_json(schema, payload.bytes, payload.length, source->bytes, MOST_INPUT);
+    source->length = length < 0 || length > MOST_INPUT ? 0 : (size_t)length;
+    if (source->length == 0) {
+        put_any(work, source, below(work, 20));
+        return;
+    }
+    for (uint32_t count = below(work, 4); count > 0; count--) {
+        static const char bytes[] = "{}[]:,\"\\0123456789-.eEntfaz \xFF";
+        source->bytes[below(work, (uint32_t)source->length)] = (uint8_t)bytes[below(work, sizeof bytes)];
+    }
+    if (one_of(work, 8)) {
+        source->length -= below(work, (uint32_t)source->length);
+    }
+    if (one_of(work, 16)) {
+        put(source, source->bytes, source->length);
+    }
+}
+
 static uint16_t any_code(struct work *work) {
     return one_of(work, 6) ? (uint16_t)any(work) : work->codes[below(work, (uint32_t)work->named)];
 }
@@ -444,6 +471,8 @@ static int64_t make(const struct request *r, const struct slice *slices) {
     case MERGE:
         return journal_merge(r->schema, first->at, first->length, second->at, second->length, out->at, out->length);
     case JSON: return journal_json(r->schema, first->at, first->length, out->at, out->length);
+    case PAYLOAD_OF_JSON:
+        return journal_payload_of_json(r->schema, first->at, first->length, numbers, count, out->at, out->length);
     case NOTIFICATION:
         return journal_notification(r->code, first->at, first->length, numbers, count, out->at, out->length);
     case HEADER_EQ:
@@ -464,6 +493,7 @@ static int kind_of(enum call call, int64_t result, const uint64_t *numbers) {
     case IS_WELL_FORMED: case HEADER_EQ: return (int)result;
     case NOTIFICATION: return (int)(5 * numbers[JOURNAL_NOTIFICATION_ID] + numbers[JOURNAL_NOTIFICATION_RESULT]);
     case VERDICT: return (int)numbers[JOURNAL_VERDICT_KIND];
+    case PAYLOAD_OF_JSON: return (int)numbers[JOURNAL_READ_KIND];
     default: return 0;
     }
 }
@@ -608,6 +638,9 @@ static void make_request(struct work *work, struct request *request) {
     case FRAME:
         put_payload(work, &request->source[0], schema_of(request->code));
         break;
+    case PAYLOAD_OF_JSON:
+        put_json(work, &request->source[0], request->schema);
+        break;
     default:
         if (listed[request->call].inputs > 0) {
             put_payload(work, &request->source[0], request->schema);
@@ -680,6 +713,35 @@ static void put_notification(struct source *source, int id, int result) {
     }
 }
 
+#define PROPOSAL_SCHEMA 15
+#define FUTURE_SCHEMA 7
+
+/* A text that is read as this kind for the schema of the request, which is set where a call has no such text. */
+static void put_text_of(struct request *request, int kind) {
+    static const char *const texts[] = {
+        "{\"headers\": [{\"key\": \"k\"}]}", "{\"headers\": [{\"key\": \"k\"}]", "{\"headers\": [{\"k\": \"k\"}]}",
+        "{\"serviceName\": \"\", \"service_name\": \"\"}", "{\"value\": \"\", \"failure\": {}}",
+        "{\"headers\": [null]}", "{\"resultCompletionId\": 4294967296}", "{\"parameter\": \"=\"}",
+    };
+    struct source *source = &request->source[0];
+
+    source->length = 0;
+    if (kind == JOURNAL_SEVERAL_MEMBERS) {
+        request->schema = PROPOSAL_SCHEMA;
+    }
+    if (kind < JOURNAL_TOO_DEEP) {
+        put(source, texts[kind], strlen(texts[kind]));
+        return;
+    }
+    request->schema = FUTURE_SCHEMA;
+    for (int level = 0; level <= 101; level++) {
+        put(source, "{\"nestedFutures\":[", 18);
+    }
+    for (int level = 0; level <= 101; level++) {
+        put(source, "]}", 2);
+    }
+}
+
 /* Changes a request so that its result is of a kind, or this error if that is not 0. */
 static void make_wanted(struct work *work, struct request *request, int kind, int error) {
     struct source *first = &request->source[0], *second = &request->source[1];
@@ -714,6 +776,9 @@ static void make_wanted(struct work *work, struct request *request, int kind, in
         break;
     case MERGE: case HEADER_EQ: case DIFFERENCE:
         PUT(second, A_CALL);
+        break;
+    case PAYLOAD_OF_JSON:
+        put_text_of(request, kind);
         break;
     default:
         break;

@@ -2,8 +2,8 @@
  * Checks the test vectors on the standard input by the calls of pendratsoa.h: test_vectors SCHEMAS < LINES
  *
  * SCHEMAS is a file with the names of the schemas, one a line, in the order of their numbers. conformance/README.md
- * says what a line is; a line of the kind `record` has no call. Each stream is also read byte by byte. The last line
- * is 'N passed, M failed'.
+ * says what a line is; a line of the kind `record` has no call. Each stream is also read byte by byte, and each JSON is
+ * read as the canonical payload. The last line is 'N passed, M failed'.
  */
 #define _POSIX_C_SOURCE 200809L
 #include <pendratsoa.h>
@@ -278,11 +278,21 @@ static void compare(void) {
 
 static void json(void) {
     uint32_t schema = next_schema();
-    struct buffer data = next_bytes();
-    int64_t length = WRITTEN(journal_json(schema, data.bytes, data.length, written.bytes, written.room));
+    struct buffer data = next_bytes(), canonical = {NULL, 0, 0};
+    int64_t length = WRITTEN(journal_canonical(schema, data.bytes, data.length, written.bytes, written.room));
+    uint64_t numbers[JOURNAL_READ_NUMBERS];
 
+    append(&canonical, written.bytes, length < 0 ? 0 : (size_t)length);
+    length = WRITTEN(journal_json(schema, data.bytes, data.length, written.bytes, written.room));
     append(&found, written.bytes, length < 0 ? 0 : (size_t)length);
+    length = WRITTEN(journal_payload_of_json(schema, found.bytes, found.length, numbers, JOURNAL_READ_NUMBERS,
+                                             written.bytes, written.room));
+    if (length != (int64_t)canonical.length || numbers[JOURNAL_READ_KIND] != JOURNAL_READ ||
+        memcmp(written.bytes, canonical.bytes, canonical.length) != 0) {
+        append_text(&found, ", which is read as another payload");
+    }
     free(data.bytes);
+    free(canonical.bytes);
 }
 
 static const struct {

@@ -3,6 +3,7 @@ pub mod Commands
 pub mod Headers
 pub mod Items
 pub mod Journals
+pub mod JsonPayloads
 pub mod Names
 pub mod Notifications
 pub mod Payloads

@@ -2,10 +2,11 @@
 
 ghost use Rattle.std.specs.Prelude.{[], ◌∷◌};
 ghost use Rattle.journal_c_api.specs.Answers.{Answers, Writes};
+ghost use Rattle.journal_c_api.specs.JsonPayloads.{WritesReading};
 ghost use Rattle.journal_c_api.specs.Payloads.{ReturnsCanonical, ReturnsJson, ReturnsWellFormed};
 
 use journal_c_api::answer::answer_of;
-use journal_c_api::payloads;
+use journal_c_api::{json_payloads, payloads};
 use std::alloc::Global;
 
 /// Returns 1 if a payload is well-formed for a schema, by its number (its index in the table), otherwise 0. `Unknown`
@@ -55,4 +56,25 @@ pub extern "C" fn journal_json(alloc: Global, schema: u32, payload: &[u8], out: 
     ensures { Answers result (Writes (ReturnsJson schema payload.now) out.old out.new) }
 {
     answer_of(payloads::write_json(alloc, schema, payload, out))
+}
+
+/// Reads a JSON text for a schema, in protobuf's own form, and writes two numbers: the kind of the result (0 it means a
+/// value, 1 it is not JSON, 2 unknown member, 3 repeated member, 4 several members of a oneof, 5 wrong kind of value, 6
+/// out of range, 7 not base64, 8 too deep), and where the text stops being JSON, in bytes; and as bytes the canonical
+/// payload of that value, or the path to what is not taken, as `headers[2].key`.
+///
+/// Returns how many bytes these are; if there is no room for them, the numbers are written nevertheless. `Unknown` if
+/// no schema has the number, otherwise `NoRoom` if there is room for fewer than two numbers; `TooLong` if the payload
+/// would have more than 4,294,967,295 bytes.
+#[unsafe(no_mangle)]
+pub extern "C" fn journal_payload_of_json(
+    alloc: Global,
+    schema: u32,
+    json: &[u8],
+    numbers: &mut [u64],
+    out: &mut [u8],
+) -> i64
+    ensures { Answers result (WritesReading schema json.now numbers.old numbers.new out.old out.new) }
+{
+    answer_of(json_payloads::write_payload_of_json(alloc, schema, json, numbers, out))
 }

@@ -16,6 +16,18 @@ module Pendratsoa
       TooLong => "the result would have more than 4,294,967,295 bytes"
     }.freeze
 
+    # Why a JSON text is not taken.
+    REASONS = {
+      not_json: "not JSON",
+      unknown_member: "unknown member",
+      repeated_member: "repeated member",
+      several_members: "several members of a oneof",
+      wrong_kind: "wrong kind of value",
+      out_of_range: "out of range",
+      not_base64: "not base64",
+      too_deep: "too deep"
+    }.freeze
+
     def initialize(name, **arguments)
       @name = name
       @arguments = arguments
@@ -89,6 +101,15 @@ module Pendratsoa
     # The text that a function writes.
     def text(function, *parameters)
       written(function, *parameters).force_encoding(Encoding::UTF_8)
+    end
+
+    # The error of a JSON text that is not taken: for a reason, at an offset, by the path to what is not taken.
+    def not_taken(reason, offset, path)
+      value = @arguments.fetch(:json)
+      where = reason == :not_json ? " at byte #{offset}" : ""
+      text = "#{"#{path}: " unless path.empty?}#{REASONS.fetch(reason)}#{where}"
+      JsonError.new("#{@name}: json #{Shown.bytes(value)}: #{text}", call: @name, argument: :json, value: value,
+                    reason: reason, offset: reason == :not_json ? offset : nil, path: path)
     end
 
     # The kind of a number among these. A later library may have further ones.

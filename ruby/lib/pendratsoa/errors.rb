@@ -36,6 +36,20 @@ module Pendratsoa
   # A notification has an id, and no result.
   class NoResult < Error; end
 
+  # A JSON text means no value of its schema.
+  class JsonError < Error
+    # Why, as one of JSON_REASONS; where the text stops being JSON, in bytes, which is nil if it is JSON; and then what
+    # leads to what is not taken, as "headers[2].key".
+    attr_reader :reason, :offset, :path
+
+    def initialize(message = nil, reason: nil, offset: nil, path: "", **details)
+      super(message, **details)
+      @reason = reason
+      @offset = offset
+      @path = path
+    end
+  end
+
   # The error of each negative number that the library returns.
   ERRORS = {
     -1 => Malformed,

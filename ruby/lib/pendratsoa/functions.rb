@@ -7,6 +7,11 @@ module Pendratsoa
   # How many schemas there are; their numbers begin at 0.
   SCHEMAS = SCHEMA_NAMES.length
 
+  # Why a JSON text is not taken.
+  JSON_REASONS = %i[
+    not_json unknown_member repeated_member several_members wrong_kind out_of_range not_base64 too_deep
+  ].freeze
+
   ID_KINDS = %i[completion_id signal_id signal_name].freeze
   RESULT_KINDS = %i[void value failure invocation_id state_keys].freeze
   VERDICT_KINDS = %i[
@@ -105,6 +110,21 @@ module Pendratsoa
     def to_json(schema, payload)
       call = Call.new("to_json", schema: schema, payload: payload)
       call.text(:journal_json, call.schema, *call.data(:payload))
+    end
+
+    # The canonical payload of what a JSON text means, which is in protobuf's own form.
+    #
+    # JsonError if it means no value of the schema; Unknown if there is no such schema; TooLong, OutOfMemory.
+    def payload(schema, json)
+      call = Call.new("payload", schema: schema, json: json)
+      found = nil
+      kind, offset = Library.numbers(2) do |room|
+        found = call.written(:journal_payload_of_json, call.schema, *call.data(:json), room, 2)
+      end
+      reason = call.kind([nil, *JSON_REASONS], kind, "a JSON text")
+      return found unless reason
+
+      raise call.not_taken(reason, offset, found.force_encoding(Encoding::UTF_8).freeze)
     end
 
     # The id and the result of a notification.

@@ -24,6 +24,16 @@ module Pendratsoa
       new(version, code, bytes, Pendratsoa.header(version, code, length).getbyte(2) >= 0x80)
     end
 
+    # The message of a type that JSON means: a text in protobuf's form, or a Hash as `json` returns it. Its payload is
+    # canonical, and it requests an acknowledgement if the header of its type does at this version. JsonError if the
+    # text means no such message; Unknown if there is no such version or type, or the type is that of a custom entry.
+    def self.from_json(type, json, version: 8)
+      code = type.is_a?(String) ? Pendratsoa.type_code(type) : type
+      # the deepest message has 202 levels of JSON
+      text = json.is_a?(Hash) ? JSON.generate(json, max_nesting: 1000) : json
+      of(code, Pendratsoa.payload(Pendratsoa.schema(version, code), text), version: version)
+    end
+
     # The name of its type, as "SleepCommand", or "CustomEntry(64513)". Unknown if no type has its code.
     def type
       Pendratsoa.type_name(code)

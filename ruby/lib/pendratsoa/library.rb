@@ -26,6 +26,7 @@ module Pendratsoa
       journal_canonical: U32 + SLICE + SLICE,
       journal_merge: U32 + SLICE + SLICE + SLICE,
       journal_json: U32 + SLICE + SLICE,
+      journal_payload_of_json: U32 + SLICE + SLICE + SLICE,
       journal_notification: U16 + SLICE + SLICE + SLICE,
       journal_header_eq: U16 + SLICE + SLICE + U32,
       journal_difference: U16 + SLICE + SLICE + SLICE,

@@ -1,0 +1,129 @@
+//! JSON texts, read as payloads of any schema.
+
+ghost use Rattle.std.specs.Prelude.{◌≡◌};
+ghost use Rattle.journal_c_api.specs.JsonPayloads.{IsIfShort, ReadsText, SaysNotJson, SaysNotTaken, WritesReading};
+ghost use Rattle.journal_c_api.specs.JsonPayloads.{reading_bytes, reading_numbers};
+
+use crate::answer::{Refusal, write_over};
+use json::Scratch;
+use shared_core_codec::check::is_schema;
+use shared_core_json_reader::{JsonReadError, Reason, payload_of_value, value_of_text};
+use std::alloc::Global;
+
+/// How many numbers are written for a text.
+const READ_NUMBERS: usize = 2;
+
+/// Reads a JSON text for a schema, and writes two numbers, what kind of a result it is and an offset, and as bytes the
+/// canonical payload of what the text means, or the path to what is not taken. Returns how many bytes these are; where
+/// there is no room for them, the numbers are written nevertheless.
+///
+/// `Unknown` where no schema has the number, else `NoRoom` where there is room for fewer than two numbers, before the
+/// text is read; `TooLong` where the payload would have more than 4,294,967,295 bytes.
+pub fn write_payload_of_json(
+    alloc: Global,
+    schema: u32,
+    json: &[u8],
+    numbers: &mut [u64],
+    out: &mut [u8],
+) -> Result<usize, Refusal>
+    ensures { WritesReading schema json.now numbers.old numbers.new out.old out.new result }
+{
+    if !is_schema(schema) {
+        return Err(Refusal::Unknown);
+    }
+    if numbers.len() < READ_NUMBERS {
+        return Err(Refusal::NoRoom);
+    }
+    let reading = read(alloc, schema, json)?;
+    write_over(&numbers_of(&reading), numbers);
+    let bytes = bytes_of(&reading);
+    write_over(bytes, out);
+    Ok(bytes.len())
+}
+
+/// What a JSON text is read as.
+#[derive(Drop)]
+enum Reading {
+    /// The canonical payload of what it means.
+    Payload(Vec<u8>),
+    /// It is not JSON, from this byte on.
+    NotJson(usize),
+    /// It is JSON that means nothing: the number of the kind, and the path to what is not taken.
+    NotTaken { kind: u64, path: String },
+}
+
+/// The two numbers of a reading.
+fn numbers_of(reading: &Reading) -> [u64; READ_NUMBERS]
+    ensures { result ≡ reading_numbers reading.now }
+{
+    match reading {
+        Reading::Payload(_) => [0, 0],
+        Reading::NotJson(offset) => [1, *offset as u64],
+        Reading::NotTaken { kind, .. } => [*kind, 0],
+    }
+}
+
+/// The bytes of a reading.
+fn bytes_of(reading: &Reading) -> &[u8]
+    ensures { result.now ≡ reading_bytes reading.now }
+{
+    match reading {
+        Reading::Payload(payload) => payload.as_slice(),
+        Reading::NotJson(_) => &[],
+        Reading::NotTaken { path, .. } => path.as_bytes(),
+    }
+}
+
+/// Reads a text for a schema.
+fn read(alloc: Global, schema: u32, json: &[u8]) -> Result<Reading, Refusal>
+    ensures { ReadsText schema json.now result }
+{
+    let mut scratch = Scratch::new(alloc);
+    let value = match value_of_text(alloc, json, &mut scratch) {
+        Ok(value) => value,
+        Err(error) => return not_json(error),
+    };
+    match payload_of_value(alloc, schema, &value) {
+        Ok(payload) => if_short(payload),
+        Err(error) => not_taken(error),
+    }
+}
+
+/// The reading of a text that is not JSON, by the error.
+fn not_json(error: JsonReadError) -> Result<Reading, Refusal>
+    ensures { SaysNotJson error.reason result }
+{
+    if error.reason == Reason::OutOfMemory {
+        return Err(Refusal::OutOfMemory);
+    }
+    Ok(Reading::NotJson(error.offset.unwrap_or(0)))
+}
+
+/// The reading of a payload, if a header can hold its length.
+fn if_short(payload: Vec<u8>) -> Result<Reading, Refusal>
+    ensures { IsIfShort payload.items result }
+{
+    if u32::try_from(payload.len()).is_err() {
+        return Err(Refusal::TooLong);
+    }
+    Ok(Reading::Payload(payload))
+}
+
+/// The reading of a text that is JSON and means nothing, by the error.
+fn not_taken(error: JsonReadError) -> Result<Reading, Refusal>
+    ensures { SaysNotTaken error.reason result }
+{
+    let JsonReadError { reason, path, .. } = error;
+    let kind = match reason {
+        Reason::UnknownMember => 2,
+        Reason::RepeatedMember => 3,
+        Reason::SeveralMembers => 4,
+        // the text is JSON, so the second one does not come here
+        Reason::WrongKind | Reason::NotJson => 5,
+        Reason::OutOfRange => 6,
+        Reason::NotBase64 => 7,
+        Reason::TooDeep => 8,
+        Reason::OutOfMemory => return Err(Refusal::OutOfMemory),
+    };
+    Ok(Reading::NotTaken { kind, path })
+}

@@ -1,0 +1,87 @@
+package pendratsoa
+
+import "fmt"
+
+// A JSONReason says why a JSON text is not taken.
+type JSONReason int
+
+// String returns the name of the reason, as "ReasonWrongKind".
+func (reason JSONReason) String() string {
+	names := []string{
+		"ReasonNotJSON", "ReasonUnknownMember", "ReasonRepeatedMember", "ReasonSeveralMembers", "ReasonWrongKind",
+		"ReasonOutOfRange", "ReasonNotBase64", "ReasonTooDeep",
+	}
+	if reason < ReasonNotJSON || reason > ReasonTooDeep {
+		return fmt.Sprintf("JSONReason(%d)", int(reason))
+	}
+	return names[reason-ReasonNotJSON]
+}
+
+// text returns the reason in words, as "wrong kind of value".
+func (reason JSONReason) text() string {
+	return []string{
+		"not JSON", "unknown member", "repeated member", "several members of a oneof", "wrong kind of value",
+		"out of range", "not base64", "too deep",
+	}[reason-ReasonNotJSON]
+}
+
+// A JSONError says why a JSON text means no value of its schema, and where. It wraps ErrJSON, and an Error wraps it.
+type JSONError struct {
+	Reason JSONReason
+	// Offset is where the text stops being JSON, in bytes, and -1 if it is JSON.
+	Offset int
+	// Path leads to what is not taken, as "headers[2].key". It is empty if the text is not JSON.
+	Path string
+}
+
+// Error returns a text as "headers[2].key: wrong kind of value" or "not JSON at byte 7".
+func (e *JSONError) Error() string {
+	switch {
+	case e.Offset >= 0:
+		return fmt.Sprintf("%s at byte %d", e.Reason.text(), e.Offset)
+	case e.Path != "":
+		return e.Path + ": " + e.Reason.text()
+	}
+	return e.Reason.text()
+}
+
+// Unwrap returns ErrJSON.
+func (e *JSONError) Unwrap() error {
+	return ErrJSON
+}
+
+// Payload returns the canonical payload of what a JSON text means, which is in protobuf's own form. A *JSONError says
+// why it means no value of the schema, and wraps ErrJSON. ErrUnknown if no schema has the number; ErrTooLong,
+// ErrOutOfMemory.
+func Payload(schema int, json []byte) ([]byte, error) {
+	number, err := unsigned("Payload", "schema", schema)
+	if err != nil {
+		return nil, err
+	}
+	numbers := make([]uint64, readNumbers)
+	found, result := written(len(json), func(out []byte) int64 {
+		return journalPayloadOfJSON(number, json, numbers, out)
+	})
+	if result < 0 {
+		return nil, schemaError("Payload", result, schema, bytesText("JSON", json))
+	}
+	payload, err := readingOf(numbers, found)
+	if err != nil {
+		return nil, &Error{"Payload", bytesText("JSON", json), err}
+	}
+	return payload, nil
+}
+
+// readingOf returns the payload, or the error, that the numbers and the bytes of the library say.
+func readingOf(numbers []uint64, found []byte) ([]byte, error) {
+	switch kind := numbers[readKind]; {
+	case kind == read:
+		return found, nil
+	case kind > uint64(ReasonTooDeep):
+		return nil, unexpected("kind of JSON text", kind)
+	case kind == uint64(ReasonNotJSON):
+		return nil, &JSONError{ReasonNotJSON, int(numbers[readOffset]), ""}
+	default:
+		return nil, &JSONError{JSONReason(kind), -1, string(found)}
+	}
+}

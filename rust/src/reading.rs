@@ -1,0 +1,172 @@
+//! JSON texts, read as payloads.
+
+use std::fmt;
+
+use crate::calls::text;
+use crate::error::{narrowed, Argument, Error};
+use crate::ffi;
+
+/// Why a JSON text is not taken, and where.
+#[derive(Clone, Debug, PartialEq, Eq, Hash)]
+#[non_exhaustive]
+pub struct JsonError {
+    /// Why.
+    pub reason: JsonReason,
+    /// Where the text stops being JSON, in bytes; `None` if it is JSON.
+    pub offset: Option<usize>,
+    /// What leads to the value that is not taken, as `headers[2].key`; empty if the text is not JSON.
+    pub path: String,
+}
+
+/// The reasons for which a JSON text is not taken.
+#[derive(Clone, Copy, Debug, PartialEq, Eq, Hash)]
+#[non_exhaustive]
+pub enum JsonReason {
+    /// It is not JSON, or not UTF-8, or nested more than one thousand levels deep.
+    NotJson,
+    /// A member has no name of a field of its message.
+    UnknownMember,
+    /// A member comes twice, by whichever of its names.
+    RepeatedMember,
+    /// Two members of one oneof are there.
+    SeveralMembers,
+    /// A value is of another kind than its field.
+    WrongKind,
+    /// A number is not whole, or not in the range of its field.
+    OutOfRange,
+    /// A string for bytes is not base64.
+    NotBase64,
+    /// A message is nested more than one hundred levels deep.
+    TooDeep,
+}
+
+/// The number of a text that is taken.
+const READ: u64 = 0;
+
+/// The reasons, each at its number, after the number of a text that is taken.
+const REASONS: [JsonReason; 8] = [
+    JsonReason::NotJson,
+    JsonReason::UnknownMember,
+    JsonReason::RepeatedMember,
+    JsonReason::SeveralMembers,
+    JsonReason::WrongKind,
+    JsonReason::OutOfRange,
+    JsonReason::NotBase64,
+    JsonReason::TooDeep,
+];
+
+/// The canonical payload of what a JSON text means, in protobuf's own form, for the schema that has the number.
+///
+/// `Error::Json` if the text means no value of the schema, `Error::TooLong`, `Error::OutOfMemory`; `Error::Unknown` if
+/// no schema has the number.
+///
+/// ```
+/// use pendratsoa::{payload, Error, JsonReason, Schema};
+///
+/// let value = Schema::Value.number();
+/// assert_eq!(payload(value, r#"{"content": "eA=="}"#)?, [0x0A, 1, b'x']);
+/// match payload(value, r#"{"content": 1}"#) {
+///     Err(Error::Json(error)) => {
+///         assert_eq!((error.reason, error.path.as_str()), (JsonReason::WrongKind, "content"));
+///     }
+///     other => panic!("{other:?}"),
+/// }
+/// # Ok::<(), pendratsoa::Error>(())
+/// ```
+pub fn payload(schema: u32, json: impl AsRef<[u8]>) -> Result<Vec<u8>, Error> {
+    let json = json.as_ref();
+    let mut numbers = [0; 2];
+    let bytes = ffi::payload_of_json(schema, json, &mut numbers).map_err(|refusal| {
+        Error::of(
+            refusal,
+            || Argument::Schema(schema),
+            || Argument::Json(json.len()),
+        )
+    })?;
+    payload_of(numbers, bytes)
+}
+
+/// The payload, or the error, of these numbers and bytes.
+fn payload_of(numbers: [u64; 2], bytes: Vec<u8>) -> Result<Vec<u8>, Error> {
+    let [kind, offset] = numbers;
+    if kind == READ {
+        return Ok(bytes);
+    }
+    let unexpected = || Error::unexpected("the kind of JSON text", kind);
+    let place = narrowed::<usize>("the kind of JSON text", kind)?;
+    let reason = *REASONS.get(place - 1).ok_or_else(unexpected)?;
+    let offset = match reason {
+        JsonReason::NotJson => Some(narrowed("the offset", offset)?),
+        _ => None,
+    };
+    let path = text(bytes)?;
+    Err(Error::Json(JsonError {
+        reason,
+        offset,
+        path,
+    }))
+}
+
+impl fmt::Display for JsonError {
+    fn fmt(&self, f: &mut fmt::Formatter<'_>) -> fmt::Result {
+        if !self.path.is_empty() {
+            write!(f, "{}: ", self.path)?;
+        }
+        self.reason.fmt(f)?;
+        match self.offset {
+            Some(offset) => write!(f, " at byte {offset}"),
+            None => Ok(()),
+        }
+    }
+}
+
+impl fmt::Display for JsonReason {
+    fn fmt(&self, f: &mut fmt::Formatter<'_>) -> fmt::Result {
+        f.write_str(match self {
+            JsonReason::NotJson => "not JSON",
+            JsonReason::UnknownMember => "unknown member",
+            JsonReason::RepeatedMember => "repeated member",
+            JsonReason::SeveralMembers => "several members of a oneof",
+            JsonReason::WrongKind => "wrong kind of value",
+            JsonReason::OutOfRange => "out of range",
+            JsonReason::NotBase64 => "not base64",
+            JsonReason::TooDeep => "too deep",
+        })
+    }
+}
+
+#[cfg(test)]
+mod tests {
+    use super::*;
+
+    #[test]
+    fn each_kind_of_text() {
+        assert_eq!(payload_of([0, 0], vec![1]), Ok(vec![1]));
+        for (number, offset, path, expected) in [
+            (1, 7, "", "not JSON at byte 7"),
+            (2, 0, "a", "a: unknown member"),
+            (3, 0, "a", "a: repeated member"),
+            (4, 0, "a", "a: several members of a oneof"),
+            (5, 0, "", "wrong kind of value"),
+            (6, 0, "a[1].b", "a[1].b: out of range"),
+            (7, 0, "a", "a: not base64"),
+            (8, 0, "a", "a: too deep"),
+        ] {
+            match payload_of([number, offset], path.as_bytes().to_vec()) {
+                Err(Error::Json(error)) => assert_eq!(error.to_string(), expected),
+                other => panic!("{other:?}"),
+            }
+        }
+    }
+
+    #[test]
+    fn kinds_of_a_later_library_are_errors() {
+        for number in [9, u64::MAX] {
+            let text = format!("the kind of JSON text {number}");
+            assert_eq!(
+                payload_of([number, 0], Vec::new()),
+                Err(Error::Unexpected(text))
+            );
+        }
+    }
+}

@@ -1,0 +1,26 @@
+#!/bin/sh
+# JSON read as payloads beside protobuf's own parser: literal texts, free forms of random values, and damaged texts.
+#
+# It takes the library for C by the package for Python, over the proved static library. It needs a C compiler, protoc
+# and Python's protobuf.
+set -u
+cd "$(dirname "$0")/../.." || exit 1
+. scripts/checks/lib.sh
+
+judge=
+for python in python3 /usr/bin/python3; do
+  if command -v "$python" > /dev/null && "$python" -c 'import google.protobuf' 2> "$err"; then
+    judge=$python
+  fi
+done
+[ -n "$judge" ] || not_run 'there is no protobuf for python3; the Debian package python3-protobuf has it'
+protoc -Iproto --descriptor_set_out=/dev/null journal.proto 2> "$err" ||
+  not_run 'there is no protoc with descriptor.proto; the Debian packages protobuf-compiler and libprotobuf-dev have it'
+installed_library
+PYTHONPATH=python
+PYTHONDONTWRITEBYTECODE=1
+export PYTHONPATH PYTHONDONTWRITEBYTECODE
+counted 'json_judge.py' "$judge" scripts/checks/json_judge.py 1 100 < conformance/json/records.txt
+sed -n 's/^damaged texts: /json: damaged texts: /p' "$work/log"
+
+finish
