@@ -5,6 +5,7 @@ canonical, of custom entries and of unknown codes, with bits of the header that 
 that are in no item. Each is dumped and made again of the dump. If no payload was damaged, that is the stream; otherwise
 what is made has the same dump, but for offsets and lengths, and is what is made of its own dump.
 """
+import base64
 import json
 import random
 import subprocess
@@ -30,7 +31,8 @@ def bytes_of(word):
 def messages():
     """The codes of messages, each with a canonical payload."""
     types = (CONFORMANCE.parent / "proto/types.txt").read_text(encoding="utf-8").splitlines()
-    codes = {name: int(code, 16) for code, name in (line.split() for line in types if not line.startswith("#") and line)}
+    named = [line.split() for line in types if line and not line.startswith("#")]
+    codes = {name: int(code, 16) for code, name in named}
     found = [(words[1].removesuffix("Message"), bytes_of(words[2])) for words in lines_of("json/records.txt")]
     return [(codes[name], payload) for name, payload in found if name in codes]
 
@@ -101,9 +103,9 @@ def said(dump):
         found.pop("offset")
         if "message" in found:
             found.pop("length")
-            # a header that differs has the length of the payload
+            # a header has the length of the payload too
             if "header" in found:
-                found["header"] = found["header"][:5]
+                found["header"] = base64.b64decode(found["header"])[:4]
     return objects
 
 
@@ -115,7 +117,7 @@ def fault(dumper, maker, stream, is_canonical, version):
         if is_canonical:
             return "" if made == stream else "another stream"
         again = run(dumper, version, made)
-        if len(made) == len(stream) and said(again) != said(dump):
+        if said(again) != said(dump):
             return "another dump"
         return "" if run(maker, version, again) == made else "another stream of the dump of what was made"
     except ValueError as error:
