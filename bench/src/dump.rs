@@ -7,7 +7,6 @@ use base64::STANDARD;
 use bytes::Bytes;
 use prost::Message;
 use serde::ser::{Serialize, SerializeMap, Serializer};
-use serde_json::json;
 
 use crate::peer::{Header, Item, FUTURES, PROPOSE_RUN_COMPLETION, SUSPENSION};
 use crate::reading::Reading;
@@ -34,11 +33,12 @@ pub fn dump(version: u32, input: impl Read, output: &mut impl Write) -> io::Resu
         }
         output.write_all(&lines)?;
     }
-    let mut rest = json!({ "offset": stream.offset(), "rest": stream.pending() });
-    if stream.pending() > 0 {
-        rest["bytes"] = base64::encode(stream.pending_bytes()).into();
-    }
-    writeln!(output, "{rest}")?;
+    let rest = Rest {
+        offset: stream.offset(),
+        bytes: stream.pending_bytes(),
+    };
+    serde_json::to_writer(&mut *output, &rest)?;
+    output.write_all(b"\n")?;
     output.flush()
 }
 
@@ -56,6 +56,24 @@ impl Serialize for Line {
         let mut line = serializer.serialize_map(None)?;
         line.serialize_entry("offset", &self.offset)?;
         write_item(self, &mut line)?;
+        line.end()
+    }
+}
+
+/// The last line: the bytes that are in no item.
+struct Rest {
+    offset: u64,
+    bytes: Vec<u8>,
+}
+
+impl Serialize for Rest {
+    fn serialize<S: Serializer>(&self, serializer: S) -> Result<S::Ok, S::Error> {
+        let mut line = serializer.serialize_map(None)?;
+        line.serialize_entry("offset", &self.offset)?;
+        line.serialize_entry("rest", &self.bytes.len())?;
+        if !self.bytes.is_empty() {
+            line.serialize_entry("bytes", &Base64(&self.bytes))?;
+        }
         line.end()
     }
 }
