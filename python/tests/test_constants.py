@@ -36,9 +36,12 @@ class TestConstants(unittest.TestCase):
         self.assertIn(f'#define JOURNAL_LIBRARY_VERSION "{pendratsoa.library_version()}"\n', HEADER)
         self.assertIn(f'\nversion = "{pendratsoa.library_version()}"\n', (TOP / "python/pyproject.toml").read_text())
 
-    def test_names_of_schemas_are_those_of_the_page(self):
-        listed = re.findall(r"(\d+) `(\w+)`", (TOP / "docs/C.md").read_text().partition("## Numbers of schemas")[2])
-        self.assertEqual([(int(number), name) for number, name in listed], list(enumerate(pendratsoa.SCHEMA_NAMES)))
+    def test_names_of_schemas_are_those_of_the_description(self):
+        described = re.findall(
+            r"^message (\w+) \{\n  option \(schema\) = (\d+);", (TOP / "proto/journal.proto").read_text(), re.M
+        )
+        listed = sorted((int(number), name) for name, number in described)
+        self.assertEqual(listed, list(enumerate(pendratsoa.SCHEMA_NAMES)))
 
 
 if __name__ == "__main__":

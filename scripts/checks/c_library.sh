@@ -42,7 +42,9 @@ constants() {
 test_vectors() {
   compiled 'test_vectors.c' -std=c99 -Wpedantic -Wconversion tests/c/test_vectors.c "$prefix/lib/libpendratsoa.a" \
     -o "$work/test_vectors"
-  sed -n '/^## Numbers of schemas/,$p' docs/C.md | tr , '\n' | sed -n 's/^ *[0-9]* `\(.*\)`.*/\1/p' > "$work/schemas"
+  # the names of schemas in the order of their numbers
+  awk '/^message / { name = $2 } /^  option \(schema\) = / { print $4 + 0, name }' proto/journal.proto \
+    | sort -n | cut -d' ' -f2 > "$work/schemas"
   cat conformance/*.txt conformance/json/*.txt > "$work/lines"
   # shellcheck disable=SC2086 # the words are split
   counted 'the test vectors' $emulator "$work/test_vectors" "$work/schemas" < "$work/lines"
