@@ -158,7 +158,7 @@ int64_t journal_json(uint32_t schema, const uint8_t *payload, size_t payload_len
 
 /* The indices of the numbers of a JSON text. */
 #define JOURNAL_READ_KIND 0   /* one of the nine kinds */
-#define JOURNAL_READ_OFFSET 1 /* where the text stops being JSON, in bytes from its first; 0 if it is JSON */
+#define JOURNAL_READ_OFFSET 1 /* where reading stopped, in bytes; 0 if the text is JSON */
 #define JOURNAL_READ_NUMBERS 2
 
 /*

@@ -63,9 +63,11 @@ class Writer:
         """A number in digits or in a string, or with a point or an exponent where a float has it exactly."""
         forms = [str(value), f'"{value}"']
         if 0 <= value < 1 << 53:
-            forms += [f"{value}.0", f"{value}.000", f"{value}e0", f"{value}0E-1", f"{value}.0e+0"]
+            forms += [f"{value}.0", f"{value}.000", f"{value}e0", f"{value}.0e+0"]
             if value % 100 == 0:
                 forms.append(f"{value // 100}e2")
+            if value > 0:
+                forms.append(f"{value}0E-1")
         return self.r.choice(forms)
 
     def base64(self, value):
