@@ -49,38 +49,6 @@ journal_diff 0 'same, 4 commands' '' recorded --ignore-payloads replayed_other_p
 journal_diff 1 'recorded ends at command 0' '' unknown_type recorded
 journal_diff 1 'replayed ends at command 0' '' recorded /dev/null
 
-# what is passed over is told for each journal, and is trouble where the comparison is strict
-told() {
-  printf 'journal_diff: the %s journal has %s\n' "$@" > "$work/told"
-}
-# passed_over STATUS LINE ARGUMENT..: the verdict, and on the standard error what is in the file told
-passed_over() {
-  wanted=$1
-  printf '%s\n' "$2" > "$work/lines"
-  shift 2
-  "$program" "$@" < recorded > "$out" 2> "$err"
-  status=$?
-  [ "$status" -eq "$wanted" ] && cmp -s "$out" "$work/lines" && cmp -s "$err" "$work/told"
-  outcome "journal_diff $*, and what it passes over" $?
-}
-told recorded '8 bytes after its last whole item' replayed '8 bytes after its last whole item'
-passed_over 0 'same, 0 commands' cut_short cut_short
-told recorded '3 unknown headers' replayed '8 bytes after its last whole item'
-passed_over 0 'same, 0 commands' three_unknown_types cut_short
-told replayed '1 unknown header' replayed '1 byte after its last whole item'
-{ cat recorded; printf '\000\010\000\000\000\000\000\000x'; } > "$work/more"
-passed_over 0 'same, 4 commands' recorded "$work/more"
-journal_diff 0 'same, 4 commands' '' --strict recorded recorded
-journal_diff 2 '' 'journal_diff: the recorded journal, offset 0: unknown header 0x8' --strict three_unknown_types cut_short
-size=$(($(wc -c < recorded)))
-journal_diff 2 '' "journal_diff: the replayed journal, offset $size: unknown header 0x8" --strict recorded "$work/more"
-{ cat recorded; printf 'xyz'; } > "$work/more"
-journal_diff 2 '' "journal_diff: the replayed journal, offset $size: 3 bytes after the last whole item" \
-  --strict replayed_other_handler "$work/more"
-{ cat recorded; printf '\000\000\000\000\000\000\000\001\377'; } > "$work/more"
-journal_diff 0 'same, 4 commands' '' recorded "$work/more"
-journal_diff 2 '' "journal_diff: the replayed journal, offset $size: malformed payload of Start" --strict recorded "$work/more"
-
 # the first command alone, and after it one of another type, or one that is malformed
 head -c 17 recorded > "$work/first"
 { cat "$work/first"; printf '\004\001\000\000\000\000\000\000'; } > "$work/other"

@@ -1,2 +1,1 @@
-pub mod PassedOver
 pub mod Verdicts

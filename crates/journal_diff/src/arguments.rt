@@ -19,8 +19,6 @@ pub struct Arguments<'a> {
     pub version: Version,
     /// Whether payloads are left out of the comparison.
     pub ignore_payloads: bool,
-    /// Whether what is passed over may be an error.
-    pub is_strict: bool,
 }
 
 /// The version of an argument, if it is a supported one.
@@ -50,19 +48,12 @@ fn command<'a>(alloc: Global) -> Result<Command<'a>, AllocError> {
         .long("ignore-payloads")
         .action(ArgAction::SetTrue)
         .help("Compares all but payloads");
-    let strict = Arg::new(alloc, "strict")
-        .long("strict")
-        .action(ArgAction::SetTrue)
-        .help(
-            "Unknown headers, malformed payloads and bytes after the last whole item are trouble",
-        );
     Command::new(alloc, "journal_diff")
         .version("0.1.0")
         .about(
             "Compares two journals, command by command. Ends with 0 where they are the same, 1 where they differ, and 2 where there is trouble.",
         )
         .arg(ignore_payloads)?
-        .arg(strict)?
         .arg(protocol)?
         .arg(recorded)?
         .arg(replayed)
@@ -97,6 +88,5 @@ pub fn parse_arguments<'a>(alloc: Global, arguments: &'a [String]) -> Result<Arg
         replayed,
         version,
         ignore_payloads: matches.get_flag("ignore-payloads"),
-        is_strict: matches.get_flag("strict"),
     })
 }

@@ -4,18 +4,15 @@ ghost use Rattle.std.specs.Prelude.{◌≡◌, ◌≤◌, ◌++◌, ℕ, List, I
 ghost use Rattle.std.specs.Io.KnownBytes.{Appends};
 ghost use Rattle.std.specs.String.{string_bytes};
 ghost use Rattle.shared_core_base.specs.Version.{version_number};
-ghost use Rattle.journal_diff.specs.Verdicts.{Reports, ReportsFound, IsWritten};
-ghost use Rattle.journal_diff.specs.Verdicts.{commands_word, is_same, verdict_line};
+ghost use Rattle.journal_diff.specs.Verdicts.{Reports, ReportsVerdict, IsWritten, commands_word, is_same, verdict_line};
 
-use crate::passed_over::{Trouble, strict_trouble};
-use replay_bench::{BenchError, Comparison, ReaderError, Verdict, survey_readers};
+use replay_bench::{BenchError, ReaderError, Verdict, compare_readers};
 use shared_core::version::Version;
 use std::alloc::{AllocError, Global};
 use std::error::Error;
 use std::fmt;
 use std::io::{Read, Write};
 use stream_lines::output::{OutputFailed, write_whole};
-use stream_survey::Survey;
 
 /// The number of bytes that are read at a time.
 const PIECE: usize = 65536;
@@ -25,8 +22,6 @@ const PIECE: usize = 65536;
 pub enum DiffError {
     /// The comparison has no verdict. Nothing is written.
     Unanswered(ReaderError),
-    /// In a strict comparison something is wrong with a journal. Nothing is written.
-    Faulty(Trouble),
     /// A write failed, or wrote no byte. A prefix of the verdict's line may be written.
     Output,
 }
@@ -65,7 +60,6 @@ impl fmt::Display for DiffError {
     fn fmt<W: fmt::Write>(&self, f: &mut fmt::Formatter<W>) -> fmt::Result {
         match self {
             DiffError::Unanswered(error) => write!(f, "{error}"),
-            DiffError::Faulty(trouble) => write!(f, "{trouble}"),
             DiffError::Output => f.write_str("output failed"),
         }
     }
@@ -73,23 +67,9 @@ impl fmt::Display for DiffError {
 
 impl Error for DiffError {}
 
-/// Two journals that were compared, and whose verdict was written.
-#[derive(Debug, Clone, Copy, PartialEq, Eq, Drop)]
-pub struct Findings {
-    /// Whether they are the same.
-    pub is_same: bool,
-    /// What the recorded journal has.
-    pub recorded: Survey,
-    /// What the replayed journal has.
-    pub replayed: Survey,
-}
-
 /// Compares two journals of a version, at least V5, from two readers, writes the verdict in a line, or in the lines of
-/// its text, and returns what they have and whether they are the same.
-///
-/// Both are read to their ends. The line is written only once all of that is known and its whole text is made. If
-/// `is_strict`, an unknown header, a payload that is not well-formed, or bytes after the last whole item are an error:
-/// the first of them in the recorded journal, or else in the replayed one.
+/// its text, and returns whether the journals are the same. The line is written only once the verdict is known and its
+/// whole text is made.
 #[tactic(auto, using(crate::proofs::Reporting::reported))]
 pub fn diff<A: Read + Drop, B: Read + Drop, W: Write>(
     alloc: Global,
@@ -97,42 +77,26 @@ pub fn diff<A: Read + Drop, B: Read + Drop, W: Write>(
     recorded: A,
     replayed: B,
     ignore_payloads: bool,
-    is_strict: bool,
     output: &mut W,
-) -> Result<Findings, DiffError>
+) -> Result<bool, DiffError>
     requires { 5 ≤ version_number version }
     ensures { (written : List ℕ)
         × Appends (W.contents output.old) (W.contents output.new) written
-        × Reports version ignore_payloads is_strict (A.remaining recorded) (B.remaining replayed) result written }
+        × Reports version ignore_payloads (A.remaining recorded) (B.remaining replayed) result written }
 {
-    let found = survey_readers(
-        alloc,
-        version,
-        recorded,
-        replayed,
-        PIECE,
-        ignore_payloads,
-        is_strict,
-    )?;
-    if let Some(trouble) = strict_trouble(is_strict, &found.recorded, &found.replayed) {
-        return Err(DiffError::Faulty(trouble));
-    }
-    report(alloc, found, output)
+    let verdict = compare_readers(alloc, version, recorded, replayed, PIECE, ignore_payloads)?;
+    report(alloc, &verdict, output)
 }
 
-/// Writes the line of a verdict, and returns what was found.
-fn report<W: Write>(alloc: Global, found: Comparison, output: &mut W) -> Result<Findings, DiffError>
+/// Writes the line of a verdict, and returns whether it is that the journals are the same.
+fn report<W: Write>(alloc: Global, verdict: &Verdict, output: &mut W) -> Result<bool, DiffError>
     ensures { (written : List ℕ)
         × Appends (W.contents output.old) (W.contents output.new) written
-        × ReportsFound found result written }
+        × ReportsVerdict verdict.now result written }
 {
-    let line = line_of(alloc, &found.verdict)?;
+    let line = line_of(alloc, verdict)?;
     write_text(output, line.as_bytes())?;
-    Ok(Findings {
-        is_same: is_same(&found.verdict),
-        recorded: found.recorded,
-        replayed: found.replayed,
-    })
+    Ok(is_same(verdict))
 }
 
 /// Whether a verdict is that the journals are the same.

@@ -1,6 +1,5 @@
 pub mod Answers
 pub mod Journals
-pub mod Reading
 pub mod Taking
 pub mod Verdicts
 pub mod Texts

@@ -1,5 +1,5 @@
 -- The verdict on the commands of two journals, and their comparison.
-use Rattle.std.specs.Prelude.{◌≡◌, ◌≢◌, ◌⊎◌, ℕ, ◌+◌, ◌^◌, ◌<◌, ◌≤◌, pos, Bool, true, false, List, [], ◌∷◌, length, codes, Option, Some, None, Result, Ok, Err}
+use Rattle.std.specs.Prelude.{◌≡◌, ◌≢◌, ◌⊎◌, ℕ, ◌+◌, ◌^◌, ◌<◌, ◌≤◌, pos, Bool, true, List, [], ◌∷◌, length, codes, Option, Some, None, Result, Ok, Err}
 use Rattle.std.specs.Option.{IsSomeAnd}
 use Rattle.shared_core_base.specs.declared.header.MessageType.{MessageType}
 use Rattle.shared_core_base.specs.declared.version.Version.{Version}
@@ -14,16 +14,13 @@ use Rattle.shared_core.specs.declared.encoding.raw_message.RawMessage.{RawMessag
 use Rattle.shared_core.specs.Errors.{command_mismatch_text}
 use Rattle.replay_bench.specs.declared.verdicts.Side.{Side}
 use Rattle.replay_bench.specs.declared.verdicts.Side.TheVariants.{Recorded, Replayed}
-use Rattle.replay_bench.specs.declared.verdicts.Comparison.{Comparison}
 use Rattle.replay_bench.specs.declared.verdicts.Verdict.{Verdict}
-use Rattle.replay_bench.specs.declared.verdicts.Verdict.TheVariants.{Same, RecordedEnded, ReplayedEnded, TypeMismatch, HeaderMismatch}
 use Rattle.replay_bench.specs.declared.verdicts.BenchError.{BenchError}
 use Rattle.replay_bench.specs.declared.verdicts.BenchError.TheVariants.{Malformed, TooLong, OutOfMemory}
 use Rattle.replay_bench.specs.declared.verdicts.ReaderError.{ReaderError}
 use Rattle.replay_bench.specs.declared.verdicts.ReaderError.TheVariants.{Read, Bench}
 use Rattle.replay_bench.specs.Answers.{Answer, SameCommands, RecordedEnds, ReplayedEnds, OtherType, OtherCommand, NotWellFormed, answer_of}
 use Rattle.replay_bench.specs.Journals.{IsCommand, IsJournal}
-use Rattle.replay_bench.specs.Reading.{IsKnownLast, IsKnownSurvey}
 
 -- ---- the result for two commands at an index
 
@@ -129,51 +126,7 @@ ComparesKnown version ignore (Some recorded) (Some replayed) answer = ComparesRe
 ComparesKnown version ignore recorded replayed answer = Unit {0}
 
 -- A read is said to have failed only on a side where it may.
-abbrev pub MayFailOn : {T : Type 0} → Bool → Bool → Result T ReaderError → Type 0
+abbrev pub MayFailOn : Bool → Bool → Result Verdict ReaderError → Type 0
 MayFailOn recorded replayed (Err (Read Recorded)) = recorded ≡ true
 MayFailOn recorded replayed (Err (Read Replayed)) = replayed ≡ true
 MayFailOn recorded replayed answer = Unit {0}
-
--- ---- both journals surveyed
-
--- Whether a verdict says that the recorded journal has ended.
-abbrev pub recorded_ended : Verdict → Bool
-recorded_ended (Same count) = true
-recorded_ended (RecordedEnded index) = true
-recorded_ended verdict = false
-
--- Whether a verdict says that the replayed journal has ended.
-abbrev pub replayed_ended : Verdict → Bool
-replayed_ended (Same count) = true
-replayed_ended (ReplayedEnded index) = true
-replayed_ended verdict = false
-
--- How many commands of the recorded journal a verdict has seen.
-abbrev pub recorded_seen : Verdict → ℕ
-recorded_seen (Same count) = count
-recorded_seen (RecordedEnded index) = index
-recorded_seen (ReplayedEnded index) = index + 1
-recorded_seen (TypeMismatch index text) = index + 1
-recorded_seen (HeaderMismatch index text) = index + 1
-
--- How many commands of the replayed journal a verdict has seen.
-abbrev pub replayed_seen : Verdict → ℕ
-replayed_seen (Same count) = count
-replayed_seen (RecordedEnded index) = index + 1
-replayed_seen (ReplayedEnded index) = index
-replayed_seen (TypeMismatch index text) = index + 1
-replayed_seen (HeaderMismatch index text) = index + 1
-
--- Two journals, as far as their bytes are known, have this verdict, these surveys, and at these offsets the last
--- commands that the verdict has seen.
-pub record IsComparison (version : Version) (ignore is_strict : Bool) (recorded replayed : Option (List ℕ)) (found : Comparison) : Type 0 where
-  pub verdict : ComparesKnown version ignore recorded replayed (Ok found.verdict)
-  pub recorded_survey : IsKnownSurvey version is_strict recorded found.recorded
-  pub replayed_survey : IsKnownSurvey version is_strict replayed found.replayed
-  pub recorded_last : IsKnownLast version recorded (recorded_seen found.verdict) found.recorded_at
-  pub replayed_last : IsKnownLast version replayed (replayed_seen found.verdict) found.replayed_at
-
--- What a comparison that surveys both journals returns: their comparison, or why there is no verdict or no survey.
-abbrev pub Surveys : Version → Bool → Bool → Option (List ℕ) → Option (List ℕ) → Result Comparison ReaderError → Type 0
-Surveys version ignore is_strict recorded replayed (Ok found) = IsComparison version ignore is_strict recorded replayed found
-Surveys version ignore is_strict recorded replayed (Err error) = ComparesKnown version ignore recorded replayed (Err error)

@@ -1,18 +1,15 @@
 //! Two journals compared, command by command.
 
-ghost use Rattle.std.specs.Prelude.{◌≡◌, ◌≤◌, ℕ, List, Some, IfOk};
+ghost use Rattle.std.specs.Prelude.{◌≡◌, ◌≤◌, ℕ, List, Some};
 ghost use Rattle.std.specs.List.{concat};
 ghost use Rattle.shared_core_base.specs.Version.{version_number};
-ghost use Rattle.replay_bench.specs.declared.verdicts.Side.TheVariants.{Recorded, Replayed};
-ghost use Rattle.replay_bench.specs.Reading.{IsNew, IsReading};
-ghost use Rattle.replay_bench.specs.Verdicts.{Compares, ComparesKnown, MayFailOn, Surveys};
-ghost use Rattle.replay_bench.specs.Verdicts.{recorded_ended, recorded_seen, replayed_ended, replayed_seen};
+ghost use Rattle.replay_bench.specs.Verdicts.{Compares, ComparesKnown, MayFailOn};
 
 use crate::commands::Commands;
 use crate::mismatches::compare_commands;
 use crate::reader_pieces::ReaderPieces;
 use crate::sources::{SlicePieces, Source};
-use crate::verdicts::{BenchError, Comparison, ReaderError, Side, Verdict};
+use crate::verdicts::{BenchError, ReaderError, Side, Verdict};
 use bytes::Bytes;
 use shared_core::version::Version;
 use std::alloc::Global;
@@ -86,41 +83,8 @@ pub fn compare_sources<A: Source, B: Source>(
     ensures compared { ComparesKnown version ignore_payload_equality (A.coming recorded) (B.coming replayed) result }
     ensures failed { MayFailOn A.may_fail B.may_fail result }
 {
-    let mut recorded = Commands::new(alloc, version, Side::Recorded, recorded, false);
-    let mut replayed = Commands::new(alloc, version, Side::Replayed, replayed, false);
-    find_verdict(
-        alloc,
-        version,
-        &mut recorded,
-        &mut replayed,
-        ignore_payload_equality,
-    )
-}
-
-/// Compares the commands of two journals of which nothing was read yet.
-fn find_verdict<A: Source, B: Source>(
-    alloc: Global,
-    version: Version,
-    recorded: &mut Commands<A>,
-    replayed: &mut Commands<B>,
-    ignore_payload_equality: bool,
-) -> Result<Verdict, ReaderError>
-    requires recorded { IsNew version Recorded recorded.old.side recorded.old.version
-        recorded.old.decoder.version recorded.old.decoder.bytes recorded.old.taken recorded.old.survey }
-    requires replayed { IsNew version Replayed replayed.old.side replayed.old.version
-        replayed.old.decoder.version replayed.old.decoder.bytes replayed.old.taken replayed.old.survey }
-    ensures compared { ComparesKnown version ignore_payload_equality
-        (A.coming recorded.old.source) (B.coming replayed.old.source) result }
-    ensures failed { MayFailOn A.may_fail B.may_fail result }
-    ensures recorded { IfOk result (λ verdict. IsReading version Recorded recorded.old.survey.is_strict
-        (A.coming recorded.old.source) (recorded_ended verdict) (recorded_seen verdict)
-        recorded.new.side recorded.new.version recorded.new.decoder.version
-        (A.coming recorded.new.source) recorded.new.decoder.bytes recorded.new.taken recorded.new.survey) }
-    ensures replayed { IfOk result (λ verdict. IsReading version Replayed replayed.old.survey.is_strict
-        (B.coming replayed.old.source) (replayed_ended verdict) (replayed_seen verdict)
-        replayed.new.side replayed.new.version replayed.new.decoder.version
-        (B.coming replayed.new.source) replayed.new.decoder.bytes replayed.new.taken replayed.new.survey) }
-{
+    let mut recorded = Commands::new(alloc, version, Side::Recorded, recorded);
+    let mut replayed = Commands::new(alloc, version, Side::Replayed, replayed);
     let mut index: u64 = 0;
     loop {
         let actual = recorded.next_command()?;
@@ -140,72 +104,4 @@ fn find_verdict<A: Source, B: Source>(
         }
         index += 1;
     }
-}
-
-/// Compares two journals that readers give, as `compare_readers` does, and surveys both.
-///
-/// Both journals are read to their ends, also after the first difference; a read that fails there is `Read` too. The
-/// survey of a journal counts all its items and the bytes after the last one, and, if `is_strict`, the messages whose
-/// payload is not well-formed, with the first fault of an item. A compared command whose payload is not well-formed is
-/// `Malformed`, strict or not.
-pub fn survey_readers<A: Read + Drop, B: Read + Drop>(
-    alloc: Global,
-    version: Version,
-    recorded: A,
-    replayed: B,
-    piece: usize,
-    ignore_payload_equality: bool,
-    is_strict: bool,
-) -> Result<Comparison, ReaderError>
-    requires version { 5 ≤ version_number version }
-    requires piece { 1 ≤ piece }
-    ensures { Surveys version ignore_payload_equality is_strict
-        (A.remaining recorded) (B.remaining replayed) result }
-{
-    let recorded = ReaderPieces::new(alloc, recorded, piece)?;
-    let replayed = ReaderPieces::new(alloc, replayed, piece)?;
-    survey_sources(
-        alloc,
-        version,
-        recorded,
-        replayed,
-        ignore_payload_equality,
-        is_strict,
-    )
-}
-
-/// Compares two journals of any sources, as `compare_sources` does, and surveys both, as `survey_readers` does.
-pub fn survey_sources<A: Source, B: Source>(
-    alloc: Global,
-    version: Version,
-    recorded: A,
-    replayed: B,
-    ignore_payload_equality: bool,
-    is_strict: bool,
-) -> Result<Comparison, ReaderError>
-    requires { 5 ≤ version_number version }
-    ensures compared { Surveys version ignore_payload_equality is_strict
-        (A.coming recorded) (B.coming replayed) result }
-    ensures failed { MayFailOn A.may_fail B.may_fail result }
-{
-    let mut recorded = Commands::new(alloc, version, Side::Recorded, recorded, is_strict);
-    let mut replayed = Commands::new(alloc, version, Side::Replayed, replayed, is_strict);
-    let verdict = find_verdict(
-        alloc,
-        version,
-        &mut recorded,
-        &mut replayed,
-        ignore_payload_equality,
-    )?;
-    let recorded_at = recorded.last_command();
-    let replayed_at = replayed.last_command();
-    let recorded = recorded.finish(verdict.has_recorded_ended())?;
-    let replayed = replayed.finish(verdict.has_replayed_ended())?;
-    Ok(Comparison {
-        verdict,
-        recorded,
-        replayed,
-        recorded_at,
-        replayed_at,
-    })
 }

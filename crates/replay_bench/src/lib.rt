@@ -10,9 +10,7 @@ mod reader_pieces;
 mod sources;
 mod verdicts;
 
-pub use crate::comparison::{
-    compare_journals, compare_readers, compare_sources, survey_readers, survey_sources,
-};
+pub use crate::comparison::{compare_journals, compare_readers, compare_sources};
 pub use crate::reader_pieces::ReaderPieces;
 pub use crate::sources::{SlicePieces, Source, SourceError};
-pub use crate::verdicts::{BenchError, Comparison, ReaderError, Side, Verdict};
+pub use crate::verdicts::{BenchError, ReaderError, Side, Verdict};

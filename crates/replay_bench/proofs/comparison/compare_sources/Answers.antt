@@ -7,9 +7,7 @@ use Rattle.replay_bench.specs.Answers.{answer_of}
 use Rattle.replay_bench.specs.Taking.{HasNoCommand, TakesFirst}
 use Rattle.replay_bench.proofs.Endings.{IsNext, answers_refusal, answers_verdict, are_alike, ends_first, ends_found, ends_replayed, ends_together, goes_after, is_found}
 use Rattle.replay_bench.proofs.Lengths.{keeps_on}
-use Rattle.replay_bench.proofs.Readings.{on_more}
-use Rattle.replay_bench.proofs.Seen.{found_seen, none_where_not_some, some_where_not_none}
-use Rattle.replay_bench.proofs.comparison.find_verdict.Goals as goal
+use Rattle.replay_bench.proofs.comparison.compare_sources.Goals as goal
 
 pub returns-then-is_some-clause-compared : goal.returns-then-is_some-clause-compared
 returns-then-is_some-clause-compared g c =
@@ -17,8 +15,8 @@ returns-then-is_some-clause-compared g c =
     let v = c.args.version in
     let ignore = c.args.ignore_payload_equality in
     let index = c.loop-replayed.index in
-    let first = g.A.Source.coming c.args.recorded.now.source in
-    let second = g.B.Source.coming c.args.replayed.now.source in
+    let first = g.A.Source.coming c.args.recorded in
+    let second = g.B.Source.coming c.args.replayed in
     let left = prepend_known c.loop-replayed.recorded.decoder.bytes (g.A.Source.coming c.loop-replayed.recorded.source) in
     let others = prepend_known c.loop-replayed.replayed.decoder.bytes (g.B.Source.coming c.loop-replayed.replayed.source) in
     let now = prepend_known c.next_command.new.self.decoder.bytes (g.A.Source.coming c.next_command.new.self.source) in
@@ -33,8 +31,8 @@ returns-in_default-clause-compared g c =
     let v = c.args.version in
     let ignore = c.args.ignore_payload_equality in
     let index = c.loop-replayed.index in
-    let first = g.A.Source.coming c.args.recorded.now.source in
-    let second = g.B.Source.coming c.args.replayed.now.source in
+    let first = g.A.Source.coming c.args.recorded in
+    let second = g.B.Source.coming c.args.replayed in
     let left = prepend_known c.loop-replayed.recorded.decoder.bytes (g.A.Source.coming c.loop-replayed.recorded.source) in
     let others = prepend_known c.loop-replayed.replayed.decoder.bytes (g.B.Source.coming c.loop-replayed.replayed.source) in
     let now = prepend_known c.next_command.new.self.decoder.bytes (g.A.Source.coming c.next_command.new.self.source) in
@@ -49,8 +47,8 @@ returns-in_default-expected-clause-compared g c =
     let v = c.args.version in
     let ignore = c.args.ignore_payload_equality in
     let index = c.loop-replayed.index in
-    let first = g.A.Source.coming c.args.recorded.now.source in
-    let second = g.B.Source.coming c.args.replayed.now.source in
+    let first = g.A.Source.coming c.args.recorded in
+    let second = g.B.Source.coming c.args.replayed in
     let left = prepend_known c.loop-replayed.recorded.decoder.bytes (g.A.Source.coming c.loop-replayed.recorded.source) in
     let others = prepend_known c.loop-replayed.replayed.decoder.bytes (g.B.Source.coming c.loop-replayed.replayed.source) in
     let now = prepend_known c.next_command.new.self.decoder.bytes (g.A.Source.coming c.next_command.new.self.source) in
@@ -71,8 +69,8 @@ returns-in_err-found-clause-compared g c =
     let v = c.args.version in
     let ignore = c.args.ignore_payload_equality in
     let index = c.loop-replayed.index in
-    let first = g.A.Source.coming c.args.recorded.now.source in
-    let second = g.B.Source.coming c.args.replayed.now.source in
+    let first = g.A.Source.coming c.args.recorded in
+    let second = g.B.Source.coming c.args.replayed in
     let left = prepend_known c.loop-replayed.recorded.decoder.bytes (g.A.Source.coming c.loop-replayed.recorded.source) in
     let others = prepend_known c.loop-replayed.replayed.decoder.bytes (g.B.Source.coming c.loop-replayed.replayed.source) in
     let now = prepend_known c.next_command.new.self.decoder.bytes (g.A.Source.coming c.next_command.new.self.source) in
@@ -90,8 +88,8 @@ returns-in-Some-found-clause-compared g c =
     let v = c.args.version in
     let ignore = c.args.ignore_payload_equality in
     let index = c.loop-replayed.index in
-    let first = g.A.Source.coming c.args.recorded.now.source in
-    let second = g.B.Source.coming c.args.replayed.now.source in
+    let first = g.A.Source.coming c.args.recorded in
+    let second = g.B.Source.coming c.args.replayed in
     let left = prepend_known c.loop-replayed.recorded.decoder.bytes (g.A.Source.coming c.loop-replayed.recorded.source) in
     let others = prepend_known c.loop-replayed.replayed.decoder.bytes (g.B.Source.coming c.loop-replayed.replayed.source) in
     let now = prepend_known c.next_command.new.self.decoder.bytes (g.A.Source.coming c.next_command.new.self.source) in
@@ -115,8 +113,8 @@ loop-replayed-preserved-in_default-found g c =
     let v = c.args.version in
     let ignore = c.args.ignore_payload_equality in
     let index = c.loop-replayed.index in
-    let first = g.A.Source.coming c.args.recorded.now.source in
-    let second = g.B.Source.coming c.args.replayed.now.source in
+    let first = g.A.Source.coming c.args.recorded in
+    let second = g.B.Source.coming c.args.replayed in
     let left = prepend_known c.loop-replayed.recorded.decoder.bytes (g.A.Source.coming c.loop-replayed.recorded.source) in
     let others = prepend_known c.loop-replayed.replayed.decoder.bytes (g.B.Source.coming c.loop-replayed.replayed.source) in
     let now = prepend_known c.next_command.new.self.decoder.bytes (g.A.Source.coming c.next_command.new.self.source) in
@@ -130,17 +128,7 @@ loop-replayed-preserved-in_default-found g c =
     let counted = rw c.in-Some.is at c.in_ok-actual.ensures.counted in
     let other_counted = rw c.in-Some-expected.is at c.in_ok-expected.ensures.counted in
     let alike = are_alike v ignore index actual expected (rw c.in_default-found.is at c.in_ok-found.ensures) in
-    let reads = rw (inv.same, c.in-Some.is) at c.in_ok-actual.ensures.read in
-    let other_reads = rw (inv.other_same, c.in-Some-expected.is) at c.in_ok-expected.ensures.read in
-    let commands = rw c.in-Some.is at c.in_ok-actual.ensures.commands in
-    let other_commands = rw c.in-Some-expected.is at c.in_ok-expected.ensures.commands in
     record {
-      same = c.in_ok-actual.ensures.same ∙ inv.same;
-      other_same = c.in_ok-expected.ensures.same ∙ inv.other_same;
-      read = on_more v c.args.recorded.now.survey.is_strict first _ _ _ _ (reads c.args.recorded.now.survey.is_strict first inv.read);
-      other_read = on_more v c.args.replayed.now.survey.is_strict second _ _ _ _ (other_reads c.args.replayed.now.survey.is_strict second inv.other_read);
-      commands = omega (arith, commands, inv.commands);
-      other_commands = omega (arith, other_commands, inv.other_commands);
       version = c.in_ok-actual.ensures.version ∙ inv.version;
       other_version = c.in_ok-expected.ensures.version ∙ inv.other_version;
       side = c.in_ok-actual.ensures.side ∙ inv.side;
@@ -160,8 +148,8 @@ loop-replayed-preserved g c =
     let v = c.args.version in
     let ignore = c.args.ignore_payload_equality in
     let index = c.loop-replayed.index in
-    let first = g.A.Source.coming c.args.recorded.now.source in
-    let second = g.B.Source.coming c.args.replayed.now.source in
+    let first = g.A.Source.coming c.args.recorded in
+    let second = g.B.Source.coming c.args.replayed in
     let left = prepend_known c.loop-replayed.recorded.decoder.bytes (g.A.Source.coming c.loop-replayed.recorded.source) in
     let others = prepend_known c.loop-replayed.replayed.decoder.bytes (g.B.Source.coming c.loop-replayed.replayed.source) in
     let now = prepend_known c.next_command.new.self.decoder.bytes (g.A.Source.coming c.next_command.new.self.source) in
@@ -175,17 +163,7 @@ loop-replayed-preserved g c =
     let counted = rw c.in-Some.is at c.in_ok-actual.ensures.counted in
     let other_counted = rw c.in-Some-expected.is at c.in_ok-expected.ensures.counted in
     let alike = are_alike v ignore index actual expected (rw c.in_default-found.is at c.in_ok-found.ensures) in
-    let reads = rw (inv.same, c.in-Some.is) at c.in_ok-actual.ensures.read in
-    let other_reads = rw (inv.other_same, c.in-Some-expected.is) at c.in_ok-expected.ensures.read in
-    let commands = rw c.in-Some.is at c.in_ok-actual.ensures.commands in
-    let other_commands = rw c.in-Some-expected.is at c.in_ok-expected.ensures.commands in
     record {
-      same = c.in_ok-actual.ensures.same ∙ inv.same;
-      other_same = c.in_ok-expected.ensures.same ∙ inv.other_same;
-      read = on_more v c.args.recorded.now.survey.is_strict first _ _ _ _ (reads c.args.recorded.now.survey.is_strict first inv.read);
-      other_read = on_more v c.args.replayed.now.survey.is_strict second _ _ _ _ (other_reads c.args.replayed.now.survey.is_strict second inv.other_read);
-      commands = omega (arith, commands, inv.commands);
-      other_commands = omega (arith, other_commands, inv.other_commands);
       version = c.in_ok-actual.ensures.version ∙ inv.version;
       other_version = c.in_ok-expected.ensures.version ∙ inv.other_version;
       side = c.in_ok-actual.ensures.side ∙ inv.side;
@@ -197,126 +175,4 @@ loop-replayed-preserved g c =
       counted = keeps_on _ _ _ inv.counted counted;
       other_counted = keeps_on _ _ _ inv.other_counted other_counted;
       goes_on = goes_after v ignore index actual expected first second left others now then inv.goes_on one other alike;
-    }
-
-pub returns-in_default-clause-recorded : goal.returns-in_default-clause-recorded
-returns-in_default-clause-recorded g c =
-    let inv = c.loop-replayed.invariant in
-    let reads = rw (inv.same, c.in_default.is) at c.in_ok-actual.ensures.read in
-    let commands = rw c.in_default.is at c.in_ok-actual.ensures.commands in
-    record {
-      side_is = c.in_ok-actual.ensures.side ∙ inv.side;
-      version_is = c.in_ok-actual.ensures.version ∙ inv.version;
-      noted_is = c.in_ok-actual.ensures.same ∙ inv.same;
-      fits = c.in_ok-actual.ensures.fits;
-      read_on = reads c.args.recorded.now.survey.is_strict (g.A.Source.coming c.args.recorded.now.source) inv.read;
-      counted = omega (arith, commands, inv.commands);
-    }
-
-pub returns-then-is_some-clause-recorded : goal.returns-then-is_some-clause-recorded
-returns-then-is_some-clause-recorded g c =
-    let inv = c.loop-replayed.invariant in
-    let reads = rw (inv.same, c.in_default.is) at c.in_ok-actual.ensures.read in
-    let commands = rw c.in_default.is at c.in_ok-actual.ensures.commands in
-    record {
-      side_is = c.in_ok-actual.ensures.side ∙ inv.side;
-      version_is = c.in_ok-actual.ensures.version ∙ inv.version;
-      noted_is = c.in_ok-actual.ensures.same ∙ inv.same;
-      fits = c.in_ok-actual.ensures.fits;
-      read_on = reads c.args.recorded.now.survey.is_strict (g.A.Source.coming c.args.recorded.now.source) inv.read;
-      counted = omega (arith, commands, inv.commands);
-    }
-
-pub returns-in_default-expected-clause-recorded : goal.returns-in_default-expected-clause-recorded
-returns-in_default-expected-clause-recorded g c =
-    let inv = c.loop-replayed.invariant in
-    let reads = rw (inv.same, c.in-Some.is) at c.in_ok-actual.ensures.read in
-    let commands = rw c.in-Some.is at c.in_ok-actual.ensures.commands in
-    record {
-      side_is = c.in_ok-actual.ensures.side ∙ inv.side;
-      version_is = c.in_ok-actual.ensures.version ∙ inv.version;
-      noted_is = c.in_ok-actual.ensures.same ∙ inv.same;
-      fits = c.in_ok-actual.ensures.fits;
-      read_on = reads c.args.recorded.now.survey.is_strict (g.A.Source.coming c.args.recorded.now.source) inv.read;
-      counted = omega (arith, commands, inv.commands);
-    }
-
-pub returns-in_default-expected-clause-replayed : goal.returns-in_default-expected-clause-replayed
-returns-in_default-expected-clause-replayed g c =
-    let inv = c.loop-replayed.invariant in
-    let reads = rw (inv.other_same, c.in_default-expected.is) at c.in_ok-expected.ensures.read in
-    let commands = rw c.in_default-expected.is at c.in_ok-expected.ensures.commands in
-    record {
-      side_is = c.in_ok-expected.ensures.side ∙ inv.other_side;
-      version_is = c.in_ok-expected.ensures.version ∙ inv.other_version;
-      noted_is = c.in_ok-expected.ensures.same ∙ inv.other_same;
-      fits = c.in_ok-expected.ensures.fits;
-      read_on = reads c.args.replayed.now.survey.is_strict (g.B.Source.coming c.args.replayed.now.source) inv.other_read;
-      counted = omega (arith, commands, inv.other_commands);
-    }
-
-pub returns-in-Some-found-clause-recorded : goal.returns-in-Some-found-clause-recorded
-returns-in-Some-found-clause-recorded g c =
-    let inv = c.loop-replayed.invariant in
-    let reads = rw (inv.same, c.in-Some.is) at c.in_ok-actual.ensures.read in
-    let commands = rw c.in-Some.is at c.in_ok-actual.ensures.commands in
-    let verdict = c.in-Some-found.verdict in
-    let found = rw c.in-Some-found.is at c.in_ok-found.ensures in
-    let seen = found_seen c.args.ignore_payload_equality c.loop-replayed.index c.in-Some.actual c.in-Some-expected.expected verdict
-    (is_found c.args.version c.args.ignore_payload_equality c.loop-replayed.index c.in-Some.actual c.in-Some-expected.expected verdict found) in
-    rw (seen.recorded_goes, seen.recorded) (record {
-      side_is = c.in_ok-actual.ensures.side ∙ inv.side;
-      version_is = c.in_ok-actual.ensures.version ∙ inv.version;
-      noted_is = c.in_ok-actual.ensures.same ∙ inv.same;
-      fits = c.in_ok-actual.ensures.fits;
-      read_on = reads c.args.recorded.now.survey.is_strict (g.A.Source.coming c.args.recorded.now.source) inv.read;
-      counted = omega (arith, commands, inv.commands);
-    })
-
-pub returns-in-Some-found-clause-replayed : goal.returns-in-Some-found-clause-replayed
-returns-in-Some-found-clause-replayed g c =
-    let inv = c.loop-replayed.invariant in
-    let reads = rw (inv.other_same, c.in-Some-expected.is) at c.in_ok-expected.ensures.read in
-    let commands = rw c.in-Some-expected.is at c.in_ok-expected.ensures.commands in
-    let verdict = c.in-Some-found.verdict in
-    let found = rw c.in-Some-found.is at c.in_ok-found.ensures in
-    let seen = found_seen c.args.ignore_payload_equality c.loop-replayed.index c.in-Some.actual c.in-Some-expected.expected verdict
-    (is_found c.args.version c.args.ignore_payload_equality c.loop-replayed.index c.in-Some.actual c.in-Some-expected.expected verdict found) in
-    rw (seen.replayed_goes, seen.replayed) (record {
-      side_is = c.in_ok-expected.ensures.side ∙ inv.other_side;
-      version_is = c.in_ok-expected.ensures.version ∙ inv.other_version;
-      noted_is = c.in_ok-expected.ensures.same ∙ inv.other_same;
-      fits = c.in_ok-expected.ensures.fits;
-      read_on = reads c.args.replayed.now.survey.is_strict (g.B.Source.coming c.args.replayed.now.source) inv.other_read;
-      counted = omega (arith, commands, inv.other_commands);
-    })
-
-pub returns-then-is_some-clause-replayed : goal.returns-then-is_some-clause-replayed
-returns-then-is_some-clause-replayed g c =
-    let inv = c.loop-replayed.invariant in
-    let some = sym c.is_some.ensures ∙ c.if-is_some.true in
-    let reads = rw (inv.other_same, some_where_not_none c.in_ok-expected.expected some) at c.in_ok-expected.ensures.read in
-    let commands = rw some at c.in_ok-expected.ensures.commands in
-    record {
-      side_is = c.in_ok-expected.ensures.side ∙ inv.other_side;
-      version_is = c.in_ok-expected.ensures.version ∙ inv.other_version;
-      noted_is = c.in_ok-expected.ensures.same ∙ inv.other_same;
-      fits = c.in_ok-expected.ensures.fits;
-      read_on = reads c.args.replayed.now.survey.is_strict (g.B.Source.coming c.args.replayed.now.source) inv.other_read;
-      counted = omega (arith, commands, inv.other_commands);
-    }
-
-pub returns-in_default-clause-replayed : goal.returns-in_default-clause-replayed
-returns-in_default-clause-replayed g c =
-    let inv = c.loop-replayed.invariant in
-    let some = sym c.is_some.ensures ∙ c.if-is_some.false in
-    let reads = rw (inv.other_same, none_where_not_some c.in_ok-expected.expected some) at c.in_ok-expected.ensures.read in
-    let commands = rw some at c.in_ok-expected.ensures.commands in
-    record {
-      side_is = c.in_ok-expected.ensures.side ∙ inv.other_side;
-      version_is = c.in_ok-expected.ensures.version ∙ inv.other_version;
-      noted_is = c.in_ok-expected.ensures.same ∙ inv.other_same;
-      fits = c.in_ok-expected.ensures.fits;
-      read_on = reads c.args.replayed.now.survey.is_strict (g.B.Source.coming c.args.replayed.now.source) inv.other_read;
-      counted = omega (arith, commands, inv.other_commands);
     }

@@ -1,0 +1,26 @@
+use Rattle.std.proofs.Common.{◌≡◌, ◌+◌, ◌*◌, ◌-◌, ◌^◌, ◌<◌, ◌≤◌, length}
+use Rattle.std.specs.Io.KnownBytes.{prepend_known}
+use Rattle.replay_bench.specs.declared.verdicts.Side.TheVariants.{Recorded, Replayed}
+use Rattle.replay_bench.specs.Taking.{KeepsLength, known_length}
+use Rattle.replay_bench.proofs.Endings.{GoesOn}
+use Rattle.replay_bench.proofs.comparison.compare_sources.Given as goal
+
+abbrev pub invariant-loop-replayed : goal.invariant-loop-replayed
+invariant-loop-replayed g l = record {
+  version : l.recorded.decoder.version ≡ l.fn.version;
+  other_version : l.replayed.decoder.version ≡ l.fn.version;
+  side : l.recorded.side ≡ Recorded;
+  other_side : l.replayed.side ≡ Replayed;
+  held : 8 * l.index + length l.recorded.decoder.bytes ≤ l.recorded.taken;
+  other_held : length l.replayed.decoder.bytes ≤ l.replayed.taken;
+  fits : l.recorded.taken < 2 ^ 64;
+  other_fits : l.replayed.taken < 2 ^ 64;
+  counted : KeepsLength (known_length 0 (g.A.Source.coming l.fn.recorded)) (known_length l.recorded.taken (g.A.Source.coming l.recorded.source));
+  other_counted : KeepsLength (known_length 0 (g.B.Source.coming l.fn.replayed)) (known_length l.replayed.taken (g.B.Source.coming l.replayed.source));
+  goes_on : GoesOn l.fn.version l.ignore_payload_equality (g.A.Source.coming l.fn.recorded) (g.B.Source.coming l.fn.replayed) l.index
+      (prepend_known l.recorded.decoder.bytes (g.A.Source.coming l.recorded.source))
+      (prepend_known l.replayed.decoder.bytes (g.B.Source.coming l.replayed.source));
+}
+
+abbrev pub decreases-loop-replayed : goal.decreases-loop-replayed
+decreases-loop-replayed g l = 2 ^ 64 - l.index
