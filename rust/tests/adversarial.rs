@@ -481,7 +481,7 @@ fn texts_of_noise() {
         let mut json = json.into_bytes();
         for _ in 0..random.below(3) {
             let place = random.below(json.len());
-            json[place] = b"{}[]:,\"\\0-.eE \xFF"[random.below(16)];
+            json[place] = b"{}[]:,\"\\0-.eE \xFF"[random.below(15)];
         }
         match payload(schema, &json) {
             Ok(found) => assert_eq!(canonical(schema, &found), Ok(found)),
