@@ -22,7 +22,7 @@
 //! - Items borrow the bytes of their stream, and are copied nowhere.
 //! - What fails says so by an [`Error`]; a failed allocation is one, too.
 //! - Functions may be called from any thread at once, and every type here is [`Send`] and [`Sync`].
-//! - The deepest payloads take 32 KiB of stack, and 160 KiB in [`to_json`].
+//! - The deepest payloads take 32 KiB of stack, and 160 KiB in [`to_json`]; the deepest texts 320 KiB in [`payload`].
 #![deny(unsafe_code, unsafe_op_in_unsafe_fn)]
 #![warn(missing_docs)]
 
