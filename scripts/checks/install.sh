@@ -68,9 +68,9 @@ ends() {
 }
 
 ends 2 'usage: journal_list [1..65536] [v9]' journal_list 0
-for name in journal_list journal_dump; do
-  ends 2 "$name: ./nothing: No such file or directory (os error 2)" $name ./nothing
-  ends 2 "$name: .: is a directory" $name .
+for each in journal_list journal_dump; do
+  ends 2 "$each: ./nothing: No such file or directory (os error 2)" $each ./nothing
+  ends 2 "$each: .: is a directory" $each .
 done
 ends 2 'journal_diff: ./nothing: No such file or directory (os error 2)' journal_diff - ./nothing
 ends 2 'journal_diff: .: is a directory' journal_diff . -
