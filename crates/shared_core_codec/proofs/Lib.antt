@@ -12,5 +12,4 @@ pub mod Tables
 pub mod PayloadLaws
 pub mod Checked
 pub mod Canonicity
-pub mod CanonicityExact
 pub mod Positions
