@@ -101,7 +101,8 @@ fn push(decoder: &mut Decoder, taken: u64, piece: Bytes) -> Result<u64, BenchErr
     match decoder.push(piece) {
         Ok(()) => Ok(sum),
         Err(PushError::OutOfMemory(_)) => Err(BenchError::OutOfMemory),
-        Err(PushError::TooLong(_)) => Err(BenchError::TooLong),
+        // no more bytes are pending than have come
+        Err(PushError::TooLong(_)) => unreachable!(),
     }
 }
 

@@ -6,7 +6,7 @@ ghost use Rattle.shared_core_base.specs.Version.{version_number};
 ghost use Rattle.replay_bench.specs.Verdicts.{Compares, ComparesKnown, MayFailOn};
 
 use crate::commands::Commands;
-use crate::mismatches::{Pair, compare_commands};
+use crate::mismatches::compare_commands;
 use crate::reader_pieces::ReaderPieces;
 use crate::sources::{SlicePieces, Source};
 use crate::verdicts::{BenchError, ReaderError, Side, Verdict};
@@ -98,14 +98,7 @@ pub fn compare_sources<A: Source, B: Source>(
         let Some(expected) = expected else {
             return Ok(Verdict::ReplayedEnded(index));
         };
-        let pair = Pair {
-            alloc,
-            index,
-            recorded: &actual,
-            replayed: &expected,
-            ignore: ignore_payload_equality,
-        };
-        let found = compare_commands(pair)?;
+        let found = compare_commands(alloc, index, &actual, &expected, ignore_payload_equality)?;
         if let Some(verdict) = found {
             return Ok(verdict);
         }

@@ -23,14 +23,14 @@ returns-in-Err-decode_as g c =
     let s = g.M.WireRecord.schema in
     let typed = are_typed pair.index pair.recorded.now pair.replayed.now g.M.RestateMessage.message_type s c.requires.asked c.requires.own in
     rw c.bench_error-in-Err-decode_as.ensures
-    (pair_replayed pair.ignore pair.index pair.recorded.now pair.replayed.now s typed (g.M.WireRecord.parts c.in-Ok.recorded) c.in-Err-decode_as.error c.in-Ok.ensures.ok (λ is. c.in-Err-decode_as.ensures.malformed (ap Err is)))
+    (pair_replayed pair.ignore pair.index pair.recorded.now pair.replayed.now s typed (g.M.WireRecord.parts c.in-Ok.actual) c.in-Err-decode_as.error c.in-Ok.ensures.ok (λ is. c.in-Err-decode_as.ensures.malformed (ap Err is)))
 
 pub returns-then-header_eq : goal.returns-then-header_eq
 returns-then-header_eq g c =
     let pair = c.args.self in
     let s = g.M.WireRecord.schema in
     let typed = are_typed pair.index pair.recorded.now pair.replayed.now g.M.RestateMessage.message_type s c.requires.asked c.requires.own in
-    pair_alike pair.ignore pair.index pair.recorded.now pair.replayed.now s typed (g.M.WireRecord.parts c.in-Ok.recorded) (g.M.WireRecord.parts c.in-Ok-decode_as.replayed) c.in-Ok.ensures.ok c.in-Ok-decode_as.ensures.ok
+    pair_alike pair.ignore pair.index pair.recorded.now pair.replayed.now s typed (g.M.WireRecord.parts c.in-Ok.actual) (g.M.WireRecord.parts c.in-Ok-decode_as.expected) c.in-Ok.ensures.ok c.in-Ok-decode_as.ensures.ok
     (c.header_eq.ensures.0 c.if-header_eq.true)
 
 pub returns-in_err-text : goal.returns-in_err-text
@@ -43,8 +43,8 @@ pub returns : goal.returns
 returns g c =
     let pair = c.args.self in
     let s = g.M.WireRecord.schema in
-    let actual = g.M.WireRecord.parts c.in-Ok.recorded in
-    let expected = g.M.WireRecord.parts c.in-Ok-decode_as.replayed in
+    let actual = g.M.WireRecord.parts c.in-Ok.actual in
+    let expected = g.M.WireRecord.parts c.in-Ok-decode_as.expected in
     let ty = g.M.RestateMessage.message_type in
     let typed = are_typed pair.index pair.recorded.now pair.replayed.now ty s c.requires.asked c.requires.own in
     let index = pair.index in
