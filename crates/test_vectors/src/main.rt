@@ -3,17 +3,18 @@
 #![tactic(auto)]
 
 mod cases;
-mod messages;
-mod records;
+mod checks;
+mod comparisons;
+mod frames;
+mod message_types;
+mod payloads;
+mod record_ends;
 mod schema_names;
+mod schemas;
 mod streams;
+mod verdict;
 
-use crate::cases::{Case, Failed, Question, Verdict, read_case};
-use crate::messages::{check_comparison, check_frame};
-use crate::records::{RecordQuestion, check_record};
-use crate::streams::check_stream;
-use std::alloc::Global;
-use std::borrow::CowStr;
+use crate::checks::refutation;
 use std::io::{self, BufRead, BufReader, ErrorKind};
 use std::process::ExitCode;
 
@@ -53,46 +54,4 @@ fn main(rt: HostRuntime) -> ExitCode {
     // There is nothing to do if that fails too.
     let _ = eprintln!(rt; "test_vectors: {why}, after line {number}");
     ExitCode::FAILURE
-}
-
-/// What the library returns in place of a line's result, or what is wrong with the line; `None` where the library
-/// returns that result.
-fn refutation(alloc: Global, line: &str) -> Option<CowStr<'static>> {
-    let Ok(case) = read_case(alloc, line) else {
-        return Some(CowStr::Borrowed("out of memory"));
-    };
-    let Some(case) = case else {
-        return Some(CowStr::Borrowed("no case"));
-    };
-    let mut verdict = Verdict::new(alloc, case.answer);
-    match check(&case, &mut verdict) {
-        Ok(()) => None,
-        Err(Failed::Otherwise) => Some(CowStr::Owned(verdict.given)),
-        Err(Failed::TooLong) => Some(CowStr::Borrowed("too long")),
-        Err(Failed::Unreadable) => Some(CowStr::Borrowed("no case")),
-        Err(Failed::OutOfMemory) => Some(CowStr::Borrowed("out of memory")),
-    }
-}
-
-/// Checks a test vector.
-fn check(case: &Case<'_>, verdict: &mut Verdict<'_>) -> Result<(), Failed> {
-    let bytes = case.bytes.as_slice();
-    match case.question {
-        Question::Payload(schema) => check_record(schema, RecordQuestion::Payload, bytes, verdict),
-        Question::Merge(schema) => check_record(schema, RecordQuestion::Merge, bytes, verdict),
-        Question::Record(schema) => check_record(schema, RecordQuestion::Record, bytes, verdict),
-        Question::Frame(ty, version) => {
-            let [payload] = bytes else {
-                return Err(Failed::Unreadable);
-            };
-            check_frame(ty, version, payload, verdict)
-        }
-        Question::Stream(version) => check_stream(version, bytes, verdict),
-        Question::Compare(ty) => {
-            let [actual, expected] = bytes else {
-                return Err(Failed::Unreadable);
-            };
-            check_comparison(ty, actual, expected, verdict)
-        }
-    }
 }

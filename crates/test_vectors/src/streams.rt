@@ -2,7 +2,8 @@
 
 ghost use Rattle.std.specs.Prelude.{◌≤◌};
 
-use crate::cases::{Failed, SpokenVersion, Verdict, copied};
+use crate::cases::SpokenVersion;
+use crate::verdict::{Failed, Verdict, copied};
 use bytes::Bytes;
 use shared_core::encoding::{Item, RawMessage, decode_pieces};
 use std::alloc::{AllocError, Global};

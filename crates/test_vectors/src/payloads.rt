@@ -1,62 +1,11 @@
 //! Checking the payloads of a record: decoded, merged, printed and encoded again.
 
-use crate::cases::{Failed, Verdict, copied};
-use crate::schema_names::SCHEMAS;
+use crate::record_ends::ends_of_records;
+use crate::verdict::{Failed, Verdict, copied};
 use bytes::Bytes;
-use shared_core::messages::{RecordVisitor, visit_record};
 use shared_core::wire::{WireError, WireRecord, decode_parts};
 use std::alloc::{AllocError, Global};
 use std::fmt::Debug;
-
-/// What is checked for payloads of a schema.
-#[derive(Clone, Copy)]
-pub enum RecordQuestion {
-    /// The canonical payload of what one means.
-    Payload,
-    /// The canonical payload of several payloads, each merged into those before it.
-    Merge,
-    /// The `Debug` text of the record of a canonical payload.
-    Record,
-}
-
-/// Checks payloads of the schema with this name.
-pub fn check_record(
-    schema: &str,
-    question: RecordQuestion,
-    payloads: &[Bytes],
-    verdict: &mut Verdict<'_>,
-) -> Result<(), Failed> {
-    let Some(place) = SCHEMAS.iter().position(|name| *name == schema) else {
-        return Err(Failed::Unreadable);
-    };
-    let check = RecordCheck {
-        question,
-        payloads,
-        verdict,
-    };
-    visit_record(place as u32, check).unwrap_or(Err(Failed::Unreadable))
-}
-
-/// The check of payloads of a record.
-#[derive(Drop)]
-struct RecordCheck<'a, 'b> {
-    question: RecordQuestion,
-    payloads: &'a [Bytes],
-    verdict: &'a mut Verdict<'b>,
-}
-
-impl<'a, 'b> RecordVisitor for RecordCheck<'a, 'b> {
-    type Output = Result<(), Failed>;
-
-    fn visit<M: WireRecord + Debug>(self) -> Result<(), Failed> {
-        match (self.question, self.payloads) {
-            (RecordQuestion::Payload, [payload]) => check_payload::<M>(payload, self.verdict),
-            (RecordQuestion::Merge, [_, _, ..]) => check_merge::<M>(self.payloads, self.verdict),
-            (RecordQuestion::Record, [payload]) => check_printed::<M>(payload, self.verdict),
-            _ => Err(Failed::Unreadable),
-        }
-    }
-}
 
 /// The greatest length of a canonical payload that is cut off at every byte.
 const SHORT: usize = 1024;
@@ -91,7 +40,10 @@ fn means_in_parts<M: WireRecord>(
 }
 
 /// Checks the canonical payload of what a payload means.
-fn check_payload<M: WireRecord>(payload: &Bytes, verdict: &mut Verdict<'_>) -> Result<(), Failed> {
+pub fn check_payload<M: WireRecord>(
+    payload: &Bytes,
+    verdict: &mut Verdict<'_>,
+) -> Result<(), Failed> {
     let alloc = verdict.alloc;
     let record = decoded::<M>(alloc, payload)?;
     check_meaning(record.as_ref(), verdict)?;
@@ -100,7 +52,10 @@ fn check_payload<M: WireRecord>(payload: &Bytes, verdict: &mut Verdict<'_>) -> R
 }
 
 /// Checks the canonical payload of what payloads mean, each merged into those before it.
-fn check_merge<M: WireRecord>(payloads: &[Bytes], verdict: &mut Verdict<'_>) -> Result<(), Failed> {
+pub fn check_merge<M: WireRecord>(
+    payloads: &[Bytes],
+    verdict: &mut Verdict<'_>,
+) -> Result<(), Failed> {
     let alloc = verdict.alloc;
     let [first, rest @ ..] = payloads else {
         return Err(Failed::Unreadable);
@@ -167,7 +122,7 @@ fn check_canonical<M: WireRecord>(
 }
 
 /// Checks the `Debug` text of the record that a canonical payload means.
-fn check_printed<M: WireRecord + Debug>(
+pub fn check_printed<M: WireRecord + Debug>(
     payload: &Bytes,
     verdict: &mut Verdict<'_>,
 ) -> Result<(), Failed> {
@@ -208,52 +163,4 @@ fn check_cuts<M: WireRecord>(
         }
     }
     Ok(())
-}
-
-// Where the records of a canonical payload end, found without the library's own reader, which is under test.
-
-/// Where the top-level records of a canonical payload end, in bytes from its beginning. `None` if the bytes are no
-/// records of the two wire types that canonical payloads have, a varint (0) and length-delimited bytes (2).
-fn ends_of_records(alloc: Global, payload: &[u8]) -> Result<Option<Vec<usize>>, AllocError> {
-    let mut ends = Vec::new(alloc);
-    let mut rest = payload;
-    for _ in 0..payload.len() {
-        if rest.is_empty() {
-            break;
-        }
-        let Some(after) = after_record(rest) else {
-            return Ok(None);
-        };
-        rest = after;
-        ends.push(payload.len().saturating_sub(rest.len()))?;
-    }
-    Ok(Some(ends))
-}
-
-/// The bytes after the record that the bytes begin with.
-fn after_record(bytes: &[u8]) -> Option<&[u8]> {
-    let (key, value) = split_varint(bytes)?;
-    match key % 8 {
-        0 => Some(split_varint(value)?.1),
-        2 => {
-            let (length, content) = split_varint(value)?;
-            content.get(length as usize..)
-        }
-        _ => None,
-    }
-}
-
-/// The number that the bytes begin with, groups of seven bits with the least first, and the bytes after it.
-fn split_varint(bytes: &[u8]) -> Option<(u64, &[u8])> {
-    let mut number = 0u64;
-    let mut scale = 1u64;
-    for (index, byte) in bytes.iter().enumerate() {
-        let group = u64::from(*byte % 128).checked_mul(scale)?;
-        number = number.checked_add(group)?;
-        if *byte < 128 {
-            return Some((number, bytes.get(index + 1..)?));
-        }
-        scale = scale.checked_mul(128)?;
-    }
-    None
 }
