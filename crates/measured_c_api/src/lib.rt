@@ -2,9 +2,6 @@
 #![tactic(auto)]
 
 pub mod commands;
-pub mod frames;
-mod messages;
 pub mod payloads;
-mod pieced_stream;
 mod rounds;
 pub mod streams;
