@@ -8,8 +8,8 @@ ghost use Rattle.measured_c_api.specs.Comparisons.{ReturnsComparisons};
 ghost use Rattle.measured_c_api.specs.Streams.{ReturnsItems, ReturnsMessages};
 
 use journal_c_api::answer::answer_of;
-use measured_c_api::payloads::{Buffer, Rounds};
-use measured_c_api::{commands, payloads, streams};
+use measured_c_api::frames::{Buffer, Rounds};
+use measured_c_api::{commands, frames, payloads, streams};
 use std::alloc::Global;
 
 /// Reads a stream of a version from 5 to 9, which comes in chunks of this many bytes (0: in one chunk), and writes a
@@ -83,7 +83,7 @@ pub extern "C" fn measure_frame(
         count: rounds,
         buffer: Buffer::New,
     };
-    answer_of(payloads::write_frame(alloc, version, code, payload, rounds, out))
+    answer_of(frames::write_frame(alloc, version, code, payload, rounds, out))
 }
 
 /// As `measure_frame`, but all rounds share one buffer, which is cleared before each: only the first, and a suspension
@@ -103,7 +103,7 @@ pub extern "C" fn measure_frame_into(
         count: rounds,
         buffer: Buffer::Reused,
     };
-    answer_of(payloads::write_frame(alloc, version, code, payload, rounds, out))
+    answer_of(frames::write_frame(alloc, version, code, payload, rounds, out))
 }
 
 /// As `measure_frame_into`, but the buffer's spare room is initialized, so that no byte is written twice.
@@ -122,7 +122,7 @@ pub extern "C" fn measure_frame_spare(
         count: rounds,
         buffer: Buffer::Spare,
     };
-    answer_of(payloads::write_frame(alloc, version, code, payload, rounds, out))
+    answer_of(frames::write_frame(alloc, version, code, payload, rounds, out))
 }
 
 /// As `measure_frame`, but the frames of all rounds share the blocks of one buffer, and the last 1,024 are held.
@@ -141,7 +141,7 @@ pub extern "C" fn measure_frame_shared(
         count: rounds,
         buffer: Buffer::Shared,
     };
-    answer_of(payloads::write_frame(alloc, version, code, payload, rounds, out))
+    answer_of(frames::write_frame(alloc, version, code, payload, rounds, out))
 }
 
 /// As `journal_is_well_formed`, but repeated `rounds` times (0 counts as 1).

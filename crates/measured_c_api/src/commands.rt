@@ -7,7 +7,7 @@ ghost use Rattle.shared_core.specs.Visiting.{command_schema};
 ghost use Rattle.measured_c_api.specs.Comparisons.{ReturnsComparisons, ComparesAll};
 ghost use Rattle.measured_c_api.specs.Comparisons.{ComparesItem, ComparesPayload, HoldsInRounds};
 
-use crate::streams::PiecedStream;
+use crate::pieced_stream::PiecedStream;
 use bytes::Bytes;
 use journal_c_api::answer::{Refusal, version_of};
 use shared_core::encoding::{Item, RawMessage};

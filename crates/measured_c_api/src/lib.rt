@@ -2,6 +2,9 @@
 #![tactic(auto)]
 
 pub mod commands;
+pub mod frames;
+mod messages;
 pub mod payloads;
+mod pieced_stream;
 mod rounds;
 pub mod streams;

@@ -2,7 +2,7 @@ use Rattle.std.proofs.Common.{◌+◌, ap, sym, ◌∙◌, arith, eqb-true, leng
 use Rattle.std.proofs.lemmas.List.{nil_from_length}
 use Rattle.shared_core.proofs.Items.{item_is_long}
 use Rattle.measured_c_api.proofs.Pieces.{all_arrived, needed_more, next_arrived, next_awaited, same_stream}
-use Rattle.measured_c_api.proofs.streams.PiecedStream.next_item.Goals as goal
+use Rattle.measured_c_api.proofs.pieced_stream.PiecedStream.next_item.Goals as goal
 
 pub invariant_of-self-in-Some : goal.invariant_of-self-in-Some
 invariant_of-self-in-Some c =

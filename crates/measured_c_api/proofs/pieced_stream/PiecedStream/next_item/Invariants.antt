@@ -1,6 +1,6 @@
 use Rattle.std.proofs.Common.{◌≡◌, ◌++◌, ◌*◌, ◌<◌, ◌^◌, ℕ, drop, length}
 use Rattle.measured_c_api.specs.Pieces.{AreNeeded, arrived_after}
-use Rattle.measured_c_api.proofs.streams.PiecedStream.next_item.Given as goal
+use Rattle.measured_c_api.proofs.pieced_stream.PiecedStream.next_item.Given as goal
 
 abbrev pub invariant-loop-item : goal.invariant-loop-item
 invariant-loop-item l =

@@ -1,0 +1,41 @@
+//! Benchmark work: decoding messages to their records.
+
+ghost use Rattle.std.specs.Prelude.{◌≡◌, Some};
+ghost use Rattle.shared_core_message.specs.Messages.{message_schema};
+ghost use Rattle.measured_c_api.specs.Streams.{DecodesPayload};
+
+use journal_c_api::answer::Refusal;
+use shared_core::encoding::RawMessage;
+use shared_core::messages::{MessageVisitor, RestateEncodableMessage, visit_message};
+use std::alloc::Global;
+use std::fmt::Debug;
+
+/// Decodes a message to the record of its type, and returns how many records that are: none for a custom entry.
+pub fn decode(alloc: Global, message: &RawMessage) -> Result<usize, Refusal>
+    ensures { DecodesPayload (message_schema message.now.header.ty) message.now.payload result }
+{
+    match visit_message(message.ty(), Decoding { alloc, message }) {
+        Some(answer) => answer,
+        None => Ok(0),
+    }
+}
+
+/// Decodes a message to the record of its type, which counts as one.
+#[derive(Drop)]
+struct Decoding<'a> {
+    alloc: Global,
+    message: &'a RawMessage,
+}
+
+impl<'a> MessageVisitor for Decoding<'a> {
+    type Output = Result<usize, Refusal>;
+
+    ghost may_visit = { λ self ty. self.message.now.header.ty ≡ ty };
+
+    ghost answers = { λ self ty schema answer. DecodesPayload (Some schema) self.message.now.payload answer };
+
+    fn visit<M: RestateEncodableMessage + Debug>(self) -> Result<usize, Refusal> {
+        let _record = self.message.decode_as::<M>(self.alloc)?;
+        Ok(1)
+    }
+}
