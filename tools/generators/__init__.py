@@ -60,7 +60,7 @@ def broken_import(line):
         return [line]
     start, names = listed[1], listed[2].split(", ")
     for count in range(2, len(names) + 1):
-        # in so many lines of one length, as far as names have one
+        # the names shared out evenly over this number of lines
         rows = [names[len(names) * i // count:len(names) * (i + 1) // count] for i in range(count)]
         broken = [f"{start}{', '.join(row)}}};" for row in rows]
         if all(len(part) <= WIDTH for part in broken):
