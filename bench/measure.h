@@ -16,14 +16,20 @@
  * number of items; JOURNAL_NO_ROOM if there is room for fewer words. The stream is copied once, and then read `rounds`
  * times over by a new decoder each (0 counts as 1); the words are those of the last.
  */
-int64_t measure_items(uint32_t version, const uint8_t *stream, size_t stream_length, size_t piece, size_t rounds,
+int64_t measure_items(uint32_t version, const uint8_t *stream, size_t stream_length, size_t chunk_size, size_t rounds,
                       uint64_t *words, size_t words_room);
+
+/*
+ * As measure_items, but the items are borrowed from the stream, of which nothing is copied.
+ */
+int64_t measure_item_refs(uint32_t version, const uint8_t *stream, size_t stream_length, size_t rounds, uint64_t *words,
+                          size_t words_room);
 
 /*
  * As measure_items, but decodes every message of a named type to its record and writes nothing. Returns the number of
  * these messages; JOURNAL_MALFORMED where a payload is not well-formed for its type.
  */
-int64_t measure_messages(uint32_t version, const uint8_t *stream, size_t stream_length, size_t piece, size_t rounds);
+int64_t measure_messages(uint32_t version, const uint8_t *stream, size_t stream_length, size_t chunk_size, size_t rounds);
 
 /*
  * Decodes each command of a stream of a version from 5 to 9 twice, and compares the two `rounds` times (0: not at all),

@@ -1,6 +1,6 @@
 #!/bin/sh
-# Measures the programs journal_dump and journal_list beside the peer's, which have to write the same lines, and prints
-# a table in Markdown: programs.sh [LENGTH]; README.md says more
+# Measures the programs journal_dump, journal_list and journal_make beside the peer's, which have to write the same
+# bytes, and prints a table in Markdown: programs.sh [LENGTH]; README.md says more
 #
 # It takes the proved programs that rt ci leaves in out/, and proves and builds one where it is not there. If the
 # tools are missing it says 'not run: ..'.
@@ -8,7 +8,7 @@ set -u
 cd "$(dirname "$0")" || exit 1
 
 sh install.sh || exit 0
-for name in journal_dump journal_list; do
+for name in journal_dump journal_list journal_make; do
   [ ! -x "../crates/$name/out/$name" ] || continue
   if ! command -v rt > /dev/null; then
     echo "not run: there is no crates/$name/out/$name, and no rt"
@@ -18,8 +18,12 @@ for name in journal_dump journal_list; do
 done
 work=$(mktemp -d) || exit 1
 trap 'rm -rf "$work"' EXIT
-if ! cargo build --release --features json --bin programs --bin dump --bin list > "$work/log" 2>&1; then
+if ! cargo build --release --features json --bin programs --bin dump --bin list --bin make > "$work/log" 2>&1; then
   cat "$work/log"
   exit 1
 fi
-target/release/programs ../crates/journal_dump/out/journal_dump ../crates/journal_list/out/journal_list "$work" "$@"
+set -- "$work" "$@"
+for name in journal_make journal_list journal_dump; do
+  set -- "../crates/$name/out/$name" "$@"
+done
+target/release/programs "$@"

@@ -28,6 +28,7 @@ var vectorKinds = map[string]vectorKind{
 	"stream":  {1, streamVector},
 	"compare": {1, compareVector},
 	"json":    {1, jsonVector},
+	"read":    {1, readVector},
 }
 
 func TestConformance(t *testing.T) {
@@ -234,4 +235,34 @@ func jsonVector(names []string, data [][]byte) (string, error) {
 		return "", err
 	}
 	return string(json), readBack(schema, json, canonical)
+}
+
+// reasonWords are the reasons for which a JSON text is not taken, as test vectors have them.
+var reasonWords = map[JSONReason]string{
+	ReasonNotJSON:        "not_json",
+	ReasonUnknownMember:  "unknown_member",
+	ReasonRepeatedMember: "repeated_member",
+	ReasonSeveralMembers: "several_members",
+	ReasonWrongKind:      "wrong_kind",
+	ReasonOutOfRange:     "out_of_range",
+	ReasonNotBase64:      "not_base64",
+	ReasonTooDeep:        "too_deep",
+}
+
+// readVector returns the payload that a JSON text is read as, or why it is not, and where.
+func readVector(names []string, data [][]byte) (string, error) {
+	schema, err := SchemaNamed(names[0])
+	if err != nil {
+		return "", err
+	}
+	payload, err := Payload(schema, data[0])
+	var refused *JSONError
+	if errors.As(err, &refused) {
+		place := refused.Path
+		if refused.Offset >= 0 {
+			place = fmt.Sprint(refused.Offset)
+		}
+		return strings.TrimSuffix(reasonWords[refused.Reason]+" "+place, " "), nil
+	}
+	return digits(payload), err
 }

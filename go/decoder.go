@@ -45,7 +45,7 @@ func NewDecoder(reader io.Reader, version int) *Decoder {
 // io.ErrUnexpectedEOF if the last item is not whole. An error of the reader is returned as it is, after all items
 // before it.
 //
-// An error loses nothing: the next call goes on where the stream ended, so that a reader may have more by then.
+// An error loses nothing: the next call continues where the stream ended, since a reader may have more by then.
 func (d *Decoder) Next() (Item, error) {
 	for {
 		item, missing, err := d.take()

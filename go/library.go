@@ -58,15 +58,15 @@ const (
 // read is the kind of a JSON text that means a value.
 const read = C.JOURNAL_READ
 
-// Why a JSON text is not taken.
+// Why a JSON text is rejected.
 const (
 	// ReasonNotJSON: it is not JSON, or not UTF-8, or nested more than one thousand levels deep.
 	ReasonNotJSON JSONReason = C.JOURNAL_NOT_JSON
-	// ReasonUnknownMember: a member has no name of a field of its message.
+	// ReasonUnknownMember: the name of a member is not that of a field of its message.
 	ReasonUnknownMember JSONReason = C.JOURNAL_UNKNOWN_MEMBER
-	// ReasonRepeatedMember: a member comes twice, by whichever of its names.
+	// ReasonRepeatedMember: two members have a name of the same field.
 	ReasonRepeatedMember JSONReason = C.JOURNAL_REPEATED_MEMBER
-	// ReasonSeveralMembers: two members of one oneof are there.
+	// ReasonSeveralMembers: two members of one oneof are present.
 	ReasonSeveralMembers JSONReason = C.JOURNAL_SEVERAL_MEMBERS
 	// ReasonWrongKind: a value is of another kind than its field.
 	ReasonWrongKind JSONReason = C.JOURNAL_WRONG_KIND

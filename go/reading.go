@@ -2,7 +2,7 @@ package pendratsoa
 
 import "fmt"
 
-// A JSONReason says why a JSON text is not taken.
+// A JSONReason says why a JSON text is rejected.
 type JSONReason int
 
 // String returns the name of the reason, as "ReasonWrongKind".
@@ -17,7 +17,7 @@ func (reason JSONReason) String() string {
 	return names[reason-ReasonNotJSON]
 }
 
-// text returns the reason in words, as "wrong kind of value".
+// text returns the text of the reason, as "wrong kind of value".
 func (reason JSONReason) text() string {
 	return []string{
 		"not JSON", "unknown member", "repeated member", "several members of a oneof", "wrong kind of value",
@@ -30,7 +30,7 @@ type JSONError struct {
 	Reason JSONReason
 	// Offset is where the text stops being JSON, in bytes, and -1 if it is JSON.
 	Offset int
-	// Path leads to what is not taken, as "headers[2].key". It is empty if the text is not JSON.
+	// Path leads to the rejected value, as "headers[2].key". It is empty if the text is not JSON.
 	Path string
 }
 

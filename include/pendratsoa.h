@@ -125,8 +125,8 @@ int64_t journal_frame(uint32_t version, uint16_t code, const uint8_t *payload, s
 int64_t journal_is_well_formed(uint32_t schema, const uint8_t *payload, size_t payload_length);
 
 /*
- * Writes the canonical payload of what a payload means. Returns its length in bytes. JOURNAL_MALFORMED,
- * JOURNAL_TOO_LONG.
+ * Writes the canonical payload of what a payload means. Returns its length in bytes. A payload that is canonical is
+ * copied, without allocating. JOURNAL_MALFORMED, JOURNAL_TOO_LONG.
  */
 int64_t journal_canonical(uint32_t schema, const uint8_t *payload, size_t payload_length, uint8_t *out, size_t room);
 
@@ -163,9 +163,9 @@ int64_t journal_json(uint32_t schema, const uint8_t *payload, size_t payload_len
 
 /*
  * Reads a JSON text in protobuf's own form (docs/FORMAT.md). Writes two numbers, and as bytes the canonical payload of
- * what the text means, or the path to what is not taken, as "headers[2].key", if it is JSON. Returns how many bytes
- * these are; if there is no room for them, the numbers are written nevertheless. A text that is not taken is no error
- * of the call: the kind tells.
+ * what the text means, or the path to the rejected value, as "headers[2].key", if it is JSON. Returns how many bytes
+ * these are; if there is no room for them, the numbers are written nevertheless. A rejected text is no error of the
+ * call: the kind of the result says why it is rejected.
  *
  * In this order: JOURNAL_UNKNOWN if no schema has the number, JOURNAL_NO_ROOM if `numbers` has room for fewer than two,
  * JOURNAL_TOO_LONG if the payload would have more than 4,294,967,295 bytes; JOURNAL_OUT_OF_MEMORY from the second on.

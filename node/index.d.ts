@@ -169,8 +169,8 @@ export class Stream implements Iterable<Item> {
   get rest(): number;
 
   /**
-   * Appends a chunk to what came. If there is no memory for it, the stream is unchanged.
-   * @throws {RangeError} there is no memory for it
+   * Appends a chunk to what came. If an allocation fails, the stream is unchanged.
+   * @throws {RangeError} an allocation failed
    */
   feed(chunk: Uint8Array): void;
 
@@ -434,7 +434,7 @@ export class JsonError extends JournalError {
   /** Where the text stops being JSON, in bytes of its UTF-8, or undefined if it is JSON. */
   readonly offset: number | undefined;
 
-  /** What leads to what is not taken, as `'headers[2].key'`; empty if the text is not JSON. */
+  /** What leads to the rejected value, as `'headers[2].key'`; empty if the text is not JSON. */
   readonly path: string;
 }
 

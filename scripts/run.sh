@@ -3,7 +3,7 @@
 #
 #   scripts/run.sh [--proved] list [--protocol 5..9] [STREAM] [BYTES] [v9]
 #       the listing of a stream, of examples/streams/replay without arguments
-#   scripts/run.sh [--proved] diff [--ignore-payloads] [--protocol 5..9] RECORDED REPLAYED
+#   scripts/run.sh [--proved] diff [--ignore-payloads] [--strict] [--json] [--protocol 5..9] RECORDED REPLAYED
 #       where two journals differ
 #   scripts/run.sh [--proved] dump [--protocol 5..9] [--type NAME].. [--no-payload] [--strict] [FILE]
 #       a stream as JSON, the standard input if none is given
@@ -189,7 +189,7 @@ case $command in
     exec "$program" "$@"
     ;;
   diff)
-    check_arguments ' --ignore-payloads --protocol ' 2 "$@"
+    check_arguments ' --ignore-payloads --strict --json --protocol ' 2 "$@"
     [ "$files" -eq 0 ] || misused
     build
     exec "$program" "$@"

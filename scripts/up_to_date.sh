@@ -1,6 +1,6 @@
 # What the scripts that build share. They go to the top of the repository, and say '. scripts/up_to_date.sh'.
 
-# below CRATE: the crates of this repository on which a crate stands
+# below CRATE: the crates of this repository that a crate depends on
 below() {
   awk -F: -v crate="$1" '
     /^#/ || !NF { next }
@@ -33,7 +33,7 @@ is_newer() (
   [ -e "$file" ] && [ -z "$(find $(sources "$@") -newer "$file" -print | sed 1q)" ]
 )
 
-# is_up_to_date FILE CRATE: whether a file is there and no source of the crate, nor of one on which it stands, is newer
+# is_up_to_date FILE CRATE: whether a file exists and no source of the crate, or of one that it depends on, is newer
 is_up_to_date() {
   # shellcheck disable=SC2046 # no name has a space
   is_newer "$1" "$2" $(below "$2")

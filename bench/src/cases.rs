@@ -51,7 +51,7 @@ fn damaged(random: &mut Random, make: impl Fn(&mut Random) -> Vec<u8>) -> Vec<u8
 }
 
 /// A length of chunks: 0 for one chunk, mostly short ones.
-pub fn any_piece(random: &mut Random, length: usize) -> usize {
+pub fn any_chunk(random: &mut Random, length: usize) -> usize {
     match random.below(4) {
         0 => random.below(2),
         1 => 1 + random.below(12),
@@ -166,9 +166,9 @@ fn a_stream(random: &mut Random) -> Case {
     let damaged = random.one_in(2);
     let stream = streams::any(random, damaged);
     let version = any_version(random);
-    let alike = any_piece(random, stream.len());
+    let alike = any_chunk(random, stream.len());
     let varied = random.one_in(2);
-    let mut pieces = Vec::new();
+    let mut chunks = Vec::new();
     let mut rest = stream.as_slice();
     while !rest.is_empty() {
         let length = match alike {
@@ -176,14 +176,14 @@ fn a_stream(random: &mut Random) -> Case {
             0 => rest.len(),
             _ => alike,
         };
-        let (piece, behind) = rest.split_at(length.min(rest.len()));
-        pieces.push(piece.to_vec());
+        let (chunk, behind) = rest.split_at(length.min(rest.len()));
+        chunks.push(chunk.to_vec());
         rest = behind;
     }
-    if pieces.is_empty() {
-        pieces.push(Vec::new());
+    if chunks.is_empty() {
+        chunks.push(Vec::new());
     }
-    Case::Stream { version, pieces }
+    Case::Stream { version, chunks }
 }
 
 /// A file of cases that are written down.
@@ -351,7 +351,7 @@ fn frames() -> Result<File, Failed> {
 fn random_streams() -> Result<File, Failed> {
     let mut file = File::new(
         "random_streams.txt",
-        "Streams in pieces, with types of all kinds, codes of none, and bits that say nothing.",
+        "Streams in chunks, with types of all kinds, codes of none, and bits that say nothing.",
     );
     file.section("Whole, cut short and damaged");
     for place in 0..OF_STREAMS {

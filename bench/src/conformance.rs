@@ -7,7 +7,7 @@ use crate::rules::{self, Meaning};
 use crate::schema::{schema_of, type_of, type_of_code, MessageType};
 use crate::table::SCHEMAS;
 
-/// What is asked, before the ` = ` of a line.
+/// The input of a test vector, before the ` = ` of its line.
 #[derive(Clone, Debug)]
 pub enum Case {
     /// The canonical payload of what a payload means.
@@ -24,7 +24,7 @@ pub enum Case {
         payload: Vec<u8>,
     },
     /// The listing of a stream that comes in chunks.
-    Stream { version: u32, pieces: Vec<Vec<u8>> },
+    Stream { version: u32, chunks: Vec<Vec<u8>> },
     /// The record that a canonical payload means, as Rust prints it.
     Record { schema: usize, payload: Vec<u8> },
 }
@@ -55,7 +55,7 @@ impl Case {
             },
             "stream" => Case::Stream {
                 version: version(words.next()?)?,
-                pieces: several_bytes(&mut words)?,
+                chunks: several_bytes(&mut words)?,
             },
             "record" => Case::Record {
                 schema: schema_of(words.next()?)?,
@@ -73,7 +73,7 @@ impl Case {
             | Case::Frame { payload, .. }
             | Case::Record { payload, .. } => payload.len(),
             Case::Merge { payloads, .. } => payloads.iter().map(Vec::len).sum(),
-            Case::Stream { pieces, .. } => pieces.iter().map(Vec::len).sum(),
+            Case::Stream { chunks, .. } => chunks.iter().map(Vec::len).sum(),
         }
     }
 
@@ -87,7 +87,7 @@ impl Case {
                 version,
                 payload,
             } => written(peer::frame(*version, message_type.code, payload, 1)),
-            Case::Stream { version, pieces } => list_by_peer(*version, pieces),
+            Case::Stream { version, chunks } => list_by_peer(*version, chunks),
             Case::Record { schema, payload } => match peer::canonical(*schema, payload) {
                 Ok(canonical) if canonical == *payload => record_by_peer(*schema, payload),
                 Ok(_) => NOT_CANONICAL.into(),
@@ -118,8 +118,8 @@ impl Case {
                 Meaning::of(message_type.schema, [payload.as_slice()]),
                 |meaning| meaning.frame(message_type, *version),
             ),
-            Case::Stream { version, pieces } => ByRules {
-                result: list_by_rules(*version, &pieces.concat()),
+            Case::Stream { version, chunks } => ByRules {
+                result: list_by_rules(*version, &chunks.concat()),
                 departs: false,
             },
         }
@@ -165,9 +165,9 @@ impl fmt::Display for Case {
                 version,
                 payload,
             } => write!(f, "frame {} {version} {}", message_type.name, hex(payload)),
-            Case::Stream { version, pieces } => {
+            Case::Stream { version, chunks } => {
                 write!(f, "stream {version}")?;
-                write_several(f, pieces)
+                write_several(f, chunks)
             }
             Case::Record { schema, payload } => {
                 write!(f, "record {} {}", SCHEMAS[*schema].name, hex(payload))
@@ -354,11 +354,11 @@ impl Listing {
     }
 }
 
-fn list_by_peer(version: u32, pieces: &[Vec<u8>]) -> String {
+fn list_by_peer(version: u32, chunks: &[Vec<u8>]) -> String {
     let mut decoder = Decoder::new(version);
     let mut listing = Listing::default();
-    for piece in pieces {
-        decoder.push(piece.clone().into());
+    for chunk in chunks {
+        decoder.push(chunk.clone().into());
         while let Some(item) = decoder.next_item() {
             match item {
                 peer::Item::Message(header, payload) => {

@@ -17,7 +17,7 @@ use crate::table::{name_of, with_message};
 pub fn dump(version: u32, input: impl Read, output: &mut impl Write) -> io::Result<()> {
     let mut stream = Reading::new(version, input);
     let mut lines = Vec::new();
-    while stream.read_piece()? {
+    while stream.read_chunk()? {
         lines.clear();
         let mut offset = stream.offset();
         while let Some(item) = stream.next_item() {

@@ -1,5 +1,5 @@
-//! Messages that are cheap to send and dear to read: one kind of record over and over, as one would fill a payload with
-//! it who means harm.
+//! Messages that are cheap to send and dear to read: one kind of record over and over, as an adversary would fill a
+//! payload.
 
 use crate::streams::Frame;
 use crate::wire::{key, put_varint, GROUP, GROUP_END, LENGTH, VARINT};
@@ -15,8 +15,8 @@ const TEXT: usize = 16;
 /// One kind of message, with a given number of elements.
 pub struct Hostile {
     pub name: &'static str,
-    /// The length of the pieces in which the stream comes (0: whole).
-    pub piece: usize,
+    /// The length of the chunks in which the stream comes (0: whole).
+    pub chunk: usize,
     code: u16,
     payload: fn(usize) -> Vec<u8>,
 }
@@ -71,8 +71,8 @@ pub static ALL: [Hostile; 13] = [
     }),
     // an Input whose value comes byte by byte
     Hostile {
-        piece: 1,
-        ..Hostile::whole("pieces of one byte", 0x0400, |count| {
+        chunk: 1,
+        ..Hostile::whole("chunks of one byte", 0x0400, |count| {
             message(14, &message(1, &vec![b'x'; count]))
         })
     },
@@ -82,7 +82,7 @@ impl Hostile {
     const fn whole(name: &'static str, code: u16, payload: fn(usize) -> Vec<u8>) -> Hostile {
         Hostile {
             name,
-            piece: 0,
+            chunk: 0,
             code,
             payload,
         }

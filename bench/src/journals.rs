@@ -94,7 +94,7 @@ impl<R: Read> Commands<R> {
                     _ => {}
                 }
             }
-            if !self.0.read_piece()? {
+            if !self.0.read_chunk()? {
                 return Ok(None);
             }
         }

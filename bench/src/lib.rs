@@ -11,10 +11,15 @@ pub mod journals;
 #[rustfmt::skip]
 pub mod json;
 pub mod list;
+#[cfg(feature = "json")]
+pub mod make;
 #[cfg(feature = "library")]
 pub mod ours;
 pub mod peer;
 pub mod random;
+#[cfg(feature = "json")]
+#[rustfmt::skip]
+pub mod read_json;
 pub mod reading;
 #[rustfmt::skip]
 pub mod records;

@@ -10,7 +10,7 @@ use crate::table::name_of;
 pub fn list(version: u32, input: impl Read, output: &mut impl Write) -> io::Result<()> {
     let mut stream = Reading::new(version, input);
     let mut lines = Vec::new();
-    while stream.read_piece()? {
+    while stream.read_chunk()? {
         lines.clear();
         while let Some(item) = stream.next_item() {
             write_line(&item, &mut lines)?;

@@ -62,7 +62,15 @@ mod c {
             version: u32,
             stream: *const u8,
             stream_length: usize,
-            piece: usize,
+            chunk: usize,
+            rounds: usize,
+            words: *mut u64,
+            words_room: usize,
+        ) -> i64;
+        pub fn measure_item_refs(
+            version: u32,
+            stream: *const u8,
+            stream_length: usize,
             rounds: usize,
             words: *mut u64,
             words_room: usize,
@@ -71,7 +79,7 @@ mod c {
             version: u32,
             stream: *const u8,
             stream_length: usize,
-            piece: usize,
+            chunk: usize,
             rounds: usize,
         ) -> i64;
         pub fn measure_compare(
@@ -135,7 +143,7 @@ fn count(result: i64) -> Result<usize, Refusal> {
 pub fn items(
     version: u32,
     stream: &[u8],
-    piece: usize,
+    chunk: usize,
     rounds: usize,
     words: &mut [u64],
 ) -> Result<usize, Refusal> {
@@ -145,7 +153,27 @@ pub fn items(
             version,
             stream.as_ptr(),
             stream.len(),
-            piece,
+            chunk,
+            rounds,
+            words.as_mut_ptr(),
+            words.len(),
+        )
+    })
+}
+
+/// A word for each item of a stream, as `items`, where it lies: nothing is copied.
+pub fn item_refs(
+    version: u32,
+    stream: &[u8],
+    rounds: usize,
+    words: &mut [u64],
+) -> Result<usize, Refusal> {
+    // SAFETY: the lengths are those of the slices, of which `words` alone is written
+    count(unsafe {
+        c::measure_item_refs(
+            version,
+            stream.as_ptr(),
+            stream.len(),
             rounds,
             words.as_mut_ptr(),
             words.len(),
@@ -157,11 +185,11 @@ pub fn items(
 pub fn messages(
     version: u32,
     stream: &[u8],
-    piece: usize,
+    chunk: usize,
     rounds: usize,
 ) -> Result<usize, Refusal> {
     // SAFETY: the length is that of the slice, which is only read
-    count(unsafe { c::measure_messages(version, stream.as_ptr(), stream.len(), piece, rounds) })
+    count(unsafe { c::measure_messages(version, stream.as_ptr(), stream.len(), chunk, rounds) })
 }
 
 /// How many comparisons of each command of a stream with its second decoding hold.

@@ -1,6 +1,6 @@
 //! The peer: the protocol over prost and shared buffers, as one writes it in ordinary Rust.
 //!
-//! A payload is cut out of the pieces that came and not copied, unless it lies across several; `bytes` fields are parts
+//! A payload is cut out of the chunks that came and not copied, unless it lies across several; `bytes` fields are parts
 //! of the payload.
 
 use std::collections::VecDeque;
@@ -117,8 +117,8 @@ impl Item {
 /// Reads a stream that comes in chunks.
 #[derive(Debug)]
 pub struct Decoder {
-    /// What came and was not taken; none of the pieces is empty.
-    pieces: VecDeque<Bytes>,
+    /// What came and was not taken; none of the chunks is empty.
+    chunks: VecDeque<Bytes>,
     pending: usize,
     /// The eight bytes after which the payload has not come yet.
     head: Option<Head>,
@@ -131,7 +131,7 @@ pub struct Decoder {
 impl Decoder {
     pub fn new(version: u32) -> Decoder {
         Decoder {
-            pieces: VecDeque::new(),
+            chunks: VecDeque::new(),
             pending: 0,
             head: None,
             word: 0,
@@ -139,10 +139,10 @@ impl Decoder {
         }
     }
 
-    pub fn push(&mut self, piece: Bytes) {
-        if !piece.is_empty() {
-            self.pending += piece.len();
-            self.pieces.push_back(piece);
+    pub fn push(&mut self, chunk: Bytes) {
+        if !chunk.is_empty() {
+            self.pending += chunk.len();
+            self.chunks.push_back(chunk);
         }
     }
 
@@ -160,7 +160,7 @@ impl Decoder {
     pub fn pending_bytes(&self) -> Vec<u8> {
         let head = self.head.map(|_| self.word.to_be_bytes());
         let mut bytes = Vec::from_iter(head.into_iter().flatten());
-        self.pieces.iter().for_each(|piece| bytes.extend(piece));
+        self.chunks.iter().for_each(|chunk| bytes.extend(chunk));
         bytes
     }
 
@@ -193,8 +193,8 @@ impl Decoder {
             return None;
         }
         self.pending -= HEADER;
-        match self.pieces.front_mut() {
-            Some(piece) if piece.len() > HEADER => Some(piece.get_u64()),
+        match self.chunks.front_mut() {
+            Some(chunk) if chunk.len() > HEADER => Some(chunk.get_u64()),
             _ => Some(self.collect(0, HEADER, |word, bytes| {
                 bytes
                     .iter()
@@ -208,10 +208,10 @@ impl Decoder {
             return None;
         }
         self.pending -= length;
-        match self.pieces.front_mut() {
+        match self.chunks.front_mut() {
             None => Some(Bytes::new()),
-            Some(piece) if piece.len() > length => Some(piece.split_to(length)),
-            Some(piece) if piece.len() == length => self.pieces.pop_front(),
+            Some(chunk) if chunk.len() > length => Some(chunk.split_to(length)),
+            Some(chunk) if chunk.len() == length => self.chunks.pop_front(),
             Some(_) => {
                 let joined =
                     self.collect(Vec::with_capacity(length), length, |mut joined, bytes| {
@@ -223,35 +223,35 @@ impl Decoder {
         }
     }
 
-    /// Takes bytes that may lie across several pieces, part by part.
+    /// Takes bytes that may lie across several chunks, part by part.
     fn collect<T>(&mut self, start: T, length: usize, add: impl Fn(T, &[u8]) -> T) -> T {
         let mut sum = start;
         let mut missing = length;
-        while let Some(piece) = self.pieces.front_mut() {
-            if piece.len() > missing {
-                sum = add(sum, &piece.split_to(missing));
+        while let Some(chunk) = self.chunks.front_mut() {
+            if chunk.len() > missing {
+                sum = add(sum, &chunk.split_to(missing));
                 break;
             }
-            missing -= piece.len();
-            sum = add(sum, piece);
-            self.pieces.pop_front();
+            missing -= chunk.len();
+            sum = add(sum, chunk);
+            self.chunks.pop_front();
         }
         sum
     }
 }
 
-/// The items of a stream that comes in chunks of a length (0: in one), each read before the next piece comes.
+/// The items of a stream that comes in chunks of a length (0: in one), each read before the next chunk comes.
 pub struct Items {
     decoder: Decoder,
     rest: Bytes,
-    piece: usize,
+    chunk: usize,
 }
 
 impl Items {
-    pub fn new(version: u32, stream: Bytes, piece: usize) -> Items {
+    pub fn new(version: u32, stream: Bytes, chunk: usize) -> Items {
         Items {
             decoder: Decoder::new(version),
-            piece: if piece == 0 { stream.len() } else { piece },
+            chunk: if chunk == 0 { stream.len() } else { chunk },
             rest: stream,
         }
     }
@@ -268,18 +268,18 @@ impl Iterator for Items {
             if self.rest.is_empty() {
                 return None;
             }
-            let piece = self.rest.split_to(self.piece.min(self.rest.len()));
-            self.decoder.push(piece);
+            let chunk = self.rest.split_to(self.chunk.min(self.rest.len()));
+            self.decoder.push(chunk);
         }
     }
 }
 
 /// A word for each item of a stream, which is copied once and read several times.
-pub fn items(version: u32, stream: &[u8], piece: usize, rounds: usize, words: &mut Vec<u64>) {
+pub fn items(version: u32, stream: &[u8], chunk: usize, rounds: usize, words: &mut Vec<u64>) {
     let stream = Bytes::copy_from_slice(stream);
     for _ in 0..rounds.max(1) {
         words.clear();
-        words.extend(Items::new(version, stream.clone(), piece).map(|item| item.word()));
+        words.extend(Items::new(version, stream.clone(), chunk).map(|item| item.word()));
     }
 }
 
@@ -287,14 +287,14 @@ pub fn items(version: u32, stream: &[u8], piece: usize, rounds: usize, words: &m
 pub fn messages(
     version: u32,
     stream: &[u8],
-    piece: usize,
+    chunk: usize,
     rounds: usize,
 ) -> Result<usize, Refusal> {
     let stream = Bytes::copy_from_slice(stream);
     let mut count = 0;
     for _ in 0..rounds.max(1) {
         count = 0;
-        for item in Items::new(version, stream.clone(), piece) {
+        for item in Items::new(version, stream.clone(), chunk) {
             if let Item::Message(header, payload) = item {
                 count += usize::from(decode(header.code, payload)?);
             }

@@ -1,4 +1,4 @@
-//! A stream that is read piece by piece, and the peer's programs, which read one.
+//! A stream that is read chunk by chunk, and the peer's programs, which read one.
 
 use std::env;
 use std::io::{self, Read, StdinLock, StdoutLock};
@@ -12,7 +12,7 @@ use crate::peer::{Decoder, Item};
 const VERSION: u32 = 8;
 
 /// How many bytes are read at a time, as this project's programs read.
-const PIECE: usize = 65536;
+const CHUNK: usize = 65536;
 
 /// The items of a stream that comes out of a reader.
 pub struct Reading<R> {
@@ -28,13 +28,13 @@ impl<R: Read> Reading<R> {
         Reading {
             decoder: Decoder::new(version),
             reader,
-            buffer: vec![0; PIECE],
+            buffer: vec![0; CHUNK],
             total: 0,
         }
     }
 
     /// Reads a chunk, and returns whether there was one: there is none at the end.
-    pub fn read_piece(&mut self) -> io::Result<bool> {
+    pub fn read_chunk(&mut self) -> io::Result<bool> {
         let count = self.reader.read(&mut self.buffer)?;
         self.total += count as u64;
         self.decoder

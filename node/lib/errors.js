@@ -97,7 +97,7 @@ function identify(ErrorClass, code) {
   });
 }
 
-// Why a JSON text is not taken.
+// Why a JSON text is rejected.
 const REASONS = {
   notJson: 'not JSON',
   unknownMember: 'unknown member',
@@ -141,7 +141,7 @@ export function notKnown(call, what, number) {
   return new JournalError(message, { call });
 }
 
-/** The error that a JSON text is not taken: for a reason, at an offset, by the path to what is not taken. */
+/** The error of a rejected JSON text: the reason, the offset, and the path to the rejected value. */
 export function notTaken({ call, json }, { reason, offset, path }) {
   const where = offset === undefined ? '' : ` at byte ${offset}`;
   const why = `${path === '' ? '' : `${path}: `}${REASONS[reason]}${where}`;

@@ -144,7 +144,7 @@ test('payloads of JSON', () => {
   assert.deepEqual(payload, pendratsoa.canonical(ERROR_MESSAGE, errorMessage(text)));
 });
 
-test('JSON that is not taken', () => {
+test('JSON that is rejected', () => {
   const deep = '{"nestedFutures":['.repeat(102) + ']}'.repeat(102);
   for (const [schema, json, reason, offset, path, why] of [
     ['Value', '', 'notJson', 0, '', 'not JSON at byte 0'],

@@ -9,6 +9,7 @@ import { readdirSync } from 'node:fs';
 import { pathToFileURL } from 'node:url';
 
 import {
+  JsonError,
   Malformed,
   Stream,
   canonical,
@@ -34,6 +35,7 @@ const KINDS = {
   stream: [1, streamResult],
   compare: [1, compareResult],
   json: [1, jsonResult],
+  read: [1, readResult],
 };
 
 function payloadResult(name, payload) {
@@ -49,6 +51,19 @@ function jsonResult(name, payload) {
   assert.deepEqual(payloadOf(name, json), canonical(name, payload));
   assert.deepEqual(payloadOf(name, Buffer.from(json)), canonical(name, payload));
   return json;
+}
+
+/** The payload that a JSON text is read as, or why it is not, and where. */
+function readResult(name, text) {
+  try {
+    return digits(payloadOf(name, text));
+  } catch (error) {
+    if (!(error instanceof JsonError)) {
+      throw error;
+    }
+    const reason = error.reason.replace(/[A-Z]/g, (letter) => `_${letter.toLowerCase()}`);
+    return `${reason} ${error.offset ?? error.path}`.trimEnd();
+  }
 }
 
 function mergeResult(name, first, ...others) {

@@ -182,7 +182,7 @@ test('a payload that is changed or transferred', () => {
   assert.deepEqual([...stream], [ITEMS[0]]);
 });
 
-test('a chunk that is not taken leaves the stream unchanged', () => {
+test('a rejected chunk leaves the stream unchanged', () => {
   const stream = new Stream();
   stream.feed(STREAM.subarray(0, 10));
   const detached = STREAM.slice(10);

@@ -51,7 +51,7 @@ class NoResult(JournalError, ValueError):
 
 
 class JsonReason(IntEnum):
-    """Why a JSON text is not taken."""
+    """Why a JSON text is rejected."""
 
     NOT_JSON = 1
     UNKNOWN_MEMBER = 2
@@ -67,7 +67,7 @@ class JsonError(JournalError, ValueError):
     """A JSON text means no value of its schema.
 
     `reason` says why. `offset` is where the text stops being JSON, in bytes of its UTF-8, and None if it is JSON; then
-    `path` leads to what is not taken, as "headers[2].key".
+    `path` leads to the rejected value, as "headers[2].key".
     """
 
     def __init__(

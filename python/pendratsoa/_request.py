@@ -42,7 +42,7 @@ TEXTS = {
     TooLong: "the result would have more than 4,294,967,295 bytes",
 }
 
-# why a JSON text is not taken
+# why a JSON text is rejected
 REASONS = {
     JsonReason.NOT_JSON: "not JSON",
     JsonReason.UNKNOWN_MEMBER: "unknown member",
@@ -172,7 +172,7 @@ class Request:
         return kind(f"{self.call}: {text}", call=self.call, argument=argument, value=value)
 
     def not_taken(self, reason: JsonReason, offset: int, path: str) -> JsonError:
-        """The error of a JSON text that is not taken."""
+        """The error of a rejected JSON text."""
         value = self.arguments["json"]
         is_json = reason is not JsonReason.NOT_JSON
         why = f"{path}: {REASONS[reason]}" if path else REASONS[reason]

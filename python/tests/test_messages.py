@@ -1,4 +1,4 @@
-"""Messages: made, asked and written."""
+"""Messages: made, read and written."""
 
 import copy
 import dataclasses

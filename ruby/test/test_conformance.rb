@@ -82,6 +82,13 @@ class TestConformance < Minitest::Test
     [*words, digits(Pendratsoa.difference(code, first, second))].join(" ")
   end
 
+  # The payload that a JSON text is read as, or why it is not, and where.
+  def read_result(schema, text)
+    digits(Pendratsoa.payload(schema, text))
+  rescue Pendratsoa::JsonError => error
+    "#{error.reason} #{error.offset || error.path}".rstrip
+  end
+
   def json_result(schema, payload)
     json = Pendratsoa.to_json(schema, payload)
     assert_equal Pendratsoa.canonical(schema, payload), Pendratsoa.payload(schema, json)

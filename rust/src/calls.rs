@@ -37,7 +37,7 @@ pub fn schema(version: u32, code: u16) -> Result<u32, Error> {
 
 /// The name of the type that has the code, as `SleepCommand`, or `CustomEntry(64513)` of a custom entry.
 ///
-/// It asks the library, which may be later than this crate; [`MessageType`](crate::MessageType) does not.
+/// It calls the library, which may be later than this crate; [`MessageType`](crate::MessageType) does not.
 /// `Error::Unknown` if no type has the code.
 ///
 /// ```

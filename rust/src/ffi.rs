@@ -1,6 +1,6 @@
 //! The calls of `pendratsoa.h` over slices. No other module has unsafe code.
 //!
-//! Each safe function here gives its call the pointer and the length of every slice. So what the header asks of its
+//! Each safe function here gives its call the pointer and the length of every slice. So what the header requires of its
 //! callers holds: a slice that is written is exclusively borrowed, and overlaps no other.
 #![allow(unsafe_code)]
 #![warn(clippy::undocumented_unsafe_blocks)]
@@ -266,7 +266,7 @@ pub(crate) fn json(schema: u32, payload: &[u8]) -> Result<Vec<u8>> {
     }
 }
 
-/// Returns the payload, or the path to what is not taken, and writes the two numbers.
+/// Returns the payload, or the path to the rejected value, and writes the two numbers.
 pub(crate) fn payload_of_json(schema: u32, json: &[u8], numbers: &mut [u64; 2]) -> Result<Vec<u8>> {
     // SAFETY: the call reads the text, writes the two numbers and at most `room` bytes, and returns how many bytes
     // they are

@@ -21,11 +21,11 @@ use crate::error::{Argument, Error};
 #[derive(Clone, Copy, Debug, PartialEq, Eq, Hash, PartialOrd, Ord)]
 #[non_exhaustive]
 pub enum MessageType {
-    /// Starts an invocation, or goes on with it.
+    /// Starts or resumes an invocation.
     Start,
-    /// Ends the stream until something awaited has come.
+    /// Suspends the invocation until something that it awaits has come.
     Suspension,
-    /// Ends the stream with an error that may be tried again.
+    /// Ends the attempt with an error, after which the service may retry.
     Error,
     /// Ends the invocation.
     End,
@@ -35,15 +35,15 @@ pub enum MessageType {
     AwaitingOn,
     /// Says that the proposed result of a run was recorded.
     ProposeRunCompletionAck,
-    /// Asks for a state that is not recorded in the journal.
+    /// Reads the value of a key, without recording it in the journal.
     GetStateEphemeralCommand,
-    /// The state that was requested without recording it.
+    /// The value of a key that was read without recording it.
     GetStateEphemeralNotification,
     /// The input of the handler.
     InputCommand,
-    /// What the handler returns.
+    /// The output of the handler.
     OutputCommand,
-    /// Asks for the value of a key.
+    /// Reads the value of a key.
     GetLazyStateCommand,
     /// Sets the value of a key.
     SetStateCommand,
@@ -51,15 +51,15 @@ pub enum MessageType {
     ClearStateCommand,
     /// Clears all keys.
     ClearAllStateCommand,
-    /// Asks for all keys.
+    /// Reads all keys.
     GetLazyStateKeysCommand,
-    /// The value of a key, out of the state that came with the start.
+    /// Reads the value of a key from the state in the start message.
     GetEagerStateCommand,
-    /// All keys, out of the state that came with the start.
+    /// Reads all keys from the state in the start message.
     GetEagerStateKeysCommand,
     /// Awaits a promise.
     GetPromiseCommand,
-    /// Looks at a promise without awaiting it.
+    /// Reads the result of a promise, without awaiting it.
     PeekPromiseCommand,
     /// Completes a promise.
     CompletePromiseCommand,
@@ -75,17 +75,17 @@ pub enum MessageType {
     RunCommand,
     /// Awaits the result of an invocation.
     AttachInvocationCommand,
-    /// Looks at the result of an invocation without awaiting it.
+    /// Reads the result of an invocation, without awaiting it.
     GetInvocationOutputCommand,
     /// Completes an awakeable.
     CompleteAwakeableCommand,
-    /// The value of a requested key.
+    /// The value of a key that was read.
     GetLazyStateCompletionNotification,
-    /// The requested keys.
+    /// All keys that were read.
     GetLazyStateKeysCompletionNotification,
     /// The result of an awaited promise.
     GetPromiseCompletionNotification,
-    /// The result of a promise that was looked at.
+    /// The result of a promise, which was read without awaiting it.
     PeekPromiseCompletionNotification,
     /// Whether a promise was completed.
     CompletePromiseCompletionNotification,
@@ -93,13 +93,13 @@ pub enum MessageType {
     SleepCompletionNotification,
     /// The result of a call.
     CallCompletionNotification,
-    /// The invocation that a call started.
+    /// The id of the invocation that a call started.
     CallInvocationIdCompletionNotification,
     /// The recorded result of a run.
     RunCompletionNotification,
     /// The result of an awaited invocation.
     AttachInvocationCompletionNotification,
-    /// The result of an invocation that was looked at.
+    /// The result of an invocation, which was read without awaiting it.
     GetInvocationOutputCompletionNotification,
     /// A signal.
     SignalNotification,

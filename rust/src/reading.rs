@@ -6,7 +6,7 @@ use crate::calls::text;
 use crate::error::{narrowed, Argument, Error};
 use crate::ffi;
 
-/// Why a JSON text is not taken, and where.
+/// Why a JSON text is rejected, and where.
 #[derive(Clone, Debug, PartialEq, Eq, Hash)]
 #[non_exhaustive]
 pub struct JsonError {
@@ -14,21 +14,21 @@ pub struct JsonError {
     pub reason: JsonReason,
     /// Where the text stops being JSON, in bytes; `None` if it is JSON.
     pub offset: Option<usize>,
-    /// What leads to the value that is not taken, as `headers[2].key`; empty if the text is not JSON.
+    /// What leads to the rejected value, as `headers[2].key`; empty if the text is not JSON.
     pub path: String,
 }
 
-/// The reasons for which a JSON text is not taken.
+/// The reasons for which a JSON text is rejected.
 #[derive(Clone, Copy, Debug, PartialEq, Eq, Hash)]
 #[non_exhaustive]
 pub enum JsonReason {
     /// It is not JSON, or not UTF-8, or nested more than one thousand levels deep.
     NotJson,
-    /// A member has no name of a field of its message.
+    /// The name of a member is not that of a field of its message.
     UnknownMember,
-    /// A member comes twice, by whichever of its names.
+    /// Two members have a name of the same field.
     RepeatedMember,
-    /// Two members of one oneof are there.
+    /// Two members of one oneof are present.
     SeveralMembers,
     /// A value is of another kind than its field.
     WrongKind,
@@ -40,10 +40,10 @@ pub enum JsonReason {
     TooDeep,
 }
 
-/// The number of a text that is taken.
+/// The number of a text that is accepted.
 const READ: u64 = 0;
 
-/// The reasons, each at its number, after the number of a text that is taken.
+/// The reasons, each at its number, after the number of a text that is accepted.
 const REASONS: [JsonReason; 8] = [
     JsonReason::NotJson,
     JsonReason::UnknownMember,

@@ -40,13 +40,13 @@ pub enum Schema {
     WorkflowTarget,
     /// An invocation, as an idempotent request.
     IdempotentRequestTarget,
-    /// Starts an invocation, or goes on with it.
+    /// Starts or resumes an invocation.
     StartMessage,
-    /// Ends the stream until something awaited has come.
+    /// Suspends the invocation until something that it awaits has come.
     SuspensionMessage,
-    /// The suspension as it is written before version 7: all that is awaited, in three lists.
+    /// A suspension as it is written before version 7: all that is awaited, in three lists.
     SuspensionMessageV6,
-    /// Ends the stream with an error that may be tried again.
+    /// Ends the attempt with an error, after which the service may retry.
     ErrorMessage,
     /// Ends the invocation.
     EndMessage,
@@ -56,15 +56,15 @@ pub enum Schema {
     AwaitingOnMessage,
     /// Says that the proposed result of a run was recorded.
     ProposeRunCompletionAckMessage,
-    /// Asks for a state that is not recorded in the journal.
+    /// Reads the value of a key, without recording it in the journal.
     GetStateEphemeralCommandMessage,
-    /// The state that was requested without recording it.
+    /// The value of a key that was read without recording it.
     GetStateEphemeralNotificationMessage,
     /// The input of the handler.
     InputCommandMessage,
-    /// What the handler returns.
+    /// The output of the handler.
     OutputCommandMessage,
-    /// Asks for the value of a key.
+    /// Reads the value of a key.
     GetLazyStateCommandMessage,
     /// Sets the value of a key.
     SetStateCommandMessage,
@@ -72,15 +72,15 @@ pub enum Schema {
     ClearStateCommandMessage,
     /// Clears all keys.
     ClearAllStateCommandMessage,
-    /// Asks for all keys.
+    /// Reads all keys.
     GetLazyStateKeysCommandMessage,
-    /// The value of a key, out of the state that came with the start.
+    /// Reads the value of a key from the state in the start message.
     GetEagerStateCommandMessage,
-    /// All keys, out of the state that came with the start.
+    /// Reads all keys from the state in the start message.
     GetEagerStateKeysCommandMessage,
     /// Awaits a promise.
     GetPromiseCommandMessage,
-    /// Looks at a promise without awaiting it.
+    /// Reads the result of a promise, without awaiting it.
     PeekPromiseCommandMessage,
     /// Completes a promise.
     CompletePromiseCommandMessage,
@@ -96,17 +96,17 @@ pub enum Schema {
     RunCommandMessage,
     /// Awaits the result of an invocation.
     AttachInvocationCommandMessage,
-    /// Looks at the result of an invocation without awaiting it.
+    /// Reads the result of an invocation, without awaiting it.
     GetInvocationOutputCommandMessage,
     /// Completes an awakeable.
     CompleteAwakeableCommandMessage,
-    /// The value of a requested key.
+    /// The value of a key that was read.
     GetLazyStateCompletionNotificationMessage,
     /// The result of an awaited promise.
     GetPromiseCompletionNotificationMessage,
-    /// The result of a promise that was looked at.
+    /// The result of a promise, which was read without awaiting it.
     PeekPromiseCompletionNotificationMessage,
-    /// The result of an invocation that was looked at.
+    /// The result of an invocation, which was read without awaiting it.
     GetInvocationOutputCompletionNotificationMessage,
     /// Whether a promise was completed.
     CompletePromiseCompletionNotificationMessage,
@@ -118,13 +118,13 @@ pub enum Schema {
     AttachInvocationCompletionNotificationMessage,
     /// A sleep is over.
     SleepCompletionNotificationMessage,
-    /// The requested keys.
+    /// All keys that were read.
     GetLazyStateKeysCompletionNotificationMessage,
-    /// The invocation that a call started.
+    /// The id of the invocation that a call started.
     CallInvocationIdCompletionNotificationMessage,
     /// A signal.
     SignalNotificationMessage,
-    /// What all notifications have in common: reads each of them without knowing its type.
+    /// The common form of all notifications: each of them can be decoded with it, whatever its type.
     NotificationTemplate,
 }
 

@@ -403,7 +403,7 @@ fn payloads_of_noise() {
     }
 }
 
-/// The reason for which a text is not taken, where it stops being JSON, and the path to what is not taken.
+/// The reason for which a text is rejected, where it stops being JSON, and the path to the rejected value.
 fn refused(schema: Schema, json: &[u8]) -> (JsonReason, Option<usize>, String) {
     match payload(schema.number(), json) {
         Err(Error::Json(error)) => (error.reason, error.offset, error.path),

@@ -66,6 +66,7 @@ fn result(input: &str) -> Option<Outcome> {
         ["stream", version, chunks @ ..] => on_stream(version, chunks),
         ["compare", name, first, second] => on_compare(name, first, second),
         ["json", name, payload] => on_json(name, payload),
+        ["read", name, text] => on_read(name, text),
         ["record", ..] => return None,
         _ => Err(format!("no such kind of line: {input}").into()),
     };
@@ -227,4 +228,23 @@ fn on_json(name: &str, input: &str) -> Outcome {
         payload(schema, &json) == canonical(schema, &input),
     )?;
     Ok(json)
+}
+
+/// The payload that a JSON text is read as, or why it is not, and where.
+fn on_read(name: &str, text: &str) -> Outcome {
+    match payload(number(name)?, bytes(text)?) {
+        Ok(payload) => Ok(hex(&payload)),
+        Err(Error::Json(error)) => {
+            let mut words = String::new();
+            for letter in format!("{:?}", error.reason).chars() {
+                if letter.is_uppercase() && !words.is_empty() {
+                    words.push('_');
+                }
+                words.push(letter.to_ascii_lowercase());
+            }
+            let place = error.offset.map_or(error.path, |offset| offset.to_string());
+            Ok(format!("{words} {place}").trim_end().to_owned())
+        }
+        Err(error) => Err(error.into()),
+    }
 }

@@ -11,7 +11,7 @@ cd "$(dirname "$0")/../.." || exit 1
 . scripts/checks/lib.sh
 
 # The last version: that of the library, those that callers from other languages and the test vectors can name, and what
-# pages and comments say. The programs ask the library for it.
+# pages and comments say. The programs get it from the library.
 last=$(sed -n '/fn maximum_supported_version/,/^    }$/s/^        Version::V\([0-9]*\)$/\1/p' \
   crates/shared_core_base/src/version.rt)
 for place in include/pendratsoa.h python/pendratsoa/_request.py rust/src/lib.rs ruby/lib/pendratsoa/functions.rb \

@@ -9,7 +9,7 @@ last line is 'N passed, M failed'.
 import sys
 
 import pendratsoa
-from pendratsoa import Malformed, Stream
+from pendratsoa import JsonError, Malformed, Stream
 
 
 def payload(schema, data):
@@ -69,8 +69,17 @@ def json(schema, data):
     return text
 
 
-KINDS = {"payload": payload, "merge": merge, "frame": frame, "stream": stream, "compare": compare, "json": json}
-NAMED = {"payload": 1, "merge": 1, "frame": 2, "stream": 1, "compare": 1, "json": 1}
+def read(schema, text):
+    """The payload that a JSON text is read as, or why it is not, and where."""
+    try:
+        return pendratsoa.payload(schema, text).hex()
+    except JsonError as error:
+        place = error.path if error.offset is None else str(error.offset)
+        return f"{error.reason.name.lower()} {place}".rstrip(" ")
+
+
+KINDS = {"payload": payload, "merge": merge, "frame": frame, "stream": stream, "compare": compare, "json": json, "read": read}
+NAMED = {"payload": 1, "merge": 1, "frame": 2, "stream": 1, "compare": 1, "json": 1, "read": 1}
 
 
 def result_of(question):

@@ -46,8 +46,41 @@ journal_diff 1 "$other_handler" '' recorded replayed_other_handler
 journal_diff 1 "$other_handler" '' --ignore-payloads - replayed_other_handler
 journal_diff 1 "$other_payload" '' recorded replayed_other_payload
 journal_diff 0 'same, 4 commands' '' recorded --ignore-payloads replayed_other_payload
-journal_diff 1 'recorded ends at command 0' '' unknown_type recorded
 journal_diff 1 'replayed ends at command 0' '' recorded /dev/null
+
+# what is passed over is told for each journal, and is trouble where the comparison is strict
+told() {
+  printf 'journal_diff: the %s journal has %s\n' "$@" > "$work/told"
+}
+# passed_over STATUS LINE ARGUMENT..: the verdict, and on the standard error what is in the file told
+passed_over() {
+  wanted=$1
+  printf '%s\n' "$2" > "$work/lines"
+  shift 2
+  "$program" "$@" < recorded > "$out" 2> "$err"
+  status=$?
+  [ "$status" -eq "$wanted" ] && cmp -s "$out" "$work/lines" && cmp -s "$err" "$work/told"
+  outcome "journal_diff $*, and what it passes over" $?
+}
+told recorded '8 bytes after its last whole item' replayed '8 bytes after its last whole item'
+passed_over 0 'same, 0 commands' cut_short cut_short
+told recorded '3 unknown headers' replayed '8 bytes after its last whole item'
+passed_over 0 'same, 0 commands' three_unknown_types cut_short
+told recorded '1 unknown header'
+passed_over 1 'recorded ends at command 0' unknown_type recorded
+told replayed '1 unknown header' replayed '1 byte after its last whole item'
+{ cat recorded; printf '\000\010\000\000\000\000\000\000x'; } > "$work/more"
+passed_over 0 'same, 4 commands' recorded "$work/more"
+journal_diff 0 'same, 4 commands' '' --strict recorded recorded
+journal_diff 2 '' 'journal_diff: the recorded journal, offset 0: unknown header 0x8' --strict three_unknown_types cut_short
+size=$(($(wc -c < recorded)))
+journal_diff 2 '' "journal_diff: the replayed journal, offset $size: unknown header 0x8" --strict recorded "$work/more"
+{ cat recorded; printf 'xyz'; } > "$work/more"
+journal_diff 2 '' "journal_diff: the replayed journal, offset $size: 3 bytes after the last whole item" \
+  --strict replayed_other_handler "$work/more"
+{ cat recorded; printf '\000\000\000\000\000\000\000\001\377'; } > "$work/more"
+journal_diff 0 'same, 4 commands' '' recorded "$work/more"
+journal_diff 2 '' "journal_diff: the replayed journal, offset $size: malformed payload of Start" --strict recorded "$work/more"
 
 # the first command alone, and after it one of another type, or one that is malformed
 head -c 17 recorded > "$work/first"
@@ -58,6 +91,24 @@ journal_diff 1 'replayed ends at command 1' '' recorded "$work/first"
 journal_diff 2 '' 'journal_diff: the replayed command 1 is malformed' recorded "$work/malformed"
 journal_diff 2 '' 'journal_diff: the recorded command 1 is malformed' "$work/malformed" "$work/malformed"
 journal_diff 1 'recorded ends at command 1' '' "$work/first" "$work/malformed"
+
+# the verdict as a line of JSON
+head='Found a mismatch between the code paths taken during the previous execution'
+head="$head and the paths taken during this execution.\\nThis typically happens when some parts of the code are"
+head="$head non-deterministic.\\n"
+places='"index":1,"recordedAt":17,"replayedAt":17'
+differs="- The mismatch happened while executing 'set state' (index '1')\\n- Difference:\\n   value: '1' != '2'"
+is_other=" - The previous execution ran and recorded the following: 'set state' (index '1')\\n"
+is_other="$is_other - The current execution attempts to perform the following: 'handler return'"
+journal_diff 0 '{"verdict":"same","commands":4}' '' --json recorded recorded
+journal_diff 1 '{"verdict":"replayedEnded","index":0,"recordedAt":0}' '' --json recorded /dev/null
+journal_diff 1 '{"verdict":"recordedEnded","index":1,"replayedAt":17}' '' "$work/first" --json "$work/malformed"
+journal_diff 1 "{\"verdict\":\"headerMismatch\",$places,\"text\":\"$head$differs\"}" '' \
+  --json recorded replayed_other_payload
+journal_diff 1 "{\"verdict\":\"typeMismatch\",$places,\"text\":\"$head$is_other\"}" '' --json recorded "$work/other"
+{ printf '\000\010\000\000\000\000\000\000'; cat recorded; } > "$work/more"
+told replayed '1 unknown header'
+passed_over 1 '{"verdict":"recordedEnded","index":0,"replayedAt":8}' --json /dev/null "$work/more"
 
 refused '<RECORDED>'
 refused '<REPLAYED>' recorded

@@ -76,6 +76,23 @@ dump 0 '{"offset":13,"type":"CustomEntry(64513)","code":64513,"length":0,"bytes"
 dump 0 '{"offset":13,"type":"CustomEntry(64513)","code":64513,"length":0}
 {"offset":21,"rest":8}' "$cut" --type 'CustomEntry(64513)' --no-payload cut_short
 
+# With --text bytes that are UTF-8 are texts, also the empty ones; others, and those of a header, are base64.
+text_of() {
+  printf '%s' "$1" | sed 's/"a2V5"/{"text":"key"}/; s/"aW5wdXQ="/{"text":"input"}/'
+}
+dump 0 "$(text_of "$start")
+$(text_of "$input")
+$state
+$rest" '' --text replay
+dump 0 '{"offset":0,"skipped":true,"code":8,"length":8,"bytes":{"text":"\u0000\u0003\u0000\u0000\u0000\u0000\u0000\u0000"}}
+{"offset":16,"rest":0}' '' --text --protocol 9 unknown_type
+dump 0 '{"offset":0,"unknown":true,"code":8,"header":"AAgAAAAAAAg="}
+{"offset":8,"type":"End","code":3,"length":0,"message":{}}
+{"offset":16,"rest":0}' '' --text unknown_type
+dump 0 '{"offset":13,"type":"CustomEntry(64513)","code":64513,"length":0,"bytes":{"text":""}}
+{"offset":21,"rest":8,"bytes":"BAAAAP////8="}' 'journal_dump: offset 21: 8 bytes after the last whole item' \
+  --text --type 'CustomEntry(64513)' cut_short
+
 # Two custom entries, the second with the highest code that there is
 printf '\374\000\000\000\000\000\000\000\377\377\000\000\000\000\000\000' > "$work/custom"
 first='{"offset":0,"type":"CustomEntry(64512)","code":64512,"length":0,"bytes":""}'
@@ -155,7 +172,7 @@ dump 0 "$start
 $state
 $rest" '' --type GetLazyStateCompletionNotificationMessage,START -
 
-# Refused arguments are named, with what is taken.
+# Rejected arguments are named, with what is accepted.
 refused "invalid value '4' for '--protocol <VERSION>'" --protocol 4 replay
 refused '[possible values: 5, 6, 7, 8, 9]' --protocol 4 replay
 refused "no type has the name 'Nothing'; the types are Start, Suspension, " --type Nothing replay

@@ -1,5 +1,6 @@
 #!/bin/sh
-# JSON read as payloads beside protobuf's own parser: literal texts, free forms of random values, and damaged texts.
+# JSON read as payloads: its test vectors; and beside protobuf's own parser, literal texts, free forms of random values,
+# and damaged texts.
 #
 # It takes the library for C by the package for Python, over the proved static library. It needs a C compiler, protoc
 # and Python's protobuf.
@@ -20,6 +21,7 @@ installed_library
 PYTHONPATH=python
 PYTHONDONTWRITEBYTECODE=1
 export PYTHONPATH PYTHONDONTWRITEBYTECODE
+counted 'test vectors' python3 scripts/checks/conformance_calls.py < conformance/json/readings.txt
 counted 'json_judge.py' "$judge" scripts/checks/json_judge.py 1 100 < conformance/json/records.txt
 sed -n 's/^damaged texts: /json: damaged texts: /p' "$work/log"
 

@@ -223,8 +223,8 @@ failing_outputs() {
 }
 
 # shortened_outputs INPUT LINES: an output that fails before all of these lines, which are more than 100 KiB, are
-# written: a file that may not grow past 200 blocks, and a pipe whose reader ends after three lines, of which nothing is
-# said (the program has the signal SIGPIPE ignored)
+# written: a file that may not grow past 200 blocks, and a pipe whose reader ends after three lines, which is not
+# reported (the program has the signal SIGPIPE ignored)
 shortened_outputs() {
   if (trap '' XFSZ && ulimit -f 200) 2> "$work/shell"; then
     (
@@ -247,7 +247,7 @@ shortened_outputs() {
   ended 'a reader that ends' "$failure" "$work/first"
 }
 
-# gone_reader ARGUMENT..: a pipe whose reader is gone before the first write, of which nothing is said
+# gone_reader ARGUMENT..: a pipe that its reader closed before the first write, which is not reported
 gone_reader() {
   mkfifo "$work/gone" "$work/go"
   (

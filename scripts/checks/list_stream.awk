@@ -1,9 +1,9 @@
-# Lists a stream as journal_list is to list it, by the rule of items and nothing of the library:
+# The expected listing of a stream, by the rule of items and without the library:
 #   od -An -v -t u1 STREAM | awk [-v version=9] -f list_stream.awk proto/types.txt -
 #
 # Eight bytes are a header: the code in the first two, bit 7 of the third requests an acknowledgement, the length in the
 # last four. A code without a name that is below 1024 is unknown, and its eight bytes are an item, but not at
-# version 9. Else the item goes on for its length.
+# version 9. Every other item has its length of bytes after the eight.
 function number(text,  i, value) {
   value = 0
   for (i = 1; i <= length(text); i++) value = value * 16 + index("0123456789abcdef", substr(text, i, 1)) - 1
@@ -36,7 +36,7 @@ FILENAME != "-" && FILENAME != "" {
     at += step
     if (left == 0) {
       name = code in names ? names[code] : unknown ? sprintf("skipped 0x%x", code) : "CustomEntry(" code ")"
-      # of all types this one alone asks
+      # the only type whose header can request an acknowledgement
       mark = code == 5 && head[3] >= 128 ? " ack" : ""
       printf "%s %.0f%s\n", name, size, mark
       held = 0

@@ -1,9 +1,14 @@
 """Dumps of streams, made again: made_streams.py DUMPER MAKER COUNT [SEED]
 
-The streams are those of conformance/, and random ones: rows of frames with the payloads of conformance/json, which are
-canonical, of custom entries and of unknown codes, with bits of the header that say nothing, damaged payloads, and bytes
-that are in no item. Each is dumped and made again of the dump. If no payload was damaged, that is the stream; otherwise
-what is made has the same dump, but for offsets and lengths, and is what is made of its own dump.
+The streams are those of conformance/, each with its programs, and COUNT random ones: rows of frames at each version
+with the payloads of conformance/json, which are canonical, of custom entries and of unknown codes, with bits of the
+header that say nothing, and in half of the streams damaged payloads. Of these a batch is dumped at once, one stream
+after the other, which is a stream too; bytes that are in no item are at its end, and after SINGLE further streams, each
+of which is dumped alone.
+
+Each is dumped and made again of the dump. If no payload was damaged, that is the stream, so its dump is the same.
+Otherwise what is made has the same dump, but for offsets and lengths, and is what is made of its own dump. A dump
+with texts says the same, and the same is made of it. Of a batch that fails each stream is tried alone. The last line but one has the seed.
 """
 import base64
 import json
@@ -15,6 +20,10 @@ from pathlib import Path
 CONFORMANCE = Path(__file__).resolve().parents[2] / "conformance"
 CUSTOM = range(0xFC00, 0x10000)
 UNKNOWN = [4, 8, 9, 0x1FF, 0x201, 0x301, 0x3FF]
+
+# How many streams are dumped at once, and how many alone.
+BATCH = 500
+SINGLE = 200
 
 
 def lines_of(path):
@@ -28,12 +37,15 @@ def bytes_of(word):
     return bytes.fromhex(word.replace("-", ""))
 
 
-def messages():
-    """The codes of messages, each with a canonical payload."""
+def messages(version):
+    """The codes of messages, each with a canonical payload at a version."""
     types = (CONFORMANCE.parent / "proto/types.txt").read_text(encoding="utf-8").splitlines()
     named = [line.split() for line in types if line and not line.startswith("#")]
     codes = {name: int(code, 16) for code, name in named}
-    found = [(words[1].removesuffix("Message"), bytes_of(words[2])) for words in lines_of("json/records.txt")]
+    # before V7 a suspension has another schema
+    other, its = ("Suspension", "SuspensionMessageV6") if version < 7 else ("SuspensionMessageV6", "SuspensionMessage")
+    found = [(words[1], bytes_of(words[2])) for words in lines_of("json/records.txt")]
+    found = [("Suspension" if name == its else name.removesuffix("Message"), payload) for name, payload in found if name.removesuffix("Message") != other]
     return [(codes[name], payload) for name, payload in found if name in codes]
 
 
@@ -60,10 +72,9 @@ def damaged(chance, payload):
     return payload[:place] + bytes([chance.randrange(256)]) + payload[place + 1:]
 
 
-def stream_of(chance, corpus, version):
-    """A stream, and whether all payloads in it are canonical."""
+def stream_of(chance, corpus, version, is_damaged):
+    """A stream of whole items."""
     stream = b""
-    is_canonical = True
     for _ in range(chance.randrange(12)):
         kind = chance.random()
         bits = chance.choice([0, 0, 0, 0x8000, 1, chance.randrange(0x10000)])
@@ -74,23 +85,22 @@ def stream_of(chance, corpus, version):
         elif kind < 0.3:
             # before V9 such a header is alone, whatever length it has
             stream += frame(chance.choice(UNKNOWN), bits, b"")[:4] + chance.choice([0, 5]).to_bytes(4)
-        elif kind < 0.45:
-            code, payload = chance.choice(corpus)
-            stream += frame(code, bits, damaged(chance, payload))
-            is_canonical = False
         else:
             code, payload = chance.choice(corpus)
-            stream += frame(code, bits, payload)
-    if chance.random() < 0.5:
-        code, payload = chance.choice(corpus)
-        cut = frame(code, 0, payload)
-        stream += cut[:chance.randrange(len(cut))]
-    return stream, is_canonical
+            stream += frame(code, bits, damaged(chance, payload) if is_damaged and kind < 0.5 else payload)
+    return stream
 
 
-def run(program, version, given):
+def rest_of(chance, corpus):
+    """Bytes that are in no item: the beginning of a frame."""
+    code, payload = chance.choice(corpus)
+    cut = frame(code, 0, payload)
+    return cut[:chance.randrange(len(cut))]
+
+
+def run(program, version, given, *options):
     """What a program writes."""
-    ended = subprocess.run([program, "--protocol", str(version)], input=given, capture_output=True)
+    ended = subprocess.run([program, "--protocol", str(version), *options], input=given, capture_output=True)
     if ended.returncode:
         raise ValueError(f"status {ended.returncode}: {ended.stderr.decode()}")
     return ended.stdout
@@ -109,11 +119,36 @@ def said(dump):
     return objects
 
 
+def is_text(encoded):
+    """Whether the bytes that a string of base64 encodes are UTF-8."""
+    try:
+        base64.b64decode(encoded).decode()
+    except UnicodeDecodeError:
+        return False
+    return True
+
+
+def says_the_same(plain, texts, name=""):
+    """Whether a value of a dump with texts says what one without them does, where the names tell which are bytes."""
+    if isinstance(plain, dict):
+        return plain.keys() == texts.keys() and all(says_the_same(plain[key], texts[key], key) for key in plain)
+    if isinstance(plain, list):
+        return len(plain) == len(texts) and all(map(says_the_same, plain, texts))
+    if isinstance(texts, dict):
+        return list(texts) == ["text"] and texts["text"].encode() == base64.b64decode(plain)
+    return plain == texts and not (name in ("bytes", "content", "id") and is_text(plain))
+
+
 def fault(dumper, maker, stream, is_canonical, version):
     """What is wrong with the way of a stream to its dump and back, or nothing."""
     try:
         dump = run(dumper, version, stream)
         made = run(maker, version, dump)
+        texts = run(dumper, version, stream, "--text")
+        if not all(map(says_the_same, map(json.loads, dump.splitlines()), map(json.loads, texts.splitlines()))):
+            return "another dump with texts"
+        if run(maker, version, texts) != made:
+            return "another stream of the dump with texts"
         if is_canonical:
             return "" if made == stream else "another stream"
         again = run(dumper, version, made)
@@ -124,21 +159,52 @@ def fault(dumper, maker, stream, is_canonical, version):
         return str(error)
 
 
+class Checker:
+    """Dumps streams and makes them again, and counts those that come back."""
+
+    def __init__(self, dumper, maker):
+        self.dumper = dumper
+        self.maker = maker
+        self.passed = self.failed = 0
+
+    def check(self, version, streams, is_canonical):
+        """Streams one after the other; each alone if that fails."""
+        found = fault(self.dumper, self.maker, b"".join(streams), is_canonical, version)
+        if not found:
+            self.passed += len(streams)
+        elif len(streams) == 1:
+            self.failed += 1
+            print(f"failed: at V{version}, {found.strip()}: {streams[0].hex()}")
+        else:
+            before = self.failed
+            for stream in streams:
+                self.check(version, [stream], is_canonical)
+            if self.failed == before:
+                # only together
+                self.failed += 1
+                print(f"failed: at V{version}, {found.strip()}: {b''.join(streams).hex()}")
+
+
 def main():
     dumper, maker, count = sys.argv[1:4]
-    chance = random.Random(int(sys.argv[4]) if len(sys.argv) > 4 else 32)
-    corpus = messages()
-    streams = [(version, stream, False) for version, stream in stored()]
-    for _ in range(int(count)):
-        version = chance.choice([8, 9])
-        streams.append((version, *stream_of(chance, corpus, version)))
-    failed = 0
-    for number, (version, stream, is_canonical) in enumerate(streams):
-        found = fault(dumper, maker, stream, is_canonical, version)
-        if found:
-            failed += 1
-            print(f"failed: stream {number} at V{version}, {found.strip()}: {stream.hex()}")
-    print(f"{len(streams) - failed} passed, {failed} failed")
+    seed = int(sys.argv[4]) if len(sys.argv) > 4 else 32
+    chance = random.Random(seed)
+    corpora = {version: messages(version) for version in range(5, 10)}
+    checker = Checker(dumper, maker)
+    for version, stream in stored():
+        checker.check(version, [stream], False)
+    for batch in range((int(count) + BATCH - 1) // BATCH):
+        version = 5 + batch // 2 % 5
+        is_damaged = batch % 2 == 1
+        streams = [stream_of(chance, corpora[version], version, is_damaged) for _ in range(min(BATCH, int(count) - batch * BATCH))]
+        streams[-1] += rest_of(chance, corpora[version])
+        checker.check(version, streams, not is_damaged)
+    for number in range(SINGLE):
+        version = 5 + number % 5
+        stream = stream_of(chance, corpora[version], version, number % 2 == 1) + rest_of(chance, corpora[version])
+        checker.check(version, [stream], number % 2 == 0)
+    print(f"{count} random streams and {SINGLE} alone, of seed {seed}")
+    print(f"{checker.passed} passed, {checker.failed} failed")
 
 
 if __name__ == "__main__":

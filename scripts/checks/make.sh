@@ -1,5 +1,5 @@
 #!/bin/sh
-# journal_make on the examples, on lines that are not taken, refused arguments and what fails; dumps made again.
+# journal_make on the examples, on rejected lines, wrong arguments and what fails; dumps made again.
 #
 # It runs the proved program, also with each allocation failing in turn, and compares standard output, the whole of
 # standard error and the status. The streams of conformance/ and random ones are dumped by journal_dump and made again,
@@ -31,12 +31,12 @@ taken() {
   made "taken: $2" 0 "$work/wanted"
 }
 
-# not_taken WHY LINE: the line is not taken, after one that is
-not_taken() {
+# rejected WHY LINE: the line is rejected, after one that is accepted
+rejected() {
   lines="$end
 $2
 $end"
-  made "not taken: $2" 1 "$work/end" "journal_make: -:2: $1"
+  made "rejected: $2" 1 "$work/end" "journal_make: -:2: $1"
 }
 
 end='{"type":"End","message":{}}'
@@ -60,6 +60,8 @@ taken "$input" '{"code":1024,"message":{"value":{"content":"aW5wdXQ"}}}'
 taken "$input" '{"length":3,"code":"1024","type":"InputCommand","offset":7,"bytes":null,"payload":"cgcKBWlucHV0"}'
 taken '0005800000000000' '{"type":"ProposeRunCompletion","requestedAck":true,"message":{}}'
 taken '0005000000000000' '{"type":"ProposeRunCompletion","ack":false,"message":{}}'
+taken "$input" '{"type":"InputCommand","message":{"value":{"content":{"text":"input"}}}}'
+taken "$input" '{"type":"InputCommand","bytes":{"text":"r\u0007\n\u0005input"}}'
 taken 'fc01000000000001 00' '{"type":"CustomEntry(64513)","code":64513,"bytes":"AA=="}'
 taken '0008000000000001 00' '{"code":8,"skipped":true,"bytes":"AA=="}'
 taken '0008000000000000' '{"code":8,"unknown":true}'
@@ -70,33 +72,34 @@ taken '0003000000000001 0a' '{"type":"End","code":3,"length":1,"malformed":true,
 taken '000300' '{"offset":0,"rest":3,"bytes":"AAMA"}'
 taken '' '{"offset":0,"rest":0}'
 
-not_taken 'not JSON at byte 1' '{'
-not_taken 'not JSON at byte 3' '{} {}'
-not_taken 'wrong kind of value' '[]'
-not_taken 'other: unknown member' '{"type":"End","other":1,"message":{}}'
-not_taken 'type: repeated member' '{"type":"End","type":"End","message":{}}'
-not_taken 'ack: repeated member' '{"type":"ProposeRunCompletion","ack":true,"requestedAck":true,"message":{}}'
-not_taken 'neither a type nor a code' '{"message":{}}'
-not_taken 'type: no named type has this name' '{"type":"Nothing","message":{}}'
-not_taken "type: not the name of the code's type" '{"type":"Start","code":3,"message":{}}'
-not_taken "type: not the name of the code's type" '{"type":"Start","code":8,"bytes":""}'
-not_taken 'type: wrong kind of value' '{"type":3,"message":{}}'
-not_taken 'code: out of range' '{"code":65536,"bytes":""}'
-not_taken 'code: out of range' '{"code":1.5,"bytes":""}'
-not_taken 'code: wrong kind of value' '{"code":"End","bytes":""}'
-not_taken 'no message and no bytes' '{"type":"End"}'
-not_taken 'more than one payload' '{"type":"End","message":{},"bytes":""}'
-not_taken 'more than one payload' '{"type":"End","payload":"","bytes":""}'
-not_taken 'unknown: wrong kind of value' '{"code":8,"unknown":false}'
-not_taken 'message: no messages have this code' '{"code":8,"message":{}}'
-not_taken 'message: wrong kind of value' '{"type":"End","message":[]}'
-not_taken 'message.headers[1].key: wrong kind of value' '{"type":"InputCommand","message":{"headers":[{},{"key":1}]}}'
-not_taken 'bytes: not base64' '{"type":"End","bytes":"A"}'
-not_taken 'payload: not base64' '{"type":"End","payload":"A"}'
-not_taken 'the type has no such flag' '{"type":"End","ack":true,"message":{}}'
-not_taken 'header: not eight bytes' '{"type":"End","header":"AAA=","message":{}}'
-not_taken 'rest: the rest is no item' '{"type":"End","rest":0}'
-not_taken 'rest: a rest without its bytes' '{"rest":1}'
+rejected 'not JSON at byte 1' '{'
+rejected 'not JSON at byte 3' '{} {}'
+rejected 'wrong kind of value' '[]'
+rejected 'other: unknown member' '{"type":"End","other":1,"message":{}}'
+rejected 'type: repeated member' '{"type":"End","type":"End","message":{}}'
+rejected 'ack: repeated member' '{"type":"ProposeRunCompletion","ack":true,"requestedAck":true,"message":{}}'
+rejected 'neither a type nor a code' '{"message":{}}'
+rejected 'type: no named type has this name' '{"type":"Nothing","message":{}}'
+rejected "type: not the name of the code's type" '{"type":"Start","code":3,"message":{}}'
+rejected "type: not the name of the code's type" '{"type":"Start","code":8,"bytes":""}'
+rejected 'type: wrong kind of value' '{"type":3,"message":{}}'
+rejected 'code: out of range' '{"code":65536,"bytes":""}'
+rejected 'code: out of range' '{"code":1.5,"bytes":""}'
+rejected 'code: wrong kind of value' '{"code":"End","bytes":""}'
+rejected 'no message and no bytes' '{"type":"End"}'
+rejected 'more than one payload' '{"type":"End","message":{},"bytes":""}'
+rejected 'more than one payload' '{"type":"End","payload":"","bytes":""}'
+rejected 'unknown: wrong kind of value' '{"code":8,"unknown":false}'
+rejected 'message: no messages have this code' '{"code":8,"message":{}}'
+rejected 'message: wrong kind of value' '{"type":"End","message":[]}'
+rejected 'message.headers[1].key: wrong kind of value' '{"type":"InputCommand","message":{"headers":[{},{"key":1}]}}'
+rejected 'bytes: not base64' '{"type":"End","bytes":"A"}'
+rejected 'bytes: wrong kind of value' '{"type":"End","bytes":{"text":"","length":0}}'
+rejected 'payload: not base64' '{"type":"End","payload":"A"}'
+rejected 'the type has no such flag' '{"type":"End","ack":true,"message":{}}'
+rejected 'header: not eight bytes' '{"type":"End","header":"AAA=","message":{}}'
+rejected 'rest: the rest is no item' '{"type":"End","rest":0}'
+rejected 'rest: a rest without its bytes' '{"rest":1}'
 
 # A suspension has another schema before V7.
 lines='{"type":"Suspension","message":{"waitingCompletions":[1]}}'
@@ -109,7 +112,7 @@ ended 'a suspension at V6' 0 "$work/wanted"
 status=$?
 ended 'the same at V8' 1 /dev/null "journal_make: $work/old:1: message.waitingCompletions: unknown member"
 
-# Refused arguments are named, with what is taken.
+# Rejected arguments are named, with what is accepted.
 refused "invalid value '4' for '--protocol <VERSION>'" --protocol 4 replay
 refused '[possible values: 5, 6, 7, 8, 9]' --protocol 4 replay
 refused "unexpected argument 'other'" replay other
@@ -167,7 +170,7 @@ if command -v cc > /dev/null && cc -O2 -shared -fPIC -o "$work/refuse.so" "$top/
   request=0
   requests=0
   wrong=0
-  # at last none is refused, since fewer are made
+  # at last none fails, since fewer are made
   while [ "$request" -le "$requests" ] && [ "$wrong" -lt 5 ]; do
     request=$((request + 1))
     REFUSE=$request LD_PRELOAD=$work/refuse.so "$program" < replay.dump > "$out" 2> "$err" 3> "$work/requests"
@@ -192,7 +195,8 @@ cd "$top" || exit 1
 if [ -z "$dumper" ]; then
   left_out 'streams made again' 'journal_dump is not built'
 elif command -v python3 > /dev/null; then
-  counted 'streams made again' python3 scripts/checks/made_streams.py "$dumper" "$program" 300
+  counted 'streams made again' python3 scripts/checks/made_streams.py "$dumper" "$program" 10000
+  sed -n 's/^\(.* of seed .*\)$/make: streams made again: \1/p' "$work/log"
 else
   without 'streams made again' python3
 fi

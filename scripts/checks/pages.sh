@@ -1,10 +1,10 @@
 #!/bin/sh
-# Links, paths, worked lines and the names in tables of promises lead somewhere; the README shows what runs.
+# Links, paths, worked lines and the names in tables of promises exist; the README shows what runs.
 #
 # Each link, anchor and path of this repository in `code`, the length of lines, the index of decisions, each worked line
-# of conformance, the test vectors of each rule, the README's page of code and the dump that it shows, in a table of
-# promises each name behind a promise in the crates that it is about, and the version of the library. What is missing is
-# shown before the last line.
+# of conformance, the test vectors of each rule, the README's page of code and the dump that it shows, each name in a
+# table of promises, in the crates of its section, and the version of the library. What is missing is shown before the
+# last line.
 set -u
 cd "$(dirname "$0")/../.." || exit 1
 . scripts/checks/lib.sh

@@ -32,7 +32,7 @@ refused() {
 }
 
 listed='usage: run.sh [--proved] list [--protocol 5..9] [STREAM] [BYTES] [v9]'
-compared='usage: run.sh [--proved] diff [--ignore-payloads] [--protocol 5..9] RECORDED REPLAYED'
+compared='usage: run.sh [--proved] diff [--ignore-payloads] [--strict] [--json] [--protocol 5..9] RECORDED REPLAYED'
 dumped='usage: run.sh [--proved] dump [--protocol 5..9] [--type NAME].. [--no-payload] [--strict] [FILE]'
 made='usage: run.sh [--proved] make [--protocol 5..9] [FILE]'
 for how in '' --proved; do

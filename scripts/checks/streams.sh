@@ -66,10 +66,10 @@ until listed 65536 "$need" 2> "$work/shell" || [ "$need" -ge 65536 ]; do
   need=$((need + 64))
 done
 
-# in_pieces NAME HELD TIMES SIZE..: the stream, in chunks of these sizes. Beyond what the program needs for nothing it
-# has a mebibyte, 160 bytes for each chunk of the most bytes that it has to hold, and a multiple of these bytes: twice
-# where they are joined.
-in_pieces() {
+# in_chunks NAME HELD TIMES SIZE..: the stream, in chunks of these sizes. Beyond what the program needs for an empty
+# stream it has a mebibyte, 160 bytes for each chunk of the most bytes that it has to hold, and a multiple of these
+# bytes: twice if they are joined.
+in_chunks() {
   name=$1
   held=$2
   times=$3
@@ -89,7 +89,7 @@ stream() {
 
 # No item of it is more than a header.
 stream unknown 2097152 1
-in_pieces 'unknown headers' 8 1 1 7 4096 65536
+in_chunks 'unknown headers' 8 1 1 7 4096 65536
 
 # These two come to a header that promises more than there is, and no message of them is ever joined. The seed of the
 # first is one with two unknown headers before it.
@@ -97,15 +97,15 @@ for length in 131072 2097152; do
   sizes='7 4096 65536'
   [ "$length" -gt 131072 ] || sizes="1 $sizes"
   stream random "$length" 17552
-  in_pieces "$length random bytes" "$length" 1 $sizes
+  in_chunks "$length random bytes" "$length" 1 $sizes
   stream promise "$length" 1
-  in_pieces "$length bytes after a promise of 4 GiB" "$length" 1 $sizes
+  in_chunks "$length bytes after a promise of 4 GiB" "$length" 1 $sizes
 done
 
 # The longest message is joined. Each type has to be in the listing, and each kind of line.
 stream mixed 2097152 1
 longest=$(awk '$1 != "unknown" && $2 > longest { longest = $2 } END { print longest }' "$work/listing")
-in_pieces 'mixed frames' "$longest" 2 1 7 4096 65536
+in_chunks 'mixed frames' "$longest" 2 1 7 4096 65536
 {
   awk '$1 != "#" { print $2 }' proto/types.txt
   printf '%s\n' CustomEntry ack rest unknown
@@ -121,10 +121,10 @@ longest=$(awk '
   { size = $1 == "skipped" ? $3 : $2 }
   size > longest { longest = size }
   END { print longest }' "$work/listing")
-in_pieces 'frames and unknown messages' "$longest" 2 1 7 4096 65536
+in_chunks 'frames and unknown messages' "$longest" 2 1 7 4096 65536
 grep -q '^skipped' "$out" && ! grep -q '^unknown' "$out"
 agreed 'skipped messages among them' $?
 stream unknown 131072 1
-in_pieces 'unknown headers at v9' 131072 1 1 7 4096 65536
+in_chunks 'unknown headers at v9' 131072 1 1 7 4096 65536
 
 finish

@@ -49,6 +49,25 @@ goes on where it stands|is merged into what is there
 nobody|adversarial, or no caller
 (is|are) mended|is fixed
 [Tt]hat it is asked|that it is called
+[Aa]sk(s|ed|ing)? for an acknowledgement|requests
+acknowledgement is asked for|is requested
+(, |text |names? |ids? |description )for people[ ]?[,.;:]|human-readable
+stands? for (a|an|its|no|that|this|their) |denotes
+[Ww]hat there is (to|of) |the contents of
+memory (ran|runs) out|an allocation failed
+reader (is|are) gone|its reader has closed it
+is told nothing|nothing is reported
+nothing is said|nothing is reported
+by whichever of |of the same field
+stands? written|is written
+[Ww]hat nothing was |the value before
+as a person reads|human-readable
+[Aa]ll that there is[ ,.;:]|all
+what (is|was) not taken|the rejected value
+[Ww]hy a (JSON text|line|value) (is|was) not taken|is rejected
+[Gg]oes on with it[ ,.;:]|resumes
+looked at without|read without
+comes? out as |decodes to
 END
 
 git ls-files -- '*.md' '*.rt' '*.rt.in' '*.antt' '*.proto' '*.py' '*.sh' '*.awk' '*.c' '*.h' '*.rs' '*.go' '*.rb' '*.js' '*.ts' '*.mts' > "$work/files"

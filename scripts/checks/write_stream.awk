@@ -32,7 +32,7 @@ function unnamed_code(  code) {
   do code = below(1024); while (code in named)
   return code
 }
-# most payloads are short, and one of 512 has more bytes than the greatest piece
+# most payloads are short, and one of 512 has more bytes than the longest chunk
 function any_length(  kind) {
   kind = below(512)
   if (kind == 0) return 65536 + below(65536) * 2

@@ -107,7 +107,7 @@ static const struct {
     [NEXT] = {"journal_next", 1, JOURNAL_ITEM_NUMBERS, 0, UNKNOWN | NO_ROOM, 4},
     [HEADER] = {"journal_header", 0, 0, 1, UNKNOWN, 1},
     [FRAME] = {"journal_frame", 1, 0, 1, UNKNOWN | MALFORMED | MEMORY | TOO_LONG, 1},
-    [IS_WELL_FORMED] = {"journal_is_well_formed", 1, 0, 0, UNKNOWN | MEMORY, 2},
+    [IS_WELL_FORMED] = {"journal_is_well_formed", 1, 0, 0, UNKNOWN, 2},
     [CANONICAL] = {"journal_canonical", 1, 0, 1, UNKNOWN | MALFORMED | MEMORY | TOO_LONG, 1},
     [MERGE] = {"journal_merge", 2, 0, 1, UNKNOWN | MALFORMED | MEMORY | TOO_LONG, 1},
     [JSON] = {"journal_json", 1, 0, 1, UNKNOWN | MALFORMED | MEMORY | TOO_LONG, 1},
@@ -438,7 +438,7 @@ static void place(struct work *work, enum place which, size_t length) {
     }
 }
 
-/* Whether the guards of a slice stand, and its bytes from one on. */
+/* Whether the guards of a slice are intact, and its bytes from one on. */
 static int stands(const struct slice *slice, size_t from) {
     for (size_t i = 0; i < slice->guards; i++) {
         if (slice->guard[i] != pattern(slice, i)) {

@@ -295,11 +295,39 @@ static void json(void) {
     free(canonical.bytes);
 }
 
+/* A JSON text: the payload that it is read as, or why it is not, and where. */
+static void read_json(void) {
+    static const char *const reasons[] = {NULL,         "not_json",     "unknown_member", "repeated_member",
+                                          "several_members", "wrong_kind", "out_of_range", "not_base64",
+                                          "too_deep"};
+    uint32_t schema = next_schema();
+    struct buffer text = next_bytes();
+    uint64_t numbers[JOURNAL_READ_NUMBERS] = {0, 0}, kind;
+    char offset[32];
+    int64_t length = WRITTEN(journal_payload_of_json(schema, text.bytes, text.length, numbers, JOURNAL_READ_NUMBERS,
+                                                     written.bytes, written.room));
+
+    kind = numbers[JOURNAL_READ_KIND];
+    if (length < 0 || kind == JOURNAL_READ || kind > JOURNAL_TOO_DEEP) {
+        say_written(length);
+    } else {
+        append_text(&found, reasons[kind]);
+        if (kind == JOURNAL_NOT_JSON) {
+            snprintf(offset, sizeof offset, " %" PRIu64, numbers[JOURNAL_READ_OFFSET]);
+            append_text(&found, offset);
+        } else if (length > 0) {
+            append_text(&found, " ");
+            append(&found, written.bytes, (size_t)length);
+        }
+    }
+    free(text.bytes);
+}
+
 static const struct {
     const char *kind;
     void (*check)(void);
-} checks[] = {{"payload", payload}, {"merge", merge},     {"frame", frame},
-              {"stream", stream},   {"compare", compare}, {"json", json}};
+} checks[] = {{"payload", payload}, {"merge", merge}, {"frame", frame},   {"stream", stream},
+              {"compare", compare}, {"json", json},   {"read", read_json}};
 
 /* Checks a line: 1 if it passed, 0 if it failed, and -1 if it is not checked. */
 static int check_line(char *line) {

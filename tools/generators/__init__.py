@@ -27,6 +27,7 @@ NAMES = (
     "comparisons",
     "record_vectors",
     "long_vectors",
+    "json_readings",
     "random_vectors",
     "dumps",
     "peer",

@@ -6,7 +6,7 @@ from . import NAMES, missing  # noqa: F401
 ABOUT = "What git knows of files."
 SOURCE = "the lists of generated files"
 
-# Streams are bytes, and their listings stand beside them.
+# Streams are bytes, and their listings are beside them.
 AS_THEY_ARE = ("examples/streams/*", "crates/*/stdin")
 
 # The generators whose files are hand-written but for some numbers, and this one.

@@ -207,7 +207,7 @@ def write_equality(source, command):
 
 
 def write_printed_oneof(source, path, oneof):
-    """The impl that prints the members of a oneof, whose enum stands at a path."""
+    """The impl that prints the members of a oneof, whose enum is at a path."""
     module, enum = path
     source.use(module, enum)
     source.use("crate::printed", "PrintedOneOf")

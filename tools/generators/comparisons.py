@@ -3,7 +3,7 @@
 Each line compares two commands, the one that was recorded and the one that the code makes now. Which fields count,
 which are printed and how is said here once more, from the protocol's description alone: neither the library nor the
 tables that its contracts cite take part. The payloads are put together from the fields of proto/journal.proto. Where a
-text stands beside a case, it was written by hand, and has to be the one that comes of the tables.
+text is beside a case, it was written by hand, and has to be the one that the tables give.
 """
 import re
 import sys
@@ -658,7 +658,7 @@ def field_cases():
         yield f"{command}: each field alone."
         for row in rows_of(command):
             if isinstance(row, OneOf):
-                # the two commands that ask for an invocation share their target
+                # the two commands on an invocation share their target
                 yield from oneof_cases(command, actual, row, command == "GetInvocationOutput")
             elif row.presence == "optional":
                 yield from optional_cases(command, actual, row.name, expected[row.name])

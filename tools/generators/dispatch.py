@@ -29,7 +29,7 @@ pub use shared_core_message::restate_message::{RestateEncodableMessage, RestateM
 pub use shared_core_parts::notification::{CANCEL_SIGNAL_ID, CompletionId, Notification, NotificationId, NotificationResult};
 pub use shared_core_codec::error::EncodingError;
 
-// The parts of messages, and the template by which any notification is read.
+// The nested messages, and the template of notifications.
 """
 
 VISITORS = """\
@@ -79,9 +79,9 @@ def message_dispatch():
         "ghost use Rattle.shared_core_message.specs.Messages.{message_schema};\nghost use Rattle.shared_core.specs.Visiting.{IsVisited};\n\n"
         + used({"MessageVisitor"} | {message.name for message in typed()})
         + "use shared_core_base::header::MessageType;\n\n"
-        "/// What a visitor answers for a message's type, or `None` where it is a custom entry, which has no record.\n"
+        "/// The result of a visitor for a message's type, or `None` for a custom entry, which has no record.\n"
         "pub fn visit_message<V: MessageVisitor>(ty: MessageType, visitor: V) -> Option<V::Output>\n"
-        "    requires { V.may_visit visitor ty }\n    ensures { IsVisited (V.answers visitor ty) (message_schema ty) result }\n{\n"
+        "    requires { V.may_visit visitor ty }\n    ensures { IsVisited (V.results visitor ty) (message_schema ty) result }\n{\n"
         f"    Some(match ty {{\n{arms}        MessageType::CustomEntry(_) => return None,\n    }})\n}}\n"
     )
 
@@ -97,9 +97,9 @@ def command_dispatch():
         "ghost use Rattle.shared_core.specs.Visiting.{IsVisited, command_schema};\n\n"
         + used({"CommandVisitor"} | {message.name for message in commands})
         + "use shared_core_base::header::MessageType;\n\n"
-        "/// What a visitor answers for a command's type, or `None` where it is the type of no command.\n"
+        "/// The result of a visitor for a command's type, or `None` if it is not the type of a command.\n"
         "pub fn visit_command<V: CommandVisitor>(ty: MessageType, visitor: V) -> Option<V::Output>\n"
-        "    requires { V.may_visit visitor ty }\n    ensures answer { IsVisited (V.answers visitor ty) (command_schema ty) result }\n"
+        "    requires { V.may_visit visitor ty }\n    ensures visited { IsVisited (V.results visitor ty) (command_schema ty) result }\n"
         "    ensures each { IsSome (command_type_of ty) → IsSome result }\n{\n"
         f"    Some(match ty {{\n{arms}        _ => return None,\n    }})\n}}\n"
     )
@@ -114,11 +114,11 @@ def record_dispatch():
         + used({"RecordVisitor"} | {message.name for message in order})
         + "\n"
         + comment(
-            f"What a visitor answers for a schema, by its number: its place in the table of the {len(order)} schemas, from 0 for "
+            f"The result of a visitor for a schema, by its number: its place in the table of the {len(order)} schemas, from 0 for "
             f"`{order[0].name}` to {order[-1].schema} for `{order[-1].name}`. `None` where no schema has the number."
         )
         + "pub fn visit_record<V: RecordVisitor>(schema: u32, visitor: V) -> Option<V::Output>\n"
-        "    ensures { IsVisited (V.answers visitor) (known_schema schema) result }\n{\n"
+        "    ensures { IsVisited (V.results visitor) (known_schema schema) result }\n{\n"
         f"    Some(match schema {{\n{arms}        _ => return None,\n    }})\n}}\n"
     )
 

@@ -40,7 +40,7 @@ def texts():
         for field in fields_of(message):
             if field.kind != "enum":
                 continue
-            about = f"{field.name} of {message.name}, a {field.enum}"
+            about = f"{field.name} of {message.name}, the enum {field.enum}"
             names = "".join(f'(codes "{name}", {number}) ∷ ' for name, number in enums()[field.enum])
             values.append(
                 f"    -- {about}\n"

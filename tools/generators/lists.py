@@ -29,8 +29,8 @@ def codes():
     """The codes of the types for the tests of the library for C."""
     listed = ", ".join(f"0x{message.code:04X}" for message in typed())
     return (
-        f"//! The codes of the types, and how many schemas there are.\n\n/// The code of each type.\npub const CODES: [u16; {len(typed())}] = [{listed}];\n\n"
-        f"/// How many schemas there are: the least number that is no schema's.\npub const SCHEMAS: usize = {len(schemas())};\n"
+        f"//! The codes of the types, and the number of schemas.\n\n/// The code of each type.\npub const CODES: [u16; {len(typed())}] = [{listed}];\n\n"
+        f"/// The number of schemas: the least number that no schema has.\npub const SCHEMAS: usize = {len(schemas())};\n"
     )
 
 

@@ -180,7 +180,7 @@ def frames_of_chains():
 
 
 def pattern(length):
-    """Bytes that tell where they stand."""
+    """Bytes of which each shows its place."""
     return bytes((place % 251) for place in range(length))
 
 

@@ -107,14 +107,14 @@ def command_type():
     found = "".join(f"            MessageType::{message.type_name()} => Ok(CommandType::{message.command.name}),\n" for message in converting())
     others = ", ".join(f"`{command.name}` as `{message.type_name()}`" for command, message in types if not plainly(command, message))
     return (
-        "//! The types of commands, as a person reads them.\n"
+        "//! The types of commands, with human-readable texts.\n"
         "ghost use Rattle.std.specs.Prelude.{◌≡◌, Some};\n"
         "ghost use Rattle.shared_core_base.specs.CommandTable.{command_text_of, message_type_of};\n"
         "ghost use Rattle.shared_core_base.specs.CommandType.{ConvertsToCommand};\n\n"
         "use crate::header::MessageType;\nuse std::fmt;\n\n"
         "/// What a command does. Several message types may be of one command type.\n"
         f"#[derive(Clone, Copy, Debug, PartialEq, Eq)]\npub enum CommandType {{\n{variants}}}\n\n"
-        "/// Prints what the command does in words, as `one way call/send`.\nimpl fmt::Display for CommandType {\n"
+        "/// Prints the human-readable text, as `one way call/send`.\nimpl fmt::Display for CommandType {\n"
         "    ghost output = { λ command. Some (command_text_of command) };\n\n"
         "    fn fmt<W: fmt::Write>(&self, f: &mut fmt::Formatter<W>) -> fmt::Result {\n        f.write_str(command_text(*self))\n    }\n}\n\n"
         "fn command_text(command: CommandType) -> &'static str\n    ensures { result.now ≡ command_text_of command }\n"
@@ -133,12 +133,12 @@ def command_type():
 
 
 def command_table():
-    """The texts of command types, and the message types that they stand for."""
+    """The texts of command types, and the message types that they are sent as."""
     texts = "".join(f'command_text_of command.{command.name} = codes "{command.text}"\n' for command, _ in command_types())
     sent = "".join(f"message_type_of command.{command.name} = message.{message.type_name()}\n" for command, message in command_types())
     found = "".join(f"command_type_of message.{message.type_name()} = Some command.{message.command.name}\n" for message in converting())
     return (
-        "-- The types of commands, their texts, and the message types that they stand for.\n"
+        "-- The types of commands, their texts, and the message types that they are sent as.\n"
         "use Rattle.std.specs.Prelude.{ℕ, codes, List, Option, Some, None}\n"
         f"use {TYPE}.{{MessageType}}\nuse {TYPE}.TheVariants as message\nuse {COMMAND}.{{CommandType}}\nuse {COMMAND}.TheVariants as command\n\n"
         f"-- The text that a command type prints.\nabbrev pub command_text_of : CommandType → List ℕ\n{texts}\n"

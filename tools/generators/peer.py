@@ -1,8 +1,8 @@
-"""The peer's records and tables, which stand over prost.
+"""The peer's records and tables, over prost.
 
 bench/src/records.rs has the records of proto/journal.proto as prost-build would write them, with shared buffers for `bytes`. table.rs has
-what tells them apart by number: the fields of each schema, the code of each message type, and macros that lead from a number to the record.
-json.rs has how serde writes the records, in proto3's JSON form.
+what depends on their numbers: the fields of each schema, the code of each message type, and macros that lead from a number to the record.
+json.rs has how serde writes the records, in proto3's JSON form, and read_json.rs how it reads them.
 """
 import re
 
@@ -144,7 +144,7 @@ def written_one_of(message, row):
 
 
 def least_number(row):
-    """Where a row stands in a message: at its least number."""
+    """The place of a row in a message: its least number."""
     return min(member.number for member in row.members) if isinstance(row, OneOf) else row.number
 
 
@@ -166,6 +166,71 @@ def json(text):
             "    fn serialize<S: Serializer>(&self, serializer: S) -> Result<S::Ok, S::Error> {\n"
             f"        let {mutable}object = serializer.serialize_map(None)?;\n{members}        object.end()\n    }}\n}}\n"
         )
+    return "\n".join(parts)
+
+
+def read_type(field):
+    """The type by which serde reads a single value of a field, and what makes the field's value of one that was read."""
+    return {
+        "u32": ("Number<u32>", "{0}.0"),
+        "u64": ("Number<u64>", "{0}.0"),
+        "bytes": ("Binary", "{0}.0"),
+        "enum": (f"Enumeration<{field.enum}>", "{0}.number"),
+        "message": (field.message, "{0}"),
+        "bool": ("bool", "{0}"),
+        "text": ("String", "{0}"),
+    }[field.kind]
+
+
+def read_arm(message, row, field, place):
+    """The arm of a match that reads a member of an object."""
+    read, made = read_type(field)
+    keys = " | ".join(f'"{key}"' for key in dict.fromkeys((json_name(field.name), field.name)))
+    if isinstance(row, OneOf):
+        found = made.format("value")
+        store = f"one_of(&mut found.{row.name}, {snake(message.name)}::{camel(row.name)}::{camel(field.name)}({found}))?;"
+    elif field.presence == "repeated":
+        read = f"Vec<{read}>"
+        each = made.format("each")
+        found = "value" if each == "each" else f"value.into_iter().map(|each| {each}).collect()"
+        store = f"found.{field.name} = {found};"
+    else:
+        found = made.format("value")
+        store = f"found.{field.name} = {found};" if field.presence == "plain" else f"found.{field.name} = Some({found});"
+    return (
+        f"                {keys} => {{\n                    if let Some(value) = member::<{read}, A>(&mut seen, {place}, &mut object)? {{\n"
+        f"                        {store}\n                    }}\n                }}\n"
+    )
+
+
+def read_message(message):
+    """How serde reads a record."""
+    fields = [(row, field) for row in message.rows for field in (row.members if isinstance(row, OneOf) else [row])]
+    arms = "".join(read_arm(message, row, field, place) for place, (row, field) in enumerate(fields))
+    mutable, seen = ("mut ", "            let mut seen = 0;\n") if fields else ("", "")
+    return (
+        f"impl<'de> Read<'de> for {message.name} {{\n"
+        "    fn read<A: MapAccess<'de>>(mut object: A) -> Result<Self, A::Error> {\n"
+        f"        let {mutable}found = {message.name}::default();\n{seen.replace('            ', '        ')}"
+        "        while let Some(Key(key)) = object.next_key()? {\n            match &*key {\n"
+        f"{arms}                _ => return Err(unknown(&key)),\n            }}\n        }}\n        Ok(found)\n    }}\n}}\n\n"
+        f"impl<'de> Deserialize<'de> for {message.name} {{\n"
+        "    fn deserialize<D: Deserializer<'de>>(deserializer: D) -> Result<Self, D::Error> {\n"
+        "        read(deserializer)\n    }\n}\n"
+    )
+
+
+def read_json(text):
+    """The source of src/read_json.rs."""
+    parts = [
+        "//! How serde reads the records, in proto3's JSON form.\n",
+        "use serde::de::{Deserialize, Deserializer, MapAccess};\n",
+        "use crate::make::{member, one_of, read, unknown, Binary, Enumeration, Key, Named, Number, Read};\nuse crate::records::*;\n",
+    ]
+    for name, constants in enums(text):
+        names = ", ".join(f'("{constant}", {number})' for constant, number in constants)
+        parts.append(f"impl Named for {name} {{\n    const NAMES: &'static [(&'static str, i32)] = &[{names}];\n}}\n")
+    parts += [read_message(message) for message in messages(text)]
     return "\n".join(parts)
 
 
@@ -247,4 +312,4 @@ def table():
 
 def files():
     text = PROTO.read_text()
-    return {"bench/src/records.rs": records(text), "bench/src/json.rs": json(text), "bench/src/table.rs": table()}
+    return {"bench/src/records.rs": records(text), "bench/src/json.rs": json(text), "bench/src/read_json.rs": read_json(text), "bench/src/table.rs": table()}

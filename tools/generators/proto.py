@@ -147,7 +147,7 @@ class Message(Options):
 
 
 def value_of(text):
-    """The value of an option: a number, whether it is so, or what stands there."""
+    """The value of an option: a number, a truth value, or a text."""
     if text in ("true", "false"):
         return text == "true"
     return int(text, 0) if re.fullmatch(r"\d+|0x[0-9A-Fa-f]+", text) else text

@@ -14,7 +14,7 @@ PROGRAM = BENCH / "target" / "release" / "vectors"
 
 
 def is_built():
-    """Whether the program stands, and no source is newer."""
+    """Whether the program exists, and no source is newer."""
     sources = [BENCH / "Cargo.toml", *(BENCH / "src").rglob("*.rs")]
     return PROGRAM.exists() and all(file.stat().st_mtime <= PROGRAM.stat().st_mtime for file in sources)
 

@@ -3,7 +3,7 @@
 For each message there is a value with every row present and each field a value of its own; of a oneof it has one
 member, and there is a value for each. Then comes the value of which nothing is present. A line names a message, the
 bytes that protoc (Debian's protobuf-compiler) makes out of proto/journal.proto and a text that names the fields, and
-the value as Rust's derived Debug prints it, made of the same names and values. Behind these lines stand the frames of
+the value as Rust's derived Debug prints it, made of the same names and values. After these lines come the frames of
 the same values, where the message is that of a type: at version 8, and where an earlier version writes it otherwise at
 each; a type's code is read from conformance/frames.txt. Nothing of this project's own code takes part.
 """
@@ -26,7 +26,7 @@ HEAD = """\
 # type. The payloads are those of protoc.
 """
 
-# The versions at which the frames of a message stand: the last, and all where an earlier one writes it otherwise.
+# The versions of the frames of a message: the last, and all where an earlier one writes it otherwise.
 VERSIONS = {"ProposeRunCompletionMessage": (5, 6, 7, 8, 9), "SuspensionMessage": (5, 6, 7, 8, 9)}
 LAST_VERSION = 9
 

@@ -403,7 +403,7 @@ def write_record(source, crate, message, shared):
 
 
 def write_message(source, message):
-    """The impls that say a record's type and what it is written as. What is written otherwise at some versions stands in versions.rt."""
+    """The impls that say a record's type and what it is written as. What is written otherwise at some versions is in versions.rt."""
     name = message.name
     ty = TYPE_OF.get(name, name.removesuffix("Message"))
     result = source.result()

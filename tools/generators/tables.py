@@ -32,7 +32,7 @@ use Rattle.shared_core_base.specs.declared.header.MessageType.{MessageType}
 """
 
 COMMANDS = """\
--- What of each command is compared, and what is printed where two of them differ.
+-- Which fields of each command are compared, and which are printed if two commands differ.
 use Rattle.std.specs.Prelude.{ℕ, List, [], ◌∷◌, codes}
 use Rattle.shared_core_codec.specs.Table as schema
 use Rattle.shared_core_compare.specs.CommandFields.{CommandFields}
@@ -63,7 +63,7 @@ def row(row):
 
 
 def least(row):
-    """The number at which a row stands."""
+    """The number by which a row is ordered."""
     return min(member.number for member in row.members) if isinstance(row, OneOf) else row.number
 
 
@@ -83,7 +83,7 @@ def table():
         rows = "".join(f"{row(one)} ∷ " for one in sorted(message.rows, key=least))
         parts.append(f"    -- {message.name}\n    {'∷ ' if message.schema else ''}({rows}[])\n")
     parts.append(
-        "    ∷ []\n\n-- How many schemas there are.\nabbrev pub schema_count : ℕ\n"
+        "    ∷ []\n\n-- The number of schemas.\nabbrev pub schema_count : ℕ\n"
         f"schema_count = {len(schemas())}\n"
     )
     parts.append("\n-- The table of the protocol's messages.\nabbrev pub table : Table\ntable = table_of schemas\n")

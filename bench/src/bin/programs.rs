@@ -1,10 +1,10 @@
-//! Measures the programs journal_dump and journal_list beside the peer's, and prints a table in Markdown:
-//! programs DUMP LIST FOLDER [LENGTH]
+//! Measures the programs journal_dump, journal_list and journal_make beside the peer's, and prints a table in Markdown:
+//! programs DUMP LIST MAKE FOLDER [LENGTH]
 //!
-//! DUMP and LIST are this project's programs, FOLDER is where streams and lines are written, of which it keeps the
+//! DUMP, LIST and MAKE are this project's programs, FOLDER is where streams and lines are written, of which it keeps the
 //! streams that are measured, by their names, and LENGTH is how many bytes one of these has at least. The peer's
-//! programs `dump` and `list` are beside this one. Before a row is measured, both sides have to write the same lines,
-//! byte for byte.
+//! programs `dump`, `list` and `make` are beside this one. Before a row is measured, both sides have to write the same
+//! bytes. What a stream is made of is the peer's dump of it, and its length is that of the dump.
 
 use std::env;
 use std::error::Error;
@@ -48,9 +48,23 @@ struct Pair {
     /// The words with which ours reads a version, in chunks of 65,536 bytes.
     words: fn(u32) -> Option<Vec<String>>,
     peer: PathBuf,
+    /// The peer's dump, if what is read is not a stream but its lines.
+    dump: Option<PathBuf>,
 }
 
 impl Pair {
+    /// What it reads for a stream: that, or the lines of its dump, which are written to a file of the folder.
+    fn input(&self, version: u32, stream: &Path, folder: &Path) -> Result<PathBuf> {
+        let Some(dump) = &self.dump else {
+            return Ok(stream.to_owned());
+        };
+        let lines = folder.join("lines");
+        let mut command = Command::new(dump);
+        command.arg(version.to_string());
+        run(&mut command, stream, File::create(&lines)?)?;
+        Ok(lines)
+    }
+
     /// Ours at a version, where it reads that.
     fn ours(&self, version: u32) -> Option<Command> {
         let mut command = Command::new(&self.ours);
@@ -64,7 +78,7 @@ impl Pair {
         command
     }
 
-    /// Has both write their lines for a stream, and says how many there are, which have to be the same.
+    /// Has both write what they do for an input, which has to be the same, and says how many lines there are.
     fn compare(&self, version: u32, stream: &Path, folder: &Path) -> Result<Option<usize>> {
         let Some(mut ours) = self.ours(version) else {
             return Ok(None);
@@ -81,7 +95,11 @@ impl Pair {
             )
             .into());
         }
-        Ok(Some(ours.iter().filter(|&&byte| byte == b'\n').count()))
+        let lines = match self.dump {
+            Some(_) => fs::read(stream)?,
+            None => ours,
+        };
+        Ok(Some(lines.iter().filter(|&&byte| byte == b'\n').count()))
     }
 }
 
@@ -110,8 +128,8 @@ fn run(command: &mut Command, stream: &Path, output: impl Into<Stdio>) -> Result
     Ok(runs::wait(child).map_err(|error| format!("{command:?}: {error}"))?)
 }
 
-/// Writes a stream of at least this many bytes, the same each time, and says how many it has.
-fn write(make: Make, length: usize, path: &Path) -> Result<u64> {
+/// Writes a stream of at least this many bytes, the same each time.
+fn write(make: Make, length: usize, path: &Path) -> Result<()> {
     let mut file = BufWriter::new(File::create(path)?);
     let mut random = Random::new(2, 0);
     let mut written = 0;
@@ -120,8 +138,7 @@ fn write(make: Make, length: usize, path: &Path) -> Result<u64> {
         file.write_all(&stream)?;
         written += stream.len();
     }
-    file.flush()?;
-    Ok(written as u64)
+    Ok(file.flush()?)
 }
 
 /// Compares the lines of streams of messages of every kind, at each version.
@@ -132,7 +149,8 @@ fn compare(pairs: &[Pair], folder: &Path) -> Result<()> {
         for case in 0..COMPARED {
             fs::write(&path, streams::varied(&mut Random::new(3, case), version))?;
             for (pair, count) in pairs.iter().zip(&mut counts) {
-                *count += pair.compare(version, &path, folder)?.unwrap_or(0);
+                let input = pair.input(version, &path, folder)?;
+                *count += pair.compare(version, &input, folder)?.unwrap_or(0);
             }
         }
     }
@@ -146,7 +164,9 @@ fn compare(pairs: &[Pair], folder: &Path) -> Result<()> {
 }
 
 /// A row of the table.
-fn row(pair: &Pair, name: &str, stream: &Path, bytes: u64, folder: &Path) -> Result<()> {
+fn row(pair: &Pair, name: &str, stream: &Path, folder: &Path) -> Result<()> {
+    let stream = &pair.input(VERSION, stream, folder)?;
+    let bytes = fs::metadata(stream)?.len();
     let lines = pair.compare(VERSION, stream, folder)?;
     let (Some(lines), Some(mut ours)) = (lines, pair.ours(VERSION)) else {
         return Err(format!("{} does not read version {VERSION}", pair.name).into());
@@ -180,15 +200,15 @@ fn measure(pairs: &[Pair], folder: &Path, length: usize) -> Result<()> {
     println!("|---|---|---|---|---|---|---|");
     for (name, make) in STREAMS {
         let path = folder.join(name);
-        let bytes = write(make, length, &path)?;
+        write(make, length, &path)?;
         for pair in pairs {
-            row(pair, name, &path, bytes, folder)?;
+            row(pair, name, &path, folder)?;
         }
     }
     Ok(())
 }
 
-/// The words of journal_dump.
+/// The words of journal_dump and of journal_make.
 fn words_of_dump(version: u32) -> Option<Vec<String>> {
     Some(vec!["--protocol".into(), version.to_string()])
 }
@@ -204,27 +224,38 @@ fn words_of_list(version: u32) -> Option<Vec<String>> {
 
 fn main() -> ExitCode {
     let words: Vec<String> = env::args().skip(1).collect();
-    let (dump, list, folder, length) = match &words[..] {
-        [dump, list, folder] => (dump, list, folder, Some(LENGTH)),
-        [dump, list, folder, length] => (dump, list, folder, length.parse().ok()),
-        _ => (&String::new(), &String::new(), &String::new(), None),
+    let (programs, folder, length) = match &words[..] {
+        [programs @ .., folder] if programs.len() == 3 => (programs, folder, Some(LENGTH)),
+        [programs @ .., folder, length] if programs.len() == 3 => {
+            (programs, folder, length.parse().ok())
+        }
+        _ => (&[][..], &String::new(), None),
     };
     let (Some(length), Ok(program)) = (length, env::current_exe()) else {
-        eprintln!("usage: programs DUMP LIST FOLDER [LENGTH]");
+        eprintln!("usage: programs DUMP LIST MAKE FOLDER [LENGTH]");
         return ExitCode::from(2);
     };
     let pairs = [
         Pair {
             name: "journal_dump",
-            ours: dump.into(),
+            ours: (&programs[0]).into(),
             words: words_of_dump,
             peer: program.with_file_name("dump"),
+            dump: None,
         },
         Pair {
             name: "journal_list",
-            ours: list.into(),
+            ours: (&programs[1]).into(),
             words: words_of_list,
             peer: program.with_file_name("list"),
+            dump: None,
+        },
+        Pair {
+            name: "journal_make",
+            ours: (&programs[2]).into(),
+            words: words_of_dump,
+            peer: program.with_file_name("make"),
+            dump: Some(program.with_file_name("dump")),
         },
     ];
     match measure(&pairs, Path::new(folder), length) {

@@ -1,6 +1,7 @@
 //! Measures the library and the peer side by side, and prints a table in Markdown: speed [--check] [--only WORKLOAD]
-//! [--side ours|peer] [--what items|messages|encode|encode_into|encode_spare|encode_shared|payloads|headers] [--piece
-//! N] [--row NAME] [--size N] [--rounds N] [--protocol 5..9]
+//! [--side ours|peer]
+//! [--what items|item_refs|messages|encode|encode_into|encode_spare|encode_shared|payloads|headers]
+//! [--chunk N] [--row NAME] [--size N] [--rounds N] [--protocol 5..9]
 //!
 //! With --side nothing is compared or printed: that side alone goes over the workload that many times, for a profiler.
 //! Before a table is printed, and by `speed --check` alone, the allocations show that the rounds are made and the
@@ -24,8 +25,8 @@ use pendratsoa_bench::{ours, peer};
 /// The version of the protocol, if none is said.
 const VERSION: u32 = 8;
 
-/// The length of the pieces in which a stream comes, if not whole.
-const PIECE: usize = 4096;
+/// The length of the chunks in which a stream comes, if not whole.
+const CHUNK: usize = 4096;
 
 /// How often each side is measured; the best counts.
 const MEASUREMENTS: usize = 15;
@@ -73,6 +74,8 @@ extern "C" {
 #[derive(Clone, Copy, Debug, PartialEq, Eq)]
 enum What {
     Items,
+    /// Items that are borrowed from a stream that is whole. The peer has no such form, and takes its items.
+    ItemRefs,
     Messages,
     Encode,
     /// Frames are made in one buffer that is used again.
@@ -87,8 +90,9 @@ enum What {
 
 impl What {
     /// What is done to a stream of messages.
-    const STREAM: [What; 6] = [
+    const STREAM: [What; 7] = [
         What::Items,
+        What::ItemRefs,
         What::Messages,
         What::Encode,
         What::EncodeInto,
@@ -108,14 +112,14 @@ impl What {
     const COMMANDS: [What; 2] = [What::Payloads, What::Headers];
 
     /// Whether it takes the stream in chunks.
-    fn takes_pieces(self) -> bool {
+    fn takes_chunks(self) -> bool {
         matches!(self, What::Items | What::Messages)
     }
 
     /// How many rounds a measurement has at least.
     fn least_rounds(self) -> usize {
         match self {
-            What::Items | What::Messages => 1,
+            What::Items | What::ItemRefs | What::Messages => 1,
             What::Encode | What::EncodeInto | What::EncodeSpare | What::EncodeShared => ENCODINGS,
             What::Payloads | What::Headers => COMPARISONS,
         }
@@ -124,6 +128,7 @@ impl What {
     fn name(self) -> &'static str {
         match self {
             What::Items => "items",
+            What::ItemRefs => "item_refs",
             What::Messages => "messages",
             What::Encode => "encode",
             What::EncodeInto => "encode_into",
@@ -172,14 +177,14 @@ impl Workload {
         self.version < 7 && self.frames.iter().any(|frame| frame.code == 0x0001)
     }
 
-    /// How many payloads lie across pieces of a length.
-    fn straddling(&self, piece: usize) -> u64 {
+    /// How many payloads lie across chunks of a length.
+    fn straddling(&self, chunk: usize) -> u64 {
         let mut end = 0;
         let mut count = 0;
         for frame in &self.frames {
             let start = end + 8;
             end = start + frame.payload.len();
-            count += u64::from(end > start && start / piece != (end - 1) / piece);
+            count += u64::from(end > start && start / chunk != (end - 1) / chunk);
         }
         count
     }
@@ -242,20 +247,20 @@ impl fmt::Display for Failed {
 struct Bench<'a> {
     workload: &'a Workload,
     what: What,
-    piece: usize,
+    chunk: usize,
     words: Vec<u64>,
     out: Vec<u8>,
     buffer: BytesMut,
 }
 
 impl<'a> Bench<'a> {
-    fn new(workload: &'a Workload, what: What, piece: usize) -> Bench<'a> {
+    fn new(workload: &'a Workload, what: What, chunk: usize) -> Bench<'a> {
         let lengths = workload.frames.iter().map(|frame| frame.payload.len());
         let longest = 8 + lengths.max().unwrap_or(0);
         Bench {
             workload,
             what,
-            piece,
+            chunk,
             words: vec![0; workload.frames.len()],
             out: vec![0; longest],
             buffer: BytesMut::with_capacity(longest),
@@ -268,14 +273,17 @@ impl<'a> Bench<'a> {
         let version = self.workload.version;
         let count = match (self.what, side) {
             (What::Items, Side::Ours) => {
-                ours::items(version, stream, self.piece, rounds, &mut self.words)?
+                ours::items(version, stream, self.chunk, rounds, &mut self.words)?
             }
-            (What::Items, Side::Peer) => {
-                peer::items(version, stream, self.piece, rounds, &mut self.words);
+            (What::ItemRefs, Side::Ours) => {
+                ours::item_refs(version, stream, rounds, &mut self.words)?
+            }
+            (What::Items | What::ItemRefs, Side::Peer) => {
+                peer::items(version, stream, self.chunk, rounds, &mut self.words);
                 self.words.len()
             }
-            (What::Messages, Side::Ours) => ours::messages(version, stream, self.piece, rounds)?,
-            (What::Messages, Side::Peer) => peer::messages(version, stream, self.piece, rounds)?,
+            (What::Messages, Side::Ours) => ours::messages(version, stream, self.chunk, rounds)?,
+            (What::Messages, Side::Peer) => peer::messages(version, stream, self.chunk, rounds)?,
             (What::Encode | What::EncodeInto | What::EncodeSpare | What::EncodeShared, side) => {
                 self.encode(side, rounds)?
             }
@@ -391,7 +399,7 @@ impl<'a> Bench<'a> {
             "| {} | {} | {} | {} | {} | {:.2} | {:.2} | {:.2} |",
             self.workload.name,
             self.what.name(),
-            pieces(self.what, self.piece),
+            chunks(self.what, self.chunk),
             a_second(frames, ours),
             a_second(frames, peer),
             peer.as_secs_f64() / ours.as_secs_f64(),
@@ -425,7 +433,7 @@ impl Growing {
     fn benches(&self) -> impl Iterator<Item = Bench<'_>> {
         self.workloads
             .iter()
-            .map(|workload| Bench::new(workload, What::Messages, self.hostile.piece))
+            .map(|workload| Bench::new(workload, What::Messages, self.hostile.chunk))
     }
 
     /// A row of the table.
@@ -488,7 +496,7 @@ impl Growing {
                         "{name}, {side:?}: {of_a_round} allocations in a round, {further} in three, at most {most:.3} for a byte"
                     )));
                 }
-                // a list of elements that is moved to twice the room asks some times more
+                // a list of elements that grows by doubling allocates some times more
                 most = (of_a_round + 8) as f64 / length;
             }
         }
@@ -647,7 +655,7 @@ fn joined(numbers: &[f64], places: usize) -> String {
     words.collect::<Vec<_>>().join(", ")
 }
 
-/// What is to be checked of a side.
+/// Checks a side.
 fn check(workload: &Workload, what: What, side: Side) -> Result<(), Failed> {
     if What::COMMANDS.contains(&what) {
         check_comparisons(workload, what, side)
@@ -669,7 +677,7 @@ fn check_comparisons(workload: &Workload, what: What, side: Side) -> Result<(), 
 }
 
 /// That a side makes the rounds that are requested of it, each with the same allocations, which are none where a buffer
-/// is used again; and that it takes the stream in the chunks that are requested of it: each payload that straddles
+/// is used again or items are borrowed; and that it takes the stream in the chunks that are requested of it: each payload that straddles
 /// chunks has to be joined.
 fn check_rounds(workload: &Workload, what: What, side: Side) -> Result<(), Failed> {
     let failed = |why| {
@@ -679,8 +687,8 @@ fn check_rounds(workload: &Workload, what: What, side: Side) -> Result<(), Faile
             what.name()
         ))
     };
-    let piece = if what.takes_pieces() { PIECE } else { 0 };
-    let mut bench = Bench::new(workload, what, piece);
+    let chunk = if what.takes_chunks() { CHUNK } else { 0 };
+    let mut bench = Bench::new(workload, what, chunk);
     let of_a_round = bench.of_a_round(side)?;
     let twice = bench.counted(side, 2)?;
     let more = bench.counted(side, 5)?;
@@ -690,17 +698,19 @@ fn check_rounds(workload: &Workload, what: What, side: Side) -> Result<(), Faile
     }
     // the peer makes the lists of a suspension before V7, and the library writes them off its tree
     let makes_lists = workload.has_lists() && matches!(side, Side::Peer);
-    let asks = !matches!(what, What::EncodeInto | What::EncodeSpare) || makes_lists;
+    let is_borrowed = what == What::ItemRefs && matches!(side, Side::Ours);
+    let asks =
+        !(matches!(what, What::EncodeInto | What::EncodeSpare) || is_borrowed) || makes_lists;
     if (of_a_round > 0) != asks || more.saturating_sub(twice) != 3 * of_a_round {
         return Err(failed(format!(
             "{of_a_round} allocations in a round, {twice} in two and {more} in five"
         )));
     }
-    if !what.takes_pieces() {
+    if !what.takes_chunks() {
         return Ok(());
     }
     let whole = Bench::new(workload, what, 0).of_a_round(side)?;
-    let straddling = workload.straddling(PIECE);
+    let straddling = workload.straddling(CHUNK);
     if of_a_round < whole + straddling {
         return Err(failed(format!(
             "{of_a_round} allocations in chunks and {whole} whole, for {straddling} payloads that straddle chunks"
@@ -709,11 +719,11 @@ fn check_rounds(workload: &Workload, what: What, side: Side) -> Result<(), Faile
     Ok(())
 }
 
-fn pieces(what: What, piece: usize) -> String {
-    match (what.takes_pieces(), piece) {
+fn chunks(what: What, chunk: usize) -> String {
+    match (what.takes_chunks(), chunk) {
         (false, _) => "-".into(),
         (true, 0) => "whole".into(),
-        (true, _) => piece.to_string(),
+        (true, _) => chunk.to_string(),
     }
 }
 
@@ -740,7 +750,7 @@ struct Options {
     only: Option<String>,
     side: Option<Side>,
     what: Option<What>,
-    piece: Option<usize>,
+    chunk: Option<usize>,
     row: Option<String>,
     size: Option<usize>,
     rounds: Option<usize>,
@@ -761,7 +771,7 @@ impl Options {
                 "--only" => options.only = Some(value),
                 "--side" => options.side = Some(side(&value)?),
                 "--what" => options.what = Some(what(&value)?),
-                "--piece" => options.piece = Some(value.parse().ok()?),
+                "--chunk" => options.chunk = Some(value.parse().ok()?),
                 "--row" => options.row = Some(value),
                 "--size" => options.size = Some(value.parse().ok()?),
                 "--rounds" => options.rounds = Some(value.parse().ok()?),
@@ -772,11 +782,11 @@ impl Options {
         Some(options)
     }
 
-    /// What is to be measured of a workload.
+    /// The measurements of a workload.
     fn benches<'a>(&self, workload: &'a Workload) -> Vec<Bench<'a>> {
-        let pieces = |what: What| match self.piece {
-            Some(piece) => vec![piece],
-            None if what.takes_pieces() => vec![PIECE, 0],
+        let chunks = |what: What| match self.chunk {
+            Some(chunk) => vec![chunk],
+            None if what.takes_chunks() => vec![CHUNK, 0],
             None => vec![0],
         };
         workload
@@ -784,8 +794,8 @@ impl Options {
             .iter()
             .copied()
             .filter(|what| self.what.unwrap_or(*what) == *what)
-            .flat_map(|what| pieces(what).into_iter().map(move |piece| (what, piece)))
-            .map(|(what, piece)| Bench::new(workload, what, piece))
+            .flat_map(|what| chunks(what).into_iter().map(move |chunk| (what, chunk)))
+            .map(|(what, chunk)| Bench::new(workload, what, chunk))
             .collect()
     }
 
@@ -869,7 +879,7 @@ fn measure(options: &Options) -> Result<(), Failed> {
     hostile.iter().try_for_each(Growing::check)?;
     crossings.iter().try_for_each(Crossing::check)?;
     if options.check {
-        println!("rounds are made and pieces used");
+        println!("rounds are made and chunks used");
         return Ok(());
     }
     measure_workloads(options, &workloads)?;
@@ -890,7 +900,7 @@ fn measure_workloads(options: &Options, workloads: &[Workload]) -> Result<(), Fa
         );
     }
     println!();
-    println!("| workload | what | pieces | ours a second | peer a second | ours / peer | requests a frame, ours | peer |");
+    println!("| workload | what | chunks | ours a second | peer a second | ours / peer | requests a frame, ours | peer |");
     println!("|---|---|---|---|---|---|---|---|");
     workloads
         .iter()
@@ -924,7 +934,7 @@ fn measure_calls(crossings: &[Crossing]) -> Result<(), Failed> {
 fn main() -> ExitCode {
     let Some(options) = Options::read(env::args().skip(1)) else {
         eprintln!(
-            "usage: speed [--check] [--only WORKLOAD] [--side ours|peer] [--what items|messages|encode|encode_into|encode_spare|encode_shared|payloads|headers] [--piece N] [--row NAME] [--size N] [--rounds N] [--protocol 5..9]"
+            "usage: speed [--check] [--only WORKLOAD] [--side ours|peer] [--what items|item_refs|messages|encode|encode_into|encode_spare|encode_shared|payloads|headers] [--chunk N] [--row NAME] [--size N] [--rounds N] [--protocol 5..9]"
         );
         return ExitCode::from(2);
     };

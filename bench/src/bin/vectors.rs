@@ -78,7 +78,7 @@ fn tell(departures: usize) {
     eprintln!("known difference, prost rejects a skipped record on the last level: {departures}");
 }
 
-/// Does what the command line says, if it says anything.
+/// Runs the command line, or returns `None` if it is invalid.
 fn run(words: &[&str]) -> Option<Result<(), Failed>> {
     Some(match words {
         [] => print(SEED, COUNT),

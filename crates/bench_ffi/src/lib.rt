@@ -2,14 +2,14 @@
 //! library of their own, so that the library for C holds none of them.
 #![tactic(auto)]
 
-ghost use Rattle.journal_c_api.specs.Answers.{Answers, Writes};
+ghost use Rattle.journal_c_api.specs.Outcomes.{Returns, Writes};
 ghost use Rattle.journal_c_api.specs.Payloads.{ReturnsFrame, ReturnsWellFormed};
 ghost use Rattle.measured_c_api.specs.Comparisons.{ReturnsComparisons};
 ghost use Rattle.measured_c_api.specs.Streams.{ReturnsItems, ReturnsMessages};
 
-use journal_c_api::answer::answer_of;
+use journal_c_api::outcome::outcome_of;
 use measured_c_api::frames::{Buffer, Rounds};
-use measured_c_api::{commands, frames, payloads, streams};
+use measured_c_api::{commands, frames, item_refs, payloads, streams};
 use std::alloc::Global;
 
 /// Reads a stream of a version from 5 to 9, which comes in chunks of this many bytes (0: in one chunk), and writes a
@@ -24,13 +24,26 @@ pub extern "C" fn measure_items(
     alloc: Global,
     version: u32,
     stream: &[u8],
-    piece: usize,
+    chunk_size: usize,
     rounds: usize,
     words: &mut [u64],
 ) -> i64
-    ensures { Answers result (ReturnsItems version stream.now words.new) }
+    ensures { Returns result (ReturnsItems version stream.now words.new) }
 {
-    answer_of(streams::items(alloc, version, stream, piece, rounds, words))
+    outcome_of(streams::items(alloc, version, stream, chunk_size, rounds, words))
+}
+
+/// As `measure_items`, but the items are borrowed from the stream, which is not copied, and nothing allocates.
+#[unsafe(no_mangle)]
+pub extern "C" fn measure_item_refs(
+    version: u32,
+    stream: &[u8],
+    rounds: usize,
+    words: &mut [u64],
+) -> i64
+    ensures { Returns result (ReturnsItems version stream.now words.new) }
+{
+    outcome_of(item_refs::items(version, stream, rounds, words))
 }
 
 /// As `measure_items`, but each message of a named type is decoded to its record, and nothing is written. Returns the
@@ -40,12 +53,12 @@ pub extern "C" fn measure_messages(
     alloc: Global,
     version: u32,
     stream: &[u8],
-    piece: usize,
+    chunk_size: usize,
     rounds: usize,
 ) -> i64
-    ensures { Answers result (ReturnsMessages version stream.now) }
+    ensures { Returns result (ReturnsMessages version stream.now) }
 {
-    answer_of(streams::messages(alloc, version, stream, piece, rounds))
+    outcome_of(streams::messages(alloc, version, stream, chunk_size, rounds))
 }
 
 /// Decodes each command of a stream of a version from 5 to 9 twice, and compares the two `rounds` times (0: not at
@@ -60,9 +73,9 @@ pub extern "C" fn measure_compare(
     ignore_payloads: u32,
     rounds: usize,
 ) -> i64
-    ensures { Answers result (ReturnsComparisons version stream.now rounds) }
+    ensures { Returns result (ReturnsComparisons version stream.now rounds) }
 {
-    answer_of(commands::compare(alloc, version, stream, ignore_payloads != 0, rounds))
+    outcome_of(commands::compare(alloc, version, stream, ignore_payloads != 0, rounds))
 }
 
 /// Decodes a payload for the named message type that has the code, and writes the frame of that message at a version
@@ -77,13 +90,13 @@ pub extern "C" fn measure_frame(
     rounds: usize,
     out: &mut [u8],
 ) -> i64
-    ensures { Answers result (Writes (ReturnsFrame version code payload.now) out.old out.new) }
+    ensures { Returns result (Writes (ReturnsFrame version code payload.now) out.old out.new) }
 {
     let rounds = Rounds {
         count: rounds,
         buffer: Buffer::New,
     };
-    answer_of(frames::write_frame(alloc, version, code, payload, rounds, out))
+    outcome_of(frames::write_frame(alloc, version, code, payload, rounds, out))
 }
 
 /// As `measure_frame`, but all rounds share one buffer, which is cleared before each: only the first, and a suspension
@@ -97,13 +110,13 @@ pub extern "C" fn measure_frame_into(
     rounds: usize,
     out: &mut [u8],
 ) -> i64
-    ensures { Answers result (Writes (ReturnsFrame version code payload.now) out.old out.new) }
+    ensures { Returns result (Writes (ReturnsFrame version code payload.now) out.old out.new) }
 {
     let rounds = Rounds {
         count: rounds,
         buffer: Buffer::Reused,
     };
-    answer_of(frames::write_frame(alloc, version, code, payload, rounds, out))
+    outcome_of(frames::write_frame(alloc, version, code, payload, rounds, out))
 }
 
 /// As `measure_frame_into`, but the buffer's spare room is initialized, so that no byte is written twice.
@@ -116,13 +129,13 @@ pub extern "C" fn measure_frame_spare(
     rounds: usize,
     out: &mut [u8],
 ) -> i64
-    ensures { Answers result (Writes (ReturnsFrame version code payload.now) out.old out.new) }
+    ensures { Returns result (Writes (ReturnsFrame version code payload.now) out.old out.new) }
 {
     let rounds = Rounds {
         count: rounds,
         buffer: Buffer::Spare,
     };
-    answer_of(frames::write_frame(alloc, version, code, payload, rounds, out))
+    outcome_of(frames::write_frame(alloc, version, code, payload, rounds, out))
 }
 
 /// As `measure_frame`, but the frames of all rounds share the blocks of one buffer, and the last 1,024 are held.
@@ -135,13 +148,13 @@ pub extern "C" fn measure_frame_shared(
     rounds: usize,
     out: &mut [u8],
 ) -> i64
-    ensures { Answers result (Writes (ReturnsFrame version code payload.now) out.old out.new) }
+    ensures { Returns result (Writes (ReturnsFrame version code payload.now) out.old out.new) }
 {
     let rounds = Rounds {
         count: rounds,
         buffer: Buffer::Shared,
     };
-    answer_of(frames::write_frame(alloc, version, code, payload, rounds, out))
+    outcome_of(frames::write_frame(alloc, version, code, payload, rounds, out))
 }
 
 /// As `journal_is_well_formed`, but repeated `rounds` times (0 counts as 1).
@@ -152,7 +165,7 @@ pub extern "C" fn measure_well_formed(
     payload: &[u8],
     rounds: usize,
 ) -> i64
-    ensures { Answers result (ReturnsWellFormed schema payload.now) }
+    ensures { Returns result (ReturnsWellFormed schema payload.now) }
 {
-    answer_of(payloads::is_well_formed(alloc, schema, payload, rounds))
+    outcome_of(payloads::is_well_formed(alloc, schema, payload, rounds))
 }

@@ -1,4 +1,4 @@
-//! What the programs share: their arguments, the files that they read, and how they say what is wrong.
+//! What the programs share: reading their arguments, opening files, and reporting errors.
 #![tactic(auto)]
 
 mod pipe;
@@ -19,7 +19,7 @@ pub fn arguments(rt: &HostRuntime) -> io::Result<Vec<String>> {
     Ok(env::args(rt)?.collect(rt.alloc())?)
 }
 
-/// Opens a file to be read. A directory is an error here, and not first where it is read.
+/// Opens a file for reading. A directory is an error already here, and not only when it is read.
 pub fn open_file(rt: &HostRuntime, path: &str) -> io::Result<File> {
     let file = fs::open(rt, path)?;
     if file.metadata().is_ok_and(|metadata| metadata.is_dir()) {
@@ -37,9 +37,9 @@ pub fn fail<T: Display + Drop>(rt: &HostRuntime, program: &str, why: T, status: 
     ExitCode::from(status)
 }
 
-/// Prints what a command line asks for: the help or the version, with the status 0. Otherwise prints on the standard
-/// error which argument is wrong, why, and what is taken, with the status 2. `failure` is the status of an allocation
-/// or an output that fails.
+/// Prints the help or the version if the command line requests it, with the status 0. Otherwise prints the command-line
+/// error and the usage on the standard error, with the status 2. If an allocation or the output fails, the status is
+/// `failure`.
 pub fn report(rt: &HostRuntime, program: &str, error: &Error, failure: u8) -> ExitCode {
     if error.kind() == ErrorKind::OutOfMemory {
         return fail(rt, program, "out of memory", failure);

@@ -1,9 +1,9 @@
-//! An output whose reader may go away.
+//! An output that its reader may close.
 
 use std::io::{self, ErrorKind, Write};
 
-/// A writer that remembers whether its reader is gone, as that of `| head -1` is after the first line. What a program
-/// writes to it then fails, and it is no failure that the program has to report.
+/// A writer that records whether its reader has closed it, as `| head -1` does after the first line. A write then
+/// fails, which the program does not report.
 #[derive(Drop)]
 pub struct Pipe<W> {
     writer: W,
@@ -13,7 +13,7 @@ pub struct Pipe<W> {
 impl<W> Pipe<W> {
     ghost use Rattle.std.specs.Prelude.{◌≡◌, false};
 
-    /// Writes to this writer, whose reader is there.
+    /// Writes to this writer, which is open.
     pub fn new(writer: W) -> Pipe<W>
         ensures { result ≡ record { writer = writer; is_broken = false } }
     {
@@ -23,7 +23,7 @@ impl<W> Pipe<W> {
         }
     }
 
-    /// Whether a write found that the reader is gone.
+    /// Whether a write found that the reader has closed it.
     pub fn is_broken(&self) -> bool
         ensures { result ≡ self.now.is_broken }
     {

@@ -9,7 +9,7 @@ use Rattle.shared_core.specs.declared.encoding.item_ref.ItemRef.{ItemRef}
 use Rattle.shared_core.specs.Borrowed.{IsAtFront, IsMissing, item_borrowed, missing_bytes}
 use Rattle.shared_core.specs.Items.{front_word, skips_unknown_messages, body_length, item_of}
 use Rattle.shared_core.proofs.Items.{front_word_more}
-use Rattle.journal_c_api.specs.Answers.{written_over}
+use Rattle.journal_c_api.specs.Outcomes.{written_over}
 use Rattle.journal_c_api.specs.Items.{item_kind, item_code, item_ack, item_payload, item_numbers, FindsItem}
 
 -- a flag as a number
@@ -18,7 +18,7 @@ ack_bit_is None = refl
 ack_bit_is (Some true) = refl
 ack_bit_is (Some false) = refl
 
--- where bytes are missing nothing is written
+-- if bytes are missing, nothing is written
 pub item_missing : (version : Version) (bytes old : List ℕ) (missing : ℕ) → IsMissing version bytes missing → FindsItem version bytes old old missing
 item_missing version bytes old missing are = record {
   counted = are.counted;

@@ -1,4 +1,4 @@
--- The header of a payload before its frame.
+-- A frame begins with the header of its type.
 use Rattle.std.proofs.Common.{◌≡◌, ℕ, ◌+◌, ◌-◌, List, Option, Some, None, Bool, true, false, cond, Ok, length, take, refl, ap, ◌∙◌, arith, length-append}
 use Rattle.std.specs.Int.{w64, to_be_bytes}
 use Rattle.shared_core_base.specs.declared.version.Version.{Version}
@@ -14,8 +14,8 @@ use Rattle.shared_core_codec.specs.Table as tables
 use Rattle.shared_core_runtime.specs.Flattening.{flattened}
 use Rattle.shared_core_base.specs.Version.{has_flat_suspensions}
 use Rattle.shared_core.specs.Visiting.{written_form}
-use Rattle.journal_c_api.specs.Answers.{AtVersion, supported_version}
-use Rattle.journal_c_api.specs.Headers.{ReturnsHeader, flag_at, header_at, header_answer}
+use Rattle.journal_c_api.specs.Outcomes.{AtVersion, supported_version}
+use Rattle.journal_c_api.specs.Headers.{ReturnsHeader, flag_at, header_at, header_outcome}
 use Rattle.journal_c_api.specs.Payloads.{ReturnsFrame, ReturnsFrameAt, ReturnsFrameOf}
 
 suspension_flag : (before : Bool) (suspension : Parts)
@@ -45,20 +45,20 @@ form_header ty version form frame flag is =
     ∙ ap (λ n. to_be_bytes w64 (word_of (header_at version ty n))) left
 
 of_schema : (ty : MessageType) (schema : Option ℕ) (version : Version) (payload frame : List ℕ) → ReturnsFrameOf ty schema version payload (Ok frame)
-    → Ok (take 8 frame) ≡ header_answer (Some version) (Some ty) (length frame - 8)
+    → Ok (take 8 frame) ≡ header_outcome (Some version) (Some ty) (length frame - 8)
 of_schema ty None version payload frame is = absurd cc
 of_schema ty (Some s) version payload frame held =
     let form = written_form ty s version (payload_meaning s payload) in
     ap Ok (form_header ty version form frame (flag_written ty s version (payload_meaning s payload)) held.1)
 
 of_type : (found : Option MessageType) (version : Version) (payload frame : List ℕ) → ReturnsFrameAt found version payload (Ok frame)
-    → Ok (take 8 frame) ≡ header_answer (Some version) found (length frame - 8)
+    → Ok (take 8 frame) ≡ header_outcome (Some version) found (length frame - 8)
 of_type None version payload frame is = absurd cc
 of_type (Some ty) version payload frame held = of_schema ty (message_schema ty) version payload frame held
 
 at_version : (spoken : Option Version) (found : Option MessageType) (payload frame : List ℕ)
     → AtVersion spoken (Ok frame) (λ version. ReturnsFrameAt found version payload (Ok frame))
-    → Ok (take 8 frame) ≡ header_answer spoken found (length frame - 8)
+    → Ok (take 8 frame) ≡ header_outcome spoken found (length frame - 8)
 at_version None found payload frame is = absurd cc
 at_version (Some version) found payload frame held = of_type found version payload frame held
 

@@ -8,11 +8,11 @@ use Rattle.shared_core_base.specs.declared.message_header.MessageHeader.{Message
 use Rattle.shared_core_base.specs.MessageHeader.{word_of}
 use Rattle.shared_core_base.specs.MessageType.{type_of}
 use Rattle.shared_core_base.specs.Version.{requests_acknowledgement}
-use Rattle.journal_c_api.specs.declared.answer.Refusal.{Refusal}
-use Rattle.journal_c_api.specs.declared.answer.Refusal.TheVariants.{Unknown}
-use Rattle.journal_c_api.specs.Answers.{supported_version}
+use Rattle.journal_c_api.specs.declared.outcome.Refusal.{Refusal}
+use Rattle.journal_c_api.specs.declared.outcome.Refusal.TheVariants.{Unknown}
+use Rattle.journal_c_api.specs.Outcomes.{supported_version}
 
--- The flag of a type's headers at a version: the proposal of a run's result asks for an acknowledgement from V7 on, and
+-- The flag of a type's headers at a version: the proposal of a run's result requests an acknowledgement from V7 on, and
 -- no other header has a flag.
 abbrev pub flag_at : Version → MessageType → Option Bool
 flag_at version ProposeRunCompletion = if requests_acknowledgement version then Some true else None
@@ -22,11 +22,11 @@ flag_at version ty = None
 abbrev pub header_at : Version → MessageType → ℕ → MessageHeader
 header_at version ty payload_length = record { ty = ty; length = payload_length; requested_ack = flag_at version ty }
 
--- Its eight bytes, the first byte highest; Unknown where there is no version or no type.
-abbrev pub header_answer : Option Version → Option MessageType → ℕ → Result (List ℕ) Refusal
-header_answer (Some version) (Some ty) payload_length = Ok (to_be_bytes w64 (word_of (header_at version ty payload_length)))
-header_answer version ty payload_length = Err Unknown
+-- The eight bytes of a header, the first byte highest; Unknown if there is no version or no type.
+abbrev pub header_outcome : Option Version → Option MessageType → ℕ → Result (List ℕ) Refusal
+header_outcome (Some version) (Some ty) payload_length = Ok (to_be_bytes w64 (word_of (header_at version ty payload_length)))
+header_outcome version ty payload_length = Err Unknown
 
 -- The result of journal_header.
 abbrev pub ReturnsHeader : ℕ → ℕ → ℕ → Result (List ℕ) Refusal → Type 0
-ReturnsHeader number code payload_length answer = answer ≡ header_answer (supported_version number) (type_of code) payload_length
+ReturnsHeader number code payload_length outcome = outcome ≡ header_outcome (supported_version number) (type_of code) payload_length

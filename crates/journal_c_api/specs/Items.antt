@@ -7,9 +7,9 @@ use Rattle.shared_core.specs.declared.encoding.item.Item.{Item}
 use Rattle.shared_core.specs.declared.encoding.item.Item.TheVariants.{Message, Unknown as UnknownCode, Skipped}
 use Rattle.shared_core.specs.Items.{front_word, IsItem, NoItemBegins}
 use Rattle.shared_core.specs.Borrowed.{missing_bytes}
-use Rattle.journal_c_api.specs.declared.answer.Refusal.{Refusal}
-use Rattle.journal_c_api.specs.declared.answer.Refusal.TheVariants.{NoRoom, Unknown}
-use Rattle.journal_c_api.specs.Answers.{supported_version, written_over}
+use Rattle.journal_c_api.specs.declared.outcome.Refusal.{Refusal}
+use Rattle.journal_c_api.specs.declared.outcome.Refusal.TheVariants.{NoRoom, Unknown}
+use Rattle.journal_c_api.specs.Outcomes.{supported_version, written_over}
 
 -- Which of the three kinds an item is.
 abbrev pub item_kind : Item → ℕ
@@ -23,7 +23,7 @@ item_code (Message message) = code_of message.header.ty
 item_code (UnknownCode code) = code
 item_code (Skipped code payload) = code
 
--- Whether an item asks for an acknowledgement, as a number: a header's flag alone does.
+-- Whether the header of an item requests an acknowledgement, as a number.
 abbrev pub item_ack : Item → ℕ
 item_ack (Message message) = ack_bit message.header.requested_ack
 item_ack other = 0
@@ -39,22 +39,22 @@ abbrev pub item_numbers : ℕ → ℕ → Item → List ℕ
 item_numbers word size item =
     item_kind item ∷ word ∷ item_code item ∷ item_ack item ∷ size ∷ (size - length (item_payload item)) ∷ []
 
--- An item is at the front of the bytes, and its numbers are written over the slice.
+-- An item is at the front of the bytes, and its numbers are written at the front of the slice.
 abbrev pub WritesItem : Version → List ℕ → List ℕ → List ℕ → Type 0
 WritesItem version bytes old new =
     (item : Item) × (first : List ℕ) × (rest : List ℕ) × IsItem version first item × (bytes ≡ first ++ rest)
     × (new ≡ written_over (item_numbers (front_word bytes) (length first) item) old)
 
--- So many bytes are missing of the item that the bytes begin with: with any fewer after them no whole item is at their
--- front, and the slice is as it was. Where none are missing, an item is there, and its numbers are written.
+-- The number of missing bytes of the item that the bytes begin with: with fewer bytes appended, no whole item is at the
+-- front. If none are missing, the numbers of the item are written; otherwise the slice is unchanged.
 pub record FindsItem (version : Version) (bytes old new : List ℕ) (missing : ℕ) : Type 0 where
   pub counted : missing ≡ missing_bytes version bytes
   pub needed : (more : List ℕ) → length more < missing → NoItemBegins version (bytes ++ more)
   pub found : missing ≡ 0 → WritesItem version bytes old new
   pub kept : 0 < missing → new ≡ old
 
--- The result of journal_next, and what it writes: Unknown where the number denotes no version, and otherwise NoRoom
--- where the slice has fewer than six numbers; either leaves the slice as it was.
+-- The result of journal_next, and what it writes: Unknown if the number denotes no version, otherwise NoRoom if the
+-- slice has fewer than six numbers; after either the slice is unchanged.
 abbrev pub WritesNext : ℕ → List ℕ → List ℕ → List ℕ → Result ℕ Refusal → Type 0
 WritesNext number bytes old new (Ok missing) =
     (version : Version) × (supported_version number ≡ Some version) × (6 ≤ length old) × FindsItem version bytes old new missing

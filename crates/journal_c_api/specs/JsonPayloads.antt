@@ -1,15 +1,17 @@
 -- The result of the call that reads JSON.
-use Rattle.std.specs.Prelude.{◌≡◌, ◌≢◌, ℕ, ◌^◌, ◌<◌, ◌≤◌, true, false, nat_lt, List, [], ◌∷◌, length, string_bytes, Some, None, Result, Ok, Err}
+use Rattle.std.specs.Prelude.{◌≡◌, ◌≢◌, ℕ, ◌^◌, ◌<◌, ◌≤◌, true, false, nat_lt, List, [], ◌∷◌, length, string_bytes, Some, None, option_map, Result, Ok, Err}
 use Rattle.json.specs.Json.{Json}
 use Rattle.shared_core_codec.specs.Table.{schema_count}
 use Rattle.shared_core_json_reader.specs.declared.error.Reason.{Reason}
 use Rattle.shared_core_json_reader.specs.declared.error.Reason.TheVariants as reasons
+use Rattle.shared_core_json_reader.specs.declared.error.JsonReadError.{JsonReadError}
 use Rattle.shared_core_json_reader.specs.Reading.{json_of_text, text_payload}
-use Rattle.journal_c_api.specs.declared.answer.Refusal.{Refusal}
-use Rattle.journal_c_api.specs.declared.answer.Refusal.TheVariants.{OutOfMemory, NoRoom, TooLong, Unknown}
+use Rattle.shared_core_json_reader.specs.FirstError.{value_error, IsPlace}
+use Rattle.journal_c_api.specs.declared.outcome.Refusal.{Refusal}
+use Rattle.journal_c_api.specs.declared.outcome.Refusal.TheVariants.{OutOfMemory, NoRoom, TooLong, Unknown}
 use Rattle.journal_c_api.specs.declared.json_payloads.Reading.{Reading}
 use Rattle.journal_c_api.specs.declared.json_payloads.Reading.TheVariants.{Payload, NotJson, NotTaken}
-use Rattle.journal_c_api.specs.Answers.{written_over}
+use Rattle.journal_c_api.specs.Outcomes.{written_over}
 
 -- The two numbers of a reading: its kind, and where the text stops being JSON.
 abbrev pub reading_numbers : Reading → List ℕ
@@ -17,19 +19,36 @@ reading_numbers (Payload payload) = 0 ∷ 0 ∷ []
 reading_numbers (NotJson offset) = 1 ∷ offset ∷ []
 reading_numbers (NotTaken kind path) = kind ∷ 0 ∷ []
 
--- The bytes of a reading: the payload, or the path to what is not taken.
+-- The bytes of a reading: the payload, or the path to the rejected value.
 abbrev pub reading_bytes : Reading → List ℕ
 reading_bytes (Payload payload) = payload.items
 reading_bytes (NotJson offset) = []
 reading_bytes (NotTaken kind path) = string_bytes path
 
--- A text is read as this for a schema: as the canonical payload of the value that it means; as no JSON, where it is
--- not; and where it is JSON and means no value, as one of the seven kinds of what is not taken.
+-- The kind of a reason for which a text that is JSON means no value; the last two are reasons of other texts.
+abbrev pub kind_of : Reason → ℕ
+kind_of reasons.UnknownMember = 2
+kind_of reasons.RepeatedMember = 3
+kind_of reasons.SeveralMembers = 4
+kind_of reasons.WrongKind = 5
+kind_of reasons.OutOfRange = 6
+kind_of reasons.NotBase64 = 7
+kind_of reasons.TooDeep = 8
+kind_of reasons.NotJson = 5
+kind_of reasons.OutOfMemory = 5
+
+-- The kind and the path of the first error of a value.
+abbrev pub kind_and_path : Reason × List ℕ → ℕ × List ℕ
+kind_and_path first = (kind_of first.0, first.1)
+
+-- A text is read as this for a schema: as the canonical payload of the value that it means; as not JSON, from an offset
+-- in it on; or, if it is JSON without a meaning, as the kind and the path of its first error.
 abbrev pub IsReading : ℕ → List ℕ → Reading → Type 0
 IsReading s text (Payload payload) = (text_payload s text ≡ Some payload.items) × (length payload.items < 2 ^ 32)
-IsReading s text (NotJson offset) = json_of_text text ≡ None
+IsReading s text (NotJson offset) = (json_of_text text ≡ None) × IsPlace text (Some offset)
 IsReading s text (NotTaken kind path) =
-    (j : Json) × (json_of_text text ≡ Some j) × (text_payload s text ≡ None) × (2 ≤ kind) × (kind ≤ 8)
+    (j : Json) × (json_of_text text ≡ Some j) × (text_payload s text ≡ None)
+    × (option_map kind_and_path (value_error s j) ≡ Some (kind, string_bytes path))
 
 -- The payload that a text means is too long for a header.
 abbrev pub MeansTooLong : ℕ → List ℕ → Type 0
@@ -42,17 +61,19 @@ ReadsText s text (Err TooLong) = MeansTooLong s text
 ReadsText s text (Err OutOfMemory) = Unit {0}
 ReadsText s text (Err refusal) = ⊥
 
--- The result for a reason for which a text is not JSON.
-abbrev pub SaysNotJson : Reason → Result Reading Refusal → Type 0
-SaysNotJson reason (Ok (NotJson offset)) = reason ≢ reasons.OutOfMemory
-SaysNotJson reason (Ok reading) = ⊥
-SaysNotJson reason (Err refusal) = refusal ≡ OutOfMemory
+-- The result for the error of a text that is not JSON.
+abbrev pub SaysNotJson : JsonReadError → Result Reading Refusal → Type 0
+SaysNotJson error (Ok (NotJson offset)) =
+    (error.reason ≢ reasons.OutOfMemory) × ((text : List ℕ) → IsPlace text error.offset → IsPlace text (Some offset))
+SaysNotJson error (Ok reading) = ⊥
+SaysNotJson error (Err refusal) = refusal ≡ OutOfMemory
 
--- The result for a reason for which a text that is JSON means nothing.
-abbrev pub SaysNotTaken : Reason → Result Reading Refusal → Type 0
-SaysNotTaken reason (Ok (NotTaken kind path)) = (reason ≢ reasons.OutOfMemory) × (2 ≤ kind) × (kind ≤ 8)
-SaysNotTaken reason (Ok reading) = ⊥
-SaysNotTaken reason (Err refusal) = refusal ≡ OutOfMemory
+-- The result for the error of a text that is JSON without a meaning.
+abbrev pub SaysNotTaken : JsonReadError → Result Reading Refusal → Type 0
+SaysNotTaken error (Ok (NotTaken kind path)) =
+    (error.reason ≢ reasons.OutOfMemory) × (kind ≡ kind_of error.reason) × (string_bytes path ≡ string_bytes error.path)
+SaysNotTaken error (Ok reading) = ⊥
+SaysNotTaken error (Err refusal) = refusal ≡ OutOfMemory
 
 -- The result is the payload, or that it is too long for a header.
 abbrev pub IsIfShort : List ℕ → Result Reading Refusal → Type 0
@@ -60,15 +81,15 @@ IsIfShort bytes (Ok (Payload payload)) = (payload.items ≡ bytes) × (length by
 IsIfShort bytes (Ok reading) = ⊥
 IsIfShort bytes (Err refusal) = (refusal ≡ TooLong) × (2 ^ 32 ≤ length bytes)
 
--- Why the call is rejected: Unknown where no schema has the number, else NoRoom where there is room for fewer than two
--- numbers, otherwise as the text is.
+-- Why the call is rejected: Unknown if no schema has the number, otherwise NoRoom if there is room for fewer than two
+-- numbers, otherwise for the reason for which the text is rejected.
 abbrev pub RefusesReading : ℕ → ℕ → List ℕ → Refusal → Type 0
 RefusesReading s room text Unknown = nat_lt s schema_count ≡ false
 RefusesReading s room text NoRoom = (nat_lt s schema_count ≡ true) × (room < 2)
 RefusesReading s room text refusal = (nat_lt s schema_count ≡ true) × (2 ≤ room) × ReadsText s text (Err refusal)
 
 -- The result of journal_payload_of_json, and what it writes: the numbers and the bytes of what the text is read as. An
--- error leaves both slices as they were.
+-- error leaves both slices unchanged.
 abbrev pub WritesReading : ℕ → List ℕ → List ℕ → List ℕ → List ℕ → List ℕ → Result ℕ Refusal → Type 0
 WritesReading s text numbers_old numbers_new old new (Ok count) =
     (nat_lt s schema_count ≡ true) × (2 ≤ length numbers_old) × (reading : Reading) × IsReading s text reading

@@ -1,4 +1,3 @@
-pub mod Answers
 pub mod Commands
 pub mod Headers
 pub mod Items
@@ -6,4 +5,5 @@ pub mod Journals
 pub mod JsonPayloads
 pub mod Names
 pub mod Notifications
+pub mod Outcomes
 pub mod Payloads

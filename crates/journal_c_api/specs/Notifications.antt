@@ -17,32 +17,32 @@ use Rattle.shared_core_parts.specs.contracts.failure.FailureWireRecord.TheImpl a
 use Rattle.shared_core_parts.specs.contracts.state_keys.StateKeysWireRecord.TheImpl as state_keys
 use Rattle.shared_core.specs.Typed.{MeansParts}
 use Rattle.shared_core.specs.View.{notification_parts, LacksField}
-use Rattle.journal_c_api.specs.declared.answer.Refusal.{Refusal}
-use Rattle.journal_c_api.specs.declared.answer.Refusal.TheVariants.{Malformed, OutOfMemory, NoRoom, TooLong, Unknown, NoId, NoResult}
-use Rattle.journal_c_api.specs.Answers.{written_over}
+use Rattle.journal_c_api.specs.declared.outcome.Refusal.{Refusal}
+use Rattle.journal_c_api.specs.declared.outcome.Refusal.TheVariants.{Malformed, OutOfMemory, NoRoom, TooLong, Unknown, NoId, NoResult}
+use Rattle.journal_c_api.specs.Outcomes.{written_over}
 
 -- The code is that of a type of notifications, named or custom.
 abbrev pub IsNotificationCode : ℕ → Type 0
 IsNotificationCode code = (ty : MessageType) × (type_of code ≡ Some ty) × (0x8000 ≤ code_of ty) × (code_of ty < 0xFC00)
 
--- Which of the three an id is.
+-- The kind of an id.
 abbrev pub id_kind : Id → ℕ
 id_kind (CompletionId number) = 0
 id_kind (SignalId number) = 1
 id_kind (SignalName name) = 2
 
--- The number of a completion or a signal; 0 of a name.
+-- The number of a completion or a signal; 0 for a name.
 abbrev pub id_number : Id → ℕ
 id_number (CompletionId number) = number
 id_number (SignalId number) = number
 id_number (SignalName name) = 0
 
--- The name of a signal; nothing of a number.
+-- The name of a signal; empty for a number.
 abbrev pub id_name : Id → List ℕ
 id_name (SignalName name) = string_bytes name
 id_name other = []
 
--- Which of the five a result is.
+-- The kind of a result.
 abbrev pub result_kind : Outcome → ℕ
 result_kind (Void void) = 0
 result_kind (Value value) = 1
@@ -50,7 +50,7 @@ result_kind (Failure failure) = 2
 result_kind (InvocationId id) = 3
 result_kind (StateKeys keys) = 4
 
--- The bytes of a result: the canonical payload of a message, the text of an invocation's id, and nothing of a void.
+-- The bytes of a result: the canonical payload of a message, the text of an invocation's id, and none of a void.
 abbrev pub result_bytes : Outcome → List ℕ
 result_bytes (Void void) = []
 result_bytes (Value x) = canonical_payload table schema.value (value.parts-value.it x)
@@ -81,8 +81,8 @@ MeansNotification payload found = MeansParts schema.notification_template payloa
 abbrev pub MeansLacking : List ℕ → List ℕ → Type 0
 MeansLacking field payload = (parts : Parts) × MeansParts schema.notification_template payload parts × LacksField field parts
 
--- The result is the notification that a payload means, or what it lacks; Malformed where it is not well-formed. An
--- allocation may fail.
+-- The result is the notification that a payload means, or the field that it lacks; Malformed if it is not well-formed.
+-- An allocation may fail.
 abbrev pub ReadsNotification : List ℕ → Result Notification Refusal → Type 0
 ReadsNotification payload (Ok found) = MeansNotification payload found
 ReadsNotification payload (Err Malformed) = ¬ (IsAccepted schema.notification_template payload)
@@ -102,15 +102,15 @@ abbrev pub RefusesPayload : List ℕ → Refusal → Type 0
 RefusesPayload payload TooLong = (found : Notification) × MeansNotification payload found × IsTooLong found.result
 RefusesPayload payload refusal = ReadsNotification payload (Err refusal)
 
--- Why the call is rejected: Unknown where the code is that of no notification, else NoRoom where there is room for
--- fewer than four numbers, otherwise as the payload is.
+-- Why the call is rejected: Unknown if the code is that of no notification, otherwise NoRoom if there is room for fewer
+-- than four numbers, otherwise for the reason for which the payload is rejected.
 abbrev pub RefusesCall : ℕ → ℕ → List ℕ → Refusal → Type 0
 RefusesCall code room payload Unknown = ¬ (IsNotificationCode code)
 RefusesCall code room payload NoRoom = IsNotificationCode code × (room < 4)
 RefusesCall code room payload refusal = IsNotificationCode code × (4 ≤ room) × RefusesPayload payload refusal
 
 -- The result of journal_notification, and what it writes: the numbers and the bytes of the notification that the
--- payload means. An error leaves both slices as they were.
+-- payload means. An error leaves both slices unchanged.
 abbrev pub WritesNotification : ℕ → List ℕ → List ℕ → List ℕ → List ℕ → List ℕ → Result ℕ Refusal → Type 0
 WritesNotification code payload numbers_old numbers_new old new (Ok count) =
     IsNotificationCode code × (4 ≤ length numbers_old) × (found : Notification) × MeansNotification payload found

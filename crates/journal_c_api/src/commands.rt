@@ -1,20 +1,20 @@
-//! Commands compared, by their payloads.
+//! Comparing two commands, given by their payloads.
 
-ghost use Rattle.journal_c_api.specs.Answers.{Writes, bytes_of};
+ghost use Rattle.journal_c_api.specs.Outcomes.{Writes, bytes_of};
 ghost use Rattle.journal_c_api.specs.Commands.{ReturnsDifference, ReturnsSameness};
 ghost use Rattle.journal_c_api.specs.Commands.{ComparesPayloads, IsDifference, IsOneWhereSame};
 
-use crate::answer::{Refusal, write_answer};
+use crate::outcome::{Refusal, write_outcome};
 use crate::payloads::decoded;
 use shared_core::fmt::Difference;
 use shared_core::header::MessageType;
 use shared_core::messages::{CommandMessage, CommandVisitor, visit_command};
 use std::alloc::Global;
 
-/// 1 where the commands that two payloads of a code mean are the same for a replay, and otherwise 0; where payloads are
-/// ignored, the content of user data is not compared.
+/// 1 if the commands that two payloads of a code mean are the same for a replay, otherwise 0; if payloads are ignored,
+/// the content of user data is not compared.
 ///
-/// `Malformed` where one of the two is not well-formed for the type, `Unknown` where the code is that of no command.
+/// `Malformed` if one of the two is not well-formed for the type, `Unknown` if the code is that of no command.
 pub fn header_eq(
     alloc: Global,
     code: u16,
@@ -37,8 +37,8 @@ pub fn header_eq(
 /// Writes a line for each printed field in which the commands that two payloads of a code mean differ: a line feed,
 /// three spaces and `name: first != second`.
 ///
-/// `Malformed` where one of the two is not well-formed for the type, `Unknown` where the code is that of no command.
-#[tactic(auto, using(crate::proofs::Writing::writes_answer))]
+/// `Malformed` if one of the two is not well-formed for the type, `Unknown` if the code is that of no command.
+#[tactic(auto, using(crate::proofs::Writing::writes_outcome))]
 pub fn write_difference(
     alloc: Global,
     code: u16,
@@ -48,7 +48,7 @@ pub fn write_difference(
 ) -> Result<usize, Refusal>
     ensures { Writes (ReturnsDifference code first.now second.now) out.old out.new result }
 {
-    write_answer(difference(alloc, code, first, second), out)
+    write_outcome(difference(alloc, code, first, second), out)
 }
 
 /// The lines of the printed fields in which the commands that two payloads of a code mean differ.
@@ -64,7 +64,7 @@ fn difference(alloc: Global, code: u16, first: &[u8], second: &[u8]) -> Result<V
     visit_command(ty, printing).ok_or(Refusal::Unknown)?
 }
 
-/// Decodes two payloads, and returns 1 where the commands are the same, and otherwise 0.
+/// Decodes two payloads, and returns 1 if the commands are the same, otherwise 0.
 #[derive(Drop)]
 struct Comparing<'a> {
     alloc: Global,
@@ -76,8 +76,8 @@ struct Comparing<'a> {
 impl<'a> CommandVisitor for Comparing<'a> {
     type Output = Result<usize, Refusal>;
 
-    ghost answers = { λ self ty schema answer. ComparesPayloads
-        (IsOneWhereSame schema self.ignore_payloads) schema self.first.now self.second.now answer };
+    ghost results = { λ self ty schema output. ComparesPayloads
+        (IsOneWhereSame schema self.ignore_payloads) schema self.first.now self.second.now output };
 
     fn visit<M: CommandMessage>(self) -> Result<usize, Refusal> {
         let first = decoded::<M>(self.alloc, self.first)?;
@@ -97,8 +97,8 @@ struct Printing<'a> {
 impl<'a> CommandVisitor for Printing<'a> {
     type Output = Result<Vec<u8>, Refusal>;
 
-    ghost answers = { λ self ty schema answer. ComparesPayloads
-        (IsDifference schema) schema self.first.now self.second.now (bytes_of answer) };
+    ghost results = { λ self ty schema output. ComparesPayloads
+        (IsDifference schema) schema self.first.now self.second.now (bytes_of output) };
 
     fn visit<M: CommandMessage>(self) -> Result<Vec<u8>, Refusal> {
         let actual = decoded::<M>(self.alloc, self.first)?;

@@ -1,10 +1,10 @@
 //! Frames of messages.
 
 ghost use Rattle.shared_core_message.specs.Messages.{message_schema};
-ghost use Rattle.journal_c_api.specs.Answers.{Writes, bytes_of};
+ghost use Rattle.journal_c_api.specs.Outcomes.{Writes, bytes_of};
 ghost use Rattle.journal_c_api.specs.Payloads.{ReturnsFrame, ReturnsFrameOf, EncodesFrame};
 
-use crate::answer::{Refusal, version_of, write_answer};
+use crate::outcome::{Refusal, version_of, write_outcome};
 use crate::payloads::decoded;
 use shared_core::encoding::Encoder;
 use shared_core::header::MessageType;
@@ -13,7 +13,7 @@ use std::alloc::Global;
 use std::fmt::Debug;
 
 /// Writes the frame, at a version, of the message of a named type that a payload encodes.
-#[tactic(auto, using(crate::proofs::Writing::writes_answer))]
+#[tactic(auto, using(crate::proofs::Writing::writes_outcome))]
 pub fn write_frame(
     alloc: Global,
     version: u32,
@@ -23,7 +23,7 @@ pub fn write_frame(
 ) -> Result<usize, Refusal>
     ensures { Writes (ReturnsFrame version code payload.now) out.old out.new result }
 {
-    write_answer(frame(alloc, version, code, payload), out)
+    write_outcome(frame(alloc, version, code, payload), out)
 }
 
 /// The frame, at a version, of the message of a named type that a payload encodes.
@@ -63,8 +63,8 @@ struct Framing<'a> {
 impl<'a> MessageVisitor for Framing<'a> {
     type Output = Result<Vec<u8>, Refusal>;
 
-    ghost answers = { λ self ty schema answer. EncodesFrame ty schema self.encoder.version self.payload.now
-        (bytes_of answer) };
+    ghost results = { λ self ty schema output. EncodesFrame ty schema self.encoder.version self.payload.now
+        (bytes_of output) };
 
     fn visit<M: RestateEncodableMessage + Debug>(self) -> Result<Vec<u8>, Refusal> {
         let message = decoded::<M>(self.alloc, self.payload)?;

@@ -1,11 +1,11 @@
 //! Headers of messages.
 
 ghost use Rattle.std.specs.Prelude.{◌≡◌, ◌-◌, ℕ, List, Ok, length, take};
-ghost use Rattle.journal_c_api.specs.Answers.{Writes};
+ghost use Rattle.journal_c_api.specs.Outcomes.{Writes};
 ghost use Rattle.journal_c_api.specs.Headers.{ReturnsHeader, flag_at};
 ghost use Rattle.journal_c_api.specs.Payloads.{ReturnsFrame};
 
-use crate::answer::{Refusal, version_of, write_over};
+use crate::outcome::{Refusal, version_of, write_over};
 use shared_core::header::{MessageHeader, MessageType};
 use shared_core::version::Version;
 

@@ -4,12 +4,12 @@ ghost use Rattle.std.specs.Prelude.{◌≡◌, ◌+◌, ◌∷◌, [], length};
 ghost use Rattle.shared_core.specs.Borrowed.{item_borrowed};
 ghost use Rattle.journal_c_api.specs.Items.{FindsItem, WritesNext, item_ack, item_code, item_kind};
 
-use crate::answer::{Refusal, version_of, write_over};
+use crate::outcome::{Refusal, version_of, write_over};
 use shared_core::encoding::{ItemKind, ItemRef};
 use shared_core::header::MessageHeader;
 use shared_core::version::Version;
 
-/// The number of numbers of an item.
+/// The number of numbers that an item is written as.
 const ITEM_NUMBERS: usize = 6;
 
 /// The kind of a message.
@@ -21,13 +21,13 @@ const UNKNOWN_CODE: u64 = 1;
 /// The kind of a message of an unknown type, which is skipped with its payload.
 const SKIPPED: u64 = 2;
 
-/// Finds the item that the bytes begin with, and writes its six numbers: what it is, its first eight bytes as a number,
-/// its code, its flag, its size in bytes, and where its payload begins. Returns 0, or how many more bytes there are to
-/// be at least; then nothing is written. It copies nothing and does not allocate.
+/// Finds the item that the bytes begin with, and writes its six numbers: its kind, its first eight bytes as a number,
+/// its code, its flag, its size in bytes, and where its payload begins. Returns 0, or the least number of missing
+/// bytes; then nothing is written. It copies nothing and does not allocate.
 ///
-/// `Unknown` where the number denotes no version, and otherwise `NoRoom` where the slice has fewer than six numbers. A
-/// reader that goes on by the size of each item meets the items that the stream splits into, and stops at the rest that
-/// no item begins.
+/// `Unknown` if the number denotes no version, otherwise `NoRoom` if the slice has fewer than six numbers. A reader
+/// that continues after the size of each item finds the items that the stream splits into, and stops at the rest that
+/// begins with no item.
 pub fn write_next(version: u32, bytes: &[u8], item: &mut [u64]) -> Result<usize, Refusal>
     ensures { WritesNext version bytes.now item.old item.new result }
 {
@@ -38,7 +38,7 @@ pub fn write_next(version: u32, bytes: &[u8], item: &mut [u64]) -> Result<usize,
     Ok(write_item(version, bytes, item))
 }
 
-/// Writes the numbers of the item that the bytes begin with, or returns how many bytes are missing.
+/// Writes the numbers of the item that the bytes begin with, or returns the number of missing bytes.
 #[tactic(auto, using(crate::proofs::FoundItems::item_found, crate::proofs::FoundItems::item_missing))]
 fn write_item(version: Version, bytes: &[u8], item: &mut [u64]) -> usize
     ensures { FindsItem version bytes.now item.old item.new result }

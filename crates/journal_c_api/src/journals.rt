@@ -1,25 +1,25 @@
-//! Journals compared.
+//! Comparing two journals.
 
 ghost use Rattle.std.specs.Prelude.{◌≤◌, length};
 ghost use Rattle.shared_core_base.specs.Version.{version_number};
-ghost use Rattle.journal_c_api.specs.Journals.{ReturnsVerdict, ReportsAnswer, ReportsJournals, WritesVerdict};
-ghost use Rattle.replay_bench.specs.Answers.{NotWellFormed, answer_of};
+ghost use Rattle.journal_c_api.specs.Journals.{ReturnsVerdict, ReportsOutcome, ReportsJournals, WritesVerdict};
+ghost use Rattle.replay_bench.specs.Outcomes.{NotWellFormed, outcome_of};
 
-use crate::answer::{Refusal, version_of, write_over};
+use crate::outcome::{Refusal, version_of, write_over};
 use bytes::Bytes;
 use replay_bench::{BenchError, Side, Verdict, compare_journals};
 use shared_core::version::Version;
 use std::alloc::Global;
 
-/// The number of numbers of a verdict.
+/// The number of numbers that a verdict is written as.
 const VERDICT_NUMBERS: usize = 2;
 
 /// Compares two journals of a version, command by command, and writes the kind and the index of their verdict, and the
-/// text of a mismatch. Returns how many bytes the text has, 0 where there is none; where there is no room for it, the
+/// text of a mismatch. Returns the number of bytes of the text, 0 if there is none; if there is no room for it, the
 /// numbers are written nevertheless.
 ///
-/// `Unknown` where the number denotes no version, and otherwise `NoRoom` where the slice has fewer than two numbers,
-/// before anything is compared.
+/// `Unknown` if the number denotes no version, otherwise `NoRoom` if the slice has fewer than two numbers, before any
+/// comparison.
 pub fn write_verdict(
     alloc: Global,
     version: u32,
@@ -42,18 +42,18 @@ pub fn write_verdict(
     Ok(report.text.len())
 }
 
-/// What is reported of two journals.
+/// The report on two journals.
 #[derive(Drop)]
 struct Report {
     /// The number of the verdict's kind.
     kind: u64,
-    /// The index, or how many commands both have.
+    /// The index, or the number of commands of both.
     index: u64,
-    /// The text of a mismatch, or nothing.
+    /// The text of a mismatch, otherwise empty.
     text: String,
 }
 
-/// Compares two journals.
+/// Compares two journals, and returns the report on them.
 fn compare(
     alloc: Global,
     version: Version,
@@ -77,7 +77,7 @@ fn compare(
 
 /// The report of a verdict.
 fn report_of(alloc: Global, verdict: Verdict) -> Report
-    ensures { ReportsAnswer (answer_of verdict) result }
+    ensures { ReportsOutcome (outcome_of verdict) result }
 {
     let (kind, index, text) = match verdict {
         Verdict::Same(count) => (0, count, String::new(alloc)),
@@ -91,7 +91,7 @@ fn report_of(alloc: Global, verdict: Verdict) -> Report
 
 /// The report of a command of this side and index that is not well-formed.
 fn malformed(alloc: Global, side: Side, index: u64) -> Report
-    ensures { ReportsAnswer (NotWellFormed side index) result }
+    ensures { ReportsOutcome (NotWellFormed side index) result }
 {
     let kind = match side {
         Side::Recorded => 5,

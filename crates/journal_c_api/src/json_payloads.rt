@@ -4,21 +4,21 @@ ghost use Rattle.std.specs.Prelude.{◌≡◌};
 ghost use Rattle.journal_c_api.specs.JsonPayloads.{IsIfShort, ReadsText, SaysNotJson, SaysNotTaken, WritesReading};
 ghost use Rattle.journal_c_api.specs.JsonPayloads.{reading_bytes, reading_numbers};
 
-use crate::answer::{Refusal, write_over};
+use crate::outcome::{Refusal, write_over};
 use json::Scratch;
 use shared_core_codec::check::is_schema;
 use shared_core_json_reader::{JsonReadError, Reason, payload_of_value, value_of_text};
 use std::alloc::Global;
 
-/// How many numbers are written for a text.
+/// The number of numbers that are written for a text.
 const READ_NUMBERS: usize = 2;
 
-/// Reads a JSON text for a schema, and writes two numbers, what kind of a result it is and an offset, and as bytes the
-/// canonical payload of what the text means, or the path to what is not taken. Returns how many bytes these are; where
+/// Reads a JSON text for a schema, and writes two numbers, the kind of the result and an offset, and as bytes the
+/// canonical payload of what the text means, or the path to the rejected value. Returns the number of these bytes; if
 /// there is no room for them, the numbers are written nevertheless.
 ///
-/// `Unknown` where no schema has the number, else `NoRoom` where there is room for fewer than two numbers, before the
-/// text is read; `TooLong` where the payload would have more than 4,294,967,295 bytes.
+/// `Unknown` if no schema has the number, otherwise `NoRoom` if there is room for fewer than two numbers, before the
+/// text is read; `TooLong` if the payload would have more than 4,294,967,295 bytes.
 pub fn write_payload_of_json(
     alloc: Global,
     schema: u32,
@@ -48,7 +48,7 @@ enum Reading {
     Payload(Vec<u8>),
     /// It is not JSON, from this byte on.
     NotJson(usize),
-    /// It is JSON that means nothing: the number of the kind, and the path to what is not taken.
+    /// It is JSON without a meaning: the number of the kind, and the path to the rejected value.
     NotTaken { kind: u64, path: String },
 }
 
@@ -91,7 +91,7 @@ fn read(alloc: Global, schema: u32, json: &[u8]) -> Result<Reading, Refusal>
 
 /// The reading of a text that is not JSON, by the error.
 fn not_json(error: JsonReadError) -> Result<Reading, Refusal>
-    ensures { SaysNotJson error.reason result }
+    ensures { SaysNotJson error result }
 {
     if error.reason == Reason::OutOfMemory {
         return Err(Refusal::OutOfMemory);
@@ -109,16 +109,16 @@ fn if_short(payload: Vec<u8>) -> Result<Reading, Refusal>
     Ok(Reading::Payload(payload))
 }
 
-/// The reading of a text that is JSON and means nothing, by the error.
+/// The reading of a text that is JSON without a meaning, by the error.
 fn not_taken(error: JsonReadError) -> Result<Reading, Refusal>
-    ensures { SaysNotTaken error.reason result }
+    ensures { SaysNotTaken error result }
 {
     let JsonReadError { reason, path, .. } = error;
     let kind = match reason {
         Reason::UnknownMember => 2,
         Reason::RepeatedMember => 3,
         Reason::SeveralMembers => 4,
-        // the text is JSON, so the second one does not come here
+        // the text is JSON, so `NotJson` does not occur
         Reason::WrongKind | Reason::NotJson => 5,
         Reason::OutOfRange => 6,
         Reason::NotBase64 => 7,

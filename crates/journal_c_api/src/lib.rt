@@ -1,7 +1,6 @@
 //! What the calls of `journal_ffi` do, over slices of bytes and numbers.
 #![tactic(auto)]
 
-pub mod answer;
 pub mod commands;
 pub mod frames;
 pub mod headers;
@@ -10,4 +9,5 @@ pub mod journals;
 pub mod json_payloads;
 pub mod names;
 pub mod notifications;
+pub mod outcome;
 pub mod payloads;

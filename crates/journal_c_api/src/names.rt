@@ -3,10 +3,10 @@
 ghost use Rattle.std.specs.Prelude.{◌≡◌, Ok, codes, length};
 ghost use Rattle.shared_core_base.specs.MessageType.{debug_name_of};
 ghost use Rattle.shared_core_base.specs.declared.header.MessageType.TheVariants.{CustomEntry};
-ghost use Rattle.journal_c_api.specs.Answers.{Writes, written_over};
+ghost use Rattle.journal_c_api.specs.Outcomes.{Writes, written_over};
 ghost use Rattle.journal_c_api.specs.Names.{ReturnsSchema, ReturnsTypeCode, ReturnsTypeName};
 
-use crate::answer::{Refusal, version_of, write_over};
+use crate::outcome::{Refusal, version_of, write_over};
 use arrayvec::ArrayString;
 use itoa::Buffer;
 use shared_core::header::MessageType;
@@ -64,7 +64,7 @@ fn custom_entry_name(code: u16) -> ArrayString<64>
     name
 }
 
-/// Writes a text at the front of a slice that has room for all of it, and returns how many bytes it has.
+/// Writes a text at the front of a slice that has room for all of it, and returns its length in bytes.
 fn write_text(text: &str, out: &mut [u8]) -> usize
     ensures length { result ≡ length text.now }
     ensures written { out.new ≡ written_over text.now out.old }

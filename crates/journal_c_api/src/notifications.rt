@@ -5,7 +5,7 @@ ghost use Rattle.journal_c_api.specs.Notifications.{IsNotificationCode, ReadsNot
 ghost use Rattle.journal_c_api.specs.Notifications.{WritesNotification, id_name, notification_bytes};
 ghost use Rattle.journal_c_api.specs.Notifications.{notification_numbers, result_bytes, result_kind};
 
-use crate::answer::{Refusal, write_over};
+use crate::outcome::{Refusal, write_over};
 use crate::payloads::decoded;
 use shared_core::header::MessageType;
 use shared_core::messages::{
@@ -14,17 +14,17 @@ use shared_core::messages::{
 use shared_core::wire::WireRecord;
 use std::alloc::Global;
 
-/// How many numbers a notification has.
+/// The number of numbers that a notification is written as.
 const NOTIFICATION_NUMBERS: usize = 4;
 
-/// Reads the id and the result of a notification, of whichever type. Writes its four numbers: which of the three its id
-/// is, the number of the id, the length of a signal's name in bytes, and which of the five its result is; and as bytes
-/// the name, and after it the result's canonical payload or text. Returns how many bytes these are; where there is no
-/// room for them, the numbers are written nevertheless.
+/// Reads the id and the result of a notification of any type. Writes its four numbers: the kind of its id, the number
+/// of the id, the length of a signal's name in bytes, and the kind of its result; and as bytes the name, and after it
+/// the result's canonical payload or text. Returns the number of these bytes; if there is no room for them, the numbers
+/// are written nevertheless.
 ///
-/// `Unknown` where the code is that of no notification, else `NoRoom` where there is room for fewer than four numbers,
-/// else `Malformed`, then `NoId`, then `NoResult`, and last `TooLong` where the result's payload would have more than
-/// 4,294,967,295 bytes.
+/// `Unknown` if the code is that of no notification, then `NoRoom` if there is room for fewer than four numbers, then
+/// `Malformed`, `NoId`, `NoResult`, and last `TooLong` if the result's payload would have more than 4,294,967,295
+/// bytes.
 pub fn write_notification(
     alloc: Global,
     code: u16,
@@ -80,7 +80,7 @@ fn numbers_of(notification: &Notification) -> [u64; NOTIFICATION_NUMBERS]
     }
 }
 
-/// Which of the five a result is.
+/// The kind of a result.
 fn result_kind(outcome: &NotificationResult) -> u64
     ensures { result ≡ result_kind outcome.now }
 {
@@ -104,7 +104,7 @@ fn bytes_of(alloc: Global, notification: &Notification) -> Result<Vec<u8>, Refus
     Ok(bytes)
 }
 
-/// The name of a signal; nothing of a number.
+/// The name of a signal; empty for a number.
 fn name_of(id: &NotificationId) -> &str
     ensures { result.now ≡ id_name id.now }
 {

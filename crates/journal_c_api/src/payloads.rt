@@ -1,21 +1,26 @@
 //! Payloads of any schema, decoded and written again.
 
-ghost use Rattle.std.specs.Prelude.{[], ◌∷◌, List};
-ghost use Rattle.journal_c_api.specs.Answers.{Writes, bytes_of};
+ghost use Rattle.std.specs.Prelude.{◌≡◌, [], ◌∷◌, List, IfOk};
+ghost use Rattle.shared_core_wire.specs.Value.{Parts};
+ghost use Rattle.shared_core_json.specs.Form.{json_text};
+ghost use Rattle.shared_core_json.specs.Payloads.{IsEncoding};
+ghost use Rattle.journal_c_api.specs.Outcomes.{Writes, bytes_of};
 ghost use Rattle.journal_c_api.specs.Payloads.{ReturnsCanonical, ReturnsJson, ReturnsMeaning};
-ghost use Rattle.journal_c_api.specs.Payloads.{ReturnsWellFormed, ChecksPayload, MeansRecord, EncodesPayload};
+ghost use Rattle.journal_c_api.specs.Payloads.{ReturnsWellFormed, MeansRecord, EncodesPayload};
 
-use crate::answer::{Refusal, write_answer};
+use crate::outcome::{Refusal, write_outcome, write_over};
 use bytes::Bytes;
 use json::Writer;
 use shared_core::messages::{RecordVisitor, visit_record};
 use shared_core::wire::{WireRecord, decode_parts};
+use shared_core_codec::canonical::is_canonical;
+use shared_core_codec::check;
 use shared_core_json::{write_canonical as encode_canonical, write_message};
-use std::alloc::Global;
+use std::alloc::{AllocError, Global};
 use std::fmt::Debug;
 
-/// Writes the canonical payload of what a payload means.
-#[tactic(auto, using(crate::proofs::Writing::writes_answer))]
+/// Writes the canonical payload of what a payload means. One that is canonical is copied, without allocating.
+#[tactic(auto, using(crate::proofs::Writing::writes_outcome, crate::proofs::Copying::returns_canonical))]
 pub fn write_canonical(
     alloc: Global,
     schema: u32,
@@ -24,11 +29,15 @@ pub fn write_canonical(
 ) -> Result<usize, Refusal>
     ensures { Writes (ReturnsCanonical schema payload.now []) out.old out.new result }
 {
-    write_answer(canonical(alloc, schema, payload), out)
+    if check::is_schema(schema) && is_canonical(schema, payload) {
+        write_over(payload, out);
+        return Ok(payload.len());
+    }
+    write_outcome(canonical(alloc, schema, payload), out)
 }
 
 /// Writes the canonical payload of what two payloads mean, the second merged into the first.
-#[tactic(auto, using(crate::proofs::Writing::writes_answer))]
+#[tactic(auto, using(crate::proofs::Writing::writes_outcome))]
 pub fn write_merged(
     alloc: Global,
     schema: u32,
@@ -38,11 +47,11 @@ pub fn write_merged(
 ) -> Result<usize, Refusal>
     ensures { Writes (ReturnsCanonical schema first.now (second.now ∷ [])) out.old out.new result }
 {
-    write_answer(merged(alloc, schema, first, second), out)
+    write_outcome(merged(alloc, schema, first, second), out)
 }
 
 /// Writes the JSON of what a payload means.
-#[tactic(auto, using(crate::proofs::Writing::writes_answer))]
+#[tactic(auto, using(crate::proofs::Writing::writes_outcome))]
 pub fn write_json(
     alloc: Global,
     schema: u32,
@@ -51,14 +60,21 @@ pub fn write_json(
 ) -> Result<usize, Refusal>
     ensures { Writes (ReturnsJson schema payload.now) out.old out.new result }
 {
-    write_answer(json(alloc, schema, payload), out)
+    write_outcome(json(alloc, schema, payload), out)
 }
 
-/// 1 where a payload is well-formed for a schema, and otherwise 0.
-pub fn is_well_formed(alloc: Global, schema: u32, payload: &[u8]) -> Result<usize, Refusal>
+/// 1 if a payload is well-formed for a schema, otherwise 0. Nothing is allocated.
+pub fn is_well_formed(_alloc: Global, schema: u32, payload: &[u8]) -> Result<usize, Refusal>
     ensures { ReturnsWellFormed schema payload.now result }
 {
-    visit_record(schema, Checking { alloc, payload }).ok_or(Refusal::Unknown)?
+    if !check::is_schema(schema) {
+        return Err(Refusal::Unknown);
+    }
+    if check::is_well_formed(schema, payload) {
+        Ok(1)
+    } else {
+        Ok(0)
+    }
 }
 
 /// The canonical payload of what a payload means.
@@ -78,7 +94,7 @@ struct Encoding<'a> {
 impl<'a> RecordVisitor for Encoding<'a> {
     type Output = Result<Vec<u8>, Refusal>;
 
-    ghost answers = { λ self schema answer. ReturnsMeaning schema self.payload.now [] (bytes_of answer) };
+    ghost results = { λ self schema output. ReturnsMeaning schema self.payload.now [] (bytes_of output) };
 
     fn visit<M: WireRecord + Debug>(self) -> Result<Vec<u8>, Refusal> {
         let record = decoded::<M>(self.alloc, self.payload)?;
@@ -111,8 +127,8 @@ struct Merging<'a> {
 impl<'a> RecordVisitor for Merging<'a> {
     type Output = Result<Vec<u8>, Refusal>;
 
-    ghost answers = { λ self schema answer. ReturnsMeaning schema self.first.now (self.second.now ∷ [])
-        (bytes_of answer) };
+    ghost results = { λ self schema output. ReturnsMeaning schema self.first.now (self.second.now ∷ [])
+        (bytes_of output) };
 
     fn visit<M: WireRecord + Debug>(self) -> Result<Vec<u8>, Refusal> {
         let first = Bytes::copy_from_slice(self.alloc, self.first)?;
@@ -124,15 +140,27 @@ impl<'a> RecordVisitor for Merging<'a> {
     }
 }
 
-/// The JSON of what a payload means.
+/// The JSON of what a payload means. One that is canonical is printed as it is.
+#[tactic(auto, using(shared_core_json::proofs::Payloads::canonical_encoding))]
 fn json(alloc: Global, schema: u32, payload: &[u8]) -> Result<Vec<u8>, Refusal>
     ensures { ReturnsJson schema payload.now (bytes_of result) }
 {
+    if check::is_schema(schema) && is_canonical(schema, payload) {
+        return Ok(print(alloc, schema, payload)?);
+    }
     let decoding = CanonicalPayload { alloc, payload };
     let canonical = visit_record(schema, decoding).ok_or(Refusal::Unknown)??;
+    Ok(print(alloc, schema, canonical.as_slice())?)
+}
+
+/// The JSON of what a canonical payload means.
+fn print(alloc: Global, schema: u32, canonical: &[u8]) -> Result<Vec<u8>, AllocError>
+    ensures { IfOk result (λ text. (v : Parts) → IsEncoding schema v canonical.now
+        → text.items ≡ json_text schema v) }
+{
     let mut text = Writer::new(Vec::new(alloc));
     let mut base64 = String::new(alloc);
-    write_message(&mut text, &mut base64, schema, canonical.as_slice())?;
+    write_message(&mut text, &mut base64, schema, canonical)?;
     Ok(text.into_inner())
 }
 
@@ -146,34 +174,13 @@ struct CanonicalPayload<'a> {
 impl<'a> RecordVisitor for CanonicalPayload<'a> {
     type Output = Result<Vec<u8>, Refusal>;
 
-    ghost answers = { λ self schema answer. EncodesPayload schema self.payload.now answer };
+    ghost results = { λ self schema output. EncodesPayload schema self.payload.now output };
 
     fn visit<M: WireRecord + Debug>(self) -> Result<Vec<u8>, Refusal> {
         let payload = Bytes::copy_from_slice(self.alloc, self.payload)?;
         let mut canonical = Vec::new(self.alloc);
         encode_canonical::<M>(self.alloc, &payload, &mut canonical)?;
         Ok(canonical)
-    }
-}
-
-/// Decodes a payload, and returns whether it could: 1 or 0.
-#[derive(Drop)]
-struct Checking<'a> {
-    alloc: Global,
-    payload: &'a [u8],
-}
-
-impl<'a> RecordVisitor for Checking<'a> {
-    type Output = Result<usize, Refusal>;
-
-    ghost answers = { λ self schema answer. ChecksPayload schema self.payload.now answer };
-
-    fn visit<M: WireRecord + Debug>(self) -> Result<usize, Refusal> {
-        match decoded::<M>(self.alloc, self.payload) {
-            Ok(_record) => Ok(1),
-            Err(Refusal::Malformed) => Ok(0),
-            Err(refusal) => Err(refusal),
-        }
     }
 }
 

@@ -1,1 +1,3 @@
+pub mod Json
+pub mod PassedOver
 pub mod Verdicts

@@ -1,5 +1,5 @@
 -- What is printed for two compared journals.
-use Rattle.std.specs.Prelude.{◌≡◌, ℕ, Bool, true, false, List, [], ◌++◌, codes, decimal, nat_eq, if◌then◌else◌, Option, Result, Ok, Err}
+use Rattle.std.specs.Prelude.{◌≡◌, ℕ, Bool, true, false, List, [], ◌++◌, codes, decimal, nat_eq, if◌then◌else◌, Option, Some, None, Result, Ok, Err}
 use Rattle.std.specs.String.{string_bytes}
 use Rattle.shared_core_base.specs.declared.version.Version.{Version}
 use Rattle.replay_bench.specs.declared.verdicts.Verdict.{Verdict}
@@ -7,9 +7,14 @@ use Rattle.replay_bench.specs.declared.verdicts.Verdict.TheVariants.{Same, Recor
 use Rattle.replay_bench.specs.declared.verdicts.BenchError.TheVariants.{OutOfMemory}
 use Rattle.replay_bench.specs.declared.verdicts.ReaderError.TheVariants.{Bench}
 use Rattle.replay_bench.specs.Texts.{reader_error_text}
-use Rattle.replay_bench.specs.Verdicts.{ComparesKnown}
+use Rattle.replay_bench.specs.declared.verdicts.Comparison.{Comparison}
+use Rattle.replay_bench.specs.Verdicts.{ComparesKnown, IsComparison}
 use Rattle.journal_diff.specs.declared.diff.DiffError.{DiffError}
-use Rattle.journal_diff.specs.declared.diff.DiffError.TheVariants.{Unanswered, Output}
+use Rattle.journal_diff.specs.declared.diff.DiffError.TheVariants.{NoVerdict, Faulty, Output}
+use Rattle.journal_diff.specs.declared.diff.Findings.{Findings}
+use Rattle.journal_diff.specs.declared.passed_over.Trouble.{Trouble}
+use Rattle.journal_diff.specs.Json.{json_line}
+use Rattle.journal_diff.specs.PassedOver.{strict_trouble, trouble_text}
 
 -- `command` or `commands`, by their number.
 abbrev pub commands_word : ℕ → List ℕ
@@ -23,14 +28,19 @@ verdict_line (ReplayedEnded index) = codes "replayed ends at command " ++ (decim
 verdict_line (TypeMismatch index text) = codes "command " ++ (decimal index ++ (codes ": " ++ (string_bytes text ++ codes "\n")))
 verdict_line (HeaderMismatch index text) = codes "command " ++ (decimal index ++ (codes ": " ++ (string_bytes text ++ codes "\n")))
 
+-- The line of a comparison: of JSON, or of its verdict.
+abbrev pub found_line : Bool → Comparison → List ℕ
+found_line is_json found = if is_json then json_line found else verdict_line found.verdict
+
 -- Whether a verdict is that the journals are the same.
 abbrev pub is_same : Verdict → Bool
 is_same (Same count) = true
 is_same verdict = false
 
--- The text of an error: why there is no verdict, or that the output failed.
+-- The text of an error: why there is no verdict, what is wrong with a journal, or that the output failed.
 abbrev pub error_text : DiffError → List ℕ
-error_text (Unanswered why) = reader_error_text why
+error_text (NoVerdict why) = reader_error_text why
+error_text (Faulty trouble) = trouble_text trouble
 error_text Output = codes "output failed"
 
 -- All of a text is written, or a prefix of it if the output failed.
@@ -38,17 +48,29 @@ abbrev pub IsWritten : {T : Type 0} → Result T DiffError → List ℕ → List
 IsWritten (Ok done) written text = written ≡ text
 IsWritten (Err error) written text = (error ≡ Output) × (rest : List ℕ) × (text ≡ written ++ rest)
 
--- What is written and returned for a verdict: its line and whether it is that the journals are the same; nothing, if an
--- allocation fails; or a prefix of the line, if the output failed.
-abbrev pub ReportsVerdict : Verdict → Result Bool DiffError → List ℕ → Type 0
-ReportsVerdict verdict (Ok same) written = (same ≡ is_same verdict) × (written ≡ verdict_line verdict)
-ReportsVerdict verdict (Err (Unanswered why)) written = (why ≡ Bench OutOfMemory) × (written ≡ [])
-ReportsVerdict verdict (Err Output) written = (rest : List ℕ) × (verdict_line verdict ≡ written ++ rest)
+-- What is returned of a comparison: whether the journals are the same, and their surveys.
+abbrev pub findings_of : Comparison → Findings
+findings_of found = record { is_same = is_same found.verdict; recorded = found.recorded; replayed = found.replayed }
 
--- What a comparison of two readers' journals writes and returns: their verdict is reported; or they have none, nothing
--- is written, and this is the error.
-abbrev pub Reports : Version → Bool → Option (List ℕ) → Option (List ℕ) → Result Bool DiffError → List ℕ → Type 0
-Reports version ignore recorded replayed (Err (Unanswered why)) written =
+-- What is written and returned for a comparison: its line, and its findings; nothing, if an allocation
+-- fails; or a prefix of the line, if the output failed.
+abbrev pub ReportsFound : Bool → Comparison → Result Findings DiffError → List ℕ → Type 0
+ReportsFound is_json found (Ok findings) written = (findings ≡ findings_of found) × (written ≡ found_line is_json found)
+ReportsFound is_json found (Err (NoVerdict why)) written = (why ≡ Bench OutOfMemory) × (written ≡ [])
+ReportsFound is_json found (Err (Faulty trouble)) written = ⊥
+ReportsFound is_json found (Err Output) written = (rest : List ℕ) × (found_line is_json found ≡ written ++ rest)
+
+-- Two journals have this comparison, and this is what is wrong with them, if that is an error.
+pub record HasFound (version : Version) (ignore is_strict : Bool) (recorded replayed : Option (List ℕ)) (found : Comparison) (trouble : Option Trouble) : Type 0 where
+  pub compared : IsComparison version ignore is_strict recorded replayed found
+  pub trouble_is : strict_trouble is_strict found.recorded found.replayed ≡ trouble
+
+-- What a comparison of two readers' journals writes and returns: their verdict is reported, if nothing is wrong that is
+-- an error; or else nothing is written, and the error is what is wrong, or why there is no verdict.
+abbrev pub Reports : Version → Bool → Bool → Bool → Option (List ℕ) → Option (List ℕ) → Result Findings DiffError → List ℕ → Type 0
+Reports version ignore is_strict is_json recorded replayed (Err (NoVerdict why)) written =
     ComparesKnown version ignore recorded replayed (Err why) × (written ≡ [])
-Reports version ignore recorded replayed answer written =
-    (verdict : Verdict) × ComparesKnown version ignore recorded replayed (Ok verdict) × ReportsVerdict verdict answer written
+Reports version ignore is_strict is_json recorded replayed (Err (Faulty trouble)) written =
+    (found : Comparison) × HasFound version ignore is_strict recorded replayed found (Some trouble) × (written ≡ [])
+Reports version ignore is_strict is_json recorded replayed result written =
+    (found : Comparison) × HasFound version ignore is_strict recorded replayed found None × ReportsFound is_json found result written

@@ -19,6 +19,10 @@ pub struct Arguments<'a> {
     pub version: Version,
     /// Whether payloads are left out of the comparison.
     pub ignore_payloads: bool,
+    /// Whether what is passed over may be an error.
+    pub is_strict: bool,
+    /// Whether the verdict is a line of JSON.
+    pub is_json: bool,
 }
 
 /// The version of an argument, if it is a supported one.
@@ -48,12 +52,24 @@ fn command<'a>(alloc: Global) -> Result<Command<'a>, AllocError> {
         .long("ignore-payloads")
         .action(ArgAction::SetTrue)
         .help("Compares all but payloads");
+    let strict = Arg::new(alloc, "strict")
+        .long("strict")
+        .action(ArgAction::SetTrue)
+        .help(
+            "Unknown headers, malformed payloads and bytes after the last whole item are trouble",
+        );
+    let json = Arg::new(alloc, "json")
+        .long("json")
+        .action(ArgAction::SetTrue)
+        .help("Prints the verdict as a line of JSON");
     Command::new(alloc, "journal_diff")
         .version("0.1.0")
         .about(
             "Compares two journals, command by command. Ends with 0 where they are the same, 1 where they differ, and 2 where there is trouble.",
         )
         .arg(ignore_payloads)?
+        .arg(strict)?
+        .arg(json)?
         .arg(protocol)?
         .arg(recorded)?
         .arg(replayed)
@@ -88,5 +104,7 @@ pub fn parse_arguments<'a>(alloc: Global, arguments: &'a [String]) -> Result<Arg
         replayed,
         version,
         ignore_payloads: matches.get_flag("ignore-payloads"),
+        is_strict: matches.get_flag("strict"),
+        is_json: matches.get_flag("json"),
     })
 }

@@ -4,49 +4,55 @@ ghost use Rattle.std.specs.Prelude.{◌≡◌, ◌≤◌, ◌++◌, ℕ, List, I
 ghost use Rattle.std.specs.Io.KnownBytes.{Appends};
 ghost use Rattle.std.specs.String.{string_bytes};
 ghost use Rattle.shared_core_base.specs.Version.{version_number};
-ghost use Rattle.journal_diff.specs.Verdicts.{Reports, ReportsVerdict, IsWritten, commands_word, is_same, verdict_line};
+ghost use Rattle.journal_diff.specs.Verdicts.{Reports, ReportsFound, IsWritten};
+ghost use Rattle.journal_diff.specs.Verdicts.{commands_word, found_line, is_same, verdict_line};
 
-use replay_bench::{BenchError, ReaderError, Verdict, compare_readers};
+use crate::json_line::json_line;
+use crate::passed_over::{Trouble, strict_trouble};
+use replay_bench::{BenchError, Comparison, ReaderError, Verdict, survey_readers};
 use shared_core::version::Version;
 use std::alloc::{AllocError, Global};
 use std::error::Error;
 use std::fmt;
 use std::io::{Read, Write};
 use stream_lines::output::{OutputFailed, write_whole};
+use stream_survey::Survey;
 
 /// The number of bytes that are read at a time.
-const PIECE: usize = 65536;
+const CHUNK_SIZE: usize = 65536;
 
 /// Why the verdict on two journals was not printed, or not whole.
 #[derive(Debug, Clone, Copy, PartialEq, Eq, Drop)]
 pub enum DiffError {
     /// The comparison has no verdict. Nothing is written.
-    Unanswered(ReaderError),
+    NoVerdict(ReaderError),
+    /// In a strict comparison something is wrong with a journal. Nothing is written.
+    Faulty(Trouble),
     /// A write failed, or wrote no byte. A prefix of the verdict's line may be written.
     Output,
 }
 
 impl From<ReaderError> for DiffError {
     ghost use Rattle.std.specs.Prelude.{◌≡◌};
-    ghost use Rattle.journal_diff.specs.declared.diff.DiffError.TheVariants.{Unanswered};
+    ghost use Rattle.journal_diff.specs.declared.diff.DiffError.TheVariants.{NoVerdict};
 
-    ghost from_gives = { λ why error. error ≡ Unanswered why };
+    ghost from_gives = { λ why error. error ≡ NoVerdict why };
 
     fn from(error: ReaderError) -> DiffError {
-        DiffError::Unanswered(error)
+        DiffError::NoVerdict(error)
     }
 }
 
 impl From<AllocError> for DiffError {
     ghost use Rattle.std.specs.Prelude.{◌≡◌};
-    ghost use Rattle.journal_diff.specs.declared.diff.DiffError.TheVariants.{Unanswered};
+    ghost use Rattle.journal_diff.specs.declared.diff.DiffError.TheVariants.{NoVerdict};
     ghost use Rattle.replay_bench.specs.declared.verdicts.ReaderError.TheVariants.{Bench};
     ghost use Rattle.replay_bench.specs.declared.verdicts.BenchError.TheVariants.{OutOfMemory};
 
-    ghost from_gives = { λ _ error. error ≡ Unanswered (Bench OutOfMemory) };
+    ghost from_gives = { λ _ error. error ≡ NoVerdict (Bench OutOfMemory) };
 
     fn from(_error: AllocError) -> DiffError {
-        DiffError::Unanswered(ReaderError::Bench(BenchError::OutOfMemory))
+        DiffError::NoVerdict(ReaderError::Bench(BenchError::OutOfMemory))
     }
 }
 
@@ -59,7 +65,8 @@ impl fmt::Display for DiffError {
 
     fn fmt<W: fmt::Write>(&self, f: &mut fmt::Formatter<W>) -> fmt::Result {
         match self {
-            DiffError::Unanswered(error) => write!(f, "{error}"),
+            DiffError::NoVerdict(error) => write!(f, "{error}"),
+            DiffError::Faulty(trouble) => write!(f, "{trouble}"),
             DiffError::Output => f.write_str("output failed"),
         }
     }
@@ -67,9 +74,23 @@ impl fmt::Display for DiffError {
 
 impl Error for DiffError {}
 
+/// Two journals that were compared, and whose verdict was written.
+#[derive(Debug, Clone, Copy, PartialEq, Eq, Drop)]
+pub struct Findings {
+    /// Whether they are the same.
+    pub is_same: bool,
+    /// What the recorded journal has.
+    pub recorded: Survey,
+    /// What the replayed journal has.
+    pub replayed: Survey,
+}
+
 /// Compares two journals of a version, at least V5, from two readers, writes the verdict in a line, or in the lines of
-/// its text, and returns whether the journals are the same. The line is written only once the verdict is known and its
-/// whole text is made.
+/// its text, or as a line of JSON, and returns what the journals have and whether they are the same.
+///
+/// Both are read to their ends. The line is written only once all of that is known and its whole text is made. If
+/// `is_strict`, an unknown header, a payload that is not well-formed, or bytes after the last whole item are an error:
+/// the first of them in the recorded journal, or else in the replayed one.
 #[tactic(auto, using(crate::proofs::Reporting::reported))]
 pub fn diff<A: Read + Drop, B: Read + Drop, W: Write>(
     alloc: Global,
@@ -77,26 +98,59 @@ pub fn diff<A: Read + Drop, B: Read + Drop, W: Write>(
     recorded: A,
     replayed: B,
     ignore_payloads: bool,
+    is_strict: bool,
+    is_json: bool,
     output: &mut W,
-) -> Result<bool, DiffError>
+) -> Result<Findings, DiffError>
     requires { 5 ≤ version_number version }
     ensures { (written : List ℕ)
         × Appends (W.contents output.old) (W.contents output.new) written
-        × Reports version ignore_payloads (A.remaining recorded) (B.remaining replayed) result written }
+        × Reports version ignore_payloads is_strict is_json
+        (A.remaining recorded) (B.remaining replayed) result written }
 {
-    let verdict = compare_readers(alloc, version, recorded, replayed, PIECE, ignore_payloads)?;
-    report(alloc, &verdict, output)
+    let found = survey_readers(
+        alloc,
+        version,
+        recorded,
+        replayed,
+        CHUNK_SIZE,
+        ignore_payloads,
+        is_strict,
+    )?;
+    if let Some(trouble) = strict_trouble(is_strict, &found.recorded, &found.replayed) {
+        return Err(DiffError::Faulty(trouble));
+    }
+    report(alloc, found, is_json, output)
 }
 
-/// Writes the line of a verdict, and returns whether it is that the journals are the same.
-fn report<W: Write>(alloc: Global, verdict: &Verdict, output: &mut W) -> Result<bool, DiffError>
+/// Writes the line of a comparison, and returns what was found.
+fn report<W: Write>(
+    alloc: Global,
+    found: Comparison,
+    is_json: bool,
+    output: &mut W,
+) -> Result<Findings, DiffError>
     ensures { (written : List ℕ)
         × Appends (W.contents output.old) (W.contents output.new) written
-        × ReportsVerdict verdict.now result written }
+        × ReportsFound is_json found result written }
 {
-    let line = line_of(alloc, verdict)?;
-    write_text(output, line.as_bytes())?;
-    Ok(is_same(verdict))
+    let line = found_line(alloc, is_json, &found)?;
+    write_text(output, line.as_slice())?;
+    Ok(Findings {
+        is_same: is_same(&found.verdict),
+        recorded: found.recorded,
+        replayed: found.replayed,
+    })
+}
+
+/// The line of a comparison: of JSON, or of its verdict.
+fn found_line(alloc: Global, is_json: bool, found: &Comparison) -> Result<Vec<u8>, AllocError>
+    ensures { IfOk result (λ line. line.items ≡ found_line is_json found.now) }
+{
+    if is_json {
+        return json_line(alloc, found);
+    }
+    Ok(line_of(alloc, &found.verdict)?.into_bytes())
 }
 
 /// Whether a verdict is that the journals are the same.

@@ -1,4 +1,4 @@
-//! Compares two journals, each a file or one of them the standard input, and prints where they differ.
+//! Compares two journals, of which one may be the standard input, and prints where they differ.
 #![tactic(auto)]
 
 ghost use Rattle.std.specs.Prelude.{◌≤◌};
@@ -7,33 +7,55 @@ ghost use Rattle.shared_core_base.specs.Version.{version_number};
 mod arguments;
 mod diff;
 mod inputs;
+mod json_line;
+mod passed_over;
 
 use crate::arguments::{Arguments, parse_arguments};
-use crate::diff::{DiffError, diff};
+use crate::diff::{DiffError, Findings, diff};
 use crate::inputs::{Inputs, open};
+use crate::passed_over::{rest_note, unknown_note};
 use command_line::{Pipe, arguments, fail, report};
+use replay_bench::Side;
 use std::io;
 use std::process::ExitCode;
 
 const PROGRAM: &str = "journal_diff";
+
+/// Reports what the comparison passed over.
+fn tell(rt: &HostRuntime, found: &Findings) {
+    let notes = [
+        unknown_note(Side::Recorded, &found.recorded),
+        rest_note(Side::Recorded, &found.recorded),
+        unknown_note(Side::Replayed, &found.replayed),
+        rest_note(Side::Replayed, &found.replayed),
+    ];
+    for note in notes.into_iter().flatten() {
+        // there is nothing to do if the standard error fails
+        let _ = eprintln!(rt; "{PROGRAM}: {note}");
+    }
+}
 
 /// Compares the two inputs, prints the verdict and returns its status.
 fn compare(rt: &HostRuntime, asked: &Arguments<'_>, inputs: Inputs) -> ExitCode
     requires { 5 ≤ version_number asked.now.version }
 {
     let mut output = Pipe::new(rt.stdout());
-    let answer = diff(
+    let found = diff(
         rt.alloc(),
         asked.version,
         inputs.recorded,
         inputs.replayed,
         asked.ignore_payloads,
+        asked.is_strict,
+        asked.is_json,
         &mut output,
     );
-    match answer {
-        Ok(true) => ExitCode::SUCCESS,
-        Ok(false) => ExitCode::from(1),
-        // a reader that is gone is not told
+    match found {
+        Ok(found) => {
+            tell(rt, &found);
+            ExitCode::from(if found.is_same { 0 } else { 1 })
+        }
+        // the reader has closed the output, so nothing is reported
         Err(DiffError::Output) if output.is_broken() => ExitCode::from(2),
         Err(error) => fail(rt, PROGRAM, error, 2),
     }

@@ -11,8 +11,8 @@ use Rattle.json.specs.Tree.{members_tokens}
 use Rattle.shared_core_wire.specs.Acceptance.{accepts_payload}
 use Rattle.shared_core_codec.specs.Table.{table}
 use Rattle.shared_core_codec.specs.Payloads.{IsAccepted, payload_meaning}
-use Rattle.shared_core_json.specs.Form.{value_json}
-use Rattle.journal_dump.specs.Lines.{ack_tokens, ack_members, bytes_json, header_members, header_tokens, payload_members}
+use Rattle.shared_core_json.specs.Form.{byte_string_json, json_with}
+use Rattle.journal_dump.specs.Lines.{ack_tokens, ack_members, header_json, header_members, header_tokens, payload_members}
 
 pub then_tokens : (old new front rest : List Token) → new ≡ old ++ front → new ++ rest ≡ old ++ (front ++ rest)
 then_tokens old new front rest e = ap (λ (ts : List Token). ts ++ rest) e ∙ append_assoc old front rest
@@ -21,15 +21,15 @@ pub then_ack : (old new : List Token) (flag : Option Bool) (others : Members) �
 then_ack old new None others e = then_tokens old new [] (members_tokens others) e
 then_ack old new (Some flag) others e = then_tokens old new (ack_tokens (Some flag)) (members_tokens others) e
 
-pub shown_message : (schema : Option ℕ) (s : ℕ) (payload : List ℕ) → schema ≡ Some s → IsAccepted s payload → payload_members schema payload ≡ member (codes "message") (value_json s (payload_meaning s payload)) no_members
-shown_message schema s payload e a = rw (e, a) refl
+pub shown_message : (texts : Bool) (schema : Option ℕ) (s : ℕ) (payload : List ℕ) → schema ≡ Some s → IsAccepted s payload → payload_members texts schema payload ≡ member (codes "message") (json_with texts s (payload_meaning s payload)) no_members
+shown_message texts schema s payload e a = rw (e, a) refl
 
 not_accepted : (b : Bool) → ¬ (b ≡ true) → b ≡ false
 not_accepted true h = absurd (h refl)
 not_accepted false h = refl
 
-pub shown_malformed : (schema : Option ℕ) (s : ℕ) (payload : List ℕ) → schema ≡ Some s → ¬ (IsAccepted s payload) → payload_members schema payload ≡ member (codes "malformed") (boolean true) (member (codes "bytes") (bytes_json payload) no_members)
-shown_malformed schema s payload e a = rw (e, not_accepted (accepts_payload table 100 s payload) a) refl
+pub shown_malformed : (texts : Bool) (schema : Option ℕ) (s : ℕ) (payload : List ℕ) → schema ≡ Some s → ¬ (IsAccepted s payload) → payload_members texts schema payload ≡ member (codes "malformed") (boolean true) (member (codes "bytes") (byte_string_json texts payload) no_members)
+shown_malformed texts schema s payload e a = rw (e, not_accepted (accepts_payload table 100 s payload) a) refl
 
 -- the head of a message, and what is after it
 pub head_then : (old a b c d x y z : List Token) (flag : Option Bool) (others : Members) → a ≡ old ++ x → b ≡ a ++ y → c ≡ b ++ z → d ≡ c ++ ack_tokens flag
@@ -48,7 +48,7 @@ then_header old new word written others e = by (word == written) e
     shown = key (codes "header") ∷ string (encode_of standard bytes) ∷ []
 
     by : (b : Bool) → new ≡ old ++ cond b [] shown
-        → new ++ members_tokens others ≡ old ++ members_tokens (cond b others (member (codes "header") (bytes_json bytes) others))
+        → new ++ members_tokens others ≡ old ++ members_tokens (cond b others (member (codes "header") (header_json bytes) others))
     by true is = then_tokens old new [] (members_tokens others) is
     by false is = then_tokens old new shown (members_tokens others) is
 

@@ -16,28 +16,28 @@ use Rattle.shared_core_codec.specs.Payloads.{payload_meaning}
 use Rattle.shared_core.specs.declared.encoding.item.Item.{Item}
 use Rattle.shared_core.specs.declared.encoding.item.Item.TheVariants.{Message, Unknown, Skipped}
 use Rattle.shared_core.specs.Visiting.{schema_at}
-use Rattle.shared_core_json.specs.Form.{value_json}
+use Rattle.shared_core_json.specs.Form.{byte_string_json, json_with}
 use Rattle.journal_dump.specs.declared.options.Options.{Options}
 
--- Bytes in base64.
-abbrev pub bytes_json : List ℕ → Json
-bytes_json bytes = string (encode_of standard bytes)
+-- The bytes of a header, in base64.
+abbrev pub header_json : List ℕ → Json
+header_json bytes = string (encode_of standard bytes)
 
--- The members of a payload: for a message its JSON, or that it is malformed and its bytes; for a custom entry its
--- bytes.
-abbrev pub payload_members : Option ℕ → List ℕ → Members
-payload_members None payload = member (codes "bytes") (bytes_json payload) no_members
-payload_members (Some s) payload =
+-- The members of a payload, with texts or without: for a message its JSON, or that it is malformed and its bytes; for
+-- a custom entry its bytes.
+abbrev pub payload_members : Bool → Option ℕ → List ℕ → Members
+payload_members texts None payload = member (codes "bytes") (byte_string_json texts payload) no_members
+payload_members texts (Some s) payload =
     if accepts_payload schema.table 100 s payload
-    then member (codes "message") (value_json s (payload_meaning s payload)) no_members
-    else member (codes "malformed") (boolean true) (member (codes "bytes") (bytes_json payload) no_members)
+    then member (codes "message") (json_with texts s (payload_meaning s payload)) no_members
+    else member (codes "malformed") (boolean true) (member (codes "bytes") (byte_string_json texts payload) no_members)
 
--- The members before others that say whether an acknowledgement is requested, if the type has that flag.
+-- Members, with one before them that says whether an acknowledgement is requested, if the type has that flag.
 abbrev pub ack_members : Option Bool → Members → Members
 ack_members None others = others
 ack_members (Some flag) others = member (codes "requestedAck") (boolean flag) others
 
--- Their tokens, without those of the others.
+-- The tokens of the member that says whether an acknowledgement is requested.
 abbrev pub ack_tokens : Option Bool → List Token
 ack_tokens None = []
 ack_tokens (Some flag) = Token.key (codes "requestedAck") ∷ Token.boolean flag ∷ []
@@ -49,17 +49,17 @@ written_word (Message message) = word_of message.header
 written_word (Unknown code) = code * 2 ^ 48
 written_word (Skipped code payload) = code * 2 ^ 48 + length payload
 
--- The members before others that have the bytes of a header, if its word is not the one that it is written as.
+-- Members, with one before them that has the bytes of the header, if its word is not the one that it is written as.
 abbrev pub header_members : ℕ → ℕ → Members → Members
 header_members word written others =
-    if word == written then others else member (codes "header") (bytes_json (to_be_bytes w64 word)) others
+    if word == written then others else member (codes "header") (header_json (to_be_bytes w64 word)) others
 
--- Their tokens, without those of the others.
+-- The tokens of the member that has the bytes of the header.
 abbrev pub header_tokens : ℕ → ℕ → List Token
 header_tokens word written =
     if word == written then [] else Token.key (codes "header") ∷ Token.string (encode_of standard (to_be_bytes w64 word)) ∷ []
 
--- A number before others.
+-- Members, with one before them that has a number.
 abbrev pub number_member : List ℕ → ℕ → Members → Members
 number_member name n others = member name (number (decimal n)) others
 
@@ -77,7 +77,7 @@ skipped_members options word code payload =
     (number_member (codes "code") code
     (number_member (codes "length") (length payload)
     (header_members word (written_word (Skipped code payload))
-    (if options.payloads then member (codes "bytes") (bytes_json payload) no_members else no_members))))
+    (if options.payloads then member (codes "bytes") (byte_string_json options.texts payload) no_members else no_members))))
 
 -- The members of an item after its offset, by the word of its header.
 abbrev pub item_members : Options → ℕ → Item → Members
@@ -87,7 +87,7 @@ item_members options word (Message message) =
     (number_member (codes "length") (length message.payload)
     (ack_members message.header.requested_ack
     (header_members word (written_word (Message message))
-    (if options.payloads then payload_members (schema_at options.version message.header.ty) message.payload else no_members)))))
+    (if options.payloads then payload_members options.texts (schema_at options.version message.header.ty) message.payload else no_members)))))
 item_members options word (Unknown code) = unknown_members word code
 item_members options word (Skipped code payload) = skipped_members options word code payload
 
@@ -117,7 +117,7 @@ line_of options at word item =
 -- The member of the bytes that are in no item, if there are any and payloads are printed.
 abbrev pub rest_members : Options → List ℕ → Members
 rest_members options rest =
-    if options.payloads && nat_lt 0 (length rest) then member (codes "bytes") (bytes_json rest) no_members else no_members
+    if options.payloads && nat_lt 0 (length rest) then member (codes "bytes") (byte_string_json options.texts rest) no_members else no_members
 
 -- The last line: the offset of the bytes that are in no item, how many they are, and these bytes.
 abbrev pub rest_line : Options → ℕ → List ℕ → List ℕ

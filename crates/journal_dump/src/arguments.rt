@@ -20,7 +20,9 @@ pub struct Arguments<'a> {
     pub codes: Vec<u16>,
     /// Whether payloads are printed.
     pub payloads: bool,
-    /// Whether what is wrong with a stream is a failure.
+    /// Whether bytes that are UTF-8 are printed as texts.
+    pub texts: bool,
+    /// Whether an unknown code, a malformed payload or bytes in no item is a failure.
     pub strict: bool,
 }
 
@@ -63,7 +65,7 @@ fn code_within(name: &str) -> Option<u16> {
     digits.parse().ok()
 }
 
-/// What is said of a name that no type has: the name, and the names that there are.
+/// The error text for an unknown type name: the name, and the names of all types.
 fn unknown_type(alloc: Global, name: &str) -> Result<String, AllocError> {
     let mut text = format!(in alloc; "no type has the name '{name}'; the types are")?;
     for ty in MessageType::named() {
@@ -96,6 +98,10 @@ fn command<'a>(alloc: Global) -> Result<Command<'a>, AllocError> {
         .long("strict")
         .action(ArgAction::SetTrue)
         .help("Ends with status 2 if there is an unknown code, a malformed payload or a rest");
+    let text = Arg::new(alloc, "text")
+        .long("text")
+        .action(ArgAction::SetTrue)
+        .help("Prints bytes that are UTF-8 as an object with their text, and not in base64");
     let path = Arg::new(alloc, "file")
         .value_name("FILE")
         .default_value("-")
@@ -106,6 +112,7 @@ fn command<'a>(alloc: Global) -> Result<Command<'a>, AllocError> {
         .arg(no_payload)?
         .arg(protocol)?
         .arg(strict)?
+        .arg(text)?
         .arg(types)?
         .arg(path)
 }
@@ -135,6 +142,7 @@ pub fn parse_arguments<'a>(alloc: Global, arguments: &'a [String]) -> Result<Arg
         version,
         codes,
         payloads: !matches.get_flag("no-payload"),
+        texts: matches.get_flag("text"),
         strict: matches.get_flag("strict"),
     })
 }

@@ -1,8 +1,6 @@
 //! The lines of a dump.
 
 ghost use Rattle.std.specs.Prelude.{◌≡◌, ◌∷◌, ◌++◌, [], true, codes, decimal, length, OnOk, IfOk, IfErr};
-ghost use Rattle.base64.specs.GeneralPurpose.{encode_of};
-ghost use Rattle.base64.specs.Engines.{standard};
 ghost use Rattle.json.specs.Token.{key, number, boolean, end_object};
 ghost use Rattle.json.specs.Token as token;
 ghost use Rattle.json.specs.Tree.{json_tokens, members_tokens};
@@ -12,6 +10,7 @@ ghost use Rattle.journal_dump.specs.Canonical.{IsLongFor};
 ghost use Rattle.stream_lines.specs.Printing.{IsLack};
 ghost use Rattle.journal_dump.specs.Dump.{HasLongPayload, is_well_formed_for, wrong_of};
 ghost use Rattle.shared_core.specs.Visiting.{schema_at};
+ghost use Rattle.shared_core_json.specs.Form.{byte_string_json};
 ghost use Rattle.journal_dump.specs.Lines.{payload_members, ack_tokens, header_tokens, item_members, item_json};
 ghost use Rattle.journal_dump.specs.Lines.{number_member, rest_members, skipped_members, unknown_members};
 ghost use Rattle.journal_dump.specs.Lines.{item_code as code_of_item, is_asked_for, line_of, rest_line};
@@ -19,15 +18,13 @@ ghost use Rattle.journal_dump.specs.Lines.{item_code as code_of_item, is_asked_f
 use crate::messages::canonical_of;
 use crate::options::Options;
 use crate::scratch::Scratch;
-use base64::engine::general_purpose::STANDARD;
 use bytes::Bytes;
 use json::Writer;
 use shared_core::encoding::{Decoder, Item, RawMessage};
 use shared_core::header::MessageType;
 use shared_core::messages::schema_at;
-use shared_core::version::Version;
 use shared_core::wire::is_well_formed;
-use shared_core_json::{JsonError, write_message};
+use shared_core_json::{JsonError, write_byte_string, write_message_with};
 use std::alloc::{AllocError, Global};
 use std::mem;
 use stream_lines::{LinePrinter, PrintError, Trouble};
@@ -99,7 +96,7 @@ impl<'a> LinePrinter for Options<'a> {
     }
 }
 
-/// That the payload of a selected message is not well-formed.
+/// The trouble of a selected message whose payload is not well-formed.
 fn message_trouble(options: &Options<'_>, message: &RawMessage) -> Option<Trouble>
     ensures { result ≡ wrong_of options.now (variant.Message message.now) }
 {
@@ -168,7 +165,7 @@ fn write_rest(
     let count = rest.pending();
     write_number(out, "rest", count)?;
     if options.payloads && count > 0 {
-        write_bytes(out, "bytes", rest.copy_pending()?.as_slice(), text)?;
+        write_bytes(out, options.texts, rest.copy_pending()?.as_slice(), text)?;
     }
     Ok(())
 }
@@ -257,7 +254,7 @@ fn write_skipped(
     let written = u128::from(code) * CODE_UNIT + payload.len() as u128;
     write_header(out, word, written, text)?;
     if options.payloads {
-        write_bytes(out, "bytes", payload, text)?;
+        write_bytes(out, options.texts, payload, text)?;
     }
     Ok(())
 }
@@ -285,7 +282,7 @@ fn write_message_members(
     write_ack(out, header.requested_ack())?;
     write_header(out, word, u128::from(u64::from(header)), &mut scratch.text)?;
     if options.payloads {
-        write_payload(alloc, options.version, ty, message.payload(), scratch, out)?;
+        write_payload(alloc, options, ty, message.payload(), scratch, out)?;
     }
     Ok(())
 }
@@ -293,26 +290,27 @@ fn write_message_members(
 /// Writes the members of a message's payload.
 fn write_payload(
     alloc: Global,
-    version: Version,
+    options: &Options<'_>,
     ty: MessageType,
     payload: &Bytes,
     scratch: &mut Scratch,
     out: &mut Writer,
 ) -> Result<(), PrintError>
     ensures tokens { OnOk result (out.new.tokens ++ end_object ∷ [] ≡ out.old.tokens
-        ++ members_tokens (payload_members (schema_at version ty) payload.now)) }
+        ++ members_tokens (payload_members options.now.texts (schema_at options.now.version ty) payload.now)) }
     ensures before { out.new.before ≡ out.old.before }
-    ensures lack { IfErr result (IsLack (IsLongFor (schema_at version ty) payload.now)) }
+    ensures lack { IfErr result (IsLack (IsLongFor (schema_at options.now.version ty) payload.now)) }
 {
-    match canonical_of(alloc, version, ty, payload, &mut scratch.canonical) {
+    match canonical_of(alloc, options.version, ty, payload, &mut scratch.canonical) {
         Ok(Some(schema)) => {
             out.key("message")?;
-            write_message(out, &mut scratch.text, schema, scratch.canonical.as_slice())?;
+            let canonical = scratch.canonical.as_slice();
+            write_message_with(out, &mut scratch.text, options.texts, schema, canonical)?;
         }
-        Ok(None) => write_bytes(out, "bytes", payload, &mut scratch.text)?,
+        Ok(None) => write_bytes(out, options.texts, payload, &mut scratch.text)?,
         Err(JsonError::Malformed) => {
             write_flag(out, "malformed", true)?;
-            write_bytes(out, "bytes", payload, &mut scratch.text)?;
+            write_bytes(out, options.texts, payload, &mut scratch.text)?;
         }
         Err(JsonError::TooLong) => return Err(PrintError::TooLong),
         Err(JsonError::OutOfMemory) => return Err(PrintError::OutOfMemory),
@@ -396,22 +394,21 @@ fn write_header(
     if u128::from(word) == written {
         return Ok(());
     }
-    write_bytes(out, "header", &word.to_be_bytes(), text)
+    out.key("header")?;
+    write_byte_string(out, text, false, &word.to_be_bytes())
 }
 
-/// Writes bytes in base64 as a member.
+/// Writes bytes as the member `bytes`: in base64, or as a text if texts are wanted and they are one.
 fn write_bytes(
     out: &mut Writer,
-    name: &str,
+    texts: bool,
     bytes: &[u8],
     text: &mut String,
 ) -> Result<(), AllocError>
     ensures tokens { OnOk result (out.new.tokens ≡ out.old.tokens
-        ++ (key name.now ∷ token.string (encode_of standard bytes.now) ∷ [])) }
+        ++ (key (codes "bytes") ∷ json_tokens (byte_string_json texts bytes.now))) }
     ensures before { out.new.before ≡ out.old.before }
 {
-    text.clear();
-    STANDARD.encode_string(bytes, text)?;
-    out.key(name)?;
-    out.string(text.as_str())
+    out.key("bytes")?;
+    write_byte_string(out, text, texts, bytes)
 }

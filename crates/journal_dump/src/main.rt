@@ -22,7 +22,7 @@ use stream_lines::{PrintError, Report, Trouble};
 
 const PROGRAM: &str = "journal_dump";
 
-/// Says what is wrong first with the stream, and that it has bytes in no item, and returns the status.
+/// Reports the first trouble of the stream and the bytes that are in no item, and returns the status.
 fn end(rt: &HostRuntime, options: &Options<'_>, found: &Report) -> ExitCode {
     // there is nothing to do if the standard error fails too
     if let Some((offset, trouble)) = found.trouble {
@@ -60,7 +60,7 @@ fn dump_input<R: Read>(rt: &HostRuntime, options: &Options<'_>, input: &mut R) -
     let mut output = Pipe::new(rt.stdout());
     match dump(rt.alloc(), options, input, &mut output) {
         Ok(found) => end(rt, options, &found),
-        // whose reader is gone is told nothing
+        // the reader has closed the output, so nothing is reported
         Err(PrintError::Output) if output.is_broken() => ExitCode::FAILURE,
         Err(error) => fail(rt, PROGRAM, error, 1),
     }
@@ -82,6 +82,7 @@ fn main(rt: HostRuntime) -> ExitCode {
         version: asked.version,
         codes: asked.codes.as_slice(),
         payloads: asked.payloads,
+        texts: asked.texts,
         strict: asked.strict,
     };
     if asked.path == "-" {

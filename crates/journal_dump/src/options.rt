@@ -1,8 +1,8 @@
-//! The options of a dump, which decide which items have lines and what these contain.
+//! The options of a dump.
 
 use shared_core::version::Version;
 
-/// The options of a dump, which decide which items have lines and what these contain.
+/// Which items have lines, and what these contain.
 #[derive(Clone, Copy)]
 pub struct Options<'a> {
     /// The version of the protocol.
@@ -11,6 +11,8 @@ pub struct Options<'a> {
     pub codes: &'a [u16],
     /// Whether payloads are printed.
     pub payloads: bool,
-    /// Whether the report has the first item with which something is wrong.
+    /// Whether bytes that are UTF-8 are printed as texts.
+    pub texts: bool,
+    /// Whether the report has the first trouble of an item.
     pub strict: bool,
 }

@@ -1,11 +1,11 @@
 //! The calls that compare two commands of a type, given by their payloads.
 
 ghost use Rattle.std.specs.Prelude.{nat_lt};
-ghost use Rattle.journal_c_api.specs.Answers.{Answers, Writes};
+ghost use Rattle.journal_c_api.specs.Outcomes.{Returns, Writes};
 ghost use Rattle.journal_c_api.specs.Commands.{ReturnsDifference, ReturnsSameness};
 
-use journal_c_api::answer::answer_of;
 use journal_c_api::commands;
+use journal_c_api::outcome::outcome_of;
 use std::alloc::Global;
 
 /// Decodes two payloads for the command type that has the code, and returns 1 if the two commands are the same for a
@@ -20,9 +20,9 @@ pub extern "C" fn journal_header_eq(
     second: &[u8],
     ignore_payloads: u32,
 ) -> i64
-    ensures { Answers result (ReturnsSameness code (nat_lt 0 ignore_payloads) first.now second.now) }
+    ensures { Returns result (ReturnsSameness code (nat_lt 0 ignore_payloads) first.now second.now) }
 {
-    answer_of(commands::header_eq(alloc, code, first, second, ignore_payloads != 0))
+    outcome_of(commands::header_eq(alloc, code, first, second, ignore_payloads != 0))
 }
 
 /// Decodes two payloads for the command type that has the code, and writes a line for each printed field in which the
@@ -37,7 +37,7 @@ pub extern "C" fn journal_difference(
     second: &[u8],
     out: &mut [u8],
 ) -> i64
-    ensures { Answers result (Writes (ReturnsDifference code first.now second.now) out.old out.new) }
+    ensures { Returns result (Writes (ReturnsDifference code first.now second.now) out.old out.new) }
 {
-    answer_of(commands::write_difference(alloc, code, first, second, out))
+    outcome_of(commands::write_difference(alloc, code, first, second, out))
 }

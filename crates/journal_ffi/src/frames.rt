@@ -1,10 +1,10 @@
 //! The calls that make headers and frames.
 
-ghost use Rattle.journal_c_api.specs.Answers.{Answers, Writes};
+ghost use Rattle.journal_c_api.specs.Outcomes.{Returns, Writes};
 ghost use Rattle.journal_c_api.specs.Headers.{ReturnsHeader};
 ghost use Rattle.journal_c_api.specs.Payloads.{ReturnsFrame};
 
-use journal_c_api::answer::answer_of;
+use journal_c_api::outcome::outcome_of;
 use journal_c_api::{frames, headers};
 use std::alloc::Global;
 
@@ -18,9 +18,9 @@ pub extern "C" fn journal_header(
     payload_length: u32,
     out: &mut [u8],
 ) -> i64
-    ensures { Answers result (Writes (ReturnsHeader version code payload_length) out.old out.new) }
+    ensures { Returns result (Writes (ReturnsHeader version code payload_length) out.old out.new) }
 {
-    answer_of(headers::write_header(version, code, payload_length, out))
+    outcome_of(headers::write_header(version, code, payload_length, out))
 }
 
 /// Decodes a payload for the named message type that has the code, and writes the frame of that message at a version
@@ -36,7 +36,7 @@ pub extern "C" fn journal_frame(
     payload: &[u8],
     out: &mut [u8],
 ) -> i64
-    ensures { Answers result (Writes (ReturnsFrame version code payload.now) out.old out.new) }
+    ensures { Returns result (Writes (ReturnsFrame version code payload.now) out.old out.new) }
 {
-    answer_of(frames::write_frame(alloc, version, code, payload, out))
+    outcome_of(frames::write_frame(alloc, version, code, payload, out))
 }

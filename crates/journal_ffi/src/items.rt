@@ -1,10 +1,10 @@
 //! The call that reads streams.
 
-ghost use Rattle.journal_c_api.specs.Answers.{Answers};
+ghost use Rattle.journal_c_api.specs.Outcomes.{Returns};
 ghost use Rattle.journal_c_api.specs.Items.{WritesNext};
 
-use journal_c_api::answer::answer_of;
 use journal_c_api::items;
+use journal_c_api::outcome::outcome_of;
 
 /// Finds the item that the bytes begin with, at a version from 5 to 9, and writes its six numbers: its kind (0 a
 /// message, 1 an unknown code, 2 a skipped message), its first eight bytes as one number, its code, its flag, its size
@@ -14,7 +14,7 @@ use journal_c_api::items;
 /// otherwise `NoRoom` if the slice has fewer than six numbers.
 #[unsafe(no_mangle)]
 pub extern "C" fn journal_next(version: u32, bytes: &[u8], item: &mut [u64]) -> i64
-    ensures { Answers result (WritesNext version bytes.now item.old item.new) }
+    ensures { Returns result (WritesNext version bytes.now item.old item.new) }
 {
-    answer_of(items::write_next(version, bytes, item))
+    outcome_of(items::write_next(version, bytes, item))
 }

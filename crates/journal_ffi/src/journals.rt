@@ -1,11 +1,11 @@
 //! The call that compares two journals.
 
 ghost use Rattle.std.specs.Prelude.{nat_lt, length};
-ghost use Rattle.journal_c_api.specs.Answers.{Answers};
+ghost use Rattle.journal_c_api.specs.Outcomes.{Returns};
 ghost use Rattle.journal_c_api.specs.Journals.{ReturnsVerdict, WritesVerdict};
 
-use journal_c_api::answer::answer_of;
 use journal_c_api::journals;
+use journal_c_api::outcome::outcome_of;
 use std::alloc::Global;
 
 /// Compares a recorded journal with a replayed one, both streams of a version from 5 to 9, command by command, and
@@ -23,12 +23,12 @@ pub extern "C" fn journal_verdict(
     numbers: &mut [u64],
     out: &mut [u8],
 ) -> i64
-    ensures { Answers result (WritesVerdict (ReturnsVerdict version (length numbers.old)
+    ensures { Returns result (WritesVerdict (ReturnsVerdict version (length numbers.old)
         (nat_lt 0 ignore_payloads) recorded.now replayed.now)
         numbers.old numbers.new out.old out.new) }
 {
     let ignore_payloads = ignore_payloads != 0;
-    answer_of(journals::write_verdict(
+    outcome_of(journals::write_verdict(
         alloc,
         version,
         recorded,

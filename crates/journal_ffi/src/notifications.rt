@@ -1,10 +1,10 @@
 //! The call that reads notifications.
 
-ghost use Rattle.journal_c_api.specs.Answers.{Answers};
+ghost use Rattle.journal_c_api.specs.Outcomes.{Returns};
 ghost use Rattle.journal_c_api.specs.Notifications.{WritesNotification};
 
-use journal_c_api::answer::answer_of;
 use journal_c_api::notifications;
+use journal_c_api::outcome::outcome_of;
 use std::alloc::Global;
 
 /// Reads the id and the result of a notification of any type. Writes four numbers: the kind of its id (0 a completion,
@@ -23,7 +23,7 @@ pub extern "C" fn journal_notification(
     numbers: &mut [u64],
     out: &mut [u8],
 ) -> i64
-    ensures { Answers result (WritesNotification code payload.now numbers.old numbers.new out.old out.new) }
+    ensures { Returns result (WritesNotification code payload.now numbers.old numbers.new out.old out.new) }
 {
-    answer_of(notifications::write_notification(alloc, code, payload, numbers, out))
+    outcome_of(notifications::write_notification(alloc, code, payload, numbers, out))
 }

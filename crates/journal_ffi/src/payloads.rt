@@ -1,11 +1,11 @@
 //! The calls on payloads, given by the numbers of their schemas.
 
 ghost use Rattle.std.specs.Prelude.{[], ◌∷◌};
-ghost use Rattle.journal_c_api.specs.Answers.{Answers, Writes};
+ghost use Rattle.journal_c_api.specs.Outcomes.{Returns, Writes};
 ghost use Rattle.journal_c_api.specs.JsonPayloads.{WritesReading};
 ghost use Rattle.journal_c_api.specs.Payloads.{ReturnsCanonical, ReturnsJson, ReturnsWellFormed};
 
-use journal_c_api::answer::answer_of;
+use journal_c_api::outcome::outcome_of;
 use journal_c_api::{json_payloads, payloads};
 use std::alloc::Global;
 
@@ -13,12 +13,13 @@ use std::alloc::Global;
 /// if no schema has the number.
 #[unsafe(no_mangle)]
 pub extern "C" fn journal_is_well_formed(alloc: Global, schema: u32, payload: &[u8]) -> i64
-    ensures { Answers result (ReturnsWellFormed schema payload.now) }
+    ensures { Returns result (ReturnsWellFormed schema payload.now) }
 {
-    answer_of(payloads::is_well_formed(alloc, schema, payload))
+    outcome_of(payloads::is_well_formed(alloc, schema, payload))
 }
 
-/// Decodes a payload for a schema, and writes the canonical payload of what it means.
+/// Writes the canonical payload of what a payload means for a schema. A payload that is canonical is copied, without
+/// allocating.
 ///
 /// `Malformed` if it is not well-formed for the schema, `TooLong` if the canonical payload has more than 4,294,967,295
 /// bytes, `Unknown` if no schema has the number.
@@ -29,9 +30,9 @@ pub extern "C" fn journal_canonical(
     payload: &[u8],
     out: &mut [u8],
 ) -> i64
-    ensures { Answers result (Writes (ReturnsCanonical schema payload.now []) out.old out.new) }
+    ensures { Returns result (Writes (ReturnsCanonical schema payload.now []) out.old out.new) }
 {
-    answer_of(payloads::write_canonical(alloc, schema, payload, out))
+    outcome_of(payloads::write_canonical(alloc, schema, payload, out))
 }
 
 /// Decodes the first payload for a schema, merges the second into it, and writes the canonical payload of the result.
@@ -44,24 +45,24 @@ pub extern "C" fn journal_merge(
     second: &[u8],
     out: &mut [u8],
 ) -> i64
-    ensures { Answers result (Writes (ReturnsCanonical schema first.now (second.now ∷ [])) out.old out.new) }
+    ensures { Returns result (Writes (ReturnsCanonical schema first.now (second.now ∷ [])) out.old out.new) }
 {
-    answer_of(payloads::write_merged(alloc, schema, first, second, out))
+    outcome_of(payloads::write_merged(alloc, schema, first, second, out))
 }
 
 /// Decodes a payload for a schema, and writes the JSON of what it means, in protobuf's own form. The errors are those
 /// of `journal_canonical`.
 #[unsafe(no_mangle)]
 pub extern "C" fn journal_json(alloc: Global, schema: u32, payload: &[u8], out: &mut [u8]) -> i64
-    ensures { Answers result (Writes (ReturnsJson schema payload.now) out.old out.new) }
+    ensures { Returns result (Writes (ReturnsJson schema payload.now) out.old out.new) }
 {
-    answer_of(payloads::write_json(alloc, schema, payload, out))
+    outcome_of(payloads::write_json(alloc, schema, payload, out))
 }
 
 /// Reads a JSON text for a schema, in protobuf's own form, and writes two numbers: the kind of the result (0 it means a
 /// value, 1 it is not JSON, 2 unknown member, 3 repeated member, 4 several members of a oneof, 5 wrong kind of value, 6
 /// out of range, 7 not base64, 8 too deep), and where the text stops being JSON, in bytes; and as bytes the canonical
-/// payload of that value, or the path to what is not taken, as `headers[2].key`.
+/// payload of that value, or the path to the rejected value, as `headers[2].key`.
 ///
 /// Returns how many bytes these are; if there is no room for them, the numbers are written nevertheless. `Unknown` if
 /// no schema has the number, otherwise `NoRoom` if there is room for fewer than two numbers; `TooLong` if the payload
@@ -74,7 +75,7 @@ pub extern "C" fn journal_payload_of_json(
     numbers: &mut [u64],
     out: &mut [u8],
 ) -> i64
-    ensures { Answers result (WritesReading schema json.now numbers.old numbers.new out.old out.new) }
+    ensures { Returns result (WritesReading schema json.now numbers.old numbers.new out.old out.new) }
 {
-    answer_of(json_payloads::write_payload_of_json(alloc, schema, json, numbers, out))
+    outcome_of(json_payloads::write_payload_of_json(alloc, schema, json, numbers, out))
 }

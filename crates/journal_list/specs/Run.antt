@@ -13,7 +13,7 @@ IsRefused (Listed _) = ⊥
 -- The condition holds of the listing's result, if there is one.
 abbrev pub IfListed : Outcome → (Result (Unit {0}) ListError → Type 0) → Type 0
 IfListed Refused fact = ⊤
-IfListed (Listed answer) fact = fact answer
+IfListed (Listed listing) fact = fact listing
 
 -- The line on the standard error: none after a whole listing.
 abbrev pub message_of : Outcome → List ℕ

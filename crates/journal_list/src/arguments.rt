@@ -18,7 +18,7 @@ pub struct Arguments<'a> {
     /// The version of the protocol.
     pub version: Version,
     /// The number of bytes that are read at a time.
-    pub piece: usize,
+    pub chunk_size: usize,
 }
 
 /// Whether an argument is an option. `-` is the standard input.
@@ -69,40 +69,40 @@ struct Words {
     /// Whether the first is the path of a file.
     has_path: bool,
     version: Version,
-    piece: usize,
+    chunk_size: usize,
 }
 
 /// Reads arguments without options: those that `options` takes, or a file, and after it those. `None` for others.
 fn read_words(words: &[String]) -> Option<Words>
-    ensures { IfSome result (λ found. IsAccepted found.version found.piece) }
+    ensures { IfSome result (λ found. IsAccepted found.version found.chunk_size) }
 {
-    if let Some((version, piece)) = options(words) {
+    if let Some((version, chunk_size)) = options(words) {
         return Some(Words {
             has_path: false,
             version,
-            piece,
+            chunk_size,
         });
     }
     let (path, rest) = words.split_first()?;
     if !is_path(path.as_str()) {
         return None;
     }
-    let (version, piece) = options(rest)?;
+    let (version, chunk_size) = options(rest)?;
     Some(Words {
         has_path: true,
         version,
-        piece,
+        chunk_size,
     })
 }
 
 /// Parses the arguments after the program's name, of which none is an option. `None` for invalid ones.
 pub fn parse_words<'a>(words: &'a [String]) -> Option<Arguments<'a>>
-    ensures { IfSome result (λ found. IsAccepted found.version found.piece) }
+    ensures { IfSome result (λ found. IsAccepted found.version found.chunk_size) }
 {
     let Words {
         has_path,
         version,
-        piece,
+        chunk_size,
     } = read_words(words)?;
     let path = match words {
         [path, ..] if has_path => path.as_str(),
@@ -111,14 +111,14 @@ pub fn parse_words<'a>(words: &'a [String]) -> Option<Arguments<'a>>
     Some(Arguments {
         path,
         version,
-        piece,
+        chunk_size,
     })
 }
 
 /// Parses the arguments, the program's name first, of which one is an option. The error is an invalid argument, or a
 /// request for the help or the version.
 pub fn parse_arguments<'a>(alloc: Global, arguments: &'a [String]) -> Result<Arguments<'a>, Error>
-    ensures { IfOk result (λ found. IsAccepted found.version found.piece) }
+    ensures { IfOk result (λ found. IsAccepted found.version found.chunk_size) }
 {
     let mut command = command(alloc)?;
     let matches = command.try_get_matches_from_mut(arguments)?;
@@ -153,6 +153,6 @@ pub fn parse_arguments<'a>(alloc: Global, arguments: &'a [String]) -> Result<Arg
     Ok(Arguments {
         path: path.unwrap_or("-"),
         version,
-        piece: found.piece,
+        chunk_size: found.chunk_size,
     })
 }

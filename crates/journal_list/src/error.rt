@@ -1,9 +1,9 @@
-//! The error of `list_at`: why a listing ended before its last line.
+//! The error of `list_at`.
 
 use std::error::Error;
 use std::fmt;
 
-/// The error of `list_at`: why a listing ended before its last line.
+/// Why a listing ended before its last line.
 #[derive(Clone, Copy, Debug, PartialEq, Eq, Drop)]
 pub enum ListError {
     /// A read failed, or 2^64 - 1 reads met no end.

@@ -19,41 +19,41 @@ pub fn list<R: Read, W: Write>(
     alloc: Global,
     input: &mut R,
     output: &mut W,
-    piece: usize,
+    chunk_size: usize,
 ) -> Result<(), ListError>
-    requires low { 1 ≤ piece }
-    requires high { piece ≤ 65536 }
+    requires low { 1 ≤ chunk_size }
+    requires high { chunk_size ≤ 65536 }
     ensures { (read : List ℕ) × (written : List ℕ)
         × Consumes (R.remaining input.old) (R.remaining input.new) read
         × Appends (W.contents output.old) (W.contents output.new) written
         × IsListed V8 result read written (R.remaining input.new) }
 {
-    list_at(alloc, Version::V8, input, output, piece)
+    list_at(alloc, Version::V8, input, output, chunk_size)
 }
 
 /// Writes a line for each item of a stream of a version, of at least V5, and at its end the count of the bytes that are
 /// in no item.
 ///
-/// It reads at most `piece` bytes at a time, from 1 to 65,536, and writes the lines of the items that a chunk completes
-/// before it reads the next. `Ok` comes only if the reader has no byte left, and then all is written. After `Input` the
-/// lines of all items of what was read are written; after `Output` a prefix of these lines, or of all if the input had
-/// ended; after `OutOfMemory` the lines of the first items.
+/// It reads at most `chunk_size` bytes at a time, from 1 to 65,536, and writes the lines of the items that a chunk
+/// completes before it reads the next. `Ok` comes only if the reader has no byte left, and then all is written. After
+/// `Input` the lines of all items of what was read are written; after `Output` a prefix of these lines, or of all if
+/// the input had ended; after `OutOfMemory` the lines of the first items.
 pub fn list_at<R: Read, W: Write>(
     alloc: Global,
     version: Version,
     input: &mut R,
     output: &mut W,
-    piece: usize,
+    chunk_size: usize,
 ) -> Result<(), ListError>
     requires spoken { 5 ≤ version_number version }
-    requires low { 1 ≤ piece }
-    requires high { piece ≤ 65536 }
+    requires low { 1 ≤ chunk_size }
+    requires high { chunk_size ≤ 65536 }
     ensures { (read : List ℕ) × (written : List ℕ)
         × Consumes (R.remaining input.old) (R.remaining input.new) read
         × Appends (W.contents output.old) (W.contents output.new) written
         × IsListed version result read written (R.remaining input.new) }
 {
-    match print_lines(alloc, version, &Listing, input, output, piece) {
+    match print_lines(alloc, version, &Listing, input, output, chunk_size) {
         Ok(_) => Ok(()),
         Err(PrintError::Input) => Err(ListError::Input),
         Err(PrintError::Output) => Err(ListError::Output),

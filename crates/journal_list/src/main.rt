@@ -20,14 +20,14 @@ use std::process::ExitCode;
 
 const PROGRAM: &str = "journal_list";
 
-/// Says how a run ended, and returns the status.
+/// Reports how a run ended, and returns the status.
 fn end(rt: &HostRuntime, outcome: Outcome) -> ExitCode {
     // there is nothing to do if the standard error fails too
     let _ = eprint!(rt; "{}", message(&outcome));
     exit_code(&outcome)
 }
 
-/// The same of a run that wrote to this output. If its reader is gone nothing is said.
+/// Reports how a run ended that wrote to this output, unless its reader has closed it.
 fn end_writing<W>(rt: &HostRuntime, outcome: Outcome, output: &Pipe<W>) -> ExitCode {
     if output.is_broken() {
         return exit_code(&outcome);
@@ -37,10 +37,16 @@ fn end_writing<W>(rt: &HostRuntime, outcome: Outcome, output: &Pipe<W>) -> ExitC
 
 /// Lists an input, and returns the status.
 fn list_input<R: Read>(rt: &HostRuntime, asked: &Arguments<'_>, input: &mut R) -> ExitCode
-    requires { IsAccepted asked.now.version asked.now.piece }
+    requires { IsAccepted asked.now.version asked.now.chunk_size }
 {
     let mut output = Pipe::new(rt.stdout());
-    let listed = list_at(rt.alloc(), asked.version, input, &mut output, asked.piece);
+    let listed = list_at(
+        rt.alloc(),
+        asked.version,
+        input,
+        &mut output,
+        asked.chunk_size,
+    );
     end_writing(rt, Outcome::Listed(listed), &output)
 }
 
@@ -51,7 +57,7 @@ fn looks_like_path(text: &str) -> bool {
 
 /// Lists a file or the standard input, and returns the status.
 fn list_path(rt: &HostRuntime, asked: &Arguments<'_>) -> ExitCode
-    requires { IsAccepted asked.now.version asked.now.piece }
+    requires { IsAccepted asked.now.version asked.now.chunk_size }
 {
     if asked.path == "-" {
         return list_input(rt, asked, &mut rt.stdin());
@@ -71,7 +77,7 @@ fn main(rt: HostRuntime) -> ExitCode {
         Err(error) if error.kind() == ErrorKind::OutOfMemory => {
             return end(&rt, Outcome::Listed(Err(ListError::OutOfMemory)));
         }
-        // arguments that cannot be read are an input that fails
+        // arguments that cannot be read are a failed input
         Err(_) => return end(&rt, Outcome::Listed(Err(ListError::Input))),
     };
     let words = match all.as_slice() {

@@ -1,31 +1,31 @@
-//! The program's arguments.
+//! Command lines without a file and options: a chunk size and `v9`.
 ghost use Rattle.std.specs.Prelude.{◌≡◌, ◌≤◌, ◌↔◌, ℕ, codes, map, IfSome, IsNone, IsTrue, string_bytes};
 ghost use Rattle.shared_core_base.specs.Version.{version_number};
 ghost use Rattle.shared_core_base.specs.declared.version.Version.{Version as AnyVersion};
-ghost use Rattle.journal_list.specs.Options.{IsPiece, AreOptions};
+ghost use Rattle.journal_list.specs.Options.{IsChunkSize, AreOptions};
 
 use shared_core::version::Version;
 
-const DEFAULT_PIECE: usize = 4096;
+const DEFAULT_CHUNK_SIZE: usize = 4096;
 
-const MAX_PIECE: usize = 65536;
+const MAX_CHUNK_SIZE: usize = 65536;
 
 /// Returns the version, and how many bytes are read at a time, by the arguments after the program's name: one to five
 /// digits from 1 to 65,536, or none for 4,096; and after it `v9`, or nothing for V8. Returns `None` for other
 /// arguments.
 pub fn options(args: &[String]) -> Option<(Version, usize)>
     ensures some { IfSome result (λ found. AreOptions (map string_bytes args.now) found.0 found.1) }
-    ensures none { IsNone result → (version : AnyVersion) → (piece : ℕ)
-        → AreOptions (map string_bytes args.now) version piece → ⊥ }
+    ensures none { IsNone result → (version : AnyVersion) → (chunk_size : ℕ)
+        → AreOptions (map string_bytes args.now) version chunk_size → ⊥ }
     ensures low { IfSome result (λ found. 1 ≤ found.1) }
     ensures high { IfSome result (λ found. found.1 ≤ 65536) }
     ensures spoken { IfSome result (λ found. 5 ≤ version_number found.0) }
 {
     match args {
-        [] => Some((Version::V8, DEFAULT_PIECE)),
-        [word] if is_v9(word.as_str()) => Some((Version::V9, DEFAULT_PIECE)),
-        [word] => Some((Version::V8, piece_of(word.as_str())?)),
-        [word, last] if is_v9(last.as_str()) => Some((Version::V9, piece_of(word.as_str())?)),
+        [] => Some((Version::V8, DEFAULT_CHUNK_SIZE)),
+        [word] if is_v9(word.as_str()) => Some((Version::V9, DEFAULT_CHUNK_SIZE)),
+        [word] => Some((Version::V8, chunk_size_of(word.as_str())?)),
+        [word, last] if is_v9(last.as_str()) => Some((Version::V9, chunk_size_of(word.as_str())?)),
         _ => None,
     }
 }
@@ -38,19 +38,19 @@ fn is_v9(word: &str) -> bool
 }
 
 /// One to five digits, from 1 to 65,536.
-fn piece_of(word: &str) -> Option<usize>
-    ensures some { IfSome result (IsPiece word.now) }
-    ensures none { IsNone result → (piece : ℕ) → IsPiece word.now piece → ⊥ }
-    ensures low { IfSome result (λ piece. 1 ≤ piece) }
-    ensures high { IfSome result (λ piece. piece ≤ 65536) }
+fn chunk_size_of(word: &str) -> Option<usize>
+    ensures some { IfSome result (IsChunkSize word.now) }
+    ensures none { IsNone result → (chunk_size : ℕ) → IsChunkSize word.now chunk_size → ⊥ }
+    ensures low { IfSome result (λ chunk_size. 1 ≤ chunk_size) }
+    ensures high { IfSome result (λ chunk_size. chunk_size ≤ 65536) }
 {
     // `parse` would accept a sign
     if 5 < word.len() || word.as_bytes().first() == Some(&b'+') {
         return None;
     }
-    let piece = word.parse::<usize>().ok()?;
-    if 1 <= piece && piece <= MAX_PIECE {
-        Some(piece)
+    let chunk_size = word.parse::<usize>().ok()?;
+    if 1 <= chunk_size && chunk_size <= MAX_CHUNK_SIZE {
+        Some(chunk_size)
     } else {
         None
     }

@@ -26,28 +26,28 @@ pub enum Outcome {
 /// Lists the input at the version, and in chunks of the size, that the arguments give. Invalid arguments leave input
 /// and output untouched.
 ///
-/// No contract sees how much a read asks for: the tests show that it is the size that the arguments give.
+/// No contract sees the size of a read; tests show that it is the one that the arguments give.
 pub fn run<R: Read, W: Write>(
     alloc: Global,
     words: &[String],
     input: &mut R,
     output: &mut W,
 ) -> Outcome
-    ensures refused { IsRefused result → (version : AnyVersion) → (piece : ℕ)
-        → AreOptions (map string_bytes words.now) version piece → ⊥ }
+    ensures refused { IsRefused result → (version : AnyVersion) → (chunk_size : ℕ)
+        → AreOptions (map string_bytes words.now) version chunk_size → ⊥ }
     ensures unread { IsRefused result → input.new ≡ input.old }
     ensures unwritten { IsRefused result → output.new ≡ output.old }
-    ensures listed { IfListed result (λ answer.
-        (version : AnyVersion) × (piece : ℕ) × AreOptions (map string_bytes words.now) version piece
+    ensures listed { IfListed result (λ listing.
+        (version : AnyVersion) × (chunk_size : ℕ) × AreOptions (map string_bytes words.now) version chunk_size
         × (read : List ℕ) × (written : List ℕ)
         × Consumes (R.remaining input.old) (R.remaining input.new) read
         × Appends (W.contents output.old) (W.contents output.new) written
-        × IsListed version answer read written (R.remaining input.new)) }
+        × IsListed version listing read written (R.remaining input.new)) }
 {
-    let Some((version, piece)) = options(words) else {
+    let Some((version, chunk_size)) = options(words) else {
         return Outcome::Refused;
     };
-    Outcome::Listed(list_at(alloc, version, input, output, piece))
+    Outcome::Listed(list_at(alloc, version, input, output, chunk_size))
 }
 
 /// The line for the standard error, empty after a whole listing.

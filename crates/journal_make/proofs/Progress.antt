@@ -1,4 +1,4 @@
--- How the making of a stream goes on, and what stands written when it ends.
+-- How the making of a stream continues, and what is written when it ends.
 use Rattle.std.proofs.Common.{◌≡◌, ℕ, suc, ◌+◌, List, [], ◌∷◌, ◌++◌, length, Option, Some, None, Result, Ok, Err, inl, inr, refl, sym, ap, subst, ◌∙◌, append_assoc, append-nil, length-append}
 use Rattle.std.specs.Io.KnownBytes.{Appends, Consumes, IsAtEnd, Keeps}
 use Rattle.std.proofs.KnownBytes.{Appends-nil, Appends-trans, Consumes-nil, Consumes-trans, Consumes-kept}
@@ -15,7 +15,7 @@ use Rattle.journal_make.proofs.Taking.{none_yet, then_lines, then_bytes, all_lin
 begins_join : (front xs ys : List ℕ) → Begins xs ys → Begins (front ++ xs) (front ++ ys)
 begins_join front xs ys (more, e) = (more, ap (λ (zs : List ℕ). front ++ zs) e ∙ sym (append_assoc front xs more))
 
--- A making that goes on: what the whole lines mean is written, and the rest is pending.
+-- A making that is not at its end: what the whole lines mean is written, and the rest is pending.
 pub record GoesOn (version : Version) (first start left out : Option (List ℕ)) (pending : List ℕ) (taken : ℕ) : Type 0 where
   pub read : List ℕ
   pub lines : List (List ℕ)

@@ -6,7 +6,7 @@ use Rattle.journal_make.specs.Made.{ended, made, BeginWith}
 use Rattle.journal_make.specs.Steps.{AreTaken}
 use Rattle.journal_make.proofs.Taking.{first_lines}
 
--- what is made is what first lines mean, whether one of the lines is not taken or not
+-- what is written is what the first lines mean, whether or not a line is rejected
 pub taken_lines : (means : List ℕ → Option (List ℕ)) (bytes : List ℕ) (o : Option Refused) (old new : Lines) → AreTaken means bytes o old new
     → (lines : List (List ℕ)) × (rest more : List ℕ) × BeginWith bytes lines rest × (made means lines ≡ Some more) × (new.made.items ≡ old.made.items ++ more)
 taken_lines means bytes None old new (lines, more, are, e, m, n) = (lines, new.pending.items, more, are.begins, e, m)

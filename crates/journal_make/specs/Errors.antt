@@ -1,4 +1,4 @@
--- What the reasons print for which a line is not taken.
+-- The texts of the reasons for which a line is rejected.
 use Rattle.std.specs.Prelude.{ℕ, List, codes}
 use Rattle.shared_core_json_reader.specs.Errors as json
 use Rattle.shared_core_json_reader.specs.declared.error.Reason.TheVariants as json_reason

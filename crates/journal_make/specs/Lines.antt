@@ -32,7 +32,7 @@ is_name_of (Some ty) name = bytes_eq (debug_name_of ty) name
 abbrev pub code_if : ℕ → List ℕ → Option ℕ
 code_if code name = if is_name_of (type_of code) name then Some code else None
 
--- The code that a type and a code say, one of which may be absent; if both are there, they have to agree.
+-- The code by a type and a code, of which one may be absent; if both are present, they have to agree.
 abbrev pub code_said : Option Json → Option Json → Option ℕ
 code_said None None = None
 code_said (Some t) None = option_and_then code_named (as_str t)
@@ -53,7 +53,8 @@ message_said version code m = option_and_then (λ s. value_payload s m) (option_
 abbrev pub nothing_said : Json → Option (List ℕ)
 nothing_said j = option_and_then (λ b. if b then Some [] else None) (as_bool j)
 
--- The payload that a message, bytes or the word that there is none say; one of them has to be there, and one alone.
+-- The payload by a message, by bytes, or by the member that says that there is none: exactly one of them has to be
+-- present.
 abbrev pub payload_said : Version → ℕ → Option Json → Option Json → Option Json → Option (List ℕ)
 payload_said version code (Some m) None None = message_said version code m
 payload_said version code None (Some b) None = bytes_read b
@@ -67,17 +68,17 @@ line_payload version code j =
 
 -- ---- the header
 
--- Whether the headers of a type can ask for an acknowledgement.
+-- Whether the headers of a type can request an acknowledgement.
 abbrev pub has_flag : Option MessageType → Bool
 has_flag None = false
 has_flag (Some ty) = allows_ack ty
 
--- Whether an acknowledgement is asked for; only a type that has that flag may say so.
+-- Whether an acknowledgement is requested; only a type with that flag may have the member.
 abbrev pub flag_said : ℕ → Option Json → Option Bool
 flag_said code None = Some false
 flag_said code (Some j) = if has_flag (type_of code) then as_bool j else None
 
--- Whether the item that a line describes asks for an acknowledgement.
+-- Whether the item that a line describes requests an acknowledgement.
 abbrev pub line_flag : ℕ → Json → Option Bool
 line_flag code j = flag_said code (given_either (codes "requestedAck") (codes "ack") j)
 
@@ -89,7 +90,8 @@ word code flag size = code * 2 ^ 48 + (if flag then 2 ^ 47 else 0) + size
 abbrev pub with_size : ℕ → List ℕ → Option (List ℕ)
 with_size size bytes = if nat_lt size 4294967296 then Some (take 4 bytes ++ to_be_bytes w32 size) else None
 
--- The header that eight given bytes say: that of no payload has all of them, and another one the payload's length.
+-- The header by eight given bytes: all of them if there is no payload, otherwise the first four and the length of the
+-- payload.
 abbrev pub header_given : Bool → ℕ → List ℕ → Option (List ℕ)
 header_given alone size bytes = if length bytes == 8 then (if alone then Some bytes else with_size size bytes) else None
 
@@ -128,11 +130,11 @@ abbrev pub rest_bytes : Json → Option Json → Option (List ℕ)
 rest_bytes r None = option_and_then (λ n. if n == 0 then Some [] else None) (unsigned_read 18446744073709551616 r)
 rest_bytes r (Some b) = bytes_read b
 
--- The bytes of the line of the rest.
+-- The bytes of the line of the bytes after the last item.
 unfoldable pub rest_said : Json → Json → Option (List ℕ)
 rest_said r j = if says_no_item j then rest_bytes r (given_either (codes "bytes") (codes "payload") j) else None
 
--- The bytes of a line that is of the rest or not.
+-- The bytes of a line, which is that of an item or of the bytes after the last item.
 abbrev pub said : Version → Option Json → Json → Option (List ℕ)
 said version None j = item_said version j
 said version (Some r) j = rest_said r j
@@ -145,7 +147,7 @@ line_said version j = if is_line j then said version (given (codes "rest") j) j 
 abbrev pub is_space : ℕ → Bool
 is_space b = ((b == 32) || (b == 9)) || (b == 13)
 
--- Whether a line has nothing but these.
+-- Whether a line has only spaces, tabs and carriage returns.
 abbrev pub is_blank : List ℕ → Bool
 is_blank [] = true
 is_blank (b ∷ bs) = if is_space b then is_blank bs else false

@@ -27,16 +27,16 @@ pub record BeginWith (bytes : List ℕ) (lines : List (List ℕ)) (rest : List �
   pub whole : bytes ≡ ended lines ++ rest
   pub single : AreSingle lines
 
--- The bytes are these lines, each with a newline after it, and then this rest of a line, as all bytes are in one way.
+-- The bytes are these lines, each with a newline after it, and then this rest of a line.
 pub record AreLines (bytes : List ℕ) (lines : List (List ℕ)) (rest : List ℕ) : Type 0 where
   pub begins : BeginWith bytes lines rest
   pub unended : has_newline rest ≡ false
 
--- One list after the other, if both are there.
+-- One list after the other, if both exist.
 abbrev pub both : Option (List ℕ) → Option (List ℕ) → Option (List ℕ)
 both a b = option_and_then (λ xs. option_map (λ ys. xs ++ ys) b) a
 
--- The bytes that lines mean, one after the other, if each can be taken, where a function says what one means.
+-- The bytes that lines mean by a function, one after the other, if each line means something.
 abbrev pub made : (List ℕ → Option (List ℕ)) → List (List ℕ) → Option (List ℕ)
 made means [] = Some []
 made means (line ∷ lines) = both (means line) (made means lines)
@@ -45,13 +45,13 @@ made means (line ∷ lines) = both (means line) (made means lines)
 abbrev pub AreFirst : List (List ℕ) → List (List ℕ) → List ℕ → Option (List ℕ) → Type 0
 AreFirst done lines rest left = Begins done lines ⊎ (IsAtEnd left × (done ≡ lines ++ rest ∷ []))
 
--- A number of lines, as far as 64 bits count.
+-- A number of lines, or 2 ^ 64 - 1 if it is greater.
 abbrev pub counted : ℕ → ℕ
 counted n = min n 18446744073709551615
 
 -- What is written for each result, for these lines and this rest, and what the reader has left: what all lines mean, at
--- the input's end; what the whole lines mean; a prefix of what first lines mean; what first lines mean; or what those
--- before one mean that cannot be taken.
+-- the input's end; what the whole lines mean; a prefix of what the first lines mean; what the first lines mean; or what
+-- the lines before a rejected one mean.
 abbrev pub StandsMade : (List ℕ → Option (List ℕ)) → Result (Unit {0}) MakeError → List (List ℕ) → List ℕ → List ℕ → Option (List ℕ) → Type 0
 StandsMade means (Ok done) lines rest written left = IsAtEnd left × (made means (lines ++ rest ∷ []) ≡ Some written)
 StandsMade means (Err Input) lines rest written left = made means lines ≡ Some written

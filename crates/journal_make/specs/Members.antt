@@ -16,7 +16,7 @@ says_item key =
 abbrev pub says_bytes : List ℕ → Bool
 says_bytes key = (bytes_eq key (codes "bytes") || bytes_eq key (codes "payload")) || bytes_eq key (codes "rest")
 
--- Whether a key is one of those that a dump has besides, which are passed over.
+-- Whether a key is one of the others of a dump, which are ignored.
 abbrev pub is_passed_over : List ℕ → Bool
 is_passed_over key =
     ((bytes_eq key (codes "offset") || bytes_eq key (codes "length")) || bytes_eq key (codes "malformed")) || bytes_eq key (codes "skipped")
@@ -30,12 +30,12 @@ abbrev pub has_key : List ℕ → Members → Bool
 has_key key no_members = false
 has_key key (member k j ms) = if bytes_eq k key then true else has_key key ms
 
--- Whether each key is one that a line may have, and none comes twice.
+-- Whether each key is one that a line may have, and none occurs twice.
 abbrev pub are_members : Members → Bool
 are_members no_members = true
 are_members (member k j ms) = if is_known k then (if has_key k ms then false else are_members ms) else false
 
--- Whether a value is an object of such members.
+-- Whether a value is an object of members that a line may have, none of them twice.
 abbrev pub has_members : Json → Bool
 has_members null = false
 has_members (boolean b) = false
@@ -44,7 +44,7 @@ has_members (string s) = false
 has_members (array js) = false
 has_members (object ms) = are_members ms
 
--- The value of a member, if it is there and is not null.
+-- The value of a member, if it is present and not null.
 abbrev pub given : List ℕ → Json → Option Json
 given name j = option_and_then present (get name j)
 
@@ -56,7 +56,7 @@ given_either name other j = option_or (given name j) (given other j)
 abbrev pub gives_both : List ℕ → List ℕ → Json → Bool
 gives_both name other j = not (is_none (given name j)) && not (is_none (given other j))
 
--- Whether a value is an object with the members of a line, of which no two are names of the same.
+-- Whether a value is an object of members that a line may have, none of them twice or under two names.
 unfoldable pub is_line : Json → Bool
 is_line j =
     if has_members j

@@ -7,7 +7,8 @@ use Rattle.journal_make.specs.declared.make.Lines.{Lines}
 use Rattle.journal_make.specs.declared.make.Refused.{Refused}
 use Rattle.journal_make.specs.Made.{made, counted, AreLines, BeginWith}
 
--- A line was taken, or is not: what it means is appended, or nothing; nothing is said where memory ran out.
+-- A line is taken, and what it means is appended; or it is rejected, and nothing is appended. If an allocation fails,
+-- nothing is specified.
 abbrev pub LineIsTaken : {E : Type 0} → (List ℕ → Option (List ℕ)) → Result (Option Refused) E → Lines → Lines → Type 0
 LineIsTaken means (Ok None) old new =
     (bytes : List ℕ) × (means old.pending.items ≡ Some bytes) × (new.made.items ≡ old.made.items ++ bytes) × (new.pending.items ≡ []) × (new.taken ≡ counted (suc old.taken))
@@ -15,7 +16,7 @@ LineIsTaken means (Ok (Some refused)) old new =
     (means old.pending.items ≡ None) × (new.made.items ≡ old.made.items) × (refused.number ≡ counted (suc old.taken))
 LineIsTaken means (Err lack) old new = Unit {0}
 
--- The lines that some bytes end were taken, or those before one that is not.
+-- The lines that these bytes end are taken, or those before a rejected one.
 abbrev pub AreTaken : (List ℕ → Option (List ℕ)) → List ℕ → Option Refused → Lines → Lines → Type 0
 AreTaken means bytes None old new =
     (lines : List (List ℕ)) × (more : List ℕ) × AreLines bytes lines new.pending.items × (made means lines ≡ Some more)
@@ -24,13 +25,13 @@ AreTaken means bytes (Some refused) old new =
     (lines : List (List ℕ)) × (line rest more : List ℕ) × BeginWith bytes (lines ++ line ∷ []) rest × (made means lines ≡ Some more)
     × (new.made.items ≡ old.made.items ++ more) × (means line ≡ None) × (refused.number ≡ counted (suc (old.taken + length lines)))
 
--- They were taken so, unless memory ran out.
+-- The lines that these bytes end are taken, or those before a rejected one, unless an allocation failed.
 abbrev pub IsTaken : {E : Type 0} → (List ℕ → Option (List ℕ)) → List ℕ → Result (Option Refused) E → Lines → Lines → Type 0
 IsTaken means bytes (Ok refused) old new = AreTaken means bytes refused old new
 IsTaken means bytes (Err lack) old new = Unit {0}
 
--- What is written where lines are taken that some bytes end: what they mean, or a prefix of it, or what those before one
--- mean that is not taken; nothing where memory ran out.
+-- What is written for the lines that these bytes end: what they mean; a prefix of it; nothing, if an allocation fails;
+-- or what the lines before a rejected one mean.
 abbrev pub IsStep : (List ℕ → Option (List ℕ)) → List ℕ → Result (Unit {0}) MakeError → List ℕ → Lines → Lines → Type 0
 IsStep means bytes (Ok done) written old new =
     (lines : List (List ℕ)) × AreLines bytes lines new.pending.items × (made means lines ≡ Some written) × (new.made.items ≡ []) × (new.taken ≡ counted (old.taken + length lines))
@@ -42,7 +43,7 @@ IsStep means bytes (Err (Line number error)) written old new =
     (lines : List (List ℕ)) × (line rest : List ℕ) × BeginWith bytes (lines ++ line ∷ []) rest × (made means lines ≡ Some written)
     × (means line ≡ None) × (number ≡ counted (suc (old.taken + length lines)))
 
--- What is written where the pending bytes are taken as the last line: what it means, or a prefix of that, or nothing.
+-- What is written if the pending bytes are taken as the last line: what it means, a prefix of that, or nothing.
 abbrev pub IsFinished : (List ℕ → Option (List ℕ)) → Result (Unit {0}) MakeError → List ℕ → Lines → Type 0
 IsFinished means (Ok done) written lines = means lines.pending.items ≡ Some written
 IsFinished means (Err Input) written lines = ⊥

@@ -1,4 +1,4 @@
-//! The errors of `make`, and why a line is not taken.
+//! The errors of `make` and of its lines.
 
 use shared_core_json_reader::Reason;
 use std::alloc::AllocError;
@@ -6,10 +6,10 @@ use std::error::Error;
 use std::fmt;
 use stream_lines::output::OutputFailed;
 
-/// Why a line is not taken.
+/// Why a line is rejected.
 #[derive(Clone, Copy, Debug, PartialEq, Eq, Drop)]
 pub enum LineReason {
-    /// It is not JSON, or one of its members is not what it is to be.
+    /// It is not JSON, or one of its members has a wrong name or a wrong value.
     Json(Reason),
     /// It has neither a type nor a code.
     NoType,
@@ -17,21 +17,21 @@ pub enum LineReason {
     UnknownType,
     /// The type's name is not that of the code's type.
     OtherType,
-    /// It has no message and no bytes, and does not say that there are none.
+    /// It has no message and no bytes, and does not say that there is no payload.
     NoPayload,
-    /// It has more than one of a message, bytes, and the word that there are none.
+    /// More than one of its members gives a payload or says that there is none.
     SeveralPayloads,
     /// It has a message, but the payloads of its code have no schema.
     NoSchema,
-    /// It says whether an acknowledgement is asked for, which headers of its type cannot.
+    /// It says whether an acknowledgement is requested, but headers of its type have no such flag.
     NoFlag,
     /// A header is not eight bytes long.
     HeaderLength,
     /// Its payload has more bytes than 32 bits can count.
     TooLong,
-    /// It is of the bytes after the last item, and has members of an item.
+    /// It is the line of the bytes after the last item, and has members of an item.
     ItemInRest,
-    /// It is of bytes after the last item, which it does not have.
+    /// It is the line of the bytes after the last item, and lacks these bytes.
     NoBytes,
 }
 
@@ -59,13 +59,13 @@ impl fmt::Display for LineReason {
     }
 }
 
-/// Why a line is not taken, and where.
+/// Why a line is rejected, and where.
 #[derive(Debug, Drop)]
 pub struct LineError {
     pub reason: LineReason,
     /// Where the line stops being JSON, in bytes from its beginning; absent if it is JSON.
     pub offset: Option<usize>,
-    /// The members and indices that lead to what was not taken, as `message.headers[2].key`; empty if that is the line.
+    /// The members and indices that lead to the rejected value, as `message.headers[2].key`; empty if that is the line.
     pub path: String,
 }
 
@@ -85,7 +85,7 @@ impl fmt::Display for LineError {
 
 impl Error for LineError {}
 
-/// The error of `make`: why it ended before the end of its input.
+/// Why `make` ended before the end of its input.
 #[derive(Debug, Drop)]
 pub enum MakeError {
     /// A read failed, or 2^64 - 1 reads met no end.
@@ -94,7 +94,7 @@ pub enum MakeError {
     Output,
     /// A line, or what it means, could not be allocated.
     OutOfMemory,
-    /// The line of this number, from 1, is not taken. Its number is at most 2^64 - 1.
+    /// The line of this number, from 1 to 2^64 - 1, is rejected.
     Line(u64, LineError),
 }
 

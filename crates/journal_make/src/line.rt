@@ -89,7 +89,7 @@ fn code_if(alloc: Global, code: u16, name: &str) -> Result<u16, LineError>
     }
 }
 
-/// The code that the type and the code of a line say.
+/// The code of a line, by its type and its code.
 fn code_of(alloc: Global, line: &Value<'_>) -> Result<u16, LineError>
     ensures { MatchResult result (λ code. line_code (json_view line.now) ≡ Some code)
         (Refuses (line_code (json_view line.now))) }
@@ -173,7 +173,7 @@ fn nothing_of(alloc: Global, value: &Value<'_>) -> Result<Vec<u8>, LineError>
     }
 }
 
-/// The payload that a line says.
+/// The payload of a line.
 fn payload_of(
     alloc: Global,
     version: Version,
@@ -197,7 +197,7 @@ fn payload_of(
 
 // ---- the header
 
-/// Whether the headers of a code's type can ask for an acknowledgement.
+/// Whether the headers of a code's type can request an acknowledgement.
 fn has_flag(code: u16) -> bool
     ensures { result ≡ has_flag (type_of code) }
 {
@@ -207,7 +207,7 @@ fn has_flag(code: u16) -> bool
     }
 }
 
-/// Whether a line asks for an acknowledgement.
+/// Whether a line requests an acknowledgement.
 fn flag_of(alloc: Global, code: u16, line: &Value<'_>) -> Result<bool, LineError>
     ensures { MatchResult result (λ flag. line_flag code (json_view line.now) ≡ Some flag)
         (Refuses (line_flag code (json_view line.now))) }
@@ -239,8 +239,8 @@ fn is_alone(line: &Value<'_>) -> bool
     given("unknown", line).is_some()
 }
 
-/// Appends the header that eight given bytes say: without a payload all of them, and otherwise the first four, which
-/// are the code and the flags, and the length of the payload.
+/// Appends the header by eight given bytes: all of them if there is no payload, otherwise the first four, which are the
+/// code and the flags, and the length of the payload.
 fn append_given(
     alloc: Global,
     alone: bool,
@@ -397,12 +397,13 @@ fn is_blank(line: &[u8]) -> bool
 }
 
 /// Appends the bytes that a line means, without its newline; none for a blank one. After an error nothing is appended,
-/// unless memory ran out.
+/// unless an allocation failed. The buffers for reading JSON can be reused.
 #[tactic(auto, unfolding(crate::specs::Lines::line_made))]
 pub fn append_line(
     alloc: Global,
     version: Version,
     line: &[u8],
+    scratch: &mut Scratch,
     out: &mut Vec<u8>,
 ) -> Result<(), LineError>
     ensures { Appends result (line_made version line.now) out.old.items out.new.items }
@@ -410,8 +411,7 @@ pub fn append_line(
     if is_blank(line) {
         return Ok(());
     }
-    let mut scratch = Scratch::new(alloc);
-    match value_of_text(alloc, line, &mut scratch) {
+    match value_of_text(alloc, line, scratch) {
         Ok(value) => append_said(alloc, version, &value, out),
         Err(error) => Err(refuse_json(alloc, &error, "")),
     }

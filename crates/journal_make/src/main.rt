@@ -23,7 +23,7 @@ fn make_stream<R: Read>(rt: &HostRuntime, asked: &Arguments<'_>, input: &mut R) 
     let mut output = Pipe::new(rt.stdout());
     match make(rt.alloc(), asked.version, input, &mut output) {
         Ok(()) => ExitCode::SUCCESS,
-        // if the reader is gone nothing is said
+        // the reader has closed the output, so nothing is reported
         Err(_) if output.is_broken() => ExitCode::from(2),
         Err(MakeError::Line(number, error)) => {
             let path = asked.path;

@@ -8,6 +8,7 @@ ghost use Rattle.journal_make.specs.Steps.{IsTaken, IsStep, IsFinished, LineIsTa
 
 use crate::error::{LineError, LineReason, MakeError};
 use crate::line::append_line;
+use json::Scratch;
 use memchr::memchr;
 use shared_core::version::Version;
 use shared_core_json_reader::Reason;
@@ -23,13 +24,13 @@ const PIECE: usize = 65536;
 pub struct Lines {
     /// The bytes of the last line, whose newline has not come.
     pub pending: Vec<u8>,
-    /// The number of the lines that were taken, as far as 64 bits count.
+    /// The number of lines that were taken, or 2^64 - 1 if it is greater.
     pub taken: u64,
-    /// What these mean, as far as it is not written.
+    /// What these lines mean and is not written yet.
     pub made: Vec<u8>,
 }
 
-/// A line that is not taken, with its number.
+/// A rejected line, with its number.
 #[derive(Drop)]
 pub struct Refused {
     pub number: u64,
@@ -40,12 +41,19 @@ pub struct Refused {
 fn take_line(
     alloc: Global,
     version: Version,
+    scratch: &mut Scratch,
     lines: &mut Lines,
 ) -> Result<Option<Refused>, AllocError>
     ensures { LineIsTaken (line_made version) result lines.old lines.new }
 {
     let number = lines.taken.saturating_add(1);
-    match append_line(alloc, version, lines.pending.as_slice(), &mut lines.made) {
+    match append_line(
+        alloc,
+        version,
+        lines.pending.as_slice(),
+        scratch,
+        &mut lines.made,
+    ) {
         Ok(()) => {
             lines.taken = number;
             lines.pending.clear();
@@ -56,11 +64,12 @@ fn take_line(
     }
 }
 
-/// Takes the lines that a chunk ends, up to one that is not taken.
+/// Takes the lines that a chunk ends, up to a rejected one.
 fn take_chunk(
     alloc: Global,
     version: Version,
     chunk: &[u8],
+    scratch: &mut Scratch,
     lines: &mut Lines,
 ) -> Result<Option<Refused>, AllocError>
     requires { has_newline lines.old.pending.items ≡ false }
@@ -69,7 +78,7 @@ fn take_chunk(
     let mut rest = chunk;
     while let Some(at) = memchr(b'\n', rest) {
         lines.pending.extend_from_slice(&rest[..at])?;
-        if let Some(refused) = take_line(alloc, version, lines)? {
+        if let Some(refused) = take_line(alloc, version, scratch, lines)? {
             return Ok(Some(refused));
         }
         rest = &rest[at + 1..];
@@ -83,6 +92,7 @@ fn step<W: Write>(
     alloc: Global,
     version: Version,
     chunk: &[u8],
+    scratch: &mut Scratch,
     lines: &mut Lines,
     output: &mut W,
 ) -> Result<(), MakeError>
@@ -92,7 +102,7 @@ fn step<W: Write>(
         × Appends (W.contents output.old) (W.contents output.new) written
         × IsStep (line_made version) (lines.old.pending.items ++ chunk.now) result written lines.old lines.new }
 {
-    let refused = take_chunk(alloc, version, chunk, lines)?;
+    let refused = take_chunk(alloc, version, chunk, scratch, lines)?;
     write_whole(output, lines.made.as_slice())?;
     lines.made.clear();
     match refused {
@@ -105,6 +115,7 @@ fn step<W: Write>(
 fn finish<W: Write>(
     alloc: Global,
     version: Version,
+    scratch: &mut Scratch,
     lines: &mut Lines,
     output: &mut W,
 ) -> Result<(), MakeError>
@@ -113,19 +124,19 @@ fn finish<W: Write>(
         × Appends (W.contents output.old) (W.contents output.new) written
         × IsFinished (line_made version) result written lines.old }
 {
-    if let Some(refused) = take_line(alloc, version, lines)? {
+    if let Some(refused) = take_line(alloc, version, scratch, lines)? {
         return Err(MakeError::Line(refused.number, refused.error));
     }
     write_whole(output, lines.made.as_slice())?;
     Ok(())
 }
 
-/// Writes the bytes that lines of JSON mean: of an item each, or those after the last item.
+/// Writes the bytes that lines of JSON mean: each line means an item, or the bytes after the last item.
 ///
 /// It reads at most 65,536 bytes at a time, and writes what the lines mean that a chunk ends before it reads the next.
 /// The last line may lack its newline. `Ok` comes only if the reader has no byte left, and then all is written. After
-/// `Input` what all lines mean that were read is written; after `Output` a prefix of what first lines mean; after
-/// `OutOfMemory` what first lines mean; after `Line` what the lines before that one mean, of which there is nothing.
+/// `Input` what all lines mean that were read is written; after `Output` a prefix of what the first lines mean; after
+/// `OutOfMemory` what the first lines mean; after `Line` what the lines before the rejected one mean.
 pub fn make<R: Read, W: Write>(
     alloc: Global,
     version: Version,
@@ -144,14 +155,22 @@ pub fn make<R: Read, W: Write>(
     };
     let mut buffer = Vec::from_elem(alloc, 0u8, PIECE)?;
     let buffer = buffer.as_mut_slice();
+    let mut scratch = Scratch::new(alloc);
     for _ in 0..u64::MAX {
         let Ok(count) = input.read(buffer) else {
             return Err(MakeError::Input);
         };
         if count == 0 {
-            return finish(alloc, version, &mut lines, output);
+            return finish(alloc, version, &mut scratch, &mut lines, output);
         }
-        step(alloc, version, &buffer[..count], &mut lines, output)?;
+        step(
+            alloc,
+            version,
+            &buffer[..count],
+            &mut scratch,
+            &mut lines,
+            output,
+        )?;
     }
     Err(MakeError::Input)
 }

@@ -35,7 +35,7 @@ fn says_bytes(key: &str) -> bool
     key == "bytes" || key == "payload" || key == "rest"
 }
 
-/// Whether a key is one of those that a dump has besides.
+/// Whether a key is one of the others of a dump, which are ignored.
 fn is_passed_over(key: &str) -> bool
     ensures { result ≡ is_passed_over key.now }
 {
@@ -61,7 +61,7 @@ fn has_key(key: &str, members: &[Member<'_>]) -> bool
     false
 }
 
-/// Checks that each key is one that a line may have, and that none comes twice.
+/// Checks that each key is one that a line may have, and that none occurs twice.
 fn check_members(alloc: Global, members: &[Member<'_>]) -> Result<(), LineError>
     ensures { MatchResult result (λ _. are_members (members_view members.now) ≡ true)
         (λ error. error.reason ≢ lack → are_members (members_view members.now) ≡ false) }
@@ -104,7 +104,7 @@ fn gives_both(name: &str, other: &str, line: &Value<'_>) -> bool
     given(name, line).is_some() && given(other, line).is_some()
 }
 
-/// Checks that a value is an object with the members of a line, of which no two are names of the same.
+/// Checks that a value is an object of members that a line may have, none of them twice or under two names.
 #[tactic(auto, unfolding(crate::specs::Members::is_line))]
 pub fn check_line(alloc: Global, line: &Value<'_>) -> Result<(), LineError>
     ensures { MatchResult result (λ _. is_line (json_view line.now) ≡ true)
@@ -120,7 +120,7 @@ pub fn check_line(alloc: Global, line: &Value<'_>) -> Result<(), LineError>
     Ok(())
 }
 
-/// The value of a member, if it is there and is not null.
+/// The value of a member, if it is present and not null.
 pub fn given<'v, 'a>(name: &str, line: &'v Value<'a>) -> Option<&'v Value<'a>>
     ensures { option_map (λ v. json_view v.now) result ≡ given name.now (json_view line.now) }
 {

@@ -1,4 +1,4 @@
-//! The errors of lines, with the paths to what was not taken.
+//! The errors of lines, with the paths to the rejected values.
 
 ghost use Rattle.std.specs.Prelude.{◌≡◌, ◌≢◌};
 ghost use Rattle.journal_make.specs.Errors.{lack};
@@ -44,7 +44,7 @@ pub fn refuse(alloc: Global, reason: LineReason, member: &str) -> LineError
     }
 }
 
-/// The error for what is not taken of the JSON inside a member, or of the line if the name is empty.
+/// The error for a rejected value inside a member, or in the line if the name is empty.
 pub fn refuse_json(alloc: Global, error: &JsonReadError, member: &str) -> LineError
     ensures { result.reason ≢ lack → result.reason ≡ reason.Json error.now.reason }
 {

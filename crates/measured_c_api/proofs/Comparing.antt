@@ -6,14 +6,14 @@ use Rattle.shared_core.specs.declared.encoding.item.Item.{Item}
 use Rattle.shared_core.specs.declared.encoding.item.Item.TheVariants.{Message, Unknown, Skipped}
 use Rattle.shared_core.specs.Items.{TakesItem, IsItemsThen}
 use Rattle.shared_core.proofs.Items.{then_takes}
-use Rattle.journal_c_api.specs.declared.answer.Refusal.{Refusal}
-use Rattle.journal_c_api.specs.declared.answer.Refusal.TheVariants.{Malformed, OutOfMemory}
+use Rattle.journal_c_api.specs.declared.outcome.Refusal.{Refusal}
+use Rattle.journal_c_api.specs.declared.outcome.Refusal.TheVariants.{Malformed, OutOfMemory}
 use Rattle.shared_core.specs.Visiting.{command_schema}
 use Rattle.measured_c_api.specs.Comparisons.{ComparesItem, ComparesAll}
 use Rattle.measured_c_api.specs.Streams.{Decodes, count_with}
 use Rattle.measured_c_api.proofs.Counting.{count_more}
 
--- what a compared item says of the items after which it stands
+-- what a compared item says of the items that end with it
 pub item_compared : (rounds : ℕ) (item : Item) (held : ℕ) → ComparesItem rounds item (Ok held)
     → Decodes command_schema item × (held ≡ rounds * count_with command_schema (item ∷ []))
 item_compared rounds (Message message) held (accepted, is) = (accepted, is ∙ ap (λ n. rounds * n) (sym (add-zero _)))

@@ -9,8 +9,8 @@ use Rattle.shared_core.specs.declared.encoding.item.Item.{Item}
 use Rattle.shared_core.specs.declared.encoding.item.Item.TheVariants.{Message, Unknown, Skipped}
 use Rattle.shared_core.specs.Items.{IsItem, TakesItem, IsItemsThen, body_length, front_word, item_of, skips_unknown_messages}
 use Rattle.shared_core.proofs.Items.{then_takes}
-use Rattle.journal_c_api.specs.declared.answer.Refusal.{Refusal}
-use Rattle.journal_c_api.specs.declared.answer.Refusal.TheVariants.{Malformed, OutOfMemory}
+use Rattle.journal_c_api.specs.declared.outcome.Refusal.{Refusal}
+use Rattle.journal_c_api.specs.declared.outcome.Refusal.TheVariants.{Malformed, OutOfMemory}
 use Rattle.measured_c_api.specs.Streams.{item_word, HasWord, count_with, one_with, Decodes, AllDecode, DecodesItem, DecodesAll}
 use Rattle.shared_core_message.specs.Messages.{message_schema}
 
@@ -62,7 +62,7 @@ count_more schema_of (Message message ∷ items) item = omega (arith, count_more
 count_more schema_of (Unknown code ∷ items) item = count_more schema_of items item
 count_more schema_of (Skipped code payload ∷ items) item = count_more schema_of items item
 
--- what a decoded item says of the items after which it stands
+-- what a decoded item says of the items that end with it
 pub item_decoded : (item : Item) (count : ℕ) → DecodesItem item (Ok count)
     → Decodes message_schema item × (count ≡ count_with message_schema (item ∷ []))
 item_decoded (Message message) count (accepted, is) = (accepted, omega (arith, is, none_counted message_schema))

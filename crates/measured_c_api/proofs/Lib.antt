@@ -1,3 +1,3 @@
 pub mod Counting
-pub mod Pieces
+pub mod Chunks
 pub mod Comparing

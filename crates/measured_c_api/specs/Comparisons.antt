@@ -5,9 +5,9 @@ use Rattle.shared_core.specs.declared.encoding.item.Item.{Item}
 use Rattle.shared_core.specs.declared.encoding.item.Item.TheVariants.{Message}
 use Rattle.shared_core.specs.Items.{IsItemsThen, SplitsInto}
 use Rattle.shared_core.specs.Visiting.{command_schema}
-use Rattle.journal_c_api.specs.declared.answer.Refusal.{Refusal}
-use Rattle.journal_c_api.specs.declared.answer.Refusal.TheVariants.{Malformed, OutOfMemory, TooLong}
-use Rattle.journal_c_api.specs.Answers.{AtVersion, supported_version}
+use Rattle.journal_c_api.specs.declared.outcome.Refusal.{Refusal}
+use Rattle.journal_c_api.specs.declared.outcome.Refusal.TheVariants.{Malformed, OutOfMemory, TooLong}
+use Rattle.journal_c_api.specs.Outcomes.{AtVersion, supported_version}
 use Rattle.measured_c_api.specs.Streams.{AllDecode, HasMalformed, IsAcceptedFor, count_with, one_with}
 
 -- Of this many comparisons all hold if two are the same, otherwise none.
@@ -22,14 +22,14 @@ ComparesPayload rounds schema payload (Err Malformed) = ¬ (IsAcceptedFor schema
 ComparesPayload rounds schema payload (Err OutOfMemory) = Unit {0}
 ComparesPayload rounds schema payload (Err refusal) = ⊥
 
--- A command is compared with its second decoding, and any other item with nothing.
+-- A command is compared with its second decoding; no other item is compared.
 abbrev pub ComparesItem : ℕ → Item → Result ℕ Refusal → Type 0
-ComparesItem rounds (Message message) answer = ComparesPayload rounds (command_schema message.header.ty) message.payload answer
+ComparesItem rounds (Message message) outcome = ComparesPayload rounds (command_schema message.header.ty) message.payload outcome
 ComparesItem rounds other (Ok count) = count ≡ 0
 ComparesItem rounds other (Err refusal) = ⊥
 
--- Each command of the stream decodes, and for each this many comparisons hold. Or one of the commands does not decode,
--- or more comparisons hold than a count can say.
+-- Each command of the stream decodes, and for each this many comparisons hold. Otherwise one of the commands does not
+-- decode, or more comparisons hold than 64 bits can count.
 abbrev pub ComparesAll : ℕ → Version → List ℕ → Result ℕ Refusal → Type 0
 ComparesAll rounds version stream (Ok count) =
     (items : List Item) × (rest : List ℕ) × SplitsInto version stream items rest × (count ≡ rounds * count_with command_schema items)
@@ -42,4 +42,4 @@ ComparesAll rounds version stream (Err refusal) = ⊥
 
 -- The result of measure_compare.
 abbrev pub ReturnsComparisons : ℕ → List ℕ → ℕ → Result ℕ Refusal → Type 0
-ReturnsComparisons number stream rounds answer = AtVersion (supported_version number) answer (λ version. ComparesAll rounds version stream answer)
+ReturnsComparisons number stream rounds outcome = AtVersion (supported_version number) outcome (λ version. ComparesAll rounds version stream outcome)

@@ -1,4 +1,4 @@
-pub mod Pieces
+pub mod Chunks
+pub mod Comparisons
 pub mod Rounds
 pub mod Streams
-pub mod Comparisons

@@ -3,14 +3,14 @@ use Rattle.std.specs.Prelude.{◌≡◌, ℕ, ◌-◌, ◌≤◌, List, length, 
 use Rattle.std.specs.Borrow.{MutBor}
 use Rattle.std.specs.Fn.{Shared}
 use Rattle.std.specs.List.{FoldsTo}
-use Rattle.journal_c_api.specs.declared.answer.Refusal.{Refusal}
+use Rattle.journal_c_api.specs.declared.outcome.Refusal.{Refusal}
 
 -- A call of the work with a `&mut` to some numbers may have this result and leave those numbers.
-pub record WorksAt {F R : Type 0} (calls : Shared F (MutBor (List ℕ) × Unit {0}) (R × (MutBor (List ℕ) × Unit {0}))) (work : F) (old : List ℕ) (answer : R) (new : List ℕ) : Type 0 where
+pub record WorksAt {F R : Type 0} (calls : Shared F (MutBor (List ℕ) × Unit {0}) (R × (MutBor (List ℕ) × Unit {0}))) (work : F) (old : List ℕ) (outcome : R) (new : List ℕ) : Type 0 where
   pub shown : MutBor (List ℕ)
   pub shows : shown.now ≡ old
   pub left : MutBor (List ℕ)
-  pub met : calls.post work (shown, tt) (answer, (left, tt))
+  pub met : calls.post work (shown, tt) (outcome, (left, tt))
   pub leaves : left.now ≡ new
 
 -- The number of calls before the last of this many rounds: one fewer, and none at 0. At most as many if the last fails.
@@ -21,6 +21,6 @@ ComeBefore calls rounds (Err refusal) = calls ≤ rounds - 1
 -- The work is done round by round, each on the numbers that the one before it left. The last gives the result, and each
 -- before it a value.
 abbrev pub ReturnsInRounds : {T : Type 0} → (List ℕ → Result T Refusal → List ℕ → Type 0) → ℕ → List ℕ → Result T Refusal → List ℕ → Type 0
-ReturnsInRounds {T} works rounds old answer new =
+ReturnsInRounds {T} works rounds old outcome new =
     (values : List T) × (between : List ℕ) × FoldsTo (λ before value after. works before (Ok value) after) old values between
-    × works between answer new × ComeBefore (length values) rounds answer
+    × works between outcome new × ComeBefore (length values) rounds outcome

@@ -7,9 +7,9 @@ use Rattle.shared_core_codec.specs.Payloads.{IsAccepted}
 use Rattle.shared_core.specs.declared.encoding.item.Item.{Item}
 use Rattle.shared_core.specs.declared.encoding.item.Item.TheVariants.{Message, Unknown, Skipped}
 use Rattle.shared_core.specs.Items.{IsItemsThen, SplitsInto}
-use Rattle.journal_c_api.specs.declared.answer.Refusal.{Refusal}
-use Rattle.journal_c_api.specs.declared.answer.Refusal.TheVariants.{Malformed, OutOfMemory, NoRoom}
-use Rattle.journal_c_api.specs.Answers.{AtVersion, supported_version}
+use Rattle.journal_c_api.specs.declared.outcome.Refusal.{Refusal}
+use Rattle.journal_c_api.specs.declared.outcome.Refusal.TheVariants.{Malformed, OutOfMemory, NoRoom}
+use Rattle.journal_c_api.specs.Outcomes.{AtVersion, supported_version}
 use Rattle.shared_core_message.specs.Messages.{message_schema}
 
 -- An item's number: a message's header, or an unknown code in bits 48 to 63, and in bits 0 to 31 the length of the
@@ -34,12 +34,12 @@ WritesWords version stream words (Err NoRoom) =
     (items : List Item) × (rest : List ℕ) × IsItemsThen version stream items rest × (length words < length items)
 WritesWords version stream words (Err refusal) = ⊥
 
--- How many of some messages a message adds: one if its type has a schema.
+-- The number of messages that a type adds to a count: one if it has a schema.
 abbrev pub one_with : Option ℕ → ℕ
 one_with (Some schema) = 1
 one_with None = 0
 
--- How many of the items are messages of a type that has a schema.
+-- The number of items that are messages of a type with a schema.
 abbrev pub count_with : (MessageType → Option ℕ) → List Item → ℕ
 count_with schema_of [] = 0
 count_with schema_of (Message message ∷ items) = one_with (schema_of message.header.ty) + count_with schema_of items
@@ -60,7 +60,7 @@ DecodesPayload schema payload (Err refusal) = ⊥
 
 -- A message is decoded to a record of its type, and any other item to none.
 abbrev pub DecodesItem : Item → Result ℕ Refusal → Type 0
-DecodesItem (Message message) answer = DecodesPayload (message_schema message.header.ty) message.payload answer
+DecodesItem (Message message) outcome = DecodesPayload (message_schema message.header.ty) message.payload outcome
 DecodesItem other (Ok count) = count ≡ 0
 DecodesItem other (Err refusal) = ⊥
 
@@ -90,8 +90,8 @@ DecodesAll version stream (Err refusal) = ⊥
 
 -- The result of measure_items.
 abbrev pub ReturnsItems : ℕ → List ℕ → List ℕ → Result ℕ Refusal → Type 0
-ReturnsItems number stream words answer = AtVersion (supported_version number) answer (λ version. WritesWords version stream words answer)
+ReturnsItems number stream words outcome = AtVersion (supported_version number) outcome (λ version. WritesWords version stream words outcome)
 
 -- The result of measure_messages.
 abbrev pub ReturnsMessages : ℕ → List ℕ → Result ℕ Refusal → Type 0
-ReturnsMessages number stream answer = AtVersion (supported_version number) answer (λ version. DecodesAll version stream answer)
+ReturnsMessages number stream outcome = AtVersion (supported_version number) outcome (λ version. DecodesAll version stream outcome)

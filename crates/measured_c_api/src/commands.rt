@@ -7,9 +7,9 @@ ghost use Rattle.shared_core.specs.Visiting.{command_schema};
 ghost use Rattle.measured_c_api.specs.Comparisons.{ReturnsComparisons, ComparesAll};
 ghost use Rattle.measured_c_api.specs.Comparisons.{ComparesItem, ComparesPayload, HoldsInRounds};
 
-use crate::pieced_stream::PiecedStream;
+use crate::chunked_stream::ChunkedStream;
 use bytes::Bytes;
-use journal_c_api::answer::{Refusal, version_of};
+use journal_c_api::outcome::{Refusal, version_of};
 use shared_core::encoding::{Item, RawMessage};
 use shared_core::messages::{
     CommandMessage, CommandMessageHeaderEq, CommandVisitor, visit_command,
@@ -44,7 +44,7 @@ fn compare_all(
     requires { 5 ≤ version_number version }
     ensures { ComparesAll rounds version whole result }
 {
-    let mut stream = PiecedStream::new(alloc, version, whole, 0);
+    let mut stream = ChunkedStream::new(alloc, version, whole, 0);
     let mut count: usize = 0;
     while let Some(item) = stream.next_item()? {
         let held = compare_item(alloc, item, ignore_payloads, rounds)?;
@@ -87,7 +87,7 @@ fn compare_message(
         rounds,
     };
     match visit_command(message.ty(), comparing) {
-        Some(answer) => answer,
+        Some(outcome) => outcome,
         None => Ok(0),
     }
 }
@@ -106,8 +106,8 @@ impl<'a> CommandVisitor for Comparing<'a> {
 
     ghost may_visit = { λ self ty. self.message.now.header.ty ≡ ty };
 
-    ghost answers = { λ self ty schema answer. ComparesPayload self.rounds
-        (Some schema) self.message.now.payload answer };
+    ghost results = { λ self ty schema output. ComparesPayload self.rounds
+        (Some schema) self.message.now.payload output };
 
     fn visit<M: CommandMessage>(self) -> Result<usize, Refusal> {
         let first = self.message.decode_as::<M>(self.alloc)?;

@@ -3,12 +3,12 @@
 ghost use Rattle.std.specs.Prelude.{◌≡◌, ◌≤◌};
 ghost use Rattle.shared_core_base.specs.Version.{version_number};
 ghost use Rattle.shared_core_message.specs.Messages.{message_schema};
-ghost use Rattle.journal_c_api.specs.Answers.{Writes};
+ghost use Rattle.journal_c_api.specs.Outcomes.{Writes};
 ghost use Rattle.journal_c_api.specs.Payloads.{ReturnsFrame, ReturnsFrameOf, EncodesForm, EncodesFrame};
 
 use crate::rounds::repeated;
 use bytes::{Bytes, BytesMut};
-use journal_c_api::answer::{Refusal, version_of, write_over};
+use journal_c_api::outcome::{Refusal, version_of, write_over};
 use journal_c_api::payloads::decoded;
 use shared_core::encoding::Encoder;
 use shared_core::header::MessageType;
@@ -45,7 +45,7 @@ const BLOCK: usize = 65_536;
 const HELD: usize = 1024;
 
 /// Writes the frame, at a version, of the message of a named type that a payload encodes.
-#[tactic(auto, using(journal_c_api::proofs::Writing::writes_answer))]
+#[tactic(auto, using(journal_c_api::proofs::Writing::writes_outcome))]
 pub fn write_frame(
     alloc: Global,
     version: u32,
@@ -107,7 +107,7 @@ struct Framing<'a> {
 impl<'a> MessageVisitor for Framing<'a> {
     type Output = Result<Bytes, Refusal>;
 
-    ghost answers = { λ self ty schema answer. EncodesFrame ty schema self.encoder.version self.payload.now answer };
+    ghost results = { λ self ty schema output. EncodesFrame ty schema self.encoder.version self.payload.now output };
 
     fn visit<M: RestateEncodableMessage + Debug>(self) -> Result<Bytes, Refusal> {
         let message = decoded::<M>(self.alloc, self.payload)?;

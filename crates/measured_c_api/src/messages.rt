@@ -4,7 +4,7 @@ ghost use Rattle.std.specs.Prelude.{◌≡◌, Some};
 ghost use Rattle.shared_core_message.specs.Messages.{message_schema};
 ghost use Rattle.measured_c_api.specs.Streams.{DecodesPayload};
 
-use journal_c_api::answer::Refusal;
+use journal_c_api::outcome::Refusal;
 use shared_core::encoding::RawMessage;
 use shared_core::messages::{MessageVisitor, RestateEncodableMessage, visit_message};
 use std::alloc::Global;
@@ -15,7 +15,7 @@ pub fn decode(alloc: Global, message: &RawMessage) -> Result<usize, Refusal>
     ensures { DecodesPayload (message_schema message.now.header.ty) message.now.payload result }
 {
     match visit_message(message.ty(), Decoding { alloc, message }) {
-        Some(answer) => answer,
+        Some(outcome) => outcome,
         None => Ok(0),
     }
 }
@@ -32,7 +32,7 @@ impl<'a> MessageVisitor for Decoding<'a> {
 
     ghost may_visit = { λ self ty. self.message.now.header.ty ≡ ty };
 
-    ghost answers = { λ self ty schema answer. DecodesPayload (Some schema) self.message.now.payload answer };
+    ghost results = { λ self ty schema output. DecodesPayload (Some schema) self.message.now.payload output };
 
     fn visit<M: RestateEncodableMessage + Debug>(self) -> Result<usize, Refusal> {
         let _record = self.message.decode_as::<M>(self.alloc)?;

@@ -3,7 +3,7 @@
 ghost use Rattle.journal_c_api.specs.Payloads.{ReturnsWellFormed};
 
 use crate::rounds::repeated;
-use journal_c_api::answer::Refusal;
+use journal_c_api::outcome::Refusal;
 use journal_c_api::payloads;
 use std::alloc::Global;
 

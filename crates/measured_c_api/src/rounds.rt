@@ -2,7 +2,7 @@
 
 ghost use Rattle.measured_c_api.specs.Rounds.{ReturnsInRounds, WorksAt};
 
-use journal_c_api::answer::Refusal;
+use journal_c_api::outcome::Refusal;
 
 /// Does the work this many times (0 counts as 1), each time on the same numbers, and returns the last result. An error
 /// ends it.

@@ -5,11 +5,11 @@ ghost use Rattle.shared_core_base.specs.Version.{version_number};
 ghost use Rattle.measured_c_api.specs.Streams.{ReturnsItems, ReturnsMessages, WritesWords};
 ghost use Rattle.measured_c_api.specs.Streams.{DecodesAll, DecodesItem, HasWord, item_word};
 
+use crate::chunked_stream::ChunkedStream;
 use crate::messages::decode;
-use crate::pieced_stream::PiecedStream;
 use crate::rounds::repeated;
 use bytes::Bytes;
-use journal_c_api::answer::{Refusal, version_of};
+use journal_c_api::outcome::{Refusal, version_of};
 use shared_core::encoding::Item;
 use shared_core::version::Version;
 use std::alloc::Global;
@@ -19,7 +19,7 @@ pub fn items(
     alloc: Global,
     version: u32,
     stream: &[u8],
-    piece: usize,
+    chunk_size: usize,
     rounds: usize,
     words: &mut [u64],
 ) -> Result<usize, Refusal>
@@ -28,7 +28,7 @@ pub fn items(
     let version = version_of(version)?;
     let stream = Bytes::copy_from_slice(alloc, stream)?;
     repeated(rounds, words, |words| {
-        write_words(alloc, version, &stream, piece, words)
+        write_words(alloc, version, &stream, chunk_size, words)
     })
 }
 
@@ -37,7 +37,7 @@ pub fn messages(
     alloc: Global,
     version: u32,
     stream: &[u8],
-    piece: usize,
+    chunk_size: usize,
     rounds: usize,
 ) -> Result<usize, Refusal>
     ensures { ReturnsMessages version stream.now result }
@@ -45,7 +45,7 @@ pub fn messages(
     let version = version_of(version)?;
     let stream = Bytes::copy_from_slice(alloc, stream)?;
     repeated(rounds, &mut [], |_words| {
-        decode_all(alloc, version, &stream, piece)
+        decode_all(alloc, version, &stream, chunk_size)
     })
 }
 
@@ -54,13 +54,13 @@ fn write_words(
     alloc: Global,
     version: Version,
     whole: &Bytes,
-    piece: usize,
+    chunk_size: usize,
     words: &mut [u64],
 ) -> Result<usize, Refusal>
     requires { 5 ≤ version_number version }
     ensures { WritesWords version whole.now words.new result }
 {
-    let mut stream = PiecedStream::new(alloc, version, whole.clone()?, piece);
+    let mut stream = ChunkedStream::new(alloc, version, whole.clone()?, chunk_size);
     let mut count = 0;
     while let Some(item) = stream.next_item()? {
         if count == words.len() {
@@ -89,12 +89,12 @@ fn decode_all(
     alloc: Global,
     version: Version,
     whole: &Bytes,
-    piece: usize,
+    chunk_size: usize,
 ) -> Result<usize, Refusal>
     requires { 5 ≤ version_number version }
     ensures { DecodesAll version whole.now result }
 {
-    let mut stream = PiecedStream::new(alloc, version, whole.clone()?, piece);
+    let mut stream = ChunkedStream::new(alloc, version, whole.clone()?, chunk_size);
     let mut count = 0;
     while let Some(item) = stream.next_item()? {
         count += decode_item(alloc, item)?;

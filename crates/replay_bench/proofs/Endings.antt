@@ -9,16 +9,16 @@ use Rattle.replay_bench.specs.declared.verdicts.BenchError.TheVariants.{Malforme
 use Rattle.replay_bench.specs.declared.verdicts.ReaderError.TheVariants.{Bench}
 use Rattle.replay_bench.specs.Journals.{IsJournal}
 use Rattle.replay_bench.specs.Taking.{HasNoCommand, TakesFirst}
-use Rattle.replay_bench.specs.Answers.{Answer, SameCommands, RecordedEnds, ReplayedEnds, NotWellFormed, answer_of}
-use Rattle.replay_bench.specs.Verdicts.{ReturnsPair, AreAlike, ComparesKnown, HasAnswer, IsAnswer, IsFound}
+use Rattle.replay_bench.specs.Outcomes.{Outcome, SameCommands, RecordedEnds, ReplayedEnds, NotWellFormed, outcome_of}
+use Rattle.replay_bench.specs.Verdicts.{ReturnsPair, AreAlike, ComparesKnown, HasOutcome, IsOutcome, IsFound}
 use Rattle.replay_bench.proofs.Fronts.{journal_of}
 
 module _ (version : Version) (ignore : Bool) where
-  -- Whatever is the answer, from this index on, of what is left of two journals is the answer of the whole ones.
+  -- Whatever is the outcome, from this index on, of what is left of two journals is the outcome of the whole ones.
   pub record Decides (recorded replayed : List ℕ) (index : ℕ) (left others : List ℕ) : Type 0 where
-    pub decides : (actual expected : List RawMessage) (answer : Answer)
-        → IsJournal version left actual → IsJournal version others expected → IsAnswer ignore index actual expected answer
-        → HasAnswer version ignore recorded replayed answer
+    pub decides : (left_commands other_commands : List RawMessage) (outcome : Outcome)
+        → IsJournal version left left_commands → IsJournal version others other_commands → IsOutcome ignore index left_commands other_commands outcome
+        → HasOutcome version ignore recorded replayed outcome
 
   -- The same of journals whose bytes are known.
   abbrev pub GoesOn : Option (List ℕ) → Option (List ℕ) → ℕ → Option (List ℕ) → Option (List ℕ) → Type 0
@@ -26,34 +26,34 @@ module _ (version : Version) (ignore : Bool) where
   GoesOn (Some recorded) (Some replayed) index left others = ⊥
   GoesOn recorded replayed index left others = Unit {0}
 
-  -- Two journals whose bytes are known have this answer.
-  abbrev pub IsKnownAnswer : Option (List ℕ) → Option (List ℕ) → Answer → Type 0
-  IsKnownAnswer (Some recorded) (Some replayed) answer = HasAnswer version ignore recorded replayed answer
-  IsKnownAnswer recorded replayed answer = Unit {0}
+  -- Two journals whose bytes are known have this outcome.
+  abbrev pub IsKnownOutcome : Option (List ℕ) → Option (List ℕ) → Outcome → Type 0
+  IsKnownOutcome (Some recorded) (Some replayed) outcome = HasOutcome version ignore recorded replayed outcome
+  IsKnownOutcome recorded replayed outcome = Unit {0}
 
   -- at first all is left
   pub all_left : (recorded replayed : Option (List ℕ)) → GoesOn recorded replayed 0 recorded replayed
   all_left None replayed = tt
   all_left (Some recorded) None = tt
   all_left (Some recorded) (Some replayed) = record {
-    decides = λ actual expected answer is other verdict.
-        record { actual = actual; expected = expected; is_recorded = is; is_replayed = other; is_answer = verdict };
+    decides = λ recorded_commands replayed_commands outcome is other verdict.
+        record { recorded_commands = recorded_commands; replayed_commands = replayed_commands; is_recorded = is; is_replayed = other; is_outcome = verdict };
   }
 
   -- ---- one command of each is taken
 
-  pub are_alike : (index : ℕ) (actual expected : RawMessage) → ReturnsPair ignore index actual expected (Ok None) → AreAlike ignore actual expected
+  pub are_alike : (index : ℕ) (recorded_command replayed_command : RawMessage) → ReturnsPair ignore index recorded_command replayed_command (Ok None) → AreAlike ignore recorded_command replayed_command
   unfolding ReturnsPair
-  are_alike index actual expected is = is
+  are_alike index recorded_command replayed_command is = is
 
-  pub is_found : (index : ℕ) (actual expected : RawMessage) (verdict : Verdict) → ReturnsPair ignore index actual expected (Ok (Some verdict)) → IsFound ignore index actual expected (answer_of verdict)
+  pub is_found : (index : ℕ) (recorded_command replayed_command : RawMessage) (verdict : Verdict) → ReturnsPair ignore index recorded_command replayed_command (Ok (Some verdict)) → IsFound ignore index recorded_command replayed_command (outcome_of verdict)
   unfolding ReturnsPair
-  is_found index actual expected verdict is = is
+  is_found index recorded_command replayed_command verdict is = is
 
-  module _ (index : ℕ) (actual expected : RawMessage) where
+  module _ (index : ℕ) (recorded_command replayed_command : RawMessage) where
     -- they are alike
     pub goes_after : (recorded replayed left others now then : Option (List ℕ)) → GoesOn recorded replayed index left others
-        → TakesFirst version left (Some actual) now → TakesFirst version others (Some expected) then → AreAlike ignore actual expected
+        → TakesFirst version left (Some recorded_command) now → TakesFirst version others (Some replayed_command) then → AreAlike ignore recorded_command replayed_command
         → GoesOn recorded replayed (index + 1) now then
     goes_after None replayed left others now then goes one other alike = tt
     goes_after (Some recorded) None left others now then goes one other alike = tt
@@ -62,29 +62,29 @@ module _ (version : Version) (ignore : Bool) where
     goes_after (Some recorded) (Some replayed) (Some left) (Some others) None then goes one other alike = absurd one
     goes_after (Some recorded) (Some replayed) (Some left) (Some others) (Some now) None goes one other alike = absurd other
     goes_after (Some recorded) (Some replayed) (Some left) (Some others) (Some now) (Some then) goes one other alike = record {
-      decides = λ rest more answer is is_other verdict.
-          goes.decides (actual ∷ rest) (expected ∷ more) answer (one rest is) (other more is_other) (inl (alike, verdict));
+      decides = λ rest more outcome is is_other verdict.
+          goes.decides (recorded_command ∷ rest) (replayed_command ∷ more) outcome (one rest is) (other more is_other) (inl (alike, verdict));
     }
 
     -- they are not
-    pub ends_found : (recorded replayed left others now then : Option (List ℕ)) (answer : Answer) → GoesOn recorded replayed index left others
-        → TakesFirst version left (Some actual) now → TakesFirst version others (Some expected) then → IsFound ignore index actual expected answer
-        → IsKnownAnswer recorded replayed answer
-    ends_found None replayed left others now then answer goes one other found = tt
-    ends_found (Some recorded) None left others now then answer goes one other found = tt
-    ends_found (Some recorded) (Some replayed) None others now then answer goes one other found = absurd goes
-    ends_found (Some recorded) (Some replayed) (Some left) None now then answer goes one other found = absurd goes
-    ends_found (Some recorded) (Some replayed) (Some left) (Some others) None then answer goes one other found = absurd one
-    ends_found (Some recorded) (Some replayed) (Some left) (Some others) (Some now) None answer goes one other found = absurd other
-    ends_found (Some recorded) (Some replayed) (Some left) (Some others) (Some now) (Some then) answer goes one other found =
+    pub ends_found : (recorded replayed left others now then : Option (List ℕ)) (outcome : Outcome) → GoesOn recorded replayed index left others
+        → TakesFirst version left (Some recorded_command) now → TakesFirst version others (Some replayed_command) then → IsFound ignore index recorded_command replayed_command outcome
+        → IsKnownOutcome recorded replayed outcome
+    ends_found None replayed left others now then outcome goes one other found = tt
+    ends_found (Some recorded) None left others now then outcome goes one other found = tt
+    ends_found (Some recorded) (Some replayed) None others now then outcome goes one other found = absurd goes
+    ends_found (Some recorded) (Some replayed) (Some left) None now then outcome goes one other found = absurd goes
+    ends_found (Some recorded) (Some replayed) (Some left) (Some others) None then outcome goes one other found = absurd one
+    ends_found (Some recorded) (Some replayed) (Some left) (Some others) (Some now) None outcome goes one other found = absurd other
+    ends_found (Some recorded) (Some replayed) (Some left) (Some others) (Some now) (Some then) outcome goes one other found =
         let (rest, is) = journal_of version now in
         let (more, is_other) = journal_of version then in
-        goes.decides (actual ∷ rest) (expected ∷ more) answer (one rest is) (other more is_other) (inr found)
+        goes.decides (recorded_command ∷ rest) (replayed_command ∷ more) outcome (one rest is) (other more is_other) (inr found)
 
   -- ---- a journal has ended
 
   pub ends_both : (index : ℕ) (recorded replayed left others : Option (List ℕ)) → GoesOn recorded replayed index left others
-      → HasNoCommand version left → HasNoCommand version others → IsKnownAnswer recorded replayed (SameCommands index)
+      → HasNoCommand version left → HasNoCommand version others → IsKnownOutcome recorded replayed (SameCommands index)
   ends_both index None replayed left others goes none neither = tt
   ends_both index (Some recorded) None left others goes none neither = tt
   ends_both index (Some recorded) (Some replayed) None others goes none neither = absurd goes
@@ -92,27 +92,27 @@ module _ (version : Version) (ignore : Bool) where
   ends_both index (Some recorded) (Some replayed) (Some left) (Some others) goes none neither =
       goes.decides [] [] (SameCommands index) none neither refl
 
-  pub ends_recorded : (index : ℕ) (expected : RawMessage) (recorded replayed left others then : Option (List ℕ)) → GoesOn recorded replayed index left others
-      → HasNoCommand version left → TakesFirst version others (Some expected) then → IsKnownAnswer recorded replayed (RecordedEnds index)
-  ends_recorded index expected None replayed left others then goes none other = tt
-  ends_recorded index expected (Some recorded) None left others then goes none other = tt
-  ends_recorded index expected (Some recorded) (Some replayed) None others then goes none other = absurd goes
-  ends_recorded index expected (Some recorded) (Some replayed) (Some left) None then goes none other = absurd goes
-  ends_recorded index expected (Some recorded) (Some replayed) (Some left) (Some others) None goes none other = absurd other
-  ends_recorded index expected (Some recorded) (Some replayed) (Some left) (Some others) (Some then) goes none other =
+  pub ends_recorded : (index : ℕ) (replayed_command : RawMessage) (recorded replayed left others then : Option (List ℕ)) → GoesOn recorded replayed index left others
+      → HasNoCommand version left → TakesFirst version others (Some replayed_command) then → IsKnownOutcome recorded replayed (RecordedEnds index)
+  ends_recorded index replayed_command None replayed left others then goes none other = tt
+  ends_recorded index replayed_command (Some recorded) None left others then goes none other = tt
+  ends_recorded index replayed_command (Some recorded) (Some replayed) None others then goes none other = absurd goes
+  ends_recorded index replayed_command (Some recorded) (Some replayed) (Some left) None then goes none other = absurd goes
+  ends_recorded index replayed_command (Some recorded) (Some replayed) (Some left) (Some others) None goes none other = absurd other
+  ends_recorded index replayed_command (Some recorded) (Some replayed) (Some left) (Some others) (Some then) goes none other =
       let (more, is_other) = journal_of version then in
-      goes.decides [] (expected ∷ more) (RecordedEnds index) none (other more is_other) refl
+      goes.decides [] (replayed_command ∷ more) (RecordedEnds index) none (other more is_other) refl
 
-  pub ends_replayed : (index : ℕ) (actual : RawMessage) (recorded replayed left others now : Option (List ℕ)) → GoesOn recorded replayed index left others
-      → TakesFirst version left (Some actual) now → HasNoCommand version others → IsKnownAnswer recorded replayed (ReplayedEnds index)
-  ends_replayed index actual None replayed left others now goes one none = tt
-  ends_replayed index actual (Some recorded) None left others now goes one none = tt
-  ends_replayed index actual (Some recorded) (Some replayed) None others now goes one none = absurd goes
-  ends_replayed index actual (Some recorded) (Some replayed) (Some left) None now goes one none = absurd goes
-  ends_replayed index actual (Some recorded) (Some replayed) (Some left) (Some others) None goes one none = absurd one
-  ends_replayed index actual (Some recorded) (Some replayed) (Some left) (Some others) (Some now) goes one none =
+  pub ends_replayed : (index : ℕ) (recorded_command : RawMessage) (recorded replayed left others now : Option (List ℕ)) → GoesOn recorded replayed index left others
+      → TakesFirst version left (Some recorded_command) now → HasNoCommand version others → IsKnownOutcome recorded replayed (ReplayedEnds index)
+  ends_replayed index recorded_command None replayed left others now goes one none = tt
+  ends_replayed index recorded_command (Some recorded) None left others now goes one none = tt
+  ends_replayed index recorded_command (Some recorded) (Some replayed) None others now goes one none = absurd goes
+  ends_replayed index recorded_command (Some recorded) (Some replayed) (Some left) None now goes one none = absurd goes
+  ends_replayed index recorded_command (Some recorded) (Some replayed) (Some left) (Some others) None goes one none = absurd one
+  ends_replayed index recorded_command (Some recorded) (Some replayed) (Some left) (Some others) (Some now) goes one none =
       let (rest, is) = journal_of version now in
-      goes.decides (actual ∷ rest) [] (ReplayedEnds index) (one rest is) none refl
+      goes.decides (recorded_command ∷ rest) [] (ReplayedEnds index) (one rest is) none refl
 
   -- What the next command of a journal is, or that there is none.
   abbrev pub IsNext : Version → Option (List ℕ) → Option RawMessage → Option (List ℕ) → Type 0
@@ -120,45 +120,45 @@ module _ (version : Version) (ignore : Bool) where
 
   -- the recorded journal has ended, and the replayed one has not, or has
   pub ends_first : (index : ℕ) (found : Option RawMessage) (recorded replayed left others then : Option (List ℕ)) → GoesOn recorded replayed index left others
-      → HasNoCommand version left → is_some found ≡ true → IsNext version others found then → IsKnownAnswer recorded replayed (RecordedEnds index)
+      → HasNoCommand version left → is_some found ≡ true → IsNext version others found then → IsKnownOutcome recorded replayed (RecordedEnds index)
   ends_first index None recorded replayed left others then goes none some next = absurd (not_some some)
     where
       not_some : is_some {T = RawMessage} None ≡ true → ⊥
       not_some is = cc
-  ends_first index (Some expected) recorded replayed left others then goes none some next = ends_recorded index expected recorded replayed left others then goes none next
+  ends_first index (Some replayed_command) recorded replayed left others then goes none some next = ends_recorded index replayed_command recorded replayed left others then goes none next
 
   pub ends_together : (index : ℕ) (found : Option RawMessage) (recorded replayed left others then : Option (List ℕ)) → GoesOn recorded replayed index left others
-      → HasNoCommand version left → is_some found ≡ false → IsNext version others found then → IsKnownAnswer recorded replayed (SameCommands index)
+      → HasNoCommand version left → is_some found ≡ false → IsNext version others found then → IsKnownOutcome recorded replayed (SameCommands index)
   ends_together index None recorded replayed left others then goes none ended next = ends_both index recorded replayed left others goes none next
-  ends_together index (Some expected) recorded replayed left others then goes none ended next = absurd (some ended)
+  ends_together index (Some replayed_command) recorded replayed left others then goes none ended next = absurd (some ended)
     where
-      some : is_some (Some expected) ≡ false → ⊥
+      some : is_some (Some replayed_command) ≡ false → ⊥
       some is = cc
 
   -- ---- what is returned then
 
-  pub answers_verdict : (recorded replayed : Option (List ℕ)) (verdict : Verdict) → IsKnownAnswer recorded replayed (answer_of verdict) → ComparesKnown version ignore recorded replayed (Ok verdict)
-  answers_verdict None replayed verdict has = tt
-  answers_verdict (Some recorded) None verdict has = tt
-  answers_verdict (Some recorded) (Some replayed) verdict has = has
+  pub returns_verdict : (recorded replayed : Option (List ℕ)) (verdict : Verdict) → IsKnownOutcome recorded replayed (outcome_of verdict) → ComparesKnown version ignore recorded replayed (Ok verdict)
+  returns_verdict None replayed verdict has = tt
+  returns_verdict (Some recorded) None verdict has = tt
+  returns_verdict (Some recorded) (Some replayed) verdict has = has
 
-  pub answers_memory : (recorded replayed : Option (List ℕ)) → ComparesKnown version ignore recorded replayed (Err (Bench OutOfMemory))
-  answers_memory None replayed = tt
-  answers_memory (Some recorded) None = tt
-  answers_memory (Some recorded) (Some replayed) = tt
+  pub returns_out_of_memory : (recorded replayed : Option (List ℕ)) → ComparesKnown version ignore recorded replayed (Err (Bench OutOfMemory))
+  returns_out_of_memory None replayed = tt
+  returns_out_of_memory (Some recorded) None = tt
+  returns_out_of_memory (Some recorded) (Some replayed) = tt
 
-  -- two commands are refused
-  pub answers_refusal : (index : ℕ) (actual expected : RawMessage) (recorded replayed left others now then : Option (List ℕ)) (refusal : BenchError)
+  -- two commands have an error
+  pub returns_error : (index : ℕ) (recorded_command replayed_command : RawMessage) (recorded replayed left others now then : Option (List ℕ)) (refusal : BenchError)
       → GoesOn recorded replayed index left others
-      → TakesFirst version left (Some actual) now → TakesFirst version others (Some expected) then → ReturnsPair ignore index actual expected (Err refusal)
+      → TakesFirst version left (Some recorded_command) now → TakesFirst version others (Some replayed_command) then → ReturnsPair ignore index recorded_command replayed_command (Err refusal)
       → ComparesKnown version ignore recorded replayed (Err (Bench refusal))
   unfolding ReturnsPair
-  answers_refusal index actual expected recorded replayed left others now then OutOfMemory goes one other refused = answers_memory recorded replayed
-  answers_refusal index actual expected recorded replayed left others now then TooLong goes one other refused = absurd refused
-  answers_refusal index actual expected recorded replayed left others now then (Malformed side at) goes one other refused =
-      answers_malformed recorded replayed (ends_found index actual expected recorded replayed left others now then (NotWellFormed side at) goes one other refused)
+  returns_error index recorded_command replayed_command recorded replayed left others now then OutOfMemory goes one other refused = returns_out_of_memory recorded replayed
+  returns_error index recorded_command replayed_command recorded replayed left others now then TooLong goes one other refused = absurd refused
+  returns_error index recorded_command replayed_command recorded replayed left others now then (Malformed side at) goes one other refused =
+      returns_malformed recorded replayed (ends_found index recorded_command replayed_command recorded replayed left others now then (NotWellFormed side at) goes one other refused)
     where
-      answers_malformed : (recorded replayed : Option (List ℕ)) → IsKnownAnswer recorded replayed (NotWellFormed side at) → ComparesKnown version ignore recorded replayed (Err (Bench (Malformed side at)))
-      answers_malformed None replayed has = tt
-      answers_malformed (Some recorded) None has = tt
-      answers_malformed (Some recorded) (Some replayed) has = has
+      returns_malformed : (recorded replayed : Option (List ℕ)) → IsKnownOutcome recorded replayed (NotWellFormed side at) → ComparesKnown version ignore recorded replayed (Err (Bench (Malformed side at)))
+      returns_malformed None replayed has = tt
+      returns_malformed (Some recorded) None has = tt
+      returns_malformed (Some recorded) (Some replayed) has = has

@@ -8,7 +8,7 @@ use Rattle.shared_core.specs.Items.{NoItemBegins, TakesItem}
 use Rattle.shared_core.proofs.Items.{takes_more, split_of}
 use Rattle.shared_core.proofs.Splits.{none_is_all_rest, taken_comes_first}
 use Rattle.replay_bench.specs.Journals.{IsJournal, command_of, commands_among, with_first}
-use Rattle.replay_bench.specs.Taking.{GivesPiece, HasNoCommand, LeadsTo, TakesFirst}
+use Rattle.replay_bench.specs.Taking.{GivesChunk, HasNoCommand, LeadsTo, TakesFirst}
 
 module _ (version : Version) where
   -- every stream is a journal
@@ -62,11 +62,11 @@ module _ (version : Version) where
   takes_held old new (Some coming) first leads = λ commands is. leads.joins coming commands is
 
   -- a chunk goes from what is to come to what is held
-  pub takes_piece : (held piece : List ℕ) (old new : Option (List ℕ)) → GivesPiece old (Some piece) new → TakesFirst version (prepend_known held old) None (prepend_known (held ++ piece) new)
-  takes_piece held piece None new gives = tt
-  takes_piece held piece (Some old) None gives = absurd gives
-  takes_piece held piece (Some old) (Some new) gives = λ commands is.
-      subst (λ bytes. IsJournal version bytes commands) (append_assoc held piece new ∙ ap (λ l. held ++ l) (sym gives)) is
+  pub takes_chunk : (held chunk : List ℕ) (old new : Option (List ℕ)) → GivesChunk old (Some chunk) new → TakesFirst version (prepend_known held old) None (prepend_known (held ++ chunk) new)
+  takes_chunk held chunk None new gives = tt
+  takes_chunk held chunk (Some old) None gives = absurd gives
+  takes_chunk held chunk (Some old) (Some new) gives = λ commands is.
+      subst (λ bytes. IsJournal version bytes commands) (append_assoc held chunk new ∙ ap (λ l. held ++ l) (sym gives)) is
 
   -- nothing is to come, and no item is held
   pub nothing_left : (held : List ℕ) (old : Option (List ℕ)) → IsAtEnd old → NoItemBegins version held → HasNoCommand version (prepend_known held old)

@@ -1,6 +1,6 @@
 -- How long a journal is.
 use Rattle.std.proofs.Common.{◌≡◌, ℕ, ◌+◌, ◌^◌, ◌≤◌, List, length, Option, Some, None, refl, ap, ◌∙◌, arith, length-append}
-use Rattle.replay_bench.specs.Taking.{GivesPiece, IsTooLong, KeepsLength, known_length}
+use Rattle.replay_bench.specs.Taking.{GivesChunk, IsTooLong, KeepsLength, known_length}
 
 pub keeps_itself : (known : Option ℕ) → KeepsLength known known
 keeps_itself None = tt
@@ -13,16 +13,16 @@ keeps_on (Some old) (Some between) None first next = absurd next
 keeps_on (Some old) (Some between) (Some new) first next = next ∙ first
 
 -- a chunk goes from what is to come to what has come
-pub piece_counts : (taken sum : ℕ) (piece : List ℕ) (old new : Option (List ℕ)) → GivesPiece old (Some piece) new → sum ≡ taken + length piece → KeepsLength (known_length taken old) (known_length sum new)
-piece_counts taken sum piece None new gives is = tt
-piece_counts taken sum piece (Some old) None gives is = absurd gives
-piece_counts taken sum piece (Some old) (Some new) gives is = omega (arith, is, ap length gives, length-append piece new)
+pub chunk_counts : (taken sum : ℕ) (chunk : List ℕ) (old new : Option (List ℕ)) → GivesChunk old (Some chunk) new → sum ≡ taken + length chunk → KeepsLength (known_length taken old) (known_length sum new)
+chunk_counts taken sum chunk None new gives is = tt
+chunk_counts taken sum chunk (Some old) None gives is = absurd gives
+chunk_counts taken sum chunk (Some old) (Some new) gives is = omega (arith, is, ap length gives, length-append chunk new)
 
 -- a chunk with which too much has come is one of a journal that is too long
-pub piece_too_long : (taken : ℕ) (piece : List ℕ) (old new : Option (List ℕ)) → GivesPiece old (Some piece) new → 2 ^ 64 ≤ taken + length piece → IsTooLong (known_length taken old)
-piece_too_long taken piece None new gives long = tt
-piece_too_long taken piece (Some old) None gives long = absurd gives
-piece_too_long taken piece (Some old) (Some new) gives long = omega (arith, long, ap length gives, length-append piece new)
+pub chunk_too_long : (taken : ℕ) (chunk : List ℕ) (old new : Option (List ℕ)) → GivesChunk old (Some chunk) new → 2 ^ 64 ≤ taken + length chunk → IsTooLong (known_length taken old)
+chunk_too_long taken chunk None new gives long = tt
+chunk_too_long taken chunk (Some old) None gives long = absurd gives
+chunk_too_long taken chunk (Some old) (Some new) gives long = omega (arith, long, ap length gives, length-append chunk new)
 
 pub too_long_before : (old new : Option ℕ) → KeepsLength old new → IsTooLong new → IsTooLong old
 too_long_before None new keeps long = tt

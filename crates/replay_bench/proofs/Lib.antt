@@ -1,5 +1,7 @@
 pub mod Fronts
 pub mod Lengths
 pub mod Pairs
+pub mod Readings
+pub mod Seen
 pub mod Endings
-pub mod OneAnswer
+pub mod OneOutcome

@@ -1,4 +1,4 @@
--- What two commands answer.
+-- What is returned for two commands.
 use Rattle.std.proofs.Common.{Global, ◌≡◌, ◌≢◌, ℕ, pos, Bool, List, Option, Some, None, Ok, Err, refl, sym, ap, ◌∙◌, subst, ⊎_elim}
 use Rattle.std.specs.Prelude.{codes, IsSome, String}
 use Rattle.std.specs.Option.{IsSomeAnd}
@@ -23,70 +23,70 @@ use Rattle.replay_bench.specs.declared.verdicts.BenchError.TheVariants.{OutOfMem
 use Rattle.replay_bench.specs.Verdicts.{ReturnsPair, IsMalformedOn, IsPair, MeanOthers, MeanTheSame, bench_error_of}
 
 -- Two commands of the type of a record with this schema, at an index.
-pub record AreTyped (actual expected : RawMessage) (s : ℕ) : Type 0 where
-  pub one_type : actual.header.ty ≡ expected.header.ty
-  pub schema : message_schema actual.header.ty ≡ Some s
+pub record AreTyped (recorded replayed : RawMessage) (s : ℕ) : Type 0 where
+  pub one_type : recorded.header.ty ≡ replayed.header.ty
+  pub schema : message_schema recorded.header.ty ≡ Some s
 
-pub are_typed : (index : ℕ) (actual expected : RawMessage) (ty : MessageType) (s : ℕ) → IsPair index actual expected ty → message_schema ty ≡ Some s → AreTyped actual expected s
-are_typed index actual expected ty s pair own = record {
+pub are_typed : (index : ℕ) (recorded replayed : RawMessage) (ty : MessageType) (s : ℕ) → IsPair index recorded replayed ty → message_schema ty ≡ Some s → AreTyped recorded replayed s
+are_typed index recorded replayed ty s pair own = record {
   one_type = pair.typed;
   schema = ap message_schema pair.is ∙ own;
 }
 
-module _ (ignore : Bool) (index : ℕ) (actual expected : RawMessage) where
-  -- memory may be wanting
-  pub pair_memory : ReturnsPair ignore index actual expected (Err OutOfMemory)
+module _ (ignore : Bool) (index : ℕ) (recorded replayed : RawMessage) where
+  -- an allocation may fail
+  pub pair_out_of_memory : ReturnsPair ignore index recorded replayed (Err OutOfMemory)
   unfolding ReturnsPair
-  pair_memory = tt
+  pair_out_of_memory = tt
 
   -- the payloads are the same bytes, which are well-formed
-  pub pair_same_bytes : actual.header.ty ≡ expected.header.ty → actual.payload ≡ expected.payload
-      → IsSomeAnd (message_schema actual.header.ty) (λ s. IsAccepted s actual.payload) → ReturnsPair ignore index actual expected (Ok None)
+  pub pair_same_bytes : recorded.header.ty ≡ replayed.header.ty → recorded.payload ≡ replayed.payload
+      → IsSomeAnd (message_schema recorded.header.ty) (λ s. IsAccepted s recorded.payload) → ReturnsPair ignore index recorded replayed (Ok None)
   unfolding ReturnsPair
-  pair_same_bytes typed same accepted = (typed, by_schema (message_schema actual.header.ty) accepted)
+  pair_same_bytes typed same accepted = (typed, by_schema (message_schema recorded.header.ty) accepted)
     where
-      by_schema : (schema : Option ℕ) → IsSomeAnd schema (λ s. IsAccepted s actual.payload) → IsSomeAnd schema (MeanTheSame ignore actual.payload expected.payload)
+      by_schema : (schema : Option ℕ) → IsSomeAnd schema (λ s. IsAccepted s recorded.payload) → IsSomeAnd schema (MeanTheSame ignore recorded.payload replayed.payload)
       by_schema None h = h
-      by_schema (Some s) h = subst (λ (other : List ℕ). MeanTheSame ignore actual.payload other s) same (h, h, refl)
+      by_schema (Some s) h = subst (λ (other : List ℕ). MeanTheSame ignore recorded.payload other s) same (h, h, refl)
 
   -- the types differ
-  pub pair_types : (text : String Global) → actual.header.ty ≢ expected.header.ty → string_bytes text ≡ command_type_mismatch_text (pos index) actual.header.ty expected.header.ty → ReturnsPair ignore index actual expected (Ok (Some (TypeMismatch index text)))
+  pub pair_types : (text : String Global) → recorded.header.ty ≢ replayed.header.ty → string_bytes text ≡ command_type_mismatch_text (pos index) recorded.header.ty replayed.header.ty → ReturnsPair ignore index recorded replayed (Ok (Some (TypeMismatch index text)))
   unfolding ReturnsPair
   pair_types text differ says = (refl, differ, says)
 
-  module _ (s : ℕ) (typed : AreTyped actual expected s) where
-    of_schema : (holds : ℕ → Type 0) → holds s → IsSomeAnd (message_schema actual.header.ty) holds
+  module _ (s : ℕ) (typed : AreTyped recorded replayed s) where
+    of_schema : (holds : ℕ → Type 0) → holds s → IsSomeAnd (message_schema recorded.header.ty) holds
     of_schema holds is = subst (λ schema. IsSomeAnd schema holds) (sym typed.schema) is
 
     -- the recorded command is not decoded
-    pub pair_recorded : (error : WireError) → (error ≡ wire.Malformed → ¬ (IsAccepted s actual.payload)) → ReturnsPair ignore index actual expected (Err (bench_error_of Recorded index error))
+    pub pair_recorded : (error : WireError) → (error ≡ wire.Malformed → ¬ (IsAccepted s recorded.payload)) → ReturnsPair ignore index recorded replayed (Err (bench_error_of Recorded index error))
     unfolding ReturnsPair
     pair_recorded wire.OutOfMemory refused = tt
     pair_recorded wire.Malformed refused =
-        (typed.one_type, refl, of_schema (IsMalformedOn Recorded actual.payload expected.payload) (refused refl))
+        (typed.one_type, refl, of_schema (IsMalformedOn Recorded recorded.payload replayed.payload) (refused refl))
 
     -- the replayed one is not
-    pub pair_replayed : (one : Parts) (error : WireError) → MeansParts s actual.payload one → (error ≡ wire.Malformed → ¬ (IsAccepted s expected.payload)) → ReturnsPair ignore index actual expected (Err (bench_error_of Replayed index error))
+    pub pair_replayed : (one : Parts) (error : WireError) → MeansParts s recorded.payload one → (error ≡ wire.Malformed → ¬ (IsAccepted s replayed.payload)) → ReturnsPair ignore index recorded replayed (Err (bench_error_of Replayed index error))
     unfolding ReturnsPair
     pair_replayed one wire.OutOfMemory means refused = tt
     pair_replayed one wire.Malformed means refused =
-        (typed.one_type, refl, of_schema (IsMalformedOn Replayed actual.payload expected.payload) (means.0, refused refl))
+        (typed.one_type, refl, of_schema (IsMalformedOn Replayed recorded.payload replayed.payload) (means.0, refused refl))
 
-    module _ (one other : Parts) (means : MeansParts s actual.payload one) (means_other : MeansParts s expected.payload other) where
+    module _ (one other : Parts) (means : MeansParts s recorded.payload one) (means_other : MeansParts s replayed.payload other) where
       -- both mean the same
-      pub pair_alike : erased s ignore one ≡ erased s ignore other → ReturnsPair ignore index actual expected (Ok None)
+      pub pair_alike : erased s ignore one ≡ erased s ignore other → ReturnsPair ignore index recorded replayed (Ok None)
       unfolding ReturnsPair
       pair_alike same =
-          (typed.one_type, of_schema (MeanTheSame ignore actual.payload expected.payload) (means.0, means_other.0, ap (erased s ignore) (sym means.1) ∙ same ∙ ap (erased s ignore) means_other.1))
+          (typed.one_type, of_schema (MeanTheSame ignore recorded.payload replayed.payload) (means.0, means_other.0, ap (erased s ignore) (sym means.1) ∙ same ∙ ap (erased s ignore) means_other.1))
 
       -- they do not
-      pub pair_differs : (text : String Global) → ¬ (erased s ignore one ≡ erased s ignore other) → string_bytes text ≡ command_mismatch_text actual.header.ty (pos index) (difference s (codes "   ") one other) → ReturnsPair ignore index actual expected (Ok (Some (HeaderMismatch index text)))
+      pub pair_differs : (text : String Global) → ¬ (erased s ignore one ≡ erased s ignore other) → string_bytes text ≡ command_mismatch_text recorded.header.ty (pos index) (difference s (codes "   ") one other) → ReturnsPair ignore index recorded replayed (Ok (Some (HeaderMismatch index text)))
       unfolding ReturnsPair
       pair_differs text differ says =
-          let as_read : string_bytes text ≡ command_mismatch_text actual.header.ty (pos index) (difference s (codes "   ") (payload_meaning s actual.payload) (payload_meaning s expected.payload)) =
+          let as_read : string_bytes text ≡ command_mismatch_text recorded.header.ty (pos index) (difference s (codes "   ") (payload_meaning s recorded.payload) (payload_meaning s replayed.payload)) =
           says
-          ∙ ap (λ v. command_mismatch_text actual.header.ty (pos index) (difference s (codes "   ") v other)) means.1
-          ∙ ap (λ v. command_mismatch_text actual.header.ty (pos index) (difference s (codes "   ") (payload_meaning s actual.payload) v)) means_other.1 in
-          let not_same : ¬ (AreSame s ignore (payload_meaning s actual.payload) (payload_meaning s expected.payload)) =
+          ∙ ap (λ v. command_mismatch_text recorded.header.ty (pos index) (difference s (codes "   ") v other)) means.1
+          ∙ ap (λ v. command_mismatch_text recorded.header.ty (pos index) (difference s (codes "   ") (payload_meaning s recorded.payload) v)) means_other.1 in
+          let not_same : ¬ (AreSame s ignore (payload_meaning s recorded.payload) (payload_meaning s replayed.payload)) =
           λ same. differ (ap (erased s ignore) means.1 ∙ same ∙ ap (erased s ignore) (sym means_other.1)) in
-          (typed.one_type, refl, of_schema (MeanOthers ignore index actual.header.ty actual.payload expected.payload (string_bytes text)) (means.0, means_other.0, not_same, as_read))
+          (typed.one_type, refl, of_schema (MeanOthers ignore index recorded.header.ty recorded.payload replayed.payload (string_bytes text)) (means.0, means_other.0, not_same, as_read))

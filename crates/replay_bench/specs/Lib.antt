@@ -1,5 +1,6 @@
-pub mod Answers
+pub mod Outcomes
 pub mod Journals
+pub mod Reading
 pub mod Taking
 pub mod Verdicts
 pub mod Texts

@@ -13,9 +13,9 @@ use Rattle.replay_bench.specs.Journals.{IsJournal, with_first}
 
 -- What a source gives of the bytes that are still to come, where these are known: a chunk off their front, or nothing
 -- where none is left.
-abbrev pub GivesPiece : Option (List ℕ) → Option (List ℕ) → Option (List ℕ) → Type 0
-GivesPiece old (Some piece) new = Consumes old new piece
-GivesPiece old None new = IsAtEnd old
+abbrev pub GivesChunk : Option (List ℕ) → Option (List ℕ) → Option (List ℕ) → Type 0
+GivesChunk old (Some chunk) new = Consumes old new chunk
+GivesChunk old None new = IsAtEnd old
 
 -- Whatever follows, a journal of the new bytes is one of the old bytes with this command in front, if there is any.
 pub record LeadsTo (version : Version) (old : List ℕ) (first : Option RawMessage) (new : List ℕ) : Type 0 where

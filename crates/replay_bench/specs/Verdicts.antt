@@ -1,5 +1,5 @@
 -- The verdict on the commands of two journals, and their comparison.
-use Rattle.std.specs.Prelude.{◌≡◌, ◌≢◌, ◌⊎◌, ℕ, ◌+◌, ◌^◌, ◌<◌, ◌≤◌, pos, Bool, true, List, [], ◌∷◌, length, codes, Option, Some, None, Result, Ok, Err}
+use Rattle.std.specs.Prelude.{◌≡◌, ◌≢◌, ◌⊎◌, ℕ, ◌+◌, ◌^◌, ◌<◌, ◌≤◌, pos, Bool, true, false, List, [], ◌∷◌, length, codes, Option, Some, None, Result, Ok, Err}
 use Rattle.std.specs.Option.{IsSomeAnd}
 use Rattle.shared_core_base.specs.declared.header.MessageType.{MessageType}
 use Rattle.shared_core_base.specs.declared.version.Version.{Version}
@@ -14,70 +14,72 @@ use Rattle.shared_core.specs.declared.encoding.raw_message.RawMessage.{RawMessag
 use Rattle.shared_core.specs.Errors.{command_mismatch_text}
 use Rattle.replay_bench.specs.declared.verdicts.Side.{Side}
 use Rattle.replay_bench.specs.declared.verdicts.Side.TheVariants.{Recorded, Replayed}
+use Rattle.replay_bench.specs.declared.verdicts.Comparison.{Comparison}
 use Rattle.replay_bench.specs.declared.verdicts.Verdict.{Verdict}
+use Rattle.replay_bench.specs.declared.verdicts.Verdict.TheVariants.{Same, RecordedEnded, ReplayedEnded, TypeMismatch, HeaderMismatch}
 use Rattle.replay_bench.specs.declared.verdicts.BenchError.{BenchError}
 use Rattle.replay_bench.specs.declared.verdicts.BenchError.TheVariants.{Malformed, TooLong, OutOfMemory}
 use Rattle.replay_bench.specs.declared.verdicts.ReaderError.{ReaderError}
 use Rattle.replay_bench.specs.declared.verdicts.ReaderError.TheVariants.{Read, Bench}
-use Rattle.replay_bench.specs.Answers.{Answer, SameCommands, RecordedEnds, ReplayedEnds, OtherType, OtherCommand, NotWellFormed, answer_of}
+use Rattle.replay_bench.specs.Outcomes.{Outcome, SameCommands, RecordedEnds, ReplayedEnds, OtherType, OtherCommand, NotWellFormed, outcome_of}
 use Rattle.replay_bench.specs.Journals.{IsCommand, IsJournal}
+use Rattle.replay_bench.specs.Reading.{IsKnownLast, IsKnownSurvey}
 
 -- ---- the result for two commands at an index
 
 -- Both payloads are well-formed for the schema, and the commands that they mean are the same but for what is not
 -- compared.
 abbrev pub MeanTheSame : Bool → List ℕ → List ℕ → ℕ → Type 0
-MeanTheSame ignore actual expected s =
-    IsAccepted s actual × IsAccepted s expected × AreSame s ignore (payload_meaning s actual) (payload_meaning s expected)
+MeanTheSame ignore recorded replayed s =
+    IsAccepted s recorded × IsAccepted s replayed × AreSame s ignore (payload_meaning s recorded) (payload_meaning s replayed)
 
 -- Both payloads are well-formed for the schema, the commands that they mean are not the same, and the text has their
 -- difference.
 abbrev pub MeanOthers : Bool → ℕ → MessageType → List ℕ → List ℕ → List ℕ → ℕ → Type 0
-MeanOthers ignore index ty actual expected text s =
-    IsAccepted s actual × IsAccepted s expected
-    × ¬ (AreSame s ignore (payload_meaning s actual) (payload_meaning s expected))
-    × (text ≡ command_mismatch_text ty (pos index) (difference s (codes "   ") (payload_meaning s actual) (payload_meaning s expected)))
+MeanOthers ignore index ty recorded replayed text s =
+    IsAccepted s recorded × IsAccepted s replayed
+    × ¬ (AreSame s ignore (payload_meaning s recorded) (payload_meaning s replayed))
+    × (text ≡ command_mismatch_text ty (pos index) (difference s (codes "   ") (payload_meaning s recorded) (payload_meaning s replayed)))
 
 -- The payload of this side is not well-formed for the schema; where it is the replayed one, the recorded one is.
 abbrev pub IsMalformedOn : Side → List ℕ → List ℕ → ℕ → Type 0
-IsMalformedOn Recorded actual expected s = ¬ (IsAccepted s actual)
-IsMalformedOn Replayed actual expected s = IsAccepted s actual × ¬ (IsAccepted s expected)
+IsMalformedOn Recorded recorded replayed s = ¬ (IsAccepted s recorded)
+IsMalformedOn Replayed recorded replayed s = IsAccepted s recorded × ¬ (IsAccepted s replayed)
 
 -- Two commands at the same index are alike: of one type, both well-formed, and the same but for what is not compared.
 abbrev pub AreAlike : Bool → RawMessage → RawMessage → Type 0
-AreAlike ignore actual expected =
-    (actual.header.ty ≡ expected.header.ty) × IsSomeAnd (message_schema actual.header.ty) (MeanTheSame ignore actual.payload expected.payload)
+AreAlike ignore recorded replayed =
+    (recorded.header.ty ≡ replayed.header.ty) × IsSomeAnd (message_schema recorded.header.ty) (MeanTheSame ignore recorded.payload replayed.payload)
 
--- Two commands at an index are not alike, the recorded one as the actual and the replayed one as the expected, and this
--- is the result: that their types differ; or they are of one type, and a payload is not well-formed, or they do not
--- mean the same.
-abbrev pub IsFound : Bool → ℕ → RawMessage → RawMessage → Answer → Type 0
-IsFound ignore index actual expected (OtherType found text) =
-    (found ≡ index) × (actual.header.ty ≢ expected.header.ty)
-    × (text ≡ command_type_mismatch_text (pos index) actual.header.ty expected.header.ty)
-IsFound ignore index actual expected (OtherCommand found text) =
-    (actual.header.ty ≡ expected.header.ty) × (found ≡ index)
-    × IsSomeAnd (message_schema actual.header.ty) (MeanOthers ignore index actual.header.ty actual.payload expected.payload text)
-IsFound ignore index actual expected (NotWellFormed side found) =
-    (actual.header.ty ≡ expected.header.ty) × (found ≡ index)
-    × IsSomeAnd (message_schema actual.header.ty) (IsMalformedOn side actual.payload expected.payload)
-IsFound ignore index actual expected answer = ⊥
+-- Two commands at an index are not alike, and this is the outcome: their types differ; or they are of one type, and a
+-- payload is not well-formed, or they do not mean the same. In a text the recorded one is the actual one.
+abbrev pub IsFound : Bool → ℕ → RawMessage → RawMessage → Outcome → Type 0
+IsFound ignore index recorded replayed (OtherType found text) =
+    (found ≡ index) × (recorded.header.ty ≢ replayed.header.ty)
+    × (text ≡ command_type_mismatch_text (pos index) recorded.header.ty replayed.header.ty)
+IsFound ignore index recorded replayed (OtherCommand found text) =
+    (recorded.header.ty ≡ replayed.header.ty) × (found ≡ index)
+    × IsSomeAnd (message_schema recorded.header.ty) (MeanOthers ignore index recorded.header.ty recorded.payload replayed.payload text)
+IsFound ignore index recorded replayed (NotWellFormed side found) =
+    (recorded.header.ty ≡ replayed.header.ty) × (found ≡ index)
+    × IsSomeAnd (message_schema recorded.header.ty) (IsMalformedOn side recorded.payload replayed.payload)
+IsFound ignore index recorded replayed outcome = ⊥
 
 -- The result for two commands at an index: nothing if they are the same, otherwise what differs; or an allocation
 -- fails.
 unfoldable pub ReturnsPair : Bool → ℕ → RawMessage → RawMessage → Result (Option Verdict) BenchError → Type 0
-ReturnsPair ignore index actual expected (Ok None) = AreAlike ignore actual expected
-ReturnsPair ignore index actual expected (Ok (Some verdict)) = IsFound ignore index actual expected (answer_of verdict)
-ReturnsPair ignore index actual expected (Err (Malformed side found)) = IsFound ignore index actual expected (NotWellFormed side found)
-ReturnsPair ignore index actual expected (Err OutOfMemory) = Unit {0}
-ReturnsPair ignore index actual expected (Err TooLong) = ⊥
+ReturnsPair ignore index recorded replayed (Ok None) = AreAlike ignore recorded replayed
+ReturnsPair ignore index recorded replayed (Ok (Some verdict)) = IsFound ignore index recorded replayed (outcome_of verdict)
+ReturnsPair ignore index recorded replayed (Err (Malformed side found)) = IsFound ignore index recorded replayed (NotWellFormed side found)
+ReturnsPair ignore index recorded replayed (Err OutOfMemory) = Unit {0}
+ReturnsPair ignore index recorded replayed (Err TooLong) = ⊥
 
 -- Two commands of this type are at an index.
-pub record IsPair (index : ℕ) (actual expected : RawMessage) (ty : MessageType) : Type 0 where
+pub record IsPair (index : ℕ) (recorded replayed : RawMessage) (ty : MessageType) : Type 0 where
   pub below : index < 2 ^ 63
-  pub command : IsCommand actual
-  pub typed : actual.header.ty ≡ expected.header.ty
-  pub is : actual.header.ty ≡ ty
+  pub command : IsCommand recorded
+  pub typed : recorded.header.ty ≡ replayed.header.ty
+  pub is : recorded.header.ty ≡ ty
 
 -- Why the command of a side at an index is not decoded: its payload is not well-formed, or an allocation failed.
 abbrev pub bench_error_of : Side → ℕ → WireError → BenchError
@@ -86,29 +88,29 @@ bench_error_of side index wire.OutOfMemory = OutOfMemory
 
 -- ---- the verdict on two journals
 
--- The result of commands from this index on: who has ended, or what is found of the first two, or, where they are
--- alike, the result of the others.
-abbrev pub IsAnswer : Bool → ℕ → List RawMessage → List RawMessage → Answer → Type 0
-IsAnswer ignore index [] [] answer = answer ≡ SameCommands index
-IsAnswer ignore index [] (expected ∷ replayed) answer = answer ≡ RecordedEnds index
-IsAnswer ignore index (actual ∷ recorded) [] answer = answer ≡ ReplayedEnds index
-IsAnswer ignore index (actual ∷ recorded) (expected ∷ replayed) answer =
-    (AreAlike ignore actual expected × IsAnswer ignore (index + 1) recorded replayed answer)
-    ⊎ IsFound ignore index actual expected answer
+-- The outcome of commands from this index on: who has ended, or what is found of the first two, or, where they are
+-- alike, the outcome of the others.
+abbrev pub IsOutcome : Bool → ℕ → List RawMessage → List RawMessage → Outcome → Type 0
+IsOutcome ignore index [] [] outcome = outcome ≡ SameCommands index
+IsOutcome ignore index [] (replayed ∷ more_replayed) outcome = outcome ≡ RecordedEnds index
+IsOutcome ignore index (recorded ∷ more_recorded) [] outcome = outcome ≡ ReplayedEnds index
+IsOutcome ignore index (recorded ∷ more_recorded) (replayed ∷ more_replayed) outcome =
+    (AreAlike ignore recorded replayed × IsOutcome ignore (index + 1) more_recorded more_replayed outcome)
+    ⊎ IsFound ignore index recorded replayed outcome
 
--- The result of two journals is that of their commands, from index 0 on.
-pub record HasAnswer (version : Version) (ignore : Bool) (recorded replayed : List ℕ) (answer : Answer) : Type 0 where
-  pub actual : List RawMessage
-  pub expected : List RawMessage
-  pub is_recorded : IsJournal version recorded actual
-  pub is_replayed : IsJournal version replayed expected
-  pub is_answer : IsAnswer ignore 0 actual expected answer
+-- The outcome of two journals is that of their commands, from index 0 on.
+pub record HasOutcome (version : Version) (ignore : Bool) (recorded replayed : List ℕ) (outcome : Outcome) : Type 0 where
+  pub recorded_commands : List RawMessage
+  pub replayed_commands : List RawMessage
+  pub is_recorded : IsJournal version recorded recorded_commands
+  pub is_replayed : IsJournal version replayed replayed_commands
+  pub is_outcome : IsOutcome ignore 0 recorded_commands replayed_commands outcome
 
 -- What a comparison of two journals returns: their verdict; whose command is not well-formed; that one of them is too
 -- long, where it is; or that an allocation fails.
 abbrev pub Compares : Version → Bool → List ℕ → List ℕ → Result Verdict BenchError → Type 0
-Compares version ignore recorded replayed (Ok verdict) = HasAnswer version ignore recorded replayed (answer_of verdict)
-Compares version ignore recorded replayed (Err (Malformed side index)) = HasAnswer version ignore recorded replayed (NotWellFormed side index)
+Compares version ignore recorded replayed (Ok verdict) = HasOutcome version ignore recorded replayed (outcome_of verdict)
+Compares version ignore recorded replayed (Err (Malformed side index)) = HasOutcome version ignore recorded replayed (NotWellFormed side index)
 Compares version ignore recorded replayed (Err TooLong) = (2 ^ 64 ≤ length recorded) ⊎ (2 ^ 64 ≤ length replayed)
 Compares version ignore recorded replayed (Err OutOfMemory) = Unit {0}
 
@@ -122,11 +124,55 @@ ComparesRead version ignore recorded replayed (Err (Read side)) = Unit {0}
 
 -- The same of the bytes that two sources will give, where both are known.
 abbrev pub ComparesKnown : Version → Bool → Option (List ℕ) → Option (List ℕ) → Result Verdict ReaderError → Type 0
-ComparesKnown version ignore (Some recorded) (Some replayed) answer = ComparesRead version ignore recorded replayed answer
-ComparesKnown version ignore recorded replayed answer = Unit {0}
+ComparesKnown version ignore (Some recorded) (Some replayed) result = ComparesRead version ignore recorded replayed result
+ComparesKnown version ignore recorded replayed result = Unit {0}
 
 -- A read is said to have failed only on a side where it may.
-abbrev pub MayFailOn : Bool → Bool → Result Verdict ReaderError → Type 0
+abbrev pub MayFailOn : {T : Type 0} → Bool → Bool → Result T ReaderError → Type 0
 MayFailOn recorded replayed (Err (Read Recorded)) = recorded ≡ true
 MayFailOn recorded replayed (Err (Read Replayed)) = replayed ≡ true
-MayFailOn recorded replayed answer = Unit {0}
+MayFailOn recorded replayed result = Unit {0}
+
+-- ---- both journals surveyed
+
+-- Whether a verdict says that the recorded journal has ended.
+abbrev pub recorded_ended : Verdict → Bool
+recorded_ended (Same count) = true
+recorded_ended (RecordedEnded index) = true
+recorded_ended verdict = false
+
+-- Whether a verdict says that the replayed journal has ended.
+abbrev pub replayed_ended : Verdict → Bool
+replayed_ended (Same count) = true
+replayed_ended (ReplayedEnded index) = true
+replayed_ended verdict = false
+
+-- How many commands of the recorded journal a verdict has seen.
+abbrev pub recorded_seen : Verdict → ℕ
+recorded_seen (Same count) = count
+recorded_seen (RecordedEnded index) = index
+recorded_seen (ReplayedEnded index) = index + 1
+recorded_seen (TypeMismatch index text) = index + 1
+recorded_seen (HeaderMismatch index text) = index + 1
+
+-- How many commands of the replayed journal a verdict has seen.
+abbrev pub replayed_seen : Verdict → ℕ
+replayed_seen (Same count) = count
+replayed_seen (RecordedEnded index) = index + 1
+replayed_seen (ReplayedEnded index) = index
+replayed_seen (TypeMismatch index text) = index + 1
+replayed_seen (HeaderMismatch index text) = index + 1
+
+-- Two journals, as far as their bytes are known, have this verdict, these surveys, and at these offsets the last
+-- commands that the verdict has seen.
+pub record IsComparison (version : Version) (ignore is_strict : Bool) (recorded replayed : Option (List ℕ)) (found : Comparison) : Type 0 where
+  pub verdict : ComparesKnown version ignore recorded replayed (Ok found.verdict)
+  pub recorded_survey : IsKnownSurvey version is_strict recorded found.recorded
+  pub replayed_survey : IsKnownSurvey version is_strict replayed found.replayed
+  pub recorded_last : IsKnownLast version recorded (recorded_seen found.verdict) found.recorded_at
+  pub replayed_last : IsKnownLast version replayed (replayed_seen found.verdict) found.replayed_at
+
+-- What a comparison that surveys both journals returns: their comparison, or why there is no verdict or no survey.
+abbrev pub Surveys : Version → Bool → Bool → Option (List ℕ) → Option (List ℕ) → Result Comparison ReaderError → Type 0
+Surveys version ignore is_strict recorded replayed (Ok found) = IsComparison version ignore is_strict recorded replayed found
+Surveys version ignore is_strict recorded replayed (Err error) = ComparesKnown version ignore recorded replayed (Err error)

@@ -1,11 +1,13 @@
 //! The commands of one journal.
 
-ghost use Rattle.std.specs.Prelude.{◌≡◌, ◌+◌, ◌≤◌, ◌<◌, ◌^◌, ◌++◌, []};
+ghost use Rattle.std.specs.Prelude.{◌≡◌, ◌+◌, ◌≤◌, ◌<◌, ◌^◌, ◌++◌, ℕ, Bool, List, Option, []};
+ghost use Rattle.std.specs.Prelude.{is_none, is_some, if◌then◌else◌};
 ghost use Rattle.std.specs.Prelude.{length, IfErr, IfOk, IfSome, MatchOption, OnOk, IsErrOf, None};
 ghost use Rattle.std.specs.Io.KnownBytes.{prepend_known};
 ghost use Rattle.shared_core_base.specs.Version.{version_number};
 ghost use Rattle.shared_core.specs.Items.{NoItemBegins};
 ghost use Rattle.replay_bench.specs.Journals.{command_of, IsCommand};
+ghost use Rattle.replay_bench.specs.Reading.{HasItems, HasRead, HasReadOn, HasReadSome, IsKnownSurvey, IsNew};
 ghost use Rattle.replay_bench.specs.Taking.{known_length, HasNoCommand, LeadsTo};
 ghost use Rattle.replay_bench.specs.Taking.{KeepsLength, MayRefuse, RefusesLength, TakesFirst};
 
@@ -16,34 +18,47 @@ use shared_core::CommandType;
 use shared_core::encoding::{Decoder, Item, PushError, RawMessage};
 use shared_core::version::Version;
 use std::alloc::{AllocError, Global};
+use stream_survey::Survey;
 
 /// The commands of a journal that comes in chunks, one after the other. Of the journal it holds the chunks that no item
 /// has used up.
 #[derive(Drop)]
 pub(crate) struct Commands<S> {
     side: Side,
+    version: Version,
     decoder: Decoder,
     source: S,
     /// How many bytes have come in all.
     taken: u64,
+    /// The survey of the items that were taken.
+    survey: Survey,
 }
 
 impl<S: Source> Commands<S> {
-    /// The commands of the journal on this side, whose version is at least V5.
-    pub(crate) fn new(alloc: Global, version: Version, side: Side, source: S) -> Commands<S>
+    /// The commands of the journal on this side, whose version is at least V5. The survey finds faults if it is
+    /// strict.
+    pub(crate) fn new(
+        alloc: Global,
+        version: Version,
+        side: Side,
+        source: S,
+        is_strict: bool,
+    ) -> Commands<S>
         requires { 5 ≤ version_number version }
-        ensures { result ≡ record {
-          side = side;
-          decoder = record { version = version; bytes = [] };
-          source = source;
-          taken = 0;
-        } }
+        ensures new { IsNew version side result.side result.version
+            result.decoder.version result.decoder.bytes result.taken result.survey }
+        ensures strict { result.survey.is_strict ≡ is_strict }
+        ensures source { result.source ≡ source }
     {
+        let decoder = Decoder::new(alloc, version);
+        let survey = Survey::new(is_strict);
         Commands {
             side,
-            decoder: Decoder::new(alloc, version),
+            version,
+            decoder,
             source,
             taken: 0,
+            survey,
         }
     }
 
@@ -52,6 +67,9 @@ impl<S: Source> Commands<S> {
     pub(crate) fn next_command(&mut self) -> Result<Option<RawMessage>, ReaderError>
         requires held { length self.old.decoder.bytes ≤ self.old.taken }
         requires fits { self.old.taken < 2 ^ 64 }
+        requires same { self.old.decoder.version ≡ self.old.version }
+        requires read { HasReadSome self.old.version
+            (S.coming self.old.source) self.old.decoder.bytes self.old.taken self.old.survey }
         ensures taken { IfOk result (λ found. MatchOption found
             (HasNoCommand self.old.decoder.version (prepend_known self.old.decoder.bytes (S.coming self.old.source)))
             (λ command. TakesFirst self.old.decoder.version
@@ -69,46 +87,98 @@ impl<S: Source> Commands<S> {
         ensures fits { OnOk result (self.new.taken < 2 ^ 64) }
         ensures version { OnOk result (self.new.decoder.version ≡ self.old.decoder.version) }
         ensures side { OnOk result (self.new.side ≡ self.old.side) }
+        ensures same { OnOk result (self.new.version ≡ self.old.version) }
+        ensures commands { IfOk result (λ found.
+            self.new.survey.commands ≡ self.old.survey.commands + (if is_some found then 1 else 0)) }
+        // the items so far are surveyed, whatever was to come at first
+        ensures read { IfOk result (λ found. (is_strict : Bool) (first : Option (List ℕ))
+            → HasRead self.old.version is_strict first
+            (S.coming self.old.source) self.old.decoder.bytes self.old.taken self.old.survey
+            → HasReadOn self.old.version is_strict first (is_none found)
+            (S.coming self.new.source) self.new.decoder.bytes self.new.taken self.new.survey) }
     {
         loop {
-            if let Some(command) = buffered_command(&mut self.decoder)? {
+            if let Some(command) = buffered_command(
+                self.version,
+                &mut self.decoder,
+                &mut self.survey,
+            )? {
                 return Ok(Some(command));
             }
-            let piece = match self.source.next_piece() {
-                Ok(Some(piece)) => piece,
+            let chunk = match self.source.next_chunk() {
+                Ok(Some(chunk)) => chunk,
                 Ok(None) => return Ok(None),
                 Err(SourceError::Failed) => return Err(ReaderError::Read(self.side)),
                 Err(SourceError::OutOfMemory) => {
                     return Err(ReaderError::Bench(BenchError::OutOfMemory));
                 }
             };
-            self.taken = push(&mut self.decoder, self.taken, piece)?;
+            self.taken = push(&mut self.decoder, self.taken, chunk)?;
         }
+    }
+
+    /// The offset of the last command that was taken.
+    pub(crate) fn last_command(&self) -> Option<u128>
+        ensures { result ≡ self.now.survey.last_command }
+    {
+        self.survey.last_command
+    }
+
+    /// Reads a journal that has not ended to its end, and returns the survey of all of it.
+    pub(crate) fn finish(mut self, has_ended: bool) -> Result<Survey, ReaderError>
+        requires fits { self.taken < 2 ^ 64 }
+        requires same { self.decoder.version ≡ self.version }
+        requires read { (is_strict : Bool) × (first : Option (List ℕ))
+            × HasReadOn self.version is_strict first has_ended
+            (S.coming self.source) self.decoder.bytes self.taken self.survey }
+        ensures survey { IfOk result (λ survey. (is_strict : Bool) (first : Option (List ℕ))
+            → HasReadOn self.version is_strict first has_ended
+            (S.coming self.source) self.decoder.bytes self.taken self.survey
+            → IsKnownSurvey self.version is_strict first survey) }
+        ensures refused { IfErr result (λ error. (is_strict : Bool) (first : Option (List ℕ))
+            → HasReadOn self.version is_strict first has_ended
+            (S.coming self.source) self.decoder.bytes self.taken self.survey
+            → MayRefuse self.side S.may_fail (known_length 0 first) error) }
+    {
+        let mut has_ended = has_ended;
+        while !has_ended {
+            has_ended = self.next_command()?.is_none();
+        }
+        Ok(self.survey.with_rest(self.decoder.pending()))
     }
 }
 
 /// Pushes a chunk where this many bytes have come before, and returns how many have come with it.
-fn push(decoder: &mut Decoder, taken: u64, piece: Bytes) -> Result<u64, BenchError>
+fn push(decoder: &mut Decoder, taken: u64, chunk: Bytes) -> Result<u64, BenchError>
     requires { length decoder.old.bytes ≤ taken }
-    ensures pushed { OnOk result (decoder.new ≡ record decoder.old { bytes = decoder.old.bytes ++ piece }) }
-    ensures counted { IfOk result (λ sum. sum ≡ taken + length piece) }
+    ensures pushed { OnOk result (decoder.new ≡ record decoder.old { bytes = decoder.old.bytes ++ chunk }) }
+    ensures counted { IfOk result (λ sum. sum ≡ taken + length chunk) }
     ensures fits { IfOk result (λ sum. sum < 2 ^ 64) }
-    ensures refused { IfErr result (λ refusal. RefusesLength (taken + length piece) refusal) }
+    ensures refused { IfErr result (λ refusal. RefusesLength (taken + length chunk) refusal) }
 {
-    let Some(sum) = taken.checked_add(piece.len() as u64) else {
+    let Some(sum) = taken.checked_add(chunk.len() as u64) else {
         return Err(BenchError::TooLong);
     };
-    match decoder.push(piece) {
+    match decoder.push(chunk) {
         Ok(()) => Ok(sum),
         Err(PushError::OutOfMemory(_)) => Err(BenchError::OutOfMemory),
-        // no more bytes are pending than have come
-        Err(PushError::TooLong(_)) => unreachable!(),
+        Err(PushError::TooLong(_)) => Err(BenchError::TooLong),
     }
 }
 
 /// The next command among the whole items that a decoder holds, or `None` where no whole item is left. Other items are
-/// passed over.
-fn buffered_command(decoder: &mut Decoder) -> Result<Option<RawMessage>, AllocError>
+/// passed over. All of them are surveyed.
+fn buffered_command(
+    version: Version,
+    decoder: &mut Decoder,
+    survey: &mut Survey,
+) -> Result<Option<RawMessage>, AllocError>
+    requires same { decoder.old.version ≡ version }
+    requires read { (came : List ℕ) × (is_strict : Bool)
+        × HasItems version is_strict came decoder.old.bytes survey.old × (length came < 2 ^ 64) }
+    ensures read { OnOk result ((came : List ℕ) (is_strict : Bool)
+        → HasItems version is_strict came decoder.old.bytes survey.old
+        → HasItems version is_strict came decoder.new.bytes survey.new) }
     ensures leads { IfOk result (λ found. LeadsTo decoder.old.version decoder.old.bytes found decoder.new.bytes) }
     ensures command { IfOk result (λ found. IfSome found IsCommand) }
     ensures none { IfOk result (λ found. found ≡ None → NoItemBegins decoder.old.version decoder.new.bytes) }
@@ -116,8 +186,11 @@ fn buffered_command(decoder: &mut Decoder) -> Result<Option<RawMessage>, AllocEr
         (length decoder.new.bytes ≤ length decoder.old.bytes)
         (λ command. length decoder.new.bytes + 8 ≤ length decoder.old.bytes)) }
     ensures version { decoder.new.version ≡ decoder.old.version }
+    ensures commands { IfOk result (λ found.
+        survey.new.commands ≡ survey.old.commands + (if is_some found then 1 else 0)) }
 {
     while let Some(item) = decoder.next_item()? {
+        survey.note(version, &item);
         if let Some(command) = as_command(item) {
             return Ok(Some(command));
         }

@@ -1,15 +1,18 @@
 //! Two journals compared, command by command.
 
-ghost use Rattle.std.specs.Prelude.{◌≡◌, ◌≤◌, ℕ, List, Some};
+ghost use Rattle.std.specs.Prelude.{◌≡◌, ◌≤◌, ℕ, List, Some, IfOk};
 ghost use Rattle.std.specs.List.{concat};
 ghost use Rattle.shared_core_base.specs.Version.{version_number};
-ghost use Rattle.replay_bench.specs.Verdicts.{Compares, ComparesKnown, MayFailOn};
+ghost use Rattle.replay_bench.specs.declared.verdicts.Side.TheVariants.{Recorded, Replayed};
+ghost use Rattle.replay_bench.specs.Reading.{IsNew, IsReading};
+ghost use Rattle.replay_bench.specs.Verdicts.{Compares, ComparesKnown, MayFailOn, Surveys};
+ghost use Rattle.replay_bench.specs.Verdicts.{recorded_ended, recorded_seen, replayed_ended, replayed_seen};
 
 use crate::commands::Commands;
-use crate::mismatches::compare_commands;
-use crate::reader_pieces::ReaderPieces;
-use crate::sources::{SlicePieces, Source};
-use crate::verdicts::{BenchError, ReaderError, Side, Verdict};
+use crate::mismatches::{Pair, compare_commands};
+use crate::reader_chunks::ReaderChunks;
+use crate::sources::{SliceChunks, Source};
+use crate::verdicts::{BenchError, Comparison, ReaderError, Side, Verdict};
 use bytes::Bytes;
 use shared_core::version::Version;
 use std::alloc::Global;
@@ -34,8 +37,8 @@ pub fn compare_journals(
     requires { 5 ≤ version_number version }
     ensures { Compares version ignore_payload_equality (concat recorded.now) (concat replayed.now) result }
 {
-    let recorded = SlicePieces::new(recorded);
-    let replayed = SlicePieces::new(replayed);
+    let recorded = SliceChunks::new(recorded);
+    let replayed = SliceChunks::new(replayed);
     match compare_sources(alloc, version, recorded, replayed, ignore_payload_equality) {
         Ok(verdict) => Ok(verdict),
         Err(ReaderError::Bench(error)) => Err(error),
@@ -44,8 +47,8 @@ pub fn compare_journals(
     }
 }
 
-/// Compares two journals that readers give, as `compare_journals` does, with at most `piece` bytes a read, which is 1
-/// at least, and at most 65,536.
+/// Compares two journals that readers give, as `compare_journals` does, with at most `chunk_size` bytes a read, which
+/// is 1 at least, and at most 65,536.
 ///
 /// A journal is read only as far as the result needs. `Read` says whose read failed; what was returned before is not
 /// lost by it, since the first result ends the comparison.
@@ -54,16 +57,16 @@ pub fn compare_readers<A: Read + Drop, B: Read + Drop>(
     version: Version,
     recorded: A,
     replayed: B,
-    piece: usize,
+    chunk_size: usize,
     ignore_payload_equality: bool,
 ) -> Result<Verdict, ReaderError>
     requires version { 5 ≤ version_number version }
-    requires piece { 1 ≤ piece }
+    requires chunk_size { 1 ≤ chunk_size }
     // the verdict of all that the readers would give, read or not, where they tell it
     ensures { ComparesKnown version ignore_payload_equality (A.remaining recorded) (B.remaining replayed) result }
 {
-    let recorded = ReaderPieces::new(alloc, recorded, piece)?;
-    let replayed = ReaderPieces::new(alloc, replayed, piece)?;
+    let recorded = ReaderChunks::new(alloc, recorded, chunk_size)?;
+    let replayed = ReaderChunks::new(alloc, replayed, chunk_size)?;
     compare_sources(alloc, version, recorded, replayed, ignore_payload_equality)
 }
 
@@ -83,25 +86,133 @@ pub fn compare_sources<A: Source, B: Source>(
     ensures compared { ComparesKnown version ignore_payload_equality (A.coming recorded) (B.coming replayed) result }
     ensures failed { MayFailOn A.may_fail B.may_fail result }
 {
-    let mut recorded = Commands::new(alloc, version, Side::Recorded, recorded);
-    let mut replayed = Commands::new(alloc, version, Side::Replayed, replayed);
+    let mut recorded = Commands::new(alloc, version, Side::Recorded, recorded, false);
+    let mut replayed = Commands::new(alloc, version, Side::Replayed, replayed, false);
+    find_verdict(
+        alloc,
+        version,
+        &mut recorded,
+        &mut replayed,
+        ignore_payload_equality,
+    )
+}
+
+/// Compares the commands of two journals of which nothing was read yet.
+fn find_verdict<A: Source, B: Source>(
+    alloc: Global,
+    version: Version,
+    recorded: &mut Commands<A>,
+    replayed: &mut Commands<B>,
+    ignore_payload_equality: bool,
+) -> Result<Verdict, ReaderError>
+    requires recorded { IsNew version Recorded recorded.old.side recorded.old.version
+        recorded.old.decoder.version recorded.old.decoder.bytes recorded.old.taken recorded.old.survey }
+    requires replayed { IsNew version Replayed replayed.old.side replayed.old.version
+        replayed.old.decoder.version replayed.old.decoder.bytes replayed.old.taken replayed.old.survey }
+    ensures compared { ComparesKnown version ignore_payload_equality
+        (A.coming recorded.old.source) (B.coming replayed.old.source) result }
+    ensures failed { MayFailOn A.may_fail B.may_fail result }
+    ensures recorded { IfOk result (λ verdict. IsReading version Recorded recorded.old.survey.is_strict
+        (A.coming recorded.old.source) (recorded_ended verdict) (recorded_seen verdict)
+        recorded.new.side recorded.new.version recorded.new.decoder.version
+        (A.coming recorded.new.source) recorded.new.decoder.bytes recorded.new.taken recorded.new.survey) }
+    ensures replayed { IfOk result (λ verdict. IsReading version Replayed replayed.old.survey.is_strict
+        (B.coming replayed.old.source) (replayed_ended verdict) (replayed_seen verdict)
+        replayed.new.side replayed.new.version replayed.new.decoder.version
+        (B.coming replayed.new.source) replayed.new.decoder.bytes replayed.new.taken replayed.new.survey) }
+{
     let mut index: u64 = 0;
     loop {
-        let actual = recorded.next_command()?;
-        let expected = replayed.next_command()?;
-        let Some(actual) = actual else {
-            if expected.is_some() {
+        let recorded_command = recorded.next_command()?;
+        let replayed_command = replayed.next_command()?;
+        let Some(recorded_command) = recorded_command else {
+            if replayed_command.is_some() {
                 return Ok(Verdict::RecordedEnded(index));
             }
             return Ok(Verdict::Same(index));
         };
-        let Some(expected) = expected else {
+        let Some(replayed_command) = replayed_command else {
             return Ok(Verdict::ReplayedEnded(index));
         };
-        let found = compare_commands(alloc, index, &actual, &expected, ignore_payload_equality)?;
+        let pair = Pair {
+            alloc,
+            index,
+            recorded: &recorded_command,
+            replayed: &replayed_command,
+            ignore: ignore_payload_equality,
+        };
+        let found = compare_commands(pair)?;
         if let Some(verdict) = found {
             return Ok(verdict);
         }
         index += 1;
     }
+}
+
+/// Compares two journals that readers give, as `compare_readers` does, and surveys both.
+///
+/// Both journals are read to their ends, also after the first difference; a read that fails there is `Read` too. The
+/// survey of a journal counts all its items and the bytes after the last one, and, if `is_strict`, the messages whose
+/// payload is not well-formed, with the first fault of an item. A compared command whose payload is not well-formed is
+/// `Malformed`, strict or not.
+pub fn survey_readers<A: Read + Drop, B: Read + Drop>(
+    alloc: Global,
+    version: Version,
+    recorded: A,
+    replayed: B,
+    chunk_size: usize,
+    ignore_payload_equality: bool,
+    is_strict: bool,
+) -> Result<Comparison, ReaderError>
+    requires version { 5 ≤ version_number version }
+    requires chunk_size { 1 ≤ chunk_size }
+    ensures { Surveys version ignore_payload_equality is_strict
+        (A.remaining recorded) (B.remaining replayed) result }
+{
+    let recorded = ReaderChunks::new(alloc, recorded, chunk_size)?;
+    let replayed = ReaderChunks::new(alloc, replayed, chunk_size)?;
+    survey_sources(
+        alloc,
+        version,
+        recorded,
+        replayed,
+        ignore_payload_equality,
+        is_strict,
+    )
+}
+
+/// Compares two journals of any sources, as `compare_sources` does, and surveys both, as `survey_readers` does.
+pub fn survey_sources<A: Source, B: Source>(
+    alloc: Global,
+    version: Version,
+    recorded: A,
+    replayed: B,
+    ignore_payload_equality: bool,
+    is_strict: bool,
+) -> Result<Comparison, ReaderError>
+    requires { 5 ≤ version_number version }
+    ensures compared { Surveys version ignore_payload_equality is_strict
+        (A.coming recorded) (B.coming replayed) result }
+    ensures failed { MayFailOn A.may_fail B.may_fail result }
+{
+    let mut recorded = Commands::new(alloc, version, Side::Recorded, recorded, is_strict);
+    let mut replayed = Commands::new(alloc, version, Side::Replayed, replayed, is_strict);
+    let verdict = find_verdict(
+        alloc,
+        version,
+        &mut recorded,
+        &mut replayed,
+        ignore_payload_equality,
+    )?;
+    let recorded_at = recorded.last_command();
+    let replayed_at = replayed.last_command();
+    let recorded = recorded.finish(verdict.has_recorded_ended())?;
+    let replayed = replayed.finish(verdict.has_replayed_ended())?;
+    Ok(Comparison {
+        verdict,
+        recorded,
+        replayed,
+        recorded_at,
+        replayed_at,
+    })
 }

@@ -6,11 +6,13 @@ mod commands;
 mod comparison;
 pub mod laws;
 mod mismatches;
-mod reader_pieces;
+mod reader_chunks;
 mod sources;
 mod verdicts;
 
-pub use crate::comparison::{compare_journals, compare_readers, compare_sources};
-pub use crate::reader_pieces::ReaderPieces;
-pub use crate::sources::{SlicePieces, Source, SourceError};
-pub use crate::verdicts::{BenchError, ReaderError, Side, Verdict};
+pub use crate::comparison::{
+    compare_journals, compare_readers, compare_sources, survey_readers, survey_sources,
+};
+pub use crate::reader_chunks::ReaderChunks;
+pub use crate::sources::{SliceChunks, Source, SourceError};
+pub use crate::verdicts::{BenchError, Comparison, ReaderError, Side, Verdict};

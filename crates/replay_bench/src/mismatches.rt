@@ -15,57 +15,51 @@ use shared_core::version::Version;
 use shared_core::wire::{WireError, is_well_formed};
 use std::alloc::Global;
 
-/// The result for two commands at an index, or `None` if they are the same.
-pub(crate) fn compare_commands(
-    alloc: Global,
-    index: u64,
-    recorded: &RawMessage,
-    replayed: &RawMessage,
-    ignore: bool,
-) -> Result<Option<Verdict>, BenchError>
-    requires index { index < 2 ^ 63 }
-    requires command { IsCommand recorded.now }
-    ensures { ReturnsPair ignore index recorded.now replayed.now result }
-{
-    let actual = recorded.ty();
-    let expected = replayed.ty();
-    if actual == expected {
-        return compare_typed(alloc, index, recorded, replayed, ignore);
-    }
-    let mismatch = CommandTypeMismatchError::new(index as i64, actual, expected);
-    let text = mismatch.to_string(alloc)?;
-    Ok(Some(Verdict::TypeMismatch { index, text }))
+/// Two commands at the same index of two journals, and whether their payloads are ignored.
+#[derive(Drop)]
+pub(crate) struct Pair<'a> {
+    pub alloc: Global,
+    pub index: u64,
+    pub recorded: &'a RawMessage,
+    pub replayed: &'a RawMessage,
+    pub ignore: bool,
 }
 
-/// The same of two commands of one type. Those whose payloads are the same bytes are the same commands.
-fn compare_typed(
-    alloc: Global,
-    index: u64,
-    recorded: &RawMessage,
-    replayed: &RawMessage,
-    ignore: bool,
-) -> Result<Option<Verdict>, BenchError>
-    requires index { index < 2 ^ 63 }
-    requires command { IsCommand recorded.now }
-    requires typed { recorded.now.header.ty ≡ replayed.now.header.ty }
-    ensures { ReturnsPair ignore index recorded.now replayed.now result }
+/// The result for two commands, or `None` if they are the same. Those of one type whose payloads are the same bytes are
+/// the same.
+pub(crate) fn compare_commands(pair: Pair<'_>) -> Result<Option<Verdict>, BenchError>
+    requires index { pair.index < 2 ^ 63 }
+    requires command { IsCommand pair.recorded.now }
+    ensures { ReturnsPair pair.entry.ignore pair.entry.index pair.entry.recorded.now pair.entry.replayed.now result }
 {
-    // most commands of a replay have the same bytes: then neither is decoded
-    if recorded.payload() == replayed.payload() && is_well_formed_command(recorded) {
-        return Ok(None);
+    let recorded = pair.recorded.ty();
+    let replayed = pair.replayed.ty();
+    if recorded == replayed {
+        // most commands of a replay have the same bytes: then neither is decoded
+        if has_same_bytes(&pair) {
+            return Ok(None);
+        }
+        return match visit_command(recorded, pair) {
+            Some(found) => found,
+            // the type is a command's
+            None => unreachable!(),
+        };
     }
-    let pair = Pair {
-        alloc,
-        index,
-        recorded,
-        replayed,
-        ignore,
-    };
-    match visit_command(recorded.ty(), pair) {
-        Some(answer) => answer,
-        // the type is a command's
-        None => unreachable!(),
-    }
+    let mismatch = CommandTypeMismatchError::new(pair.index as i64, recorded, replayed);
+    let text = mismatch.to_string(pair.alloc)?;
+    Ok(Some(Verdict::TypeMismatch {
+        index: pair.index,
+        text,
+    }))
+}
+
+/// Whether the payloads of two commands are the same bytes, which are well-formed for the type of the recorded one.
+fn has_same_bytes(pair: &Pair<'_>) -> bool
+    ensures payloads { IsTrue result → pair.now.recorded.now.payload ≡ pair.now.replayed.now.payload }
+    ensures accepted { IsTrue result → IsSomeAnd (message_schema pair.now.recorded.now.header.ty)
+        (λ s. IsAccepted s pair.now.recorded.now.payload) }
+{
+    pair.recorded.payload() == pair.replayed.payload() && is_well_formed_command(pair.recorded)
 }
 
 /// Whether the payload of a command is well-formed for its type.
@@ -79,37 +73,27 @@ fn is_well_formed_command(command: &RawMessage) -> bool
     }
 }
 
-/// Two commands of one type, at an index.
-#[derive(Drop)]
-struct Pair<'a> {
-    alloc: Global,
-    index: u64,
-    recorded: &'a RawMessage,
-    replayed: &'a RawMessage,
-    ignore: bool,
-}
-
 impl<'a> CommandVisitor for Pair<'a> {
     type Output = Result<Option<Verdict>, BenchError>;
 
     ghost may_visit = { λ self ty. IsPair self.index self.recorded.now self.replayed.now ty };
 
-    ghost answers = { λ self ty schema answer.
-        ReturnsPair self.ignore self.index self.recorded.now self.replayed.now answer };
+    ghost results = { λ self ty schema output.
+        ReturnsPair self.ignore self.index self.recorded.now self.replayed.now output };
 
     fn visit<M: CommandMessage>(self) -> Result<Option<Verdict>, BenchError> {
-        let actual = match self.recorded.decode_as::<M>(self.alloc) {
-            Ok(actual) => actual,
+        let recorded = match self.recorded.decode_as::<M>(self.alloc) {
+            Ok(recorded) => recorded,
             Err(error) => return Err(bench_error(Side::Recorded, self.index, error)),
         };
-        let expected = match self.replayed.decode_as::<M>(self.alloc) {
-            Ok(expected) => expected,
+        let replayed = match self.replayed.decode_as::<M>(self.alloc) {
+            Ok(replayed) => replayed,
             Err(error) => return Err(bench_error(Side::Replayed, self.index, error)),
         };
-        if actual.header_eq(&expected, self.ignore) {
+        if recorded.header_eq(&replayed, self.ignore) {
             return Ok(None);
         }
-        let mismatch = CommandMismatchError::new(self.index as i64, actual, expected);
+        let mismatch = CommandMismatchError::new(self.index as i64, recorded, replayed);
         let text = mismatch.to_string(self.alloc)?;
         Ok(Some(Verdict::HeaderMismatch {
             index: self.index,

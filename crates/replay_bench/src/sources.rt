@@ -2,7 +2,7 @@
 
 ghost use Rattle.std.specs.Prelude.{◌≡◌, ◌<◌, ℕ, Bool, List, Option, Some, false, length, true, IfOk, IfSome, IsErrOf};
 ghost use Rattle.std.specs.List.{concat};
-ghost use Rattle.replay_bench.specs.Taking.{GivesPiece};
+ghost use Rattle.replay_bench.specs.Taking.{GivesChunk};
 
 use bytes::Bytes;
 use std::alloc::AllocError;
@@ -49,45 +49,45 @@ pub trait Source: Drop {
     // the bytes that are still to come, where these are known
     ghost coming: { Self → Option (List ℕ) };
     // at most this many chunks are still to come
-    ghost pieces_left: { Self → ℕ };
+    ghost chunks_left: { Self → ℕ };
     // whether it may fail otherwise than for a failed allocation
     ghost may_fail: { Bool };
 
     /// The next chunk, or `None` where there is no further one.
-    fn next_piece(&mut self) -> Result<Option<Bytes>, SourceError>
-        ensures piece { IfOk result (λ found. GivesPiece (coming self.old) found (coming self.new)) }
-        ensures fewer { IfOk result (λ found. IfSome found (λ piece. pieces_left self.new < pieces_left self.old)) }
+    fn next_chunk(&mut self) -> Result<Option<Bytes>, SourceError>
+        ensures chunk { IfOk result (λ found. GivesChunk (coming self.old) found (coming self.new)) }
+        ensures fewer { IfOk result (λ found. IfSome found (λ chunk. chunks_left self.new < chunks_left self.old)) }
         ensures failed { IsErrOf result SourceError.Failed → may_fail ≡ true };
 }
 
 /// The chunks of a slice, which do not fail.
 #[derive(Drop)]
-pub struct SlicePieces<'a> {
-    pieces: &'a [Bytes],
+pub struct SliceChunks<'a> {
+    chunks: &'a [Bytes],
 }
 
-impl<'a> SlicePieces<'a> {
+impl<'a> SliceChunks<'a> {
     /// The journal that lies in these chunks.
-    pub fn new(pieces: &'a [Bytes]) -> SlicePieces<'a>
-        ensures { result.pieces.now ≡ pieces.now }
+    pub fn new(chunks: &'a [Bytes]) -> SliceChunks<'a>
+        ensures { result.chunks.now ≡ chunks.now }
     {
-        SlicePieces { pieces }
+        SliceChunks { chunks }
     }
 }
 
-impl<'a> Source for SlicePieces<'a> {
-    ghost coming = { λ slice. Some (concat slice.pieces.now) };
+impl<'a> Source for SliceChunks<'a> {
+    ghost coming = { λ slice. Some (concat slice.chunks.now) };
 
-    ghost pieces_left = { λ slice. length slice.pieces.now };
+    ghost chunks_left = { λ slice. length slice.chunks.now };
 
     ghost may_fail = { false };
 
-    fn next_piece(&mut self) -> Result<Option<Bytes>, SourceError> {
-        let Some((first, rest)) = self.pieces.split_first() else {
+    fn next_chunk(&mut self) -> Result<Option<Bytes>, SourceError> {
+        let Some((first, rest)) = self.chunks.split_first() else {
             return Ok(None);
         };
-        let piece = first.clone()?;
-        self.pieces = rest;
-        Ok(Some(piece))
+        let chunk = first.clone()?;
+        self.chunks = rest;
+        Ok(Some(chunk))
     }
 }

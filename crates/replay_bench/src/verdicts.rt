@@ -1,8 +1,12 @@
 //! The result of a comparison of two journals.
 
+ghost use Rattle.std.specs.Prelude.{◌≡◌};
+ghost use Rattle.replay_bench.specs.Verdicts.{recorded_ended, replayed_ended};
+
 use std::alloc::AllocError;
 use std::error::Error;
 use std::fmt;
+use stream_survey::Survey;
 
 /// One of the two journals that are compared.
 #[derive(Clone, Copy, Debug, PartialEq, Eq)]
@@ -50,6 +54,38 @@ pub enum Verdict {
         /// The type, and a line for each printed field in which they differ, the recorded command's first.
         text: String,
     },
+}
+
+impl Verdict {
+    /// Whether it says that the recorded journal has ended.
+    pub(crate) fn has_recorded_ended(&self) -> bool
+        ensures { result ≡ recorded_ended self.now }
+    {
+        matches!(self, Verdict::Same(_) | Verdict::RecordedEnded(_))
+    }
+
+    /// Whether it says that the replayed journal has ended.
+    pub(crate) fn has_replayed_ended(&self) -> bool
+        ensures { result ≡ replayed_ended self.now }
+    {
+        matches!(self, Verdict::Same(_) | Verdict::ReplayedEnded(_))
+    }
+}
+
+/// Two journals, compared and surveyed.
+#[derive(Debug, PartialEq, Drop)]
+pub struct Comparison {
+    /// How they compare.
+    pub verdict: Verdict,
+    /// What the recorded journal has.
+    pub recorded: Survey,
+    /// What the replayed journal has.
+    pub replayed: Survey,
+    /// The offset in the recorded journal, in bytes, of the last command that the verdict has seen: of that at its
+    /// index, unless this journal has ended.
+    pub recorded_at: Option<u128>,
+    /// The same in the replayed journal.
+    pub replayed_at: Option<u128>,
 }
 
 /// Why two journals have no verdict.

@@ -30,7 +30,7 @@ use Rattle.shared_core.proofs.Items.{one_item as items_are_prefix_free}
 use Rattle.shared_core.proofs.Frames.{frame_is_item}
 use Rattle.shared_core.proofs.TypedPayloads.{written_means}
 
--- a wire form comes out as it was written
+-- a wire form decodes to what was written
 pub form_decodes : (version : Version) (ty : MessageType) (form : WireForm) → IsNamed ty → wire_size form < 2 ^ 32 → Fits table form.parts (table form.schema) → levels form.parts ≤ 100
     → FrameEncodes version ty form (DecodesTo ty form.schema form.parts)
 form_decodes version ty form named small fits low =
@@ -42,7 +42,7 @@ form_decodes version ty form named small fits low =
 frame_is_read_back : (form : WireForm) → WireFits form → wire_size form < 2 ^ 32 → IsReadBack form.schema form.parts (wire_payload form)
 frame_is_read_back form fits small low = canonical_is_read_back form.schema form.parts fits (omega (arith, small)) low
 
--- a decoder before which a frame stands returns the message that was written, whatever follows it
+-- a decoder whose pending bytes begin with a frame returns the message that was written, whatever follows the frame
 frame_comes_out : (version : Version) (ty : MessageType) (form : WireForm) (bytes : List ℕ) → IsNamed ty → WireFits form → wire_size form < 2 ^ 32 → bytes ≡ wire_frame ty form → levels form.parts ≤ 100
     → (rest new : List ℕ) (answer : Result (Option RawMessage) DecodingError) → ReturnsNext version (bytes ++ rest) answer new → ReturnsWritten ty form (bytes ++ rest) answer rest new
 frame_comes_out version ty form bytes named fits small is low rest new answer = by_answer answer
@@ -75,13 +75,13 @@ is_frame_of version ty form bytes named fits small is = record {
   comes_out = frame_comes_out version ty form bytes named fits small is;
 }
 
--- .. and so is what a call appends where it succeeds
+-- what a successful call appends is a frame too
 pub appended_is_frame_of : {T E : Type 0} (result : Result T E) (version : Version) (ty : MessageType) (form : WireForm) → IsNamed ty → OnOk result (WireFits form) → OnOk result (wire_size form < 2 ^ 32)
     → OnOk result (IsFrameOf version ty form (wire_frame ty form))
 appended_is_frame_of (Ok x) version ty form named fits small = is_frame_of version ty form (wire_frame ty form) named fits small refl
 appended_is_frame_of (Err e) version ty form named fits small = small
 
--- a suspension before V7 comes out as its three lists
+-- a suspension that is written before V7 decodes to its three lists
 pub suspension_decodes : (version : Version) (suspension : Parts) → has_flat_suspensions version ≡ true → Fits table suspension (table tables.suspension) → wire_size (suspension_form suspension version) < 2 ^ 32
     → FrameEncodes version Suspension (suspension_form suspension version) (DecodesTo Suspension tables.suspension_v6 (flattened suspension))
 suspension_decodes version suspension before fits =
@@ -95,7 +95,7 @@ asked : (requests : Bool) → Some (eqb (ack_bit (cond requests (Some true) None
 asked true = refl
 asked false = refl
 
--- a proposal asks for an acknowledgement from V7 on
+-- the header of a proposal requests an acknowledgement from V7 on
 pub proposal_asks : (version : Version) (proposal : Parts) → wire_size (proposal_form proposal version) < 2 ^ 32
     → FrameEncodes version ProposeRunCompletion (proposal_form proposal version) (λ item. requested_ack_of item ≡ Some (requests_acknowledgement version))
 proposal_asks version proposal small =
@@ -108,7 +108,7 @@ no_flag ty = elim ty as (λ ty. ty ≢ ProposeRunCompletion → allows_ack ty �
   | _ ↦ λ other. refl
 ]
 
--- no other message asks
+-- no other header requests one
 pub others_ask_nothing : (version : Version) (ty : MessageType) (form : WireForm) → IsNamed ty → ty ≢ ProposeRunCompletion → wire_size form < 2 ^ 32
     → FrameEncodes version ty form (λ item. requested_ack_of item ≡ None)
 others_ask_nothing version ty form named other small = (

@@ -1,4 +1,4 @@
--- A test of messages or items decides whether they are the same.
+-- `==` of messages and of items decides whether they are equal.
 use Rattle.std.proofs.Common.{◌≡◌, ℕ, List, eqb, ap, ◌∙◌}
 use Rattle.std.specs.Bool.{Decides}
 use Rattle.std.proofs.lemmas.Bool.{eqb-true, eq-eqb, and_parts, and_from}

@@ -82,6 +82,6 @@ frames_are_items version (message ∷ messages) are = (
   refl,
 )
 
--- .. whatever follows them
+-- the same, whatever follows the frames
 pub frames_then : (version : Version) (messages : List (MessageType × WireForm)) (rest : List ℕ) → AreFrames messages → IsItemsThen version (joined_frames messages ++ rest) (items_written messages) rest
 frames_then version messages rest are = record { front = joined_frames messages; encoded = frames_are_items version messages are; whole = refl }

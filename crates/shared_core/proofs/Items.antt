@@ -1,4 +1,4 @@
--- Which item stands at the front of a stream, and how streams split.
+-- Which item a stream begins with, and how streams split.
 use Rattle.std.proofs.Common.{◌≡◌, ℕ, ◌+◌, ◌<◌, ◌≤◌, List, [], ◌∷◌, ◌++◌, length, take, drop, Option, Some, None, refl, sym, ap, ◌∙◌, arith, subst, append_assoc, append-nil, length-append, zero, suc, inl, inr, Bool, true, false, leb}
 use Rattle.std.specs.Prelude.{◌⊎◌}
 use Rattle.std.proofs.lemmas.Bool.{leb-true, leb-false}
@@ -32,7 +32,7 @@ unfolding front_word
 front_word_more front more fits = ap (from_be_bytes w64) (take-append-le 8 front more fits)
 
 module _ (version : Version) where
-  -- the item that stands at the front of these bytes, where they are as many as its header says
+  -- the item of these bytes, if they are as many as its header says
   takes_front : (head rest : List ℕ) (word size : ℕ) → length head ≡ 8 → word ≡ from_be_bytes w64 head → size ≡ body_length version word → size ≤ length rest → TakesItem version (head ++ rest) (item_of version word (take size rest)) (drop size rest)
   takes_front head rest word size eight reads sized fits =
       let body = take size rest in
@@ -54,7 +54,7 @@ module _ (version : Version) where
       let long : length first ≤ length bytes = omega (arith, ap length splits, length-append first others) in
       omega (arith, is.whole, ap (body_length version) same)
 
-  -- What a word announces. Only what follows right here looks into how the version decides that.
+  -- What a word announces. Only the lemmas right after it unfold how the version decides that.
   pub announces_message : (word : ℕ) (header : MessageHeader) → header_of word ≡ Some header → Announces version word (announced.Message header)
   unfolding body_length item_of
   announces_message word header typed = record { length_is = rw typed refl; item_is = λ body. rw typed refl }
@@ -92,7 +92,7 @@ module _ (version : Version) where
           by_version true skips = refl
           by_version false skips = let means = rw (untyped, skips) at is.means in cc
 
-  -- the two answers to bytes whose first eight are `head`
+  -- the two cases of bytes whose first eight are `head`
   module _ (bytes head rest : List ℕ) (word : ℕ) (eight : length head ≡ 8) (whole : bytes ≡ head ++ rest) (reads : word ≡ from_be_bytes w64 head) where
     pub takes_announced : (announced : Announced) (body after : List ℕ) → Announces version word announced → announced_length announced ≤ length rest → body ≡ take (announced_length announced) rest → after ≡ drop (announced_length announced) rest → TakesItem version bytes (item_with (kind_announced announced) body) after
     takes_announced announced body after says fits is_body is_after =
@@ -117,7 +117,7 @@ module _ (version : Version) where
       let rests : x ≡ y = sym (drop_exact (length a) a x refl) ∙ ap (drop (length a)) joined ∙ drop_exact (length a) b y (sym sizes) in
       (same, is.means ∙ ap (λ l. item_of version (front_word l) (drop 8 l)) same ∙ sym other.means, rests)
 
-  -- where an item stands at the front, it still does with more after it
+  -- an item at the front stays there if bytes are appended
   pub takes_more : (old new more : List ℕ) (item : Item) → TakesItem version old item new → TakesItem version (old ++ more) item (new ++ more)
   takes_more old new more item taken = (taken.0, taken.1, ap (λ l. l ++ more) taken.2 ∙ append_assoc taken.0 new more)
 
@@ -152,11 +152,11 @@ module _ (version : Version) where
   pub then_takes : (stream old new : List ℕ) (items : List Item) (item : Item) → IsItemsThen version stream items old → TakesItem version old item new → IsItemsThen version stream (items ++ item ∷ []) new
   then_takes stream old new items item before taken = then_join stream old new items (item ∷ []) before (then_one old new item taken)
 
-  pub then_more : (stream rest piece : List ℕ) (items : List Item) → IsItemsThen version stream items rest → IsItemsThen version (stream ++ piece) items (rest ++ piece)
-  then_more stream rest piece items before = record {
+  pub then_more : (stream rest chunk : List ℕ) (items : List Item) → IsItemsThen version stream items rest → IsItemsThen version (stream ++ chunk) items (rest ++ chunk)
+  then_more stream rest chunk items before = record {
     front = before.front;
     encoded = before.encoded;
-    whole = ap (λ l. l ++ piece) before.whole ∙ append_assoc before.front rest piece;
+    whole = ap (λ l. l ++ chunk) before.whole ∙ append_assoc before.front rest chunk;
   }
 
   -- ---- how a stream splits
@@ -198,7 +198,7 @@ module _ (version : Version) where
       same_split one.items_then.front rest other.items_then.front left items others one.items_then.encoded other.items_then.encoded one.no_more other.no_more
       (sym one.items_then.whole ∙ other.items_then.whole)
 
-  -- an item stands at the front of the bytes, or none does
+  -- the bytes begin with an item, or with none
   front_item : (bytes : List ℕ) → ((item : Item) × (rest : List ℕ) × TakesItem version bytes item rest) ⊎ NoItemBegins version bytes
   front_item bytes =
       (elim (leb (8 + body_length version (front_word bytes)) (length bytes)) as (λ b. leb (8 + body_length version (front_word bytes)) (length bytes) ≡ b → ((item : Item) × (rest : List ℕ) × TakesItem version bytes item rest) ⊎ NoItemBegins version bytes) [

@@ -22,22 +22,22 @@ concat_first segments zero = omega arith
 concat_first [] (suc i) = omega arith
 concat_first (segment ∷ segments) (suc i) = omega (arith, concat_first segments i, length-append segment (concat (take i segments)), length-append segment (concat segments))
 
--- what is left of the first pieces and the next piece are no longer than all pieces
-pub rest_fits : (version : Version) (pieces : List (List ℕ)) (i : ℕ) (piece rest : List ℕ) (items : List Item) → i < length pieces → piece ≡ get_or pieces i piece → IsItemsThen version (concat (take i pieces)) items rest → length rest + length piece ≤ length (concat pieces)
-rest_fits version pieces i piece rest items below is before =
-    omega (arith, concat_first pieces (i + 1), ap length (concat_next pieces i piece below is), length-append (concat (take i pieces)) piece, ap length before.whole, length-append before.front rest)
+-- what is left of the first chunks and the next chunk are no longer than all chunks
+pub rest_fits : (version : Version) (chunks : List (List ℕ)) (i : ℕ) (chunk rest : List ℕ) (items : List Item) → i < length chunks → chunk ≡ get_or chunks i chunk → IsItemsThen version (concat (take i chunks)) items rest → length rest + length chunk ≤ length (concat chunks)
+rest_fits version chunks i chunk rest items below is before =
+    omega (arith, concat_first chunks (i + 1), ap length (concat_next chunks i chunk below is), length-append (concat (take i chunks)) chunk, ap length before.whole, length-append before.front rest)
 
 -- ---- a chunk comes after
 
 -- the bytes of the segments and a chunk after them
-pub joined_push : (front : List ℕ) (beyond : List (List ℕ)) (piece : List ℕ) → front ++ concat (beyond ++ piece ∷ []) ≡ (front ++ concat beyond) ++ piece
-joined_push front beyond piece = ap (λ l. front ++ l) (concat_push beyond piece) ∙ sym (append_assoc front (concat beyond) piece)
+pub joined_push : (front : List ℕ) (beyond : List (List ℕ)) (chunk : List ℕ) → front ++ concat (beyond ++ chunk ∷ []) ≡ (front ++ concat beyond) ++ chunk
+joined_push front beyond chunk = ap (λ l. front ++ l) (concat_push beyond chunk) ∙ sym (append_assoc front (concat beyond) chunk)
 
--- after segments one of which is not empty there may stand another
-pub segments_push : (front : List ℕ) (beyond : List (List ℕ)) (len : ℕ) (piece : List ℕ) → AreSegments front beyond len → 0 < length front → 0 < length piece → AreSegments front (beyond ++ piece ∷ []) (len + length piece)
-segments_push front beyond len piece are some more = record {
-  counted = ap (λ n. n + length piece) are.counted ∙ sym (length-append (front ++ concat beyond) piece) ∙ ap length (sym (joined_push front beyond piece));
-  filled = All-push (λ segment. 0 < length segment) beyond piece are.filled more;
+-- another segment may come after segments of which one is not empty
+pub segments_push : (front : List ℕ) (beyond : List (List ℕ)) (len : ℕ) (chunk : List ℕ) → AreSegments front beyond len → 0 < length front → 0 < length chunk → AreSegments front (beyond ++ chunk ∷ []) (len + length chunk)
+segments_push front beyond len chunk are some more = record {
+  counted = ap (λ n. n + length chunk) are.counted ∙ sym (length-append (front ++ concat beyond) chunk) ∙ ap length (sym (joined_push front beyond chunk));
+  filled = All-push (λ segment. 0 < length segment) beyond chunk are.filled more;
   first = λ none. absurd (omega (arith, none, some));
 }
 

@@ -1,4 +1,4 @@
--- What was written is accepted and means what was written, and refusals of payloads are refusals of messages.
+-- A written payload is accepted and means what was written; a message is rejected if its payload is.
 use Rattle.std.proofs.Common.{◌≡◌, ℕ, List, Result, Ok, Err}
 use Rattle.std.specs.Prelude.{ℤ, IfOk, IfErr}
 use Rattle.shared_core_base.specs.declared.header.MessageType.{MessageType}

@@ -1,5 +1,5 @@
--- The view of a notification agrees with the notification's own type, and misses a field exactly where no record is
--- one.
+-- The view of a notification agrees with the notification's own type, and lacks a field if and only if no record has
+-- it.
 use Rattle.std.proofs.Common.{◌≡◌, ◌≤◌, ℕ, leb, List, [], ◌∷◌, Option, Some, None, Result, Ok, Err, Bool, true, false, cond, ◌||◌, inl, inr, refl, sym, ap, subst, ◌∙◌}
 use Rattle.std.specs.List.{list_any}
 use Rattle.std.proofs.lemmas.Bool.{le-leb}
@@ -69,7 +69,7 @@ view_agrees ty s payload parts means high is (accepted, apart) n known stands =
 
 -- ---- the field that is missing
 
--- a oneof holds something exactly where one of its records stands
+-- a oneof holds something if and only if it has a record
 oneof_holds : (members : List (ℕ × Kind)) (overlay_nested : NestedOverlay) (rs : List FieldRecord)
     → is_present (oneof_over table overlay_nested members Absent (own_records (OneOf members) rs)) ≡ list_any (λ r. includes (numbers (OneOf members)) r.number) rs
 oneof_holds members overlay_nested [] = refl
@@ -130,7 +130,7 @@ lacks_nothing message id result found means there here =
     (subst (λ (b : Bool). ReturnsLacking message (held_field b (is_present result)) (Ok found)) (sym there)
     (subst (λ (b : Bool). ReturnsLacking message (held_field true b) (Ok found)) (sym here) tt))
 
--- a refused payload that is well-formed is one that an allocation fails for
+-- if a well-formed payload is rejected, an allocation failed
 pub refused_for_memory : (message : RawMessage) (refusal : DecodingError) (lacking : Option (List ℕ)) → RefusesPayload notification_template message refusal → IsAccepted notification_template message.payload
     → ReturnsLacking message lacking (Err refusal)
 refused_for_memory message refusal lacking refused accepted =

@@ -44,20 +44,20 @@ pub record IsAtFront (version : Version) (bytes : List ℕ) (item : ItemRef) (re
   pub lies : bytes ≡ take 8 bytes ++ (item.payload.now ++ rest)
   pub taken : TakesItem version bytes (item_borrowed item) rest
 
--- How many bytes are missing at least: of a header that is not whole, or else of what the header says; none where an
--- item is whole.
+-- The least number of missing bytes: of a header that is not whole, otherwise of the payload that it announces; 0 if
+-- the bytes begin with a whole item.
 abbrev pub missing_bytes : Version → List ℕ → ℕ
 missing_bytes version bytes =
     if nat_lt (length bytes) 8 then 8 - length bytes else (8 + body_length version (front_word bytes)) - length bytes
 
--- This many bytes are missing of an item, and not none: with any fewer after the bytes no whole item is at their front.
+-- This many bytes are missing, at least one: with fewer bytes appended, no whole item is at the front.
 pub record IsMissing (version : Version) (bytes : List ℕ) (missing : ℕ) : Type 0 where
   pub counted : missing ≡ missing_bytes version bytes
   pub some : 0 < missing
   pub needed : (more : List ℕ) → length more < missing → NoItemBegins version (bytes ++ more)
 
--- `next` took old to new. None: no whole item is left, and nothing changes. An item: the one at the front of the bytes
--- that are left, and those after it are left.
+-- `next` changed old to new. `None`: no whole item is left, and nothing changes. An item: it is at the front of the
+-- bytes that were left, and the bytes after it are left.
 abbrev pub GivesBorrowed : ItemRefs → Option ItemRef → ItemRefs → Type 0
 GivesBorrowed old None new =
     (new.version ≡ old.version) × (new.rest.now ≡ old.rest.now) × NoItemBegins old.version old.rest.now

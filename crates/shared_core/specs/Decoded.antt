@@ -31,8 +31,8 @@ abbrev pub FrameEncodes : Version → MessageType → WireForm → (Item → Typ
 FrameEncodes version ty form HasProperty =
     IsItem version (wire_frame ty form) (item_written ty form) × HasProperty (item_written ty form)
 
--- What a decoder returns whose pending bytes begin with the frame of a wire form, followed by the rest: the message
--- that decodes to what was written, and the rest is left; or an allocation fails, and all bytes are left.
+-- What a decoder returns if its pending bytes are the frame of a wire form and then the rest: the message that decodes
+-- to what was written, and the rest is left; or an allocation fails, and all bytes are left.
 abbrev pub ReturnsWritten : MessageType → WireForm → List ℕ → Result (Option RawMessage) DecodingError → List ℕ → List ℕ → Type 0
 ReturnsWritten ty form old (Ok (Some message)) rest new = DecodesTo ty form.schema form.parts (Message message) × (new ≡ rest)
 ReturnsWritten ty form old (Ok None) rest new = ⊥

@@ -7,7 +7,7 @@ use Rattle.shared_core_base.specs.MessageType.{debug_name_of, unknown_type_text}
 use Rattle.shared_core_errors.specs.Mismatch.{mismatch_head, command_type_mismatch_text}
 use Rattle.shared_core.specs.declared.encoding.error.DecodingError.{DecodingError}
 use Rattle.shared_core.specs.declared.encoding.error.PiecesError.{PiecesError}
-use Rattle.shared_core.specs.declared.encoding.error.PiecesError.TheVariants as pieces
+use Rattle.shared_core.specs.declared.encoding.error.PiecesError.TheVariants as chunks
 use Rattle.shared_core.specs.declared.encoding.error.PushError.{PushError}
 use Rattle.shared_core.specs.declared.encoding.error.PushError.TheVariants as push
 use Rattle.shared_core.specs.declared.encoding.item_ref.MissingBytes.{MissingBytes}
@@ -44,17 +44,17 @@ decoding_error_code (UnknownMessageType unknown) = 500
 decoding_error_code (SkippedMessage code payload) = 500
 decoding_error_code OutOfMemory = 500
 
--- The text of a chunk that was not taken.
+-- The text of the error of a rejected chunk.
 abbrev pub push_error_text : PushError → List ℕ
 push_error_text (push.OutOfMemory back) = codes "out of memory"
 push_error_text (push.TooLong back) = codes "more than 2^64 - 1 bytes are pending"
 
--- The text of a list of chunks that was not decoded.
+-- The text of the error of chunks that were not decoded.
 abbrev pub pieces_error_text : PiecesError → List ℕ
-pieces_error_text pieces.TooLong = codes "the pieces have more than 2^64 - 1 bytes"
-pieces_error_text pieces.OutOfMemory = codes "out of memory"
+pieces_error_text chunks.TooLong = codes "the chunks have more than 2^64 - 1 bytes"
+pieces_error_text chunks.OutOfMemory = codes "out of memory"
 
--- The text of bytes that do not begin with a whole item.
+-- The text of the error of bytes that do not begin with a whole item.
 abbrev pub missing_bytes_text : MissingBytes → List ℕ
 missing_bytes_text missing =
     codes "at least " ++ (decimal missing.count ++ codes " bytes are missing of an item")

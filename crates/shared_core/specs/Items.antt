@@ -1,7 +1,7 @@
 -- The items of a stream: which bytes encode an item, and how a stream splits into items and a rest.
 --
--- A version decides how many bytes belong to a header, so each of these relations takes it: `body_length` and `item_of`
--- ask it whether it skips unknown messages, and nothing else does. Versions 5 to 8 read headers alike.
+-- A version decides how many bytes belong to a header, so each of these relations takes it. Only `body_length` and
+-- `item_of` depend on it, by whether it skips unknown messages. Versions 5 to 8 read headers alike.
 use Rattle.std.specs.Prelude.{◌≡◌, ℕ, ◌+◌, ◌^◌, ◌≤◌, if◌then◌else◌, List, [], ◌∷◌, ◌++◌, length, take, drop, Option, Some, None, Result, Ok, Err}
 use Rattle.std.specs.Option.{option_map_or}
 use Rattle.std.specs.Int.{w64, from_be_bytes}
@@ -22,14 +22,14 @@ use Rattle.shared_core.specs.declared.encoding.error.PushError.TheVariants.{OutO
 unfoldable pub front_word : List ℕ → ℕ
 front_word bytes = from_be_bytes w64 (take 8 bytes)
 
--- How many bytes belong to an item after its first eight: the length that its header says; where its code is no type's,
--- the length in its word if the version skips such a message, and otherwise none.
+-- The number of bytes of an item after its first eight: the length in its header; for a code that is no type's, the
+-- length in its word if the version skips such a message, otherwise 0.
 unfoldable pub body_length : Version → ℕ → ℕ
 body_length version word =
     option_map_or (λ header. header.length) (header_of word) (if skips_unknown_messages version then word_length word else 0)
 
 -- The item that a word and the bytes after it are: a message with its payload; or a code that is no type's, with its
--- payload if the version skips such a message, and otherwise alone.
+-- payload if the version skips such a message, otherwise alone.
 unfoldable pub item_of : Version → ℕ → List ℕ → Item
 item_of version word body =
     option_map_or (λ header. Message (record { header = header; payload = body })) (header_of word)
@@ -76,7 +76,7 @@ abbrev pub BeginsWithWritten : Version → List ℕ → List Item → Type 0
 BeginsWithWritten version stream items =
     (written : List Item) (rest : List ℕ) → IsItemsThen version stream written rest → (others : List Item) × (items ≡ written ++ others)
 
--- The item has a payload, of however many bytes.
+-- The item has a payload, which may be empty.
 abbrev pub HasPayload : Item → Type 0
 HasPayload (Unknown code) = ⊥
 HasPayload item = Unit {0}
@@ -85,9 +85,9 @@ HasPayload item = Unit {0}
 abbrev pub PayloadIsNext : Version → List ℕ → Type 0
 PayloadIsNext version bytes = (item : Item) × (rest : List ℕ) × TakesItem version bytes item rest × HasPayload item
 
--- What a result says of the bytes before the call, and what it leaves of them: the next message, taken; no item, where
--- none is whole; an unknown code, whose eight bytes are taken; a skipped message, taken; or a failed allocation where a
--- whole message or a skipped one is next, and all bytes are left.
+-- What a result says of the bytes before the call, and which bytes are left: the next message is taken; no item is
+-- whole; an unknown code's eight bytes are taken; a skipped message is taken; or an allocation failed for a whole
+-- message or a skipped one, and all bytes are left.
 abbrev pub ReturnsNext : Version → List ℕ → Result (Option RawMessage) DecodingError → List ℕ → Type 0
 ReturnsNext version old (Ok (Some message)) new = TakesItem version old (Message message) new
 ReturnsNext version old (Ok None) new = NoItemBegins version old × (new ≡ old)
@@ -96,13 +96,13 @@ ReturnsNext version old (Err (SkippedMessage code payload)) new = TakesItem vers
 ReturnsNext version old (Err OutOfMemory) new = (new ≡ old) × PayloadIsNext version old
 ReturnsNext version old (Err other) new = ⊥
 
--- Every result but that no item is whole and that an allocation fails leaves at least eight bytes fewer.
+-- Each result leaves at least eight bytes fewer, except that no item is whole or that an allocation failed.
 abbrev pub TakesEight : List ℕ → Result (Option RawMessage) DecodingError → List ℕ → Type 0
 TakesEight old (Ok None) new = Unit {0}
 TakesEight old (Err OutOfMemory) new = Unit {0}
 TakesEight old answer new = length new + 8 ≤ length old
 
 -- A rejected chunk is returned unchanged, and is too long only if the bytes would be 2 ^ 64 or more.
-abbrev pub RefusesPiece : List ℕ → List ℕ → PushError → Type 0
-RefusesPiece old piece (NoMemory back) = back ≡ piece
-RefusesPiece old piece (TooLong back) = (back ≡ piece) × (2 ^ 64 ≤ length old + length piece)
+abbrev pub PushFails : List ℕ → List ℕ → PushError → Type 0
+PushFails old chunk (NoMemory back) = back ≡ chunk
+PushFails old chunk (TooLong back) = (back ≡ chunk) × (2 ^ 64 ≤ length old + length chunk)

@@ -10,7 +10,7 @@ use Rattle.shared_core.specs.declared.encoding.items.Items.{Items}
 abbrev pub unread : Items → Unread
 unread items = items.decoder.now
 
--- No more results than this come: one for each byte that is left, and one for an error; none after an error.
+-- The greatest number of results: one for each byte that is left and one for an error; none after an error.
 abbrev pub results_left : Items → ℕ
 results_left items = if items.has_failed then 0 else 1 + length items.decoder.now.bytes
 
@@ -19,9 +19,9 @@ abbrev pub IsSameDecoder : Items → Items → Type 0
 IsSameDecoder old new =
     (new.decoder.ghost_name ≡ old.decoder.ghost_name) × (new.decoder.now.version ≡ old.decoder.now.version)
 
--- `next` took old to new. None: an error came before, or no whole item is left, and nothing is taken. An item: the next
--- of those that the decoder holds, taken. An error: an allocation failed where an item with a payload is next; nothing
--- is taken, and no result follows.
+-- `next` changed old to new. `None`: there was an error, or no whole item is left, and nothing is taken. An item: the
+-- next one of the decoder, which is taken. An error: an allocation failed for an item with a payload; nothing is taken,
+-- and no result follows.
 abbrev pub GivesItem : Items → Option (Result Item AllocError) → Items → Type 0
 GivesItem old None new =
     IsSameDecoder old new × (new.decoder.now.bytes ≡ old.decoder.now.bytes) × (new.has_failed ≡ old.has_failed)

@@ -8,8 +8,10 @@ pub mod Typed
 pub mod Written
 pub mod View
 pub mod Decoded
+pub mod Forms
 pub mod Visiting
--- Passed on, since the clauses of this crate cite them: whoever calls it cites them by its name and lists it alone.
+-- Re-exported, since clauses of this crate cite them: a caller cites them by this crate's name, and lists no other
+-- crate.
 pub use Rattle.shared_core_base.specs.CommandType
 pub use Rattle.shared_core_base.specs.Error
 pub use Rattle.shared_core_base.specs.Headers
@@ -26,6 +28,7 @@ pub use Rattle.shared_core_wire.specs.Reader
 pub use Rattle.shared_core_wire.specs.Schema
 pub use Rattle.shared_core_wire.specs.Template
 pub use Rattle.shared_core_wire.specs.Value
+pub use Rattle.shared_core_codec.specs.Canonicity
 pub use Rattle.shared_core_codec.specs.Equality
 pub use Rattle.shared_core_codec.specs.Payloads
 pub use Rattle.shared_core_codec.specs.Table

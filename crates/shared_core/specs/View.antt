@@ -24,7 +24,7 @@ abbrev pub IsMissing : RawMessage → List ℕ → DecodingError → Type 0
 IsMissing message field (MissingField expected missing) = (expected ≡ message.header.ty) × (missing.now ≡ field)
 IsMissing message field refusal = ⊥
 
--- What a template without an id, or without a result, is.
+-- The template lacks the field: an id, or a result beside an id.
 abbrev pub LacksField : List ℕ → Parts → Type 0
 LacksField field parts =
     ((field ≡ codes "id") × (result : Part) × (parts ≡ cons Absent (cons result nil)))
@@ -48,11 +48,12 @@ result_numbers = numbers (OneOf results.members-value.it)
 abbrev pub has_record : List ℕ → List ℕ → Bool
 has_record ns payload = list_any (λ r. includes ns r.number) (payload_records 100 payload)
 
--- The field that a payload lacks: the id where no record is one, otherwise the result where no record is one.
+-- The field that a payload lacks: the id if no record is one, otherwise the result if no record is one.
 abbrev pub lacking_field : List ℕ → Option (List ℕ)
 lacking_field payload = if has_record id_numbers payload then (if has_record result_numbers payload then None else Some (codes "result")) else Some (codes "id")
 
--- The result where this field is lacking, or none: that it is missing, or else the view; or an allocation fails.
+-- The result by the field that is lacking, if any: the error that it is missing, otherwise the view. An allocation may
+-- fail.
 abbrev pub ReturnsLacking : RawMessage → Option (List ℕ) → Result Notification DecodingError → Type 0
 ReturnsLacking message None (Ok found) = Unit {0}
 ReturnsLacking message (Some field) (Ok found) = ⊥

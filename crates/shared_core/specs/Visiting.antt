@@ -12,14 +12,14 @@ use Rattle.shared_core_message.specs.Frames.{WireForm, plain_form}
 use Rattle.shared_core_message.specs.Messages.{message_schema}
 use Rattle.shared_core_runtime.specs.Versions.{suspension_form, proposal_form}
 
--- Where there is a schema its record is visited, and this holds of the result; where there is none nothing is.
+-- If there is a schema, its record is visited and this holds of the result; otherwise nothing is visited.
 abbrev pub IsVisited : {O : Type 0} → (ℕ → O → Type 0) → Option ℕ → Option O → Type 0
-IsVisited answers (Some schema) (Some answer) = answers schema answer
-IsVisited answers (Some schema) None = ⊥
-IsVisited answers None (Some answer) = ⊥
-IsVisited answers None None = Unit {0}
+IsVisited results (Some schema) (Some output) = results schema output
+IsVisited results (Some schema) None = ⊥
+IsVisited results None (Some output) = ⊥
+IsVisited results None None = Unit {0}
 
--- A schema, if it is a place of the table.
+-- A schema, if it is an index of the table.
 abbrev pub known_schema : ℕ → Option ℕ
 known_schema schema = if nat_lt schema (length schemas) then Some schema else None
 

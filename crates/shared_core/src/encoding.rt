@@ -1,7 +1,8 @@
-//! The stream of frames: a decoder that takes it in chunks, its items, the messages among them as records; its items in
-//! a slice; and the encoder.
+//! Streams of frames: the decoder, which takes a stream in chunks; its items and messages; the items of a slice; and
+//! the encoder.
 
 mod announced;
+mod chunks;
 mod decoder;
 mod encoder;
 mod error;
@@ -9,9 +10,9 @@ mod item;
 mod item_ref;
 mod item_refs;
 mod items;
-mod pieces;
 mod raw_message;
 
+pub use crate::encoding::chunks::decode_pieces;
 pub use crate::encoding::decoder::Decoder;
 pub use crate::encoding::encoder::Encoder;
 pub use crate::encoding::error::{DecodingError, PiecesError, PushError};
@@ -19,5 +20,4 @@ pub use crate::encoding::item::Item;
 pub use crate::encoding::item_ref::{ItemKind, ItemRef, MissingBytes};
 pub use crate::encoding::item_refs::ItemRefs;
 pub use crate::encoding::items::Items;
-pub use crate::encoding::pieces::decode_pieces;
 pub use crate::encoding::raw_message::RawMessage;

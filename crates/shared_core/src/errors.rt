@@ -1,4 +1,4 @@
-//! Errors that say what went wrong, for people.
+//! Typed and constant errors, which convert to the error of an invocation.
 ghost use Rattle.std.specs.Prelude.{◌≡◌, IfOk, Some, codes};
 ghost use Rattle.shared_core_base.specs.Error.{IsErrorOf};
 ghost use Rattle.shared_core_compare.specs.Differences.{difference};
@@ -19,7 +19,7 @@ use shared_core_message::restate_message::RestateMessage;
 use std::alloc::Global;
 use std::{error, fmt};
 
-// The errors that are always the same.
+// The constant errors: each has a code and a message.
 pub use shared_core_errors::constants::{
     empty_get_eager_state, empty_get_eager_state_keys, empty_get_state_ephemeral_notification,
     empty_idempotency_key, empty_limit_key, empty_scope, ephemeral_command_during_replay,
@@ -28,8 +28,8 @@ pub use shared_core_errors::constants::{
     unexpected_input_message,
 };
 
-/// A command is of the type that the code expects at its place in the journal, and yet another one. A contract sees it
-/// as the record of its index and the two commands.
+/// A command has the type that the code expects at its index in the journal, but differs from the command of the code.
+/// A contract sees it as the record of the index and the two commands.
 #[derive(Debug, Drop)]
 pub struct CommandMismatchError<M> {
     command_index: i64,
@@ -67,7 +67,7 @@ impl<M: RestateMessage + CommandMessageHeaderDiff> CommandMismatchError<M> {
     }
 }
 
-/// Prints the index of the command, and how the two differ: a line a field, after three spaces.
+/// Prints the index of the command and the difference: a line for each field, after three spaces.
 impl<M: RestateMessage + CommandMessageHeaderDiff> fmt::Display for CommandMismatchError<M> {
     ghost output = { λ error. Some (command_mismatch_text M.message_type error.command_index
         (difference M.schema (codes "   ") (M.parts error.actual) (M.parts error.expected))) };

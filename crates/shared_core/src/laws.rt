@@ -1,5 +1,5 @@
-//! What holds of every stream, whatever decodes it, and of equality. A law is the contract of a function that does
-//! nothing, or nothing but compare.
+//! Laws of streams, whatever decodes them, and of equality. Each law is the contract of a function that does nothing,
+//! or that only compares its arguments.
 ghost use Rattle.std.specs.Prelude.{◌≡◌, ◌≢◌, ◌≤◌, ◌<◌, ◌^◌, ◌↔◌, ℕ, []};
 ghost use Rattle.std.specs.Prelude.{◌∷◌, ◌++◌, IsTrue, List, None, Some, false, true};
 ghost use Rattle.shared_core_base.specs.declared.version.Version.{Version};
@@ -26,7 +26,7 @@ ghost use Rattle.shared_core.specs.declared.encoding.item.Item.TheVariants.{Skip
 
 use crate::encoding::{Item, RawMessage};
 
-/// The encodings of items are prefix-free: where two items are at the beginning of the same bytes, they are one item.
+/// The encodings of items are prefix-free: if the same bytes begin with two items, the two are one item.
 pub fn items_are_prefix_free()
     ensures { (version : Version) (a b x y : List ℕ) (i j : AnyItem)
         → IsItem version a i → IsItem version b j → a ++ x ≡ b ++ y → (a ≡ b) × (i ≡ j) × (x ≡ y) }
@@ -54,15 +54,16 @@ pub fn version_decides_untyped_items()
         → IsItem version bytes (Skipped code payload) → skips_unknown_messages version ≡ true }
 {}
 
-/// The next item stays the next whatever comes after it, and what it leaves is what it left with these bytes after.
+/// If bytes are appended to a stream, its next item stays the same, and the appended bytes are at the end of what it
+/// leaves.
 #[tactic(auto, using(crate::proofs::Items::takes_more))]
 pub fn next_item_is_stable()
     ensures { (version : Version) (old new more : List ℕ) (item : AnyItem)
         → TakesItem version old item new → TakesItem version (old ++ more) item (new ++ more) }
 {}
 
-/// The item that is taken off a stream is the first of those that it splits into, and the others are those of what is
-/// left.
+/// The item that is taken from a stream is the first of those that it splits into; the others are the items of the
+/// bytes that are left.
 #[tactic(auto, using(crate::proofs::Splits::taken_comes_first))]
 pub fn taken_item_is_the_first()
     ensures { (version : Version) (old new rest : List ℕ) (item : AnyItem) (items : List AnyItem)
@@ -70,31 +71,30 @@ pub fn taken_item_is_the_first()
         → SplitsInto version old (item ∷ items) rest }
 {}
 
-/// A stream that no whole item begins is all rest.
+/// A stream that begins with no whole item splits into no items, and all of it is the rest.
 #[tactic(auto, using(crate::proofs::Splits::none_is_all_rest))]
 pub fn stream_without_items_is_rest()
     ensures { (version : Version) (stream : List ℕ) → NoItemBegins version stream
         → SplitsInto version stream [] stream }
 {}
 
-/// Frames written one after the other are, whatever follows them, items in this order, each a message of its type with
-/// the payload that was written. So `decode_pieces`, whose result begins with what was written, gives them back however
-/// it is split.
+/// Frames written one after the other are items in this order, whatever follows them: each is a message of its type
+/// with the payload that was written. So `decode_pieces` returns them first, however the stream is split.
 pub fn frames_are_read_in_order()
     ensures { (version : Version) (messages : List (AnyType × WireForm)) (rest : List ℕ) → AreFrames messages
         → IsItemsThen version (joined_frames messages ++ rest) (items_written messages) rest }
 {}
 
-/// What was written comes out again: the frame of a wire form whose value fits its schema, at most one hundred levels
-/// deep, encodes an item that decodes to this value.
+/// The frame of a wire form whose value fits its schema and is at most one hundred levels deep encodes an item that
+/// decodes to this value.
 pub fn written_frames_decode_to_their_values()
     ensures { (version : Version) (ty : AnyType) (form : WireForm) → IsNamed ty → wire_size form < 2 ^ 32
         → Fits table form.parts (table form.schema) → levels form.parts ≤ 100
         → FrameEncodes version ty form (DecodesTo ty form.schema form.parts) }
 {}
 
-/// A suspension written before V7 comes out as its three lists, however deep its tree: over the futures in preorder,
-/// with duplicates, and empty where nothing is awaited.
+/// A suspension that is written before V7 decodes to its three lists, however deep its tree is: those of the futures in
+/// preorder, with duplicates, and empty if nothing is awaited.
 pub fn flat_suspensions_decode_to_their_lists()
     ensures { (version : Version) (suspension : Parts) → has_flat_suspensions version ≡ true
         → Fits table suspension (table tables.suspension) → wire_size (suspension_form suspension version) < 2 ^ 32
@@ -110,8 +110,8 @@ pub fn notifications_are_within_the_template()
         → is_within_template (table notification_template) (table s) ≡ true }
 {}
 
-/// A request for an acknowledgement is decoded as it was encoded: a proposal of a run's result makes it from V7 on and
-/// not before, and the header of every other message has no such flag.
+/// A requested acknowledgement is decoded as it was encoded: the header of a proposal of a run's result requests one
+/// from V7 on and not before, and the header of every other message has no such flag.
 pub fn acknowledgement_requests_are_read_back()
     ensures proposals { (version : Version) (proposal : Parts) → wire_size (proposal_form proposal version) < 2 ^ 32
         → FrameEncodes version ProposeRunCompletion (proposal_form proposal version)
@@ -128,7 +128,7 @@ pub fn equal_messages(a: &RawMessage, b: &RawMessage) -> bool
     a == b
 }
 
-/// `==` of items compares all of them.
+/// `==` of items compares the variants and all that is in them.
 #[tactic(auto, using(crate::proofs::Equality::items_decide))]
 pub fn equal_items(a: &Item, b: &Item) -> bool
     ensures { IsTrue result ↔ (a.now ≡ b.now) }

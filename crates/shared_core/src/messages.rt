@@ -19,7 +19,7 @@ pub use shared_core_parts::notification::{
     CANCEL_SIGNAL_ID, CompletionId, Notification, NotificationId, NotificationResult,
 };
 
-// The parts of messages, and the template by which any notification is read.
+// The nested messages, and the template of notifications.
 pub use shared_core_parts::failure::Failure;
 pub use shared_core_parts::failure_metadata::FailureMetadata;
 pub use shared_core_parts::future::Future;

@@ -9,10 +9,10 @@ use std::alloc::{AllocError, AllocFailed, Global};
 use std::collections::VecDeque;
 use std::marker::Model;
 
-/// Shared segments in a row, which come at the back and go at the front. A contract sees their bytes as one list.
+/// A queue of shared segments. A contract sees their bytes as one list.
 ///
-/// The front segment is apart, since nearly all work is on it. It is empty only where there is no other, and no other
-/// is ever empty: a segment that is used up has gone.
+/// The front segment is a field of its own, since nearly all work is on it. It is empty only if there is no other, and
+/// no other is ever empty: a used segment is dropped.
 #[derive(Drop)]
 pub struct PendingBytes {
     alloc: Global,
@@ -69,25 +69,25 @@ impl PendingBytes {
         Ok(())
     }
 
-    /// Puts a chunk after the bytes, without copying any. An empty chunk is not kept, and does not allocate; nor does a
-    /// chunk that comes where there are no bytes.
-    pub fn push(&mut self, piece: Bytes) -> Result<(), AllocFailed<Bytes>>
-        requires { length self.old + length piece < 2 ^ 64 }
-        ensures ok { OnOk result (self.new ≡ self.old ++ piece) }
+    /// Appends a chunk, without copying it. An empty chunk is not kept. Allocates only if a chunk that is not empty
+    /// comes after other bytes.
+    pub fn push(&mut self, chunk: Bytes) -> Result<(), AllocFailed<Bytes>>
+        requires { length self.old + length chunk < 2 ^ 64 }
+        ensures ok { OnOk result (self.new ≡ self.old ++ chunk) }
         ensures err { OnErr result (self.new ≡ self.old) }
-        ensures value_returned { IfErr result (λ failed. failed.value ≡ piece) }
-        ensures empty { length piece ≡ 0 → IsOk result }
+        ensures value_returned { IfErr result (λ failed. failed.value ≡ chunk) }
+        ensures empty { length chunk ≡ 0 → IsOk result }
     {
-        if piece.is_empty() {
+        if chunk.is_empty() {
             return Ok(());
         }
-        let len = self.len + piece.len();
+        let len = self.len + chunk.len();
         if self.front.is_empty() {
-            self.front = piece;
+            self.front = chunk;
             self.len = len;
             return Ok(());
         }
-        self.after.push_back(piece)?;
+        self.after.push_back(chunk)?;
         self.len = len;
         Ok(())
     }

@@ -1,6 +1,9 @@
-//! The payload of a message: its records one after the other, the trait of what is read from them and written, and a
-//! check of payloads that reads nothing.
+//! Payloads of messages: an iterator over their records, the trait of records, and checks of payloads that decode
+//! nothing.
 
+mod payload_form;
+
+pub use crate::wire::payload_form::{PayloadForm, check_payload};
 pub use shared_core_codec::check::is_well_formed;
 pub use shared_core_codec::record::{WireRecord, decode_parts};
 pub use shared_core_wire::error::WireError;

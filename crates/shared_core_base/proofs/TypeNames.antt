@@ -37,7 +37,7 @@ type_in-find (ty ∷ types) name =
       | false ↦ type_in-find types name
     ]
 
--- a name finds a type among the named types exactly where the type is named so
+-- a name finds a type among the named types if and only if the type is named so
 pub type_of_name : (name : List ℕ) (ty : MessageType) → (type_in named_types name ≡ Some ty) ↔ (IsNamed ty × (variant_name_of ty ≡ name))
 type_of_name name ty = (
   λ is.

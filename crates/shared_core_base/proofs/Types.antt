@@ -66,7 +66,7 @@ custom_entry_code code ty is =
       | false ↦ λ some. let same : CustomEntry code ≡ ty = cc in sym (ap code_of same)
     ]) is
 
--- the type that a code stands for has that code
+-- the type that a code denotes has that code
 pub code_of_type : (code : ℕ) (ty : MessageType) → type_of code ≡ Some ty → code_of ty ≡ code
 unfolding type_of named_type
 code_of_type code ty is =
@@ -75,7 +75,7 @@ code_of_type code ty is =
       | None ↦ λ found chosen. custom_entry_code code ty chosen
     ]) refl is
 
--- a code stands for its custom entry exactly where no named type has it and one of its upper six bits is set
+-- a code denotes its custom entry if and only if no named type has it and one of its upper six bits is set
 pub type_of_custom : (code : ℕ) → (type_of code ≡ Some (CustomEntry code)) ↔ ((find (λ ty. eqb (code_of ty) code) named_types ≡ None) × (bit_and code 0xFC00 ≢ 0))
 unfolding type_of named_type is_named
 type_of_custom code = (
@@ -88,7 +88,7 @@ type_of_custom code = (
       ∙ ap (λ b. cond b None (Some (CustomEntry code))) (ne_eqb _ _ is.1),
 )
 
--- a named type's code stands for it
+-- a named type's code denotes it
 pub type_of_code : (ty : MessageType) → IsNamed ty → type_of (code_of ty) ≡ Some ty
 unfolding type_of named_types
 type_of_code ty = elim ty as (λ ty. IsNamed ty → type_of (code_of ty) ≡ Some ty) [

@@ -1,4 +1,4 @@
--- The content types of two versions differ, and a number stands for at most one supported version.
+-- The content types of two versions differ, and a number denotes at most one supported version.
 use Rattle.std.proofs.Common.{◌≡◌, ℕ, ◌++◌, codes, drop, length, ◌<◌, ◌≤◌, ◌^◌, ◌==◌, if◌then◌else◌, Some, eqb, leb, refl, sym, ap, ◌∙◌, arith}
 use Rattle.std.specs.Prelude.{◌↔◌}
 use Rattle.std.proofs.lemmas.Bool.{eqb-true, leb-true}
@@ -38,7 +38,7 @@ found_again version = elim version as (λ version. 5 ≤ version_number version 
   | _ ↦ λ supported. refl
 ]
 
--- a number stands for a version exactly where it is the version's, and the version is supported
+-- a number denotes a version if and only if it is the version's, and the version is supported
 pub supported_version_is : (number : ℕ) (version : Version) → (supported_version number ≡ Some version) ↔ ((number ≡ version_number version) × (5 ≤ version_number version))
 supported_version_is number version = (
   λ found.

@@ -44,7 +44,7 @@ related_command_text None = codes ""
 abbrev pub error_text : Error → List ℕ
 error_text error = codes "(" ++ (decimal error.code ++ (codes ") " ++ (cow_str_bytes error.message ++ related_command_text error.related_command)))
 
--- What there is to a command's metadata, wherever its name lies in memory.
+-- The contents of a command's metadata, apart from where its name is in memory.
 pub record CommandParts : Type 0 where
   pub index : ℕ
   pub ty : MessageType
@@ -54,7 +54,7 @@ pub record CommandParts : Type 0 where
 abbrev pub command_parts : CommandMetadata → CommandParts
 command_parts command = record { index = command.index; ty = command.ty; name = option_map cow_str_bytes command.name }
 
--- What there is to a notification's metadata, wherever its texts lie in memory.
+-- The contents of a notification's metadata, apart from where its texts are in memory.
 pub data NotificationParts : Type 0 where
   RelatedToCommand : CommandParts → NotificationParts
   Awakeable : List ℕ → NotificationParts
@@ -66,7 +66,7 @@ notification_parts (notification.RelatedToCommand command) = RelatedToCommand (c
 notification_parts (notification.Awakeable id) = Awakeable (string_bytes id)
 notification_parts notification.Cancellation = Cancellation
 
--- What there is to an error, wherever its texts lie in memory.
+-- The contents of an error, apart from where its texts are in memory.
 pub record ErrorParts : Type 0 where
   pub code : ℕ
   pub message : List ℕ
@@ -84,7 +84,7 @@ error_parts error = record {
   behavior = error.behavior;
 }
 
--- The parts of an error that has a code and a message alone: it names no command, says no delay and is retried.
+-- The parts of an error that has only a code and a message: it names no command, has no delay and is retried.
 abbrev pub plain_error : ℕ → List ℕ → ErrorParts
 plain_error code message = record { code = code; message = message; related_command = None; next_retry_delay = None; behavior = Retry }
 
@@ -92,7 +92,7 @@ plain_error code message = record { code = code; message = message; related_comm
 abbrev pub suspended_parts : ErrorParts
 suspended_parts = plain_error 599 (codes "Suspended invocation")
 
--- The error has the code and the text alone; where the text is not specified, it has the code and some text alone.
+-- The error has only the code and the text; if the text is not specified, only the code and some text.
 abbrev pub IsErrorOf : ℕ → Option (List ℕ) → Error → Type 0
 IsErrorOf code (Some text) error = error_parts error ≡ plain_error code text
 IsErrorOf code None error = error_parts error ≡ plain_error code (cow_str_bytes error.message)

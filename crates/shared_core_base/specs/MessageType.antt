@@ -32,7 +32,7 @@ abbrev pub ReadsType : ℕ → Result MessageType UnknownMessageType → Type 0
 ReadsType code (Ok ty) = type_of code ≡ Some ty
 ReadsType code (Err unknown) = (type_of code ≡ None) × (unknown.0 ≡ code)
 
--- The one type whose headers may ask for an acknowledgement.
+-- The one type whose headers may request an acknowledgement.
 abbrev pub allows_ack : MessageType → Bool
 allows_ack ProposeRunCompletion = true
 allows_ack ty = false

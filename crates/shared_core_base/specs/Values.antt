@@ -25,7 +25,7 @@ abbrev pub value_of_non_empty : NonEmptyValue → Value
 value_of_non_empty (outcome.Success bytes) = value.Success bytes
 value_of_non_empty (outcome.Failure failure) = value.Failure failure
 
--- What there is to a terminal failure, wherever its texts lie in memory.
+-- The contents of a terminal failure, apart from where its texts are in memory.
 pub record FailureParts : Type 0 where
   pub code : ℕ
   pub message : List ℕ
@@ -39,7 +39,7 @@ failure_parts failure = record {
   metadata = map (λ pair. (string_bytes pair.0, string_bytes pair.1)) failure.metadata.items;
 }
 
--- What there is to a value, wherever its texts lie in memory.
+-- The contents of a value, apart from where its texts are in memory.
 pub data ValueParts : Type 0 where
   Void : ValueParts
   Success : List ℕ → ValueParts
@@ -59,7 +59,7 @@ value_parts (value.InvocationId id) = InvocationId (string_bytes id)
 abbrev pub header_parts : Header → List ℕ × List ℕ
 header_parts header = (cow_str_bytes header.key, cow_str_bytes header.value)
 
--- What there is to the command that an error is about, wherever its name lies in memory.
+-- The command that an error is about, apart from where its name is in memory.
 pub data RelationshipParts : Type 0 where
   Last : RelationshipParts
   Next : CommandType → Option (List ℕ) → RelationshipParts

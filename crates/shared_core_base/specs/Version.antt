@@ -51,8 +51,8 @@ content_type_of version = restate_content_types ++ (codes "v" ++ decimal (versio
 abbrev pub NamesNoVersion : List ℕ → Type 0
 NamesNoVersion text = (version : Version) → text ≢ content_type_of version
 
--- A rejected text is returned: in the error for the content types of the protocol where it begins as these do,
--- otherwise in the other, unless it is not empty and there was no memory to keep it.
+-- A rejected text is returned: if it begins as a content type of the protocol, in the error for these, otherwise in the
+-- other; unless it is not empty and the allocation to keep it failed.
 abbrev pub RefusesContentType : List ℕ → ContentTypeError → Type 0
 RefusesContentType text (RestateContentType kept) = (starts_with nat_eq text restate_content_types ≡ true) × (string_bytes kept ≡ text)
 RefusesContentType text (OtherContentType kept) = (starts_with nat_eq text restate_content_types ≡ false) × (string_bytes kept ≡ text)

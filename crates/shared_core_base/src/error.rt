@@ -242,7 +242,7 @@ pub struct Error {
 }
 
 impl Error {
-    /// An error of this code and this message, which is retried. It says no delay, and no command.
+    /// An error of this code and this message, which is retried. It has no delay, and names no command.
     pub fn new(code: u16, message: CowStr<'static>) -> Error
         ensures { result ≡ record {
           code = code;
@@ -261,7 +261,7 @@ impl Error {
         }
     }
 
-    /// An error of the code `INTERNAL`, otherwise as `new` makes it.
+    /// An error of the code `INTERNAL`, otherwise as `new` returns it.
     pub fn internal(message: CowStr<'static>) -> Error
         ensures { result ≡ record {
           code = 500;
@@ -295,7 +295,7 @@ impl Error {
         self.related_command.as_ref()
     }
 
-    /// How long the service waits before the next retry, if the error says it.
+    /// How long the service waits before the next retry, if the error has a delay.
     pub fn next_retry_delay(&self) -> Option<Duration>
         ensures { result ≡ self.now.next_retry_delay }
     {
@@ -388,7 +388,8 @@ pub fn suspended() -> Error
     )
 }
 
-/// The error of a code, whose message is the text that a value prints. It is retried, and says no delay and no command.
+/// The error of a code, whose message is the text that a value prints. It is retried, has no delay and names no
+/// command.
 pub fn error_of<T: fmt::Display>(
     alloc: Global,
     code: InvocationErrorCode,

@@ -1,4 +1,5 @@
-//! What holds of the definitions of this crate, and of the traits that its types derive.
+//! Laws of the definitions of this crate, and of the traits that its types derive. Each is the contract of a function
+//! that does nothing, or that makes only the calls that it is about.
 ghost use Rattle.std.specs.Prelude.{◌≡◌, ◌↔◌, ◌==◌, ◌≢◌, ℕ, IsTrue, false, Ok, Some, None, find, bit_and};
 ghost use Rattle.std.specs.Option.{ok_or};
 ghost use Rattle.std.specs.Ordering.{nat_cmp};
@@ -24,7 +25,7 @@ use crate::version::{ContentTypeError, Version};
 use std::alloc::{AllocError, Global};
 use std::cmp::Ordering;
 
-/// A named type's code denotes it, and a custom entry's exactly where no named type has the code and one of its upper
+/// A named type's code denotes it, and a custom entry's if and only if no named type has the code and one of its upper
 /// six bits is set. The type that a code denotes has that code.
 #[tactic(auto, using(crate::proofs::Types::code_of_type, crate::proofs::Types::type_of_code, crate::proofs::Types::type_of_custom))]
 pub fn codes_convert_back()
@@ -43,7 +44,7 @@ pub fn command_types_convert_back(command: CommandType) -> Result<CommandType, M
     CommandType::try_from(MessageType::from(command))
 }
 
-/// A message type that has a command type converts to it; one that has none is rejected, and is returned as it was.
+/// A message type that has a command type converts to it; one that has none is rejected, and is returned unchanged.
 pub fn refused_types_come_back(ty: MessageType) -> Result<CommandType, MessageType>
     ensures { result ≡ ok_or (command_type_of ty) ty }
 {
@@ -80,14 +81,14 @@ pub fn codes_have_their_numbers()
     ensures suspended { SUSPENDED.0 ≡ 599 }
 {}
 
-/// `==` of types compares all of them.
+/// `==` of message types is equality.
 pub fn equal_types(a: MessageType, b: MessageType) -> bool
     ensures { IsTrue result ↔ (a ≡ b) }
 {
     a == b
 }
 
-/// `==` of command types compares all of them.
+/// `==` of command types is equality.
 pub fn equal_command_types(a: CommandType, b: CommandType) -> bool
     ensures { IsTrue result ↔ (a ≡ b) }
 {
@@ -133,7 +134,7 @@ pub fn equal_codes(a: InvocationErrorCode, b: InvocationErrorCode) -> bool
     a == b
 }
 
-/// `==` of behaviors compares all of them.
+/// `==` of behaviors is equality.
 pub fn equal_behaviors(a: ErrorBehavior, b: ErrorBehavior) -> bool
     ensures { IsTrue result ↔ (a ≡ b) }
 {

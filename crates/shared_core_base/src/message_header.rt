@@ -1,4 +1,4 @@
-//! The header before each message: its type, its length and its flag.
+//! The eight bytes before each payload.
 ghost use Rattle.std.specs.Prelude.{◌≡◌, Some, None};
 ghost use Rattle.std.specs.Int.{w64, to_be_bytes};
 ghost use Rattle.shared_core_base.specs.MessageHeader.{word_of};
@@ -6,7 +6,7 @@ ghost use Rattle.shared_core_base.specs.MessageHeader.{word_of};
 use crate::header::MessageType;
 use crate::type_kinds::UnknownMessageType;
 
-/// What is before a message: its type, the length of its payload in bytes, and whether an acknowledgement is requested.
+/// The header of a message: its type, the length of its payload in bytes, and whether an acknowledgement is requested.
 /// A contract sees it as the record of these three parts.
 #[derive(Clone, Copy, Debug, PartialEq, Eq)]
 pub struct MessageHeader {
@@ -32,7 +32,7 @@ impl MessageHeader {
         }
     }
 
-    /// A header with a flag, of a payload of `length` bytes. The flag is written whatever the type, and read back where
+    /// A header with a flag, of a payload of `length` bytes. The flag is written whatever the type, and read back if
     /// the type allows it.
     pub fn new_with_requested_ack(
         ty: MessageType,
@@ -62,7 +62,7 @@ impl MessageHeader {
         self.length
     }
 
-    /// Whether an acknowledgement is asked for. A header that was read has a flag exactly where its type allows one.
+    /// Whether an acknowledgement is requested. A header that was read has a flag if and only if its type allows one.
     pub fn requested_ack(&self) -> Option<bool>
         ensures { result ≡ self.now.requested_ack }
     {

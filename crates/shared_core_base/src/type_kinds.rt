@@ -1,4 +1,4 @@
-//! What kind of message a type is of, and how types and unknown codes print.
+//! The kinds of message types, and how types and unknown codes print.
 ghost use Rattle.std.specs.Prelude.{◌≡◌, ◌≤◌, ◌<◌, IsTrue, Some, ◌↔◌};
 ghost use Rattle.shared_core_base.specs.declared.header.MessageType.{MessageType as AnyType};
 ghost use Rattle.shared_core_base.specs.MessageType.{IsNamed, allows_ack, code_of};
@@ -14,7 +14,7 @@ const FIRST_COMMAND: u16 = 0x0400;
 
 const FIRST_NOTIFICATION: u16 = 0x8000;
 
-const FIRST_BEHIND_NOTIFICATIONS: u16 = 0xFC00;
+const END_OF_NOTIFICATIONS: u16 = 0xFC00;
 
 impl MessageType {
     /// The named type that has this name, as `SleepCommand`, the name that `variant_name` returns.
@@ -35,10 +35,10 @@ impl MessageType {
     pub fn is_notification(&self) -> bool
         ensures { IsTrue result ↔ ((0x8000 ≤ code_of self.now) × (code_of self.now < 0xFC00)) }
     {
-        (FIRST_NOTIFICATION..FIRST_BEHIND_NOTIFICATIONS).contains(&u16::from(*self))
+        (FIRST_NOTIFICATION..END_OF_NOTIFICATIONS).contains(&u16::from(*self))
     }
 
-    /// Whether a header of this type may ask for an acknowledgement: true of `ProposeRunCompletion` alone.
+    /// Whether a header of this type may request an acknowledgement: true of `ProposeRunCompletion` alone.
     pub fn allows_ack(&self) -> bool
         ensures { result ≡ allows_ack self.now }
     {
@@ -109,12 +109,12 @@ impl fmt::Display for DebugName {
     }
 }
 
-/// A code that stands for no message type: no named type has it, and none of its upper six bits is set.
+/// A code that denotes no message type: no named type has it, and none of its upper six bits is set.
 #[derive(Debug, Drop)]
 pub struct UnknownMessageType(pub(crate) u16);
 
 impl UnknownMessageType {
-    /// The code that was refused.
+    /// The code that was rejected.
     pub fn code(&self) -> u16
         ensures { result ≡ self.now.0 }
     {

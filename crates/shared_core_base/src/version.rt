@@ -187,10 +187,10 @@ impl Display for Version {
     }
 }
 
-/// Why a content type names no version that is known here.
+/// Why a content type names no supported version.
 #[derive(Debug, Drop)]
 pub enum ContentTypeError {
-    /// The text is a content type of the protocol, of a version that is not known here.
+    /// The text is a content type of the protocol, of a version that is not supported.
     RestateContentType(String),
     /// The text is no content type of the protocol.
     OtherContentType(String),

@@ -28,11 +28,11 @@ use std::alloc::Global;
 /// Awaits the result of an invocation.
 #[derive(Debug, PartialEq, Drop)]
 pub struct AttachInvocationCommandMessage {
-    /// Which invocation it is.
+    /// The invocation.
     pub target: Option<Target>,
-    /// The id by which the result will come.
+    /// The completion id of the result.
     pub result_completion_id: u32,
-    /// The name of the command, for people.
+    /// The human-readable name of the command.
     pub name: String,
 }
 

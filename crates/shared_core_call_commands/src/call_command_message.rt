@@ -35,19 +35,19 @@ pub struct CallCommandMessage {
     pub parameter: Bytes,
     /// The headers of the request.
     pub headers: Vec<Header>,
-    /// The key of the object, where the service has keys.
+    /// The key of the object, if the service has keys.
     pub key: String,
-    /// The key by which the request is known again, where there is one.
+    /// The idempotency key of the request, if any.
     pub idempotency_key: Option<String>,
-    /// The scope of the request, where there is one.
+    /// The scope of the request, if any.
     pub scope: Option<String>,
-    /// The key by which requests are limited, where there is one.
+    /// The limit key of the request, if any.
     pub limit_key: Option<String>,
-    /// The id by which the invocation's id will come.
+    /// The completion id of the notification with the invocation's id.
     pub invocation_id_notification_idx: u32,
-    /// The id by which the result will come.
+    /// The completion id of the result.
     pub result_completion_id: u32,
-    /// The name of the command, for people.
+    /// The human-readable name of the command.
     pub name: String,
 }
 

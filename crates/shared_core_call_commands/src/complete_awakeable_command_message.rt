@@ -104,7 +104,7 @@ pub struct CompleteAwakeableCommandMessage {
     pub awakeable_id: String,
     /// The result.
     pub result: Option<Result>,
-    /// The name of the command, for people.
+    /// The human-readable name of the command.
     pub name: String,
 }
 

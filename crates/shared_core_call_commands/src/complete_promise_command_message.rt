@@ -114,9 +114,9 @@ pub struct CompletePromiseCommandMessage {
     pub key: String,
     /// What it is completed with.
     pub completion: Option<Completion>,
-    /// The id by which the result will come.
+    /// The completion id of the result.
     pub result_completion_id: u32,
-    /// The name of the command, for people.
+    /// The human-readable name of the command.
     pub name: String,
 }
 

@@ -25,14 +25,14 @@ use shared_core_message::restate_message::{RestateEncodableMessage, RestateMessa
 use shared_core_wire::error::WireError;
 use std::alloc::Global;
 
-/// Looks at the result of an invocation without awaiting it.
+/// Reads the result of an invocation, without awaiting it.
 #[derive(Debug, PartialEq, Drop)]
 pub struct GetInvocationOutputCommandMessage {
-    /// Which invocation it is.
+    /// The invocation.
     pub target: Option<Target>,
-    /// The id by which the result will come.
+    /// The completion id of the result.
     pub result_completion_id: u32,
-    /// The name of the command, for people.
+    /// The human-readable name of the command.
     pub name: String,
 }
 

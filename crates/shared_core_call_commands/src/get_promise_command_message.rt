@@ -28,9 +28,9 @@ use std::alloc::Global;
 pub struct GetPromiseCommandMessage {
     /// The name of the promise.
     pub key: String,
-    /// The id by which the result will come.
+    /// The completion id of the result.
     pub result_completion_id: u32,
-    /// The name of the command, for people.
+    /// The human-readable name of the command.
     pub name: String,
 }
 

@@ -33,21 +33,21 @@ pub struct OneWayCallCommandMessage {
     pub handler_name: String,
     /// The input of the handler, as bytes.
     pub parameter: Bytes,
-    /// When the handler is to be called, in milliseconds since the epoch; 0 is at once.
+    /// The time of the call, in milliseconds since the epoch; 0 is now.
     pub invoke_time: u64,
     /// The headers of the request.
     pub headers: Vec<Header>,
-    /// The key of the object, where the service has keys.
+    /// The key of the object, if the service has keys.
     pub key: String,
-    /// The key by which the request is known again, where there is one.
+    /// The idempotency key of the request, if any.
     pub idempotency_key: Option<String>,
-    /// The scope of the request, where there is one.
+    /// The scope of the request, if any.
     pub scope: Option<String>,
-    /// The key by which requests are limited, where there is one.
+    /// The limit key of the request, if any.
     pub limit_key: Option<String>,
-    /// The id by which the invocation's id will come.
+    /// The completion id of the notification with the invocation's id.
     pub invocation_id_notification_idx: u32,
-    /// The name of the command, for people.
+    /// The human-readable name of the command.
     pub name: String,
 }
 

@@ -23,14 +23,14 @@ use shared_core_message::restate_message::{RestateEncodableMessage, RestateMessa
 use shared_core_wire::error::WireError;
 use std::alloc::Global;
 
-/// Looks at a promise without awaiting it.
+/// Reads the result of a promise, without awaiting it.
 #[derive(Debug, PartialEq, Drop)]
 pub struct PeekPromiseCommandMessage {
     /// The name of the promise.
     pub key: String,
-    /// The id by which the result will come.
+    /// The completion id of the result.
     pub result_completion_id: u32,
-    /// The name of the command, for people.
+    /// The human-readable name of the command.
     pub name: String,
 }
 

@@ -26,9 +26,9 @@ use std::alloc::Global;
 /// Runs a side effect, whose result is recorded.
 #[derive(Debug, PartialEq, Drop)]
 pub struct RunCommandMessage {
-    /// The id by which the result will come.
+    /// The completion id of the result.
     pub result_completion_id: u32,
-    /// The name of the command, for people.
+    /// The human-readable name of the command.
     pub name: String,
 }
 

@@ -30,7 +30,7 @@ use shared_core_wire::error::WireError;
 use std::alloc::Global;
 use std::result;
 
-/// Which signal it is.
+/// The id or the name of the signal.
 #[derive(Debug, PartialEq, Drop)]
 pub enum SignalId {
     /// The id of the signal.
@@ -177,13 +177,13 @@ impl OneOf for Result {
 /// Sends a signal to an invocation.
 #[derive(Debug, PartialEq, Drop)]
 pub struct SendSignalCommandMessage {
-    /// The invocation that the signal goes to.
+    /// The id of the invocation that gets the signal.
     pub target_invocation_id: String,
-    /// Which signal it is.
+    /// The id or the name of the signal.
     pub signal_id: Option<SignalId>,
     /// The result.
     pub result: Option<Result>,
-    /// The name of the command, for people.
+    /// The human-readable name of the command.
     pub entry_name: String,
 }
 

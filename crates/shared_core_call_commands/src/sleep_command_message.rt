@@ -26,11 +26,11 @@ use std::alloc::Global;
 /// Sleeps until a time.
 #[derive(Debug, PartialEq, Drop)]
 pub struct SleepCommandMessage {
-    /// When the sleep is over, in milliseconds since the epoch.
+    /// The end of the sleep, in milliseconds since the epoch.
     pub wake_up_time: u64,
-    /// The id by which the result will come.
+    /// The completion id of the result.
     pub result_completion_id: u32,
-    /// The name of the command, for people.
+    /// The human-readable name of the command.
     pub name: String,
 }
 

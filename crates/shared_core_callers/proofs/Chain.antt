@@ -1,20 +1,20 @@
 -- A new decoder to which one frame was pushed returns what was written.
 use Rattle.std.proofs.Common.{◌≡◌, ◌≤◌, ℕ, List, [], ◌++◌, Option, Result, ◌∙◌, ap, append-nil, subst, sym}
-use Rattle.shared_core_base.specs.declared.header.MessageType.{MessageType}
-use Rattle.shared_core_base.specs.declared.version.Version.{Version}
-use Rattle.shared_core_wire.specs.Canonical.{levels}
-use Rattle.shared_core_message.specs.Frames.{WireForm}
+use Rattle.shared_core.specs.base_types.header.MessageType.{MessageType}
+use Rattle.shared_core.specs.base_types.version.Version.{Version}
+use Rattle.shared_core.specs.Canonical.{levels}
+use Rattle.shared_core.specs.Frames.{WireForm}
 use Rattle.shared_core.specs.declared.encoding.error.DecodingError.{DecodingError}
 use Rattle.shared_core.specs.declared.encoding.raw_message.RawMessage.{RawMessage}
 use Rattle.shared_core.specs.Decoded.{ReturnsWritten}
 use Rattle.shared_core.specs.Items.{ReturnsNext}
 use Rattle.shared_core.specs.Unread.{Unread}
 
--- whatever follows a frame, what a decoder answers before which it stands is what was written
+-- a decoder whose pending bytes begin with the frame returns what was written, whatever follows the frame
 abbrev pub ComesOut : Version → MessageType → WireForm → List ℕ → Type 0
 ComesOut version ty form frame = levels form.parts ≤ 100 → (rest new : List ℕ) (answer : Result (Option RawMessage) DecodingError) → ReturnsNext version (frame ++ rest) answer new → ReturnsWritten ty form (frame ++ rest) answer rest new
 
--- so does one that holds the frame alone
+-- so does a decoder that holds only the frame
 pub alone : (ty : MessageType) (form : Version → WireForm) (frame : List ℕ) (spoken version : Version) → spoken ≡ version → levels (form version).parts ≤ 100 → ComesOut spoken ty (form spoken) frame
     → (fresh : Unread) → fresh ≡ record { version = version; bytes = [] } → (held : Unread) → held ≡ record { version = fresh.version; bytes = fresh.bytes ++ frame }
     → (answer : Result (Option RawMessage) DecodingError) (new : List ℕ) → ReturnsNext held.version held.bytes answer new → ReturnsWritten ty (form version) (frame ++ []) answer [] new

@@ -1,16 +1,16 @@
 //! The round trip of any message: what the contracts of encoding, pushing, consuming and decoding say together.
 ghost use Rattle.std.specs.Prelude.{◌≡◌, ◌≤◌, ◌^◌, IfOk};
 ghost use Rattle.std.specs.Result.{IsErrOf};
-ghost use Rattle.shared_core_base.specs.Version.{version_number};
-ghost use Rattle.shared_core_wire.specs.Canonical.{levels};
-ghost use Rattle.shared_core_message.specs.Frames.{wire_size};
+ghost use Rattle.shared_core.specs.Version.{version_number};
+ghost use Rattle.shared_core.specs.Canonical.{levels};
+ghost use Rattle.shared_core.specs.Frames.{wire_size};
 
 use shared_core::Version;
 use shared_core::encoding::{Decoder, DecodingError, Encoder, PushError};
 use shared_core::messages::{EncodingError, RestateEncodableMessage};
 use std::alloc::Global;
 
-/// Why a message did not come out again.
+/// Why a message was not returned.
 #[derive(Debug, Drop)]
 pub enum RoundTripError {
     /// Its payload has more than 4,294,967,295 bytes.
@@ -19,9 +19,9 @@ pub enum RoundTripError {
     OutOfMemory,
 }
 
-/// Encodes a message, pushes its frame to a new decoder, takes the message out and decodes it. The message is written
-/// as a record of its own schema, of nesting depth at most one hundred; then the only errors are its length and a
-/// failed allocation, and it comes out as it was written.
+/// Encodes a message, pushes its frame to a new decoder, consumes the message and decodes it. The message has to be
+/// written as a record of its own schema, of nesting depth at most one hundred. Then the result is the message that was
+/// written, unless it is too long or an allocation fails.
 pub fn there_and_back<M: RestateEncodableMessage>(
     alloc: Global,
     version: Version,

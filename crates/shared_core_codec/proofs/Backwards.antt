@@ -104,7 +104,7 @@ message_before at s start end ps after mid now e l f =
 
 -- ---- one element after the other, the last one first
 
--- the bytes stand before the end, and what was after it is still there
+-- the bytes are right before the end, and what was after it is unchanged
 abbrev pub IsAfter : List ℕ → ℕ → ℕ → List ℕ → List ℕ → Type 0
 IsAfter bytes end start after now = (start + length bytes ≡ end) × (now ≡ bytes ++ after)
 

@@ -77,7 +77,7 @@ readable (Varint n) = ltb n (2 ^ 64)
 readable (Length bytes) = are_bytes bytes
 readable w = true
 
-pub total_size : List FieldRecord → ℕ
+unfoldable pub total_size : List FieldRecord → ℕ
 total_size [] = 0
 total_size (r ∷ rs) = written_size r + total_size rs
 

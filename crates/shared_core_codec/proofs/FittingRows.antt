@@ -69,7 +69,7 @@ pub fit_enum : (z : ℤ) → FitsSigned w32 z → ValueFits Enumeration (Number 
 unfolding ValueFits PartFits
 fit_enum z h = (refl, fit_low z h)
 
--- an enum is 0 exactly where its part is the default
+-- an enum is 0 if and only if its part is the default
 pub enum_is_default : (z : ℤ) → FitsSigned w32 z → nat_eq (cast_unsigned w32 z) 0 ≡ (enum_number z == 0)
 enum_is_default (pos n) h = rw (lt-ltb n (2 ^ 31) h.sfits) refl
 enum_is_default (negsuc n) h =

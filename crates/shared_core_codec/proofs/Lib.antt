@@ -12,4 +12,5 @@ pub mod Tables
 pub mod PayloadLaws
 pub mod Checked
 pub mod Canonicity
+pub mod CanonicityExact
 pub mod Positions

@@ -1,4 +1,4 @@
--- Taking the records of a payload one after the other is laying the whole list over the value.
+-- Merging the records of a payload one after the other is merging the whole list.
 use Rattle.std.proofs.Common.{◌≡◌, ℕ, zero, suc, ◌+◌, ◌<◌, List, [], ◌∷◌, ◌++◌, length, take, get_or, Bool, true, false, cond, inl, inr, Option, Some, None, Result, Ok, Err, refl, sym, ap, ◌∙◌, append-nil, append_assoc, arith}
 use Rattle.std.specs.Prelude.{OnOk, nat_lt, ◌&&◌}
 use Rattle.std.proofs.lemmas.Bool.{lt-ltb}
@@ -108,7 +108,7 @@ unfolding message_overlay
 overlay_below below zero s v bytes h = absurd (omega (arith, h))
 overlay_below below (suc left) s v bytes h = let e : left ≡ below = omega (arith, h) in ap (λ l. overlay_payload table l s v bytes) e
 
--- what a function returned that laid the bytes over a message, one level down
+-- what a function returned that merged the bytes into a message, one level down
 pub message_becomes : {X : Type 0} (below left s : ℕ) (bytes : List ℕ) (v w : Parts) (result : Result X WireError) → below + 1 ≡ left
     → OnOk result (accepts_payload table below s bytes ≡ true) → OnOk result (w ≡ overlay_payload table below s v bytes)
     → OnOk result ((accepts_message table left s bytes ≡ true) × (Nested (message_overlay table left s v (bytes ++ [])) ≡ Nested w))

@@ -45,7 +45,7 @@ unfoldable pub low_varint_at : List ℕ → Option (ℕ × List ℕ)
 low_varint_at bytes = varint_at bytes >>= λ x.
     if nat_lt x.0 4294967296 && (length (shortest_varint x.0) + length x.1 == length bytes) then Some x else None
 
--- Whether bytes are a packed run as it is written: such varints fill them exactly, and there are any.
+-- Whether bytes are a packed run as it is written: one or more such varints, which fill them exactly.
 abbrev pub is_written_run : List ℕ → Bool
 is_written_run run = not (length run == 0) && is_some (sequence_past low_varint_at 0 run)
 
@@ -112,7 +112,7 @@ coming_after nested s r = rows_after nested s.0 r >>= λ rows.
 abbrev pub is_complete : Coming → Bool
 is_complete s = s.1 == 0
 
--- Whether the records may come one after the other, and are all that there is.
+-- Whether the records may come in this order, and have the number of bytes that is left.
 abbrev pub all_come : NestedAcceptance → Coming → List FieldRecord → Bool
 all_come nested s [] = is_complete s
 all_come nested s (r ∷ rs) = elim (coming_after nested s r) [ None ↦ false | Some next ↦ all_come nested next rs ]

@@ -1,6 +1,6 @@
 //! Checking whether payloads are canonical, by the rows of their schema: without a record and without allocating.
 
-ghost use Rattle.std.specs.Prelude.{◌≡◌, IsTrue, map, option_map, length, is_some};
+ghost use Rattle.std.specs.Prelude.{◌≡◌, ◌↔◌, IsTrue, map, option_map, length, is_some};
 ghost use Rattle.shared_core_wire.specs.Reader.{Gives};
 ghost use Rattle.shared_core_wire.specs.View.{value_of};
 ghost use Rattle.shared_core_codec.specs.Checking.{field_record_of};
@@ -22,12 +22,11 @@ use shared_core_wire::varint::read_varint;
 /// How deep messages may be nested (this project's own limit).
 const LEVELS: u32 = 100;
 
-/// Whether a payload of at most 4,294,967,295 bytes is canonical: if so, it is well-formed for the schema at an index
-/// of the table, at most one hundred levels deep, and the canonical encoding of what it means. That each canonical
-/// payload is found is tested and not proved. Does not allocate, and makes one pass over the bytes, up to the first
-/// record that is not canonical.
+/// Whether a payload is canonical: it is well-formed for the schema at an index of the table and the canonical encoding
+/// of what it means, at most one hundred levels deep and at most 4,294,967,295 bytes long. Does not allocate, and makes
+/// one pass over the bytes, up to the first record that is not canonical.
 pub fn is_canonical(schema: u32, payload: &[u8]) -> bool
-    ensures { IsTrue result → IsCanonical schema payload.now }
+    ensures { IsTrue result ↔ IsCanonical schema payload.now }
 {
     if payload.len() as u64 >= Size::LIMIT {
         return false;
@@ -170,7 +169,7 @@ fn may_recur(field: Found) -> bool
     }
 }
 
-/// Whether bytes are a packed run as it is written: the shortest varints of numbers of 32 bits, of which there are any.
+/// Whether bytes are a packed run as it is written: the shortest varints of one or more numbers of 32 bits.
 fn is_written_run(run: &[u8]) -> bool
     ensures { result ≡ is_written_run run.now }
 {

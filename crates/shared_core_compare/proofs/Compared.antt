@@ -1,4 +1,4 @@
--- What erasure and differences say of each other.
+-- How erasure and differences are related.
 use Rattle.std.proofs.Common.{◌≡◌, Bool, true, false, ◌&&◌, ◌||◌, not, List, ℕ, [], ◌∷◌, ◌++◌, refl, if◌then◌else◌}
 use Rattle.std.specs.Prelude.{filter, flat_map}
 use Rattle.std.specs.List.{list_any}
@@ -62,7 +62,7 @@ by_test : {A : Type 0} (test : Bool) → (test ≡ true → A) → (test ≡ fal
 by_test true holds fails = holds refl
 by_test false holds fails = fails refl
 
--- A name that is the same has no line.
+-- If the names are the same, they have no line.
 name_no_line : (indentation : List ℕ) (rows : List Row) (a b : Parts) (n : ℕ) (name : List ℕ) → row_part rows a n ≡ row_part rows b n
     → numbered_line indentation (n, name) rows a b ≡ []
 name_no_line indentation [] a b n name e = refl

@@ -36,7 +36,7 @@ compare_ids a b = slice_cmp nat_cmp (order_key a) (order_key b)
 abbrev is_same_key : List ℕ → List ℕ → Bool
 is_same_key = eq_by_cmp (slice_cmp nat_cmp)
 
--- ids are equal exactly where the lists by which they are ordered are
+-- ids are equal if and only if the lists by which they are ordered are
 equal_keys : (a b : Id) → id_eq a b ≡ is_same_key (order_key a) (order_key b)
 equal_keys a b = by a b ∙ texts_ties (order_key a) (order_key b)
   where
@@ -90,7 +90,7 @@ none_in_order [] [] none empty = record { same = IsPermutation-refl []; ascendin
 none_in_order [] (x ∷ xs) none empty = absurd (cc)
 none_in_order (key ∷ keys) xs none empty = absurd (cc)
 
--- ---- sets with the same ids stand in the same order
+-- ---- sets with the same ids are in the same order
 
 abbrev has_id : List Id → Id → Bool
 has_id xs id = list_any (id_eq id) xs

@@ -47,7 +47,7 @@ finds_own names (Optional m k) fs n h = first_own n m (own_field names (Optional
 finds_own names (Repeated m k) fs n h = first_own n m (own_field names (Repeated m k)) (field_numbered fs n) h
 finds_own names (OneOf members) fs n h = member_own names members fs n h
 
--- and another one finds what it finds after the row
+-- another number finds what it finds after the row
 pub finds_other : (names : List (ℕ × List ℕ)) (row : Row) (fs : List NamedField) (n : ℕ) → includes (numbers row) n ≡ false → field_numbered (row_fields names row ++ fs) n ≡ field_numbered fs n
 finds_other names (Plain m k) fs n h = first_other n m (own_field names (Plain m k) m) (field_numbered fs n) h
 finds_other names (Optional m k) fs n h = first_other n m (own_field names (Optional m k) m) (field_numbered fs n) h

@@ -24,18 +24,18 @@ use Rattle.shared_core_wire.proofs.ReadBack.{or_split, includes-append, distinct
 use Rattle.shared_core_wire.proofs.Runs.{and_split, and_join}
 use Rattle.shared_core_codec.specs.Table.{table}
 use Rattle.shared_core_json.specs.Fields.{NamedField, name_of, field_numbered}
-use Rattle.shared_core_json.specs.Form.{is_present, member_if, part_json, items_json, members_json, value_json, enum_digits}
+use Rattle.shared_core_json.specs.Form.{is_present, member_if, part_json, items_json, members_json, json_with, enum_digits}
 use Rattle.shared_core_json.specs.Written.{low, number_token, numbers_past, run_tokens, value_tokens, end_tokens, record_tokens, next_open_list, items_tokens}
 use Rattle.shared_core_json.proofs.Lookup.{own_field, Knows, knows_row, knows_rest}
 
 -- ---- the walk over a record list
 
-module _ (nested : ℕ → List ℕ → List Token) (fields : List NamedField) where
+module _ (texts : Bool) (nested : ℕ → List ℕ → List Token) (fields : List NamedField) where
   unfoldable pub walk : ℕ → List FieldRecord → List Token
   walk open_list [] = end_tokens open_list
-  walk open_list (r ∷ rs) = record_tokens nested open_list (field_numbered fields r.number) r.value ++ walk (next_open_list open_list (field_numbered fields r.number)) rs
+  walk open_list (r ∷ rs) = record_tokens texts nested open_list (field_numbered fields r.number) r.value ++ walk (next_open_list open_list (field_numbered fields r.number)) rs
 
-  pub walk_items : (items : List (Result PlacedRecord WireError)) (rs : List FieldRecord) (open_list : ℕ) → map without_place items ≡ map Ok rs → items_tokens nested fields open_list items ≡ walk open_list rs
+  pub walk_items : (items : List (Result PlacedRecord WireError)) (rs : List FieldRecord) (open_list : ℕ) → map without_place items ≡ map Ok rs → items_tokens texts nested fields open_list items ≡ walk open_list rs
   unfolding items_tokens walk
   walk_items [] [] open_list e = refl
   walk_items [] (r ∷ rs) open_list e = absurd cc
@@ -45,7 +45,7 @@ module _ (nested : ℕ → List ℕ → List Token) (fields : List NamedField) w
   walk_items (Ok p ∷ items) (r ∷ rs) open_list e =
       let head : p.field_record ≡ r = cc in
       let tail : map without_place items ≡ map Ok rs = cc in
-      rw head (ap (λ (ts : List Token). record_tokens nested open_list (field_numbered fields r.number) r.value ++ ts) (walk_items items rs (next_open_list open_list (field_numbered fields r.number)) tail))
+      rw head (ap (λ (ts : List Token). record_tokens texts nested open_list (field_numbered fields r.number) r.value ++ ts) (walk_items items rs (next_open_list open_list (field_numbered fields r.number)) tail))
 
 -- ---- numbers
 
@@ -100,43 +100,43 @@ numbers_in nil = []
 numbers_in (cons (Number n) ps) = n ∷ numbers_in ps
 numbers_in (cons p ps) = numbers_in ps
 
-record Run (ps : Parts) : Type 0 where
+record Run (texts : Bool) (ps : Parts) : Type 0 where
   bytes : flat_map number_bytes (element_values table ps U32) ≡ flat_map shortest_varint (numbers_in ps)
   fit : list_all (λ n. ltb n (2 ^ 64)) (numbers_in ps) ≡ true
-  tokens : map number_token (numbers_in ps) ++ end_array ∷ [] ≡ tree.items_tokens (items_json ps U32)
+  tokens : map number_token (numbers_in ps) ++ end_array ∷ [] ≡ tree.items_tokens (items_json texts ps U32)
 
-run : (ps : Parts) → ElementsFit table ps U32 → Run ps
+run : (texts : Bool) (ps : Parts) → ElementsFit table ps U32 → Run texts ps
 unfolding part_values PartFits part_json numbers_in
-run nil h = record { bytes = refl; fit = refl; tokens = refl }
-run (cons (Number n) ps) h =
-    let r = run ps h.2 in
+run texts nil h = record { bytes = refl; fit = refl; tokens = refl }
+run texts (cons (Number n) ps) h =
+    let r = run texts ps h.2 in
     record {
       bytes = ap (λ (bs : List ℕ). shortest_varint n ++ bs) r.bytes;
       fit = and_join _ _ (lt-ltb n (2 ^ 64) (omega (arith, h.1))) r.fit;
       tokens = rw (low_u32 n h.1) (ap (λ (ts : List Token). number (decimal n) ∷ ts) r.tokens);
     }
-run (cons Absent ps) h = absurd (cc h.0)
-run (cons (Elements qs) ps) h = absurd (cc h.0)
-run (cons (Member m p) ps) h = absurd (cc h.0)
-run (cons (Bytes bytes) ps) h = absurd h.1
-run (cons (Nested qs) ps) h = absurd h.1
+run texts (cons Absent ps) h = absurd (cc h.0)
+run texts (cons (Elements qs) ps) h = absurd (cc h.0)
+run texts (cons (Member m p) ps) h = absurd (cc h.0)
+run texts (cons (Bytes bytes) ps) h = absurd h.1
+run texts (cons (Nested qs) ps) h = absurd h.1
 
-packed : (ps : Parts) → ElementsFit table ps U32 → run_tokens (flat_map number_bytes (element_values table ps U32)) ≡ begin_array ∷ tree.items_tokens (items_json ps U32)
+packed : (texts : Bool) (ps : Parts) → ElementsFit table ps U32 → run_tokens (flat_map number_bytes (element_values table ps U32)) ≡ begin_array ∷ tree.items_tokens (items_json texts ps U32)
 unfolding packed_numbers
-packed ps h =
-    let r = run ps h in
+packed texts ps h =
+    let r = run texts ps h in
     let ns = run_of 0 (flat_map shortest_varint (numbers_in ps)) (numbers_in ps) (varints_encoded (numbers_in ps) r.fit) in
     ap (λ (bs : List ℕ). run_tokens bs) r.bytes ∙ ap (λ (xs : List ℕ). begin_array ∷ (map number_token xs ++ end_array ∷ [])) ns ∙ ap (λ (ts : List Token). begin_array ∷ ts) r.tokens
 
 -- ---- one level
 
-module _ (nested : ℕ → List ℕ → List Token) (left : ℕ)
-    (back : (t : ℕ) (ps : Parts) → Fits table ps (table t) → suc (levels ps) ≤ left → length (canonical_payload table t ps) < 2 ^ 64 → nested t (canonical_payload table t ps) ≡ json_tokens (value_json t ps)) where
+module _ (texts : Bool) (nested : ℕ → List ℕ → List Token) (left : ℕ)
+    (back : (t : ℕ) (ps : Parts) → Fits table ps (table t) → suc (levels ps) ≤ left → length (canonical_payload table t ps) < 2 ^ 64 → nested t (canonical_payload table t ps) ≡ json_tokens (json_with texts t ps)) where
   -- the one record value of a single part, and its tokens
   record Single (p : Part) (k : Kind) : Type 0 where
     w : RecordValue
     is : part_values table p k ≡ w ∷ []
-    tokens : encodable_value w ≡ true → value_tokens nested k w ≡ json_tokens (part_json p k)
+    tokens : encodable_value w ≡ true → value_tokens texts nested k w ≡ json_tokens (part_json texts p k)
 
   single_number : (n : ℕ) (k : Kind) → NumberFits k n → Single (Number n) k
   unfolding part_values part_json
@@ -179,7 +179,7 @@ module _ (nested : ℕ → List ℕ → List Token) (left : ℕ)
 
   -- the elements of a list, and its end
   elements_tokens : (ps : Parts) (k : Kind) (rest : List Token) → ElementsFit table ps k → levels ps ≤ left → list_all encodable_value (element_values table ps k) ≡ true
-      → flat_map (value_tokens nested k) (element_values table ps k) ++ (end_array ∷ rest) ≡ tree.items_tokens (items_json ps k) ++ rest
+      → flat_map (value_tokens texts nested k) (element_values table ps k) ++ (end_array ∷ rest) ≡ tree.items_tokens (items_json texts ps k) ++ rest
   unfolding part_values PartFits levels part_json
   elements_tokens nil k rest h l s = refl
   elements_tokens (cons p ps) k rest h l s =
@@ -187,11 +187,11 @@ module _ (nested : ℕ → List ℕ → List Token) (left : ℕ)
       let low_rest : levels ps ≤ left = omega arith in
       let e = and_split _ _ (ap (λ (ws : List RecordValue). list_all encodable_value (ws ++ element_values table ps k)) (sym x.is) ∙ s) in
       let later = elements_tokens ps k rest h.2 low_rest e.1 in
-      ap (λ (ws : List RecordValue). flat_map (value_tokens nested k) (ws ++ element_values table ps k) ++ (end_array ∷ rest)) x.is
-      ∙ append_assoc (value_tokens nested k x.w) (flat_map (value_tokens nested k) (element_values table ps k)) (end_array ∷ rest)
-      ∙ ap (λ (ts : List Token). value_tokens nested k x.w ++ ts) later
-      ∙ ap (λ (ts : List Token). ts ++ (tree.items_tokens (items_json ps k) ++ rest)) (x.tokens e.0)
-      ∙ sym (append_assoc (json_tokens (part_json p k)) (tree.items_tokens (items_json ps k)) rest)
+      ap (λ (ws : List RecordValue). flat_map (value_tokens texts nested k) (ws ++ element_values table ps k) ++ (end_array ∷ rest)) x.is
+      ∙ append_assoc (value_tokens texts nested k x.w) (flat_map (value_tokens texts nested k) (element_values table ps k)) (end_array ∷ rest)
+      ∙ ap (λ (ts : List Token). value_tokens texts nested k x.w ++ ts) later
+      ∙ ap (λ (ts : List Token). ts ++ (tree.items_tokens (items_json texts ps k) ++ rest)) (x.tokens e.0)
+      ∙ sym (append_assoc (json_tokens (part_json texts p k)) (tree.items_tokens (items_json texts ps k)) rest)
 
   record First (k : Kind) (values : List RecordValue) : Type 0 where
     w : RecordValue
@@ -205,63 +205,63 @@ module _ (nested : ℕ → List ℕ → List Token) (left : ℕ)
   module _ (fields : List NamedField) where
     elements_walk : (n : ℕ) (name : List ℕ) (k : Kind) (ws : List RecordValue) (rest : List FieldRecord)
         → field_numbered fields n ≡ Some (record { number = n; name = name; kind = k; is_element = true })
-        → walk nested fields n (map (λ w. record { number = n; value = w }) ws ++ rest) ≡ flat_map (value_tokens nested k) ws ++ walk nested fields n rest
+        → walk texts nested fields n (map (λ w. record { number = n; value = w }) ws ++ rest) ≡ flat_map (value_tokens texts nested k) ws ++ walk texts nested fields n rest
     unfolding walk
     elements_walk n name k [] rest f = refl
     elements_walk n name k (w ∷ ws) rest f =
-        rw (f, eq-eqb n n refl) (ap (λ (ts : List Token). value_tokens nested k w ++ ts) (elements_walk n name k ws rest f)
-        ∙ sym (append_assoc (value_tokens nested k w) (flat_map (value_tokens nested k) ws) (walk nested fields n rest)))
+        rw (f, eq-eqb n n refl) (ap (λ (ts : List Token). value_tokens texts nested k w ++ ts) (elements_walk n name k ws rest f)
+        ∙ sym (append_assoc (value_tokens texts nested k w) (flat_map (value_tokens texts nested k) ws) (walk texts nested fields n rest)))
 
     module _ (rest : List FieldRecord) (ms : Members) (open_list : ℕ) where
       one_written : (n : ℕ) (name : List ℕ) (k : Kind) (w : RecordValue) (j : Json)
           → field_numbered fields n ≡ Some (record { number = n; name = name; kind = k; is_element = false })
-          → eqb open_list n ≡ false → value_tokens nested k w ≡ json_tokens j
-          → walk nested fields 0 rest ++ end_object ∷ [] ≡ members_tokens ms
-          → walk nested fields open_list (record { number = n; value = w } ∷ rest) ++ end_object ∷ [] ≡ end_tokens open_list ++ members_tokens (member name j ms)
+          → eqb open_list n ≡ false → value_tokens texts nested k w ≡ json_tokens j
+          → walk texts nested fields 0 rest ++ end_object ∷ [] ≡ members_tokens ms
+          → walk texts nested fields open_list (record { number = n; value = w } ∷ rest) ++ end_object ∷ [] ≡ end_tokens open_list ++ members_tokens (member name j ms)
       unfolding walk
       one_written n name k w j f ne t next =
-          rw (f, ne) (regroup (end_tokens open_list) (key name ∷ []) (value_tokens nested k w) (walk nested fields 0 rest) (end_object ∷ [])
-          ∙ ap (λ (ts : List Token). end_tokens open_list ++ (key name ∷ (ts ++ (walk nested fields 0 rest ++ end_object ∷ [])))) t
+          rw (f, ne) (regroup (end_tokens open_list) (key name ∷ []) (value_tokens texts nested k w) (walk texts nested fields 0 rest) (end_object ∷ [])
+          ∙ ap (λ (ts : List Token). end_tokens open_list ++ (key name ∷ (ts ++ (walk texts nested fields 0 rest ++ end_object ∷ [])))) t
           ∙ ap (λ (ts : List Token). end_tokens open_list ++ (key name ∷ (json_tokens j ++ ts))) next)
 
       single_written : (n : ℕ) (name : List ℕ) (k : Kind) (p : Part) → Single p k
           → field_numbered fields n ≡ Some (record { number = n; name = name; kind = k; is_element = false })
           → eqb open_list n ≡ false → list_all encodable (map (λ w. record { number = n; value = w }) (part_values table p k)) ≡ true
-          → walk nested fields 0 rest ++ end_object ∷ [] ≡ members_tokens ms
-          → walk nested fields open_list (map (λ w. record { number = n; value = w }) (part_values table p k) ++ rest) ++ end_object ∷ []
-          ≡ end_tokens open_list ++ members_tokens (member name (part_json p k) ms)
+          → walk texts nested fields 0 rest ++ end_object ∷ [] ≡ members_tokens ms
+          → walk texts nested fields open_list (map (λ w. record { number = n; value = w }) (part_values table p k) ++ rest) ++ end_object ∷ []
+          ≡ end_tokens open_list ++ members_tokens (member name (part_json texts p k) ms)
       single_written n name k p x f ne s next =
           let encodes = ap (λ (ws : List RecordValue). list_all encodable (map (λ w. record { number = n; value = w }) ws)) (sym x.is) ∙ s in
-          ap (λ (ws : List RecordValue). walk nested fields open_list (map (λ w. record { number = n; value = w }) ws ++ rest) ++ end_object ∷ []) x.is
-          ∙ one_written n name k x.w (part_json p k) f ne (x.tokens (and_split _ _ (and_split _ _ encodes).0).1) next
+          ap (λ (ws : List RecordValue). walk texts nested fields open_list (map (λ w. record { number = n; value = w }) ws ++ rest) ++ end_object ∷ []) x.is
+          ∙ one_written n name k x.w (part_json texts p k) f ne (x.tokens (and_split _ _ (and_split _ _ encodes).0).1) next
 
       -- the first element of a list, and the others
       first_written : (n : ℕ) (name : List ℕ) (k : Kind) (w : RecordValue) (ws all : List RecordValue)
           → field_numbered fields n ≡ Some (record { number = n; name = name; kind = k; is_element = true })
           → eqb open_list n ≡ false → eqb n 0 ≡ false → all ≡ w ∷ ws
-          → walk nested fields n rest ++ end_object ∷ [] ≡ end_tokens n ++ members_tokens ms
-          → walk nested fields open_list (record { number = n; value = w } ∷ (map (λ v. record { number = n; value = v }) ws ++ rest)) ++ end_object ∷ []
-          ≡ end_tokens open_list ++ (key name ∷ (begin_array ∷ (flat_map (value_tokens nested k) all ++ (end_array ∷ members_tokens ms))))
+          → walk texts nested fields n rest ++ end_object ∷ [] ≡ end_tokens n ++ members_tokens ms
+          → walk texts nested fields open_list (record { number = n; value = w } ∷ (map (λ v. record { number = n; value = v }) ws ++ rest)) ++ end_object ∷ []
+          ≡ end_tokens open_list ++ (key name ∷ (begin_array ∷ (flat_map (value_tokens texts nested k) all ++ (end_array ∷ members_tokens ms))))
       unfolding walk
       first_written n name k w ws all f ne nz a next =
           let later = elements_walk n name k ws rest f in
-          let ended : walk nested fields n rest ++ end_object ∷ [] ≡ end_array ∷ members_tokens ms = rw nz at next in
-          let values = flat_map (value_tokens nested k) ws in
-          rw (f, ne) (ap (λ (ts : List Token). (((end_tokens open_list ++ (key name ∷ begin_array ∷ [])) ++ value_tokens nested k w) ++ ts) ++ (end_object ∷ [])) later
-          ∙ regroup (end_tokens open_list) (key name ∷ begin_array ∷ []) (value_tokens nested k w) (values ++ walk nested fields n rest) (end_object ∷ [])
-          ∙ ap (λ (ts : List Token). end_tokens open_list ++ (key name ∷ (begin_array ∷ (value_tokens nested k w ++ ts)))) (append_assoc values (walk nested fields n rest) (end_object ∷ []) ∙ ap (λ (ts : List Token). values ++ ts) ended)
-          ∙ ap (λ (ts : List Token). end_tokens open_list ++ (key name ∷ (begin_array ∷ ts))) (sym (append_assoc (value_tokens nested k w) values (end_array ∷ members_tokens ms)))
-          ∙ ap (λ (vs : List RecordValue). end_tokens open_list ++ (key name ∷ (begin_array ∷ (flat_map (value_tokens nested k) vs ++ (end_array ∷ members_tokens ms))))) (sym a))
+          let ended : walk texts nested fields n rest ++ end_object ∷ [] ≡ end_array ∷ members_tokens ms = rw nz at next in
+          let values = flat_map (value_tokens texts nested k) ws in
+          rw (f, ne) (ap (λ (ts : List Token). (((end_tokens open_list ++ (key name ∷ begin_array ∷ [])) ++ value_tokens texts nested k w) ++ ts) ++ (end_object ∷ [])) later
+          ∙ regroup (end_tokens open_list) (key name ∷ begin_array ∷ []) (value_tokens texts nested k w) (values ++ walk texts nested fields n rest) (end_object ∷ [])
+          ∙ ap (λ (ts : List Token). end_tokens open_list ++ (key name ∷ (begin_array ∷ (value_tokens texts nested k w ++ ts)))) (append_assoc values (walk texts nested fields n rest) (end_object ∷ []) ∙ ap (λ (ts : List Token). values ++ ts) ended)
+          ∙ ap (λ (ts : List Token). end_tokens open_list ++ (key name ∷ (begin_array ∷ ts))) (sym (append_assoc (value_tokens texts nested k w) values (end_array ∷ members_tokens ms)))
+          ∙ ap (λ (vs : List RecordValue). end_tokens open_list ++ (key name ∷ (begin_array ∷ (flat_map (value_tokens texts nested k) vs ++ (end_array ∷ members_tokens ms))))) (sym a))
 
       elements_written : (n : ℕ) (name : List ℕ) (k : Kind) (p : Part) (ps : Parts)
           → field_numbered fields n ≡ Some (record { number = n; name = name; kind = k; is_element = true })
           → eqb open_list n ≡ false → eqb n 0 ≡ false → ElementsFit table (cons p ps) k → levels (cons p ps) ≤ left → list_all encodable_value (element_values table (cons p ps) k) ≡ true
-          → walk nested fields n rest ++ end_object ∷ [] ≡ end_tokens n ++ members_tokens ms
-          → walk nested fields open_list (map (λ w. record { number = n; value = w }) (element_values table (cons p ps) k) ++ rest) ++ end_object ∷ []
-          ≡ end_tokens open_list ++ members_tokens (member name (array (items_json (cons p ps) k)) ms)
+          → walk texts nested fields n rest ++ end_object ∷ [] ≡ end_tokens n ++ members_tokens ms
+          → walk texts nested fields open_list (map (λ w. record { number = n; value = w }) (element_values table (cons p ps) k) ++ rest) ++ end_object ∷ []
+          ≡ end_tokens open_list ++ members_tokens (member name (array (items_json texts (cons p ps) k)) ms)
       elements_written n name k p ps f ne nz h l s next =
           let x = single_first p k ps h l in
-          ap (λ (ws : List RecordValue). walk nested fields open_list (map (λ w. record { number = n; value = w }) ws ++ rest) ++ end_object ∷ []) x.is
+          ap (λ (ws : List RecordValue). walk texts nested fields open_list (map (λ w. record { number = n; value = w }) ws ++ rest) ++ end_object ∷ []) x.is
           ∙ first_written n name k x.w x.ws (element_values table (cons p ps) k) f ne nz x.is next
           ∙ ap (λ (ts : List Token). end_tokens open_list ++ (key name ∷ (begin_array ∷ ts))) (elements_tokens (cons p ps) k (members_tokens ms) h l s)
 
@@ -269,10 +269,10 @@ module _ (nested : ℕ → List ℕ → List Token) (left : ℕ)
       plain_written : (n : ℕ) (name : List ℕ) (k : Kind) (p : Part) (default : Bool) → Single p k
           → field_numbered fields n ≡ Some (record { number = n; name = name; kind = k; is_element = false })
           → eqb open_list n ≡ false → list_all encodable (map (λ w. record { number = n; value = w }) (cond default [] (part_values table p k))) ≡ true
-          → walk nested fields open_list rest ++ end_object ∷ [] ≡ end_tokens open_list ++ members_tokens ms
-          → walk nested fields 0 rest ++ end_object ∷ [] ≡ members_tokens ms
-          → walk nested fields open_list (map (λ w. record { number = n; value = w }) (cond default [] (part_values table p k)) ++ rest) ++ end_object ∷ []
-          ≡ end_tokens open_list ++ members_tokens (member_if (not default) name (part_json p k) ms)
+          → walk texts nested fields open_list rest ++ end_object ∷ [] ≡ end_tokens open_list ++ members_tokens ms
+          → walk texts nested fields 0 rest ++ end_object ∷ [] ≡ members_tokens ms
+          → walk texts nested fields open_list (map (λ w. record { number = n; value = w }) (cond default [] (part_values table p k)) ++ rest) ++ end_object ∷ []
+          ≡ end_tokens open_list ++ members_tokens (member_if (not default) name (part_json texts p k) ms)
       plain_written n name k p true x f ne s stay next = stay
       plain_written n name k p false x f ne s stay next = single_written n name k p x f ne s next
 
@@ -285,11 +285,11 @@ module _ (nested : ℕ → List ℕ → List Token) (left : ℕ)
           → includes (numbers row) open_list ≡ false → includes (numbers row) 0 ≡ false
           → has_shape row p ≡ true → PartFits table p (kind_of row p) → part_levels p ≤ left
           → list_all encodable (row_records row p (part_values table p (kind_of row p))) ≡ true
-          → walk nested fields open_list rest ++ end_object ∷ [] ≡ end_tokens open_list ++ members_tokens ms
-          → walk nested fields 0 rest ++ end_object ∷ [] ≡ members_tokens ms
-          → ((n : ℕ) → includes (numbers row) n ≡ true → walk nested fields n rest ++ end_object ∷ [] ≡ end_tokens n ++ members_tokens ms)
-          → walk nested fields open_list (row_records row p (part_values table p (kind_of row p)) ++ rest) ++ end_object ∷ []
-          ≡ end_tokens open_list ++ members_tokens (member_if (is_present row p) (name_of names (number_of row p)) (part_json p (kind_of row p)) ms)
+          → walk texts nested fields open_list rest ++ end_object ∷ [] ≡ end_tokens open_list ++ members_tokens ms
+          → walk texts nested fields 0 rest ++ end_object ∷ [] ≡ members_tokens ms
+          → ((n : ℕ) → includes (numbers row) n ≡ true → walk texts nested fields n rest ++ end_object ∷ [] ≡ end_tokens n ++ members_tokens ms)
+          → walk texts nested fields open_list (row_records row p (part_values table p (kind_of row p)) ++ rest) ++ end_object ∷ []
+          ≡ end_tokens open_list ++ members_tokens (member_if (is_present row p) (name_of names (number_of row p)) (part_json texts p (kind_of row p)) ms)
       unfolding part_values PartFits levels part_json
       row_written names (Plain n k) Absent f b z i h l s stay next nextn = absurd cc
       row_written names (Plain n k) (Elements ps) f b z i h l s stay next nextn = absurd cc
@@ -307,8 +307,8 @@ module _ (nested : ℕ → List ℕ → List Token) (left : ℕ)
           single_written n (name_of names n) k p (single p k i h l) (f n (own_number n)) (other_number (n ∷ []) open_list n b (own_number n)) s next
       row_written names (Repeated n U32) (Elements nil) f b z i h l s stay next nextn = stay
       row_written names (Repeated n U32) (Elements (cons (Number m) ps)) f b z i h l s stay next nextn =
-          one_written n (name_of names n) U32 (Length (flat_map number_bytes (element_values table (cons (Number m) ps) U32))) (array (items_json (cons (Number m) ps) U32))
-          (f n (own_number n)) (other_number (n ∷ []) open_list n b (own_number n)) (packed (cons (Number m) ps) h) next
+          one_written n (name_of names n) U32 (Length (flat_map number_bytes (element_values table (cons (Number m) ps) U32))) (array (items_json texts (cons (Number m) ps) U32))
+          (f n (own_number n)) (other_number (n ∷ []) open_list n b (own_number n)) (packed texts (cons (Number m) ps) h) next
       row_written names (Repeated n U32) (Elements (cons Absent ps)) f b z i h l s stay next nextn = absurd (cc h.0)
       row_written names (Repeated n U32) (Elements (cons (Elements qs) ps)) f b z i h l s stay next nextn = absurd (cc h.0)
       row_written names (Repeated n U32) (Elements (cons (Member m p) ps)) f b z i h l s stay next nextn = absurd (cc h.0)
@@ -327,7 +327,7 @@ module _ (nested : ℕ → List ℕ → List Token) (left : ℕ)
     pub members_written : (names : List (ℕ × List ℕ)) (v : Parts) (rows : List Row) (open_list : ℕ) → are_distinct (all_numbers rows) ≡ true → Knows fields names rows
         → includes (all_numbers rows) open_list ≡ false → includes (all_numbers rows) 0 ≡ false
         → Fits table v rows → levels v ≤ left → list_all encodable (message_records table v rows) ≡ true
-        → walk nested fields open_list (message_records table v rows) ++ end_object ∷ [] ≡ end_tokens open_list ++ members_tokens (members_json names v rows)
+        → walk texts nested fields open_list (message_records table v rows) ++ end_object ∷ [] ≡ end_tokens open_list ++ members_tokens (members_json texts names v rows)
     unfolding part_values PartFits levels part_json walk
     members_written names nil [] open_list d k b z h l s = refl
     members_written names nil (row ∷ rows) open_list d k b z h l s = absurd h
@@ -339,5 +339,5 @@ module _ (nested : ℕ → List ℕ → List Token) (left : ℕ)
         let before = or_split (includes (numbers row) open_list) _ (sym (includes-append (numbers row) (all_numbers rows) open_list) ∙ b) in
         let zero_of = or_split (includes (numbers row) 0) _ (sym (includes-append (numbers row) (all_numbers rows) 0) ∙ z) in
         let later = λ (n : ℕ) (g : includes (all_numbers rows) n ≡ false). members_written names ps rows n (distinct_back (numbers row) (all_numbers rows) d) (knows_rest fields names row rows d k) g zero_of.1 h.2 low_rest e.1 in
-        row_written (message_records table ps rows) (members_json names ps rows) open_list names row p (knows_row fields names row rows k) before.0 zero_of.0 h.0 h.1 low_row e.0
+        row_written (message_records table ps rows) (members_json texts names ps rows) open_list names row p (knows_row fields names row rows k) before.0 zero_of.0 h.0 h.1 low_row e.0
         (later open_list before.1) (later 0 zero_of.1) (λ n g. later n (distinct_other (numbers row) (all_numbers rows) n d g))

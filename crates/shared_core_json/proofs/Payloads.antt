@@ -25,7 +25,7 @@ use Rattle.shared_core_codec.specs.Payloads.{payload_meaning}
 use Rattle.shared_core_codec.specs.Canonicity.{IsCanonical}
 use Rattle.shared_core_codec.proofs.Tables.{are_schemas}
 use Rattle.shared_core_json.specs.Fields.{schema_fields, names_of}
-use Rattle.shared_core_json.specs.Form.{value_json}
+use Rattle.shared_core_json.specs.Form.{json_with}
 use Rattle.shared_core_json.specs.Payloads.{IsEncoding, WritesJson}
 use Rattle.shared_core_json.specs.Written.{payload_tokens}
 use Rattle.shared_core_json.proofs.Levels.{meaning_levels}
@@ -56,27 +56,27 @@ canonical_items : (left : ℕ) (rs : List FieldRecord) → list_all encodable rs
 unfolding read_records
 canonical_items left rs h = read_only left rs (length (record_list_bytes rs)) (record_list_bytes rs) (records_reads left (record_list_bytes rs) rs (records_encoded left rs h))
 
-level_written : (left s : ℕ) (v : Parts) → Fits table v (table s) → levels v ≤ left → length (canonical_payload table s v) < 2 ^ 64
-    → ((t : ℕ) (ps : Parts) → Fits table ps (table t) → suc (levels ps) ≤ left → length (canonical_payload table t ps) < 2 ^ 64 → payload_tokens left t (canonical_payload table t ps) ≡ json_tokens (value_json t ps))
-    → payload_tokens (suc left) s (canonical_payload table s v) ≡ json_tokens (value_json s v)
+level_written : (texts : Bool) (left s : ℕ) (v : Parts) → Fits table v (table s) → levels v ≤ left → length (canonical_payload table s v) < 2 ^ 64
+    → ((t : ℕ) (ps : Parts) → Fits table ps (table t) → suc (levels ps) ≤ left → length (canonical_payload table t ps) < 2 ^ 64 → payload_tokens texts left t (canonical_payload table t ps) ≡ json_tokens (json_with texts t ps))
+    → payload_tokens texts (suc left) s (canonical_payload table s v) ≡ json_tokens (json_with texts s v)
 unfolding payload_tokens schema_fields
-level_written left s v h l z back =
+level_written texts left s v h l z back =
     let p = encodes left s v h l z in
     let schema = and_split _ _ (are_schemas s) in
     let zero_of = no_zero (all_numbers (table s)) schema.0 in
     let rs = message_records table v (table s) in
-    ap (λ (ts : List Token). begin_object ∷ (ts ++ (end_object ∷ []))) (walk_items (payload_tokens left) (schema_fields s) (read_records left (canonical_payload table s v)) rs 0 (canonical_items left rs p))
-    ∙ ap (λ (ts : List Token). begin_object ∷ ts) (members_written (payload_tokens left) left back (schema_fields s) (names_of s) v (table s) 0 schema.1 (λ n g. refl) zero_of zero_of h l p)
+    ap (λ (ts : List Token). begin_object ∷ (ts ++ (end_object ∷ []))) (walk_items texts (payload_tokens texts left) (schema_fields s) (read_records left (canonical_payload table s v)) rs 0 (canonical_items left rs p))
+    ∙ ap (λ (ts : List Token). begin_object ∷ ts) (members_written texts (payload_tokens texts left) left back (schema_fields s) (names_of s) v (table s) 0 schema.1 (λ n g. refl) zero_of zero_of h l p)
 
-pub canonical_written : (left s : ℕ) (v : Parts) → Fits table v (table s) → levels v ≤ left → length (canonical_payload table s v) < 2 ^ 64
-    → payload_tokens (suc left) s (canonical_payload table s v) ≡ json_tokens (value_json s v)
-canonical_written zero s v h l z = level_written zero s v h l z (λ t ps f k c. absurd (omega arith))
-canonical_written (suc left) s v h l z = level_written (suc left) s v h l z (λ t ps f k c. canonical_written left t ps f (omega arith) c)
+pub canonical_written : (texts : Bool) (left s : ℕ) (v : Parts) → Fits table v (table s) → levels v ≤ left → length (canonical_payload table s v) < 2 ^ 64
+    → payload_tokens texts (suc left) s (canonical_payload table s v) ≡ json_tokens (json_with texts s v)
+canonical_written texts zero s v h l z = level_written texts zero s v h l z (λ t ps f k c. absurd (omega arith))
+canonical_written texts (suc left) s v h l z = level_written texts (suc left) s v h l z (λ t ps f k c. canonical_written texts left t ps f (omega arith) c)
 
-pub encoding_written : (s : ℕ) (bytes : List ℕ) (old new : List Token) → length bytes < 2 ^ 64 → new ≡ old ++ payload_tokens 102 s bytes → WritesJson s bytes old new
-encoding_written s bytes old new len w v encoding =
-    w ∙ ap (λ (bs : List ℕ). old ++ payload_tokens 102 s bs) encoding.canonical
-    ∙ ap (λ (ts : List Token). old ++ ts) (canonical_written 101 s v encoding.fits encoding.low (subst (λ (bs : List ℕ). length bs < 2 ^ 64) encoding.canonical len))
+pub encoding_written : (texts : Bool) (s : ℕ) (bytes : List ℕ) (old new : List Token) → length bytes < 2 ^ 64 → new ≡ old ++ payload_tokens texts 102 s bytes → WritesJson texts s bytes old new
+encoding_written texts s bytes old new len w v encoding =
+    w ∙ ap (λ (bs : List ℕ). old ++ payload_tokens texts 102 s bs) encoding.canonical
+    ∙ ap (λ (ts : List Token). old ++ ts) (canonical_written texts 101 s v encoding.fits encoding.low (subst (λ (bs : List ℕ). length bs < 2 ^ 64) encoding.canonical len))
 
 -- the canonical payload of what a payload means
 pub decoded_encoding : (s : ℕ) (payload bytes : List ℕ) (v : Parts) → v ≡ payload_meaning s payload → Fits table v (table s) → bytes ≡ canonical_payload table s v → IsEncoding s (payload_meaning s payload) bytes

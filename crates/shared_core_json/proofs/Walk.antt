@@ -1,15 +1,20 @@
 -- What is written on going over the numbers of a packed run, and over the records of a payload.
-use Rattle.std.proofs.Common.{◌≡◌, ℕ, zero, suc, ◌-◌, ◌<◌, List, [], ◌∷◌, ◌++◌, length, drop, Some, None, Result, Ok, Err, true, false, append_assoc, refl, sym, ap, ◌∙◌, arith}
+use Rattle.std.proofs.Common.{◌≡◌, ℕ, zero, suc, ◌-◌, ◌<◌, List, [], ◌∷◌, ◌++◌, length, drop, Some, None, Result, Ok, Err, Bool, true, false, append_assoc, refl, sym, ap, ◌∙◌, arith}
 use Rattle.std.proofs.lemmas.List.{length-append}
+use Rattle.base64.specs.GeneralPurpose.{encode_of}
+use Rattle.base64.specs.Engines.{standard}
+use Rattle.json.specs.Json.{object, member, no_members}
+use Rattle.json.specs.Json as json
 use Rattle.json.specs.Token.{Token, begin_object, end_object, string, null}
 use Rattle.shared_core_wire.proofs.Groups.{beyond}
 use Rattle.shared_core_wire.proofs.Readers.{varint_pos, varint_reads}
 use Rattle.shared_core_wire.specs.Reader.{varint_at}
 use Rattle.shared_core_wire.specs.ReadRecords.{PlacedRecord, read_records}
 use Rattle.shared_core_wire.specs.declared.error.WireError.{WireError}
-use Rattle.std.specs.Prelude.{OnOk}
+use Rattle.std.specs.Prelude.{OnOk, codes}
 use Rattle.std.specs.Str.{is_utf8}
 use Rattle.shared_core_json.specs.Fields.{NamedField, schema_fields, field_numbered}
+use Rattle.shared_core_json.specs.Form.{byte_string_json}
 use Rattle.shared_core_json.specs.Written.{text_token, numbers_past, end_tokens, record_tokens, next_open_list, items_tokens, payload_tokens}
 
 numbers_over : (past : ℕ) (bytes : List ℕ) → numbers_past past bytes ≡ numbers_past 0 (drop past bytes)
@@ -45,15 +50,15 @@ numbers_turn bytes n rest e =
 suc_less : (n : ℕ) → suc n - 1 ≡ n
 suc_less n = omega arith
 
-pub payload_none : (levels s : ℕ) (bytes : List ℕ) → levels ≡ 0 → payload_tokens levels s bytes ≡ null ∷ []
+pub payload_none : (texts : Bool) (levels s : ℕ) (bytes : List ℕ) → levels ≡ 0 → payload_tokens texts levels s bytes ≡ null ∷ []
 unfolding payload_tokens
-payload_none levels s bytes e = rw e refl
+payload_none texts levels s bytes e = rw e refl
 
-pub payload_whole : (levels s : ℕ) (bytes : List ℕ) → 0 < levels
-    → payload_tokens levels s bytes ≡ begin_object ∷ (items_tokens (payload_tokens (levels - 1)) (schema_fields s) 0 (read_records (levels - 1) bytes) ++ end_object ∷ [])
+pub payload_whole : (texts : Bool) (levels s : ℕ) (bytes : List ℕ) → 0 < levels
+    → payload_tokens texts levels s bytes ≡ begin_object ∷ (items_tokens texts (payload_tokens texts (levels - 1)) (schema_fields s) 0 (read_records (levels - 1) bytes) ++ end_object ∷ [])
 unfolding payload_tokens
-payload_whole zero s bytes h = absurd (omega arith)
-payload_whole (suc left) s bytes h = rw (suc_less left) refl
+payload_whole texts zero s bytes h = absurd (omega arith)
+payload_whole texts (suc left) s bytes h = rw (suc_less left) refl
 
 pub on_ok : {A E P Q : Type 0} (r : Result A E) → (P → Q) → OnOk r P → OnOk r Q
 on_ok (Ok x) f p = f p
@@ -65,30 +70,37 @@ text_is bytes text e u = rw (u, e) refl
 pub no_text : (bytes : List ℕ) → is_utf8 bytes ≡ false → null ≡ text_token bytes
 no_text bytes u = rw u refl
 
+pub text_shown : (texts : Bool) (bytes text : List ℕ) → texts ≡ true → text ≡ bytes → is_utf8 bytes ≡ true → object (member (codes "text") (json.string text) no_members) ≡ byte_string_json texts bytes
+text_shown texts bytes text t e u = rw (t, u, e) refl
+
+pub base64_shown : (texts : Bool) (bytes : List ℕ) → is_utf8 bytes ≡ false → json.string (encode_of standard bytes) ≡ byte_string_json texts bytes
+base64_shown true bytes u = rw u refl
+base64_shown false bytes u = refl
+
 -- one more step of a walk whose result stays
 pub step_on : (old new front rest all : List Token) → new ≡ old ++ front → old ++ (front ++ rest) ≡ all → new ++ rest ≡ all
 step_on old new front rest all e h = rw e (append_assoc old front rest ∙ h)
 
--- what stands between two brackets
+-- the tokens between two brackets
 pub enclosed : (first last : Token) (before begun looped ended whole middle : List Token) → begun ≡ before ++ first ∷ [] → looped ≡ begun ++ middle → ended ≡ looped → whole ≡ ended ++ last ∷ [] → whole ≡ before ++ (first ∷ (middle ++ last ∷ []))
 enclosed first last before begun looped ended whole middle b l e w =
     w ∙ ap (λ (ts : List Token). ts ++ last ∷ []) (e ∙ l ∙ ap (λ (ts : List Token). ts ++ middle) b)
     ∙ append_assoc (before ++ first ∷ []) middle (last ∷ []) ∙ append_assoc before (first ∷ []) (middle ++ last ∷ [])
 
-module _ (nested : ℕ → List ℕ → List Token) (fields : List NamedField) where
+module _ (texts : Bool) (nested : ℕ → List ℕ → List Token) (fields : List NamedField) where
   pub record_turn : (open_list now : ℕ) (old new all : List Token) (r : PlacedRecord) (items whole : List (Result PlacedRecord WireError))
-      → new ≡ old ++ record_tokens nested open_list (field_numbered fields r.field_record.number) r.field_record.value
+      → new ≡ old ++ record_tokens texts nested open_list (field_numbered fields r.field_record.number) r.field_record.value
       → now ≡ next_open_list open_list (field_numbered fields r.field_record.number)
-      → whole ≡ Ok r ∷ items → old ++ items_tokens nested fields open_list whole ≡ all → new ++ items_tokens nested fields now items ≡ all
+      → whole ≡ Ok r ∷ items → old ++ items_tokens texts nested fields open_list whole ≡ all → new ++ items_tokens texts nested fields now items ≡ all
   unfolding items_tokens
   record_turn open_list now old new all r items whole e n w h =
-      rw n (step_on old new _ _ all e (sym (ap (λ (is : List (Result PlacedRecord WireError)). old ++ items_tokens nested fields open_list is) w) ∙ h))
+      rw n (step_on old new _ _ all e (sym (ap (λ (is : List (Result PlacedRecord WireError)). old ++ items_tokens texts nested fields open_list is) w) ∙ h))
 
   pub error_turn : (open_list : ℕ) (old all : List Token) (x : WireError) (items whole : List (Result PlacedRecord WireError))
-      → whole ≡ Err x ∷ items → old ++ items_tokens nested fields open_list whole ≡ all → old ++ items_tokens nested fields open_list items ≡ all
+      → whole ≡ Err x ∷ items → old ++ items_tokens texts nested fields open_list whole ≡ all → old ++ items_tokens texts nested fields open_list items ≡ all
   unfolding items_tokens
-  error_turn open_list old all x items whole w h = sym (ap (λ (is : List (Result PlacedRecord WireError)). old ++ items_tokens nested fields open_list is) w) ∙ h
+  error_turn open_list old all x items whole w h = sym (ap (λ (is : List (Result PlacedRecord WireError)). old ++ items_tokens texts nested fields open_list is) w) ∙ h
 
-  pub items_end : (open_list : ℕ) (items : List (Result PlacedRecord WireError)) → items ≡ [] → items_tokens nested fields open_list items ≡ end_tokens open_list
+  pub items_end : (open_list : ℕ) (items : List (Result PlacedRecord WireError)) → items ≡ [] → items_tokens texts nested fields open_list items ≡ end_tokens open_list
   unfolding items_tokens
   items_end open_list items w = rw w refl

@@ -1,6 +1,6 @@
 -- The fields of a schema, with their JSON names.
 use Rattle.std.specs.Prelude.{ℕ, zero, suc, Bool, true, false, List, [], ◌∷◌, ◌++◌, map, nat_eq, if◌then◌else◌, Option, Some, None}
-use Rattle.shared_core_wire.specs.Schema.{Row, Plain, Optional, Repeated, OneOf, Kind as AnyKind, U32, U64, Boolean, Enumeration, Text, ByteString, Message}
+use Rattle.shared_core_wire.specs.Schema.{Row, Plain, Optional, Repeated, OneOf, Kind as AnyKind, U32}
 use Rattle.shared_core_codec.specs.Table.{table}
 use Rattle.shared_core_codec.specs.ProgramRows.{kind_view}
 use Rattle.std.specs.Borrow.{Bor}

@@ -1,5 +1,6 @@
--- The JSON form of a value of the protocol's messages, by proto3's JSON mapping.
-use Rattle.std.specs.Prelude.{ℕ, ◌-◌, ◌^◌, Bool, true, false, not, List, [], ◌∷◌, ◌++◌, codes, decimal, nat_lt, ◌==◌, if◌then◌else◌}
+-- The JSON form of a value of the protocol's messages, by proto3's JSON mapping, and with bytes as texts.
+use Rattle.std.specs.Prelude.{ℕ, ◌-◌, ◌^◌, Bool, true, false, not, ◌&&◌, List, [], ◌∷◌, ◌++◌, codes, decimal, nat_lt, ◌==◌, if◌then◌else◌}
+use Rattle.std.specs.Str.{is_utf8}
 use Rattle.base64.specs.GeneralPurpose.{encode_of}
 use Rattle.base64.specs.Engines.{standard}
 use Rattle.json.specs.Json.{Json, null, boolean, number, string, array, object, Items, no_items, item, Members, no_members, member}
@@ -22,10 +23,16 @@ number_json Boolean n = boolean (not (n == 0))
 number_json Enumeration n = number (enum_digits n)
 number_json k n = number (decimal n)
 
--- Bytes: a text unchanged, others in standard base64 with padding.
-abbrev pub bytes_json : Kind → List ℕ → Json
-bytes_json ByteString bytes = string (encode_of standard bytes)
-bytes_json k bytes = string bytes
+-- Bytes of any kind: in standard base64 with padding; if texts are wanted, those that are UTF-8 as an object with the
+-- one member `text`.
+abbrev pub byte_string_json : Bool → List ℕ → Json
+byte_string_json texts bytes =
+    if texts && is_utf8 bytes then object (member (codes "text") (string bytes) no_members) else string (encode_of standard bytes)
+
+-- Length-delimited bytes: a text unchanged, others as bytes of any kind.
+abbrev pub bytes_json : Bool → Kind → List ℕ → Json
+bytes_json texts ByteString bytes = byte_string_json texts bytes
+bytes_json texts k bytes = string bytes
 
 -- Whether a row has a member in the object: not if it is absent, a list without elements, or a plain default.
 abbrev pub is_present : Row → Part → Bool
@@ -48,30 +55,34 @@ member_if present name json others = if present then member name json others els
 unfoldable mutual
   -- The JSON of a part: a number, bytes, a message as an object, the elements of a repeated field as an array, the
   -- member of a oneof.
-  pub part_json : Part → Kind → Json
-  part_json Absent k = null
-  part_json (Number n) k = number_json k n
-  part_json (Bytes bytes) k = bytes_json k bytes
-  part_json (Nested ps) k = object (members_json (names_of_kind k) ps (rows_of_kind table k))
-  part_json (Elements ps) k = array (items_json ps k)
-  part_json (Member n p) k = part_json p k
+  pub part_json : Bool → Part → Kind → Json
+  part_json texts Absent k = null
+  part_json texts (Number n) k = number_json k n
+  part_json texts (Bytes bytes) k = bytes_json texts k bytes
+  part_json texts (Nested ps) k = object (members_json texts (names_of_kind k) ps (rows_of_kind table k))
+  part_json texts (Elements ps) k = array (items_json texts ps k)
+  part_json texts (Member n p) k = part_json texts p k
 
   -- The elements of a repeated field, in order.
-  pub items_json : Parts → Kind → Items
-  items_json nil k = no_items
-  items_json (cons p ps) k = item (part_json p k) (items_json ps k)
+  pub items_json : Bool → Parts → Kind → Items
+  items_json texts nil k = no_items
+  items_json texts (cons p ps) k = item (part_json texts p k) (items_json texts ps k)
 
   -- The members of a message's object: one for each present row, in the order of the schema, each by the name of its
   -- field.
-  pub members_json : List (ℕ × List ℕ) → Parts → List Row → Members
-  members_json names nil rows = no_members
-  members_json names (cons p ps) [] = no_members
-  members_json names (cons p ps) (row ∷ rows) =
-      member_if (is_present row p) (name_of names (number_of row p)) (part_json p (kind_of row p)) (members_json names ps rows)
+  pub members_json : Bool → List (ℕ × List ℕ) → Parts → List Row → Members
+  members_json texts names nil rows = no_members
+  members_json texts names (cons p ps) [] = no_members
+  members_json texts names (cons p ps) (row ∷ rows) =
+      member_if (is_present row p) (name_of names (number_of row p)) (part_json texts p (kind_of row p)) (members_json texts names ps rows)
 
--- The JSON of a value of the schema s.
+-- The JSON of a value of the schema s, with texts or without.
+abbrev pub json_with : Bool → ℕ → Parts → Json
+json_with texts s v = object (members_json texts (names_of s) v (table s))
+
+-- The JSON of a value of the schema s, by proto3's JSON mapping: without texts.
 abbrev pub value_json : ℕ → Parts → Json
-value_json s v = object (members_json (names_of s) v (table s))
+value_json s v = json_with false s v
 
 -- Its text: without spaces, with the escapes \" \\ \b \f \n \r \t, \u00xx for the other control characters, and all
 -- else unescaped.

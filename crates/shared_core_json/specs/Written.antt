@@ -1,16 +1,15 @@
 -- The tokens that are written for the records of a payload, one after the other.
-use Rattle.std.specs.Prelude.{ℕ, zero, suc, ◌-◌, ◌%◌, not, List, [], ◌∷◌, ◌++◌, map, length, decimal, nat_eq, ◌==◌, if◌then◌else◌, Option, Some, None, Result, Ok, Err}
+use Rattle.std.specs.Prelude.{ℕ, zero, suc, ◌-◌, ◌%◌, Bool, not, List, [], ◌∷◌, ◌++◌, map, length, decimal, nat_eq, ◌==◌, if◌then◌else◌, Option, Some, None, Result, Ok, Err}
 use Rattle.std.specs.Str.{is_utf8}
-use Rattle.base64.specs.GeneralPurpose.{encode_of}
-use Rattle.base64.specs.Engines.{standard}
 use Rattle.json.specs.Token.{Token, begin_object, end_object, begin_array, end_array, key, string, number, boolean, null}
+use Rattle.json.specs.Tree.{json_tokens}
 use Rattle.shared_core_wire.specs.Grammar.{RecordValue, Varint, Fixed64, Length, Group, Fixed32}
 use Rattle.shared_core_wire.specs.Reader.{varint_at}
 use Rattle.shared_core_wire.specs.ReadRecords.{PlacedRecord, read_records}
 use Rattle.shared_core_wire.specs.Schema.{Kind, U32, U64, Boolean, Enumeration, Text, ByteString, Message}
 use Rattle.shared_core_wire.specs.declared.error.WireError.{WireError}
 use Rattle.shared_core_json.specs.Fields.{NamedField, schema_fields, field_numbered}
-use Rattle.shared_core_json.specs.Form.{enum_digits}
+use Rattle.shared_core_json.specs.Form.{enum_digits, byte_string_json}
 
 -- The low 32 bits.
 abbrev pub low : ℕ → ℕ
@@ -48,22 +47,22 @@ abbrev pub text_token : List ℕ → Token
 text_token bytes = if is_utf8 bytes then string bytes else null
 
 -- The tokens of length-delimited bytes, where nested gives those of a message's; null if the kind has none.
-abbrev pub length_tokens : (ℕ → List ℕ → List Token) → Kind → List ℕ → List Token
-length_tokens nested U32 bytes = run_tokens bytes
-length_tokens nested U64 bytes = null ∷ []
-length_tokens nested Boolean bytes = null ∷ []
-length_tokens nested Enumeration bytes = null ∷ []
-length_tokens nested Text bytes = text_token bytes ∷ []
-length_tokens nested ByteString bytes = string (encode_of standard bytes) ∷ []
-length_tokens nested (Message s) bytes = nested s bytes
+abbrev pub length_tokens : Bool → (ℕ → List ℕ → List Token) → Kind → List ℕ → List Token
+length_tokens texts nested U32 bytes = run_tokens bytes
+length_tokens texts nested U64 bytes = null ∷ []
+length_tokens texts nested Boolean bytes = null ∷ []
+length_tokens texts nested Enumeration bytes = null ∷ []
+length_tokens texts nested Text bytes = text_token bytes ∷ []
+length_tokens texts nested ByteString bytes = json_tokens (byte_string_json texts bytes)
+length_tokens texts nested (Message s) bytes = nested s bytes
 
 -- The tokens of a record's value.
-abbrev pub value_tokens : (ℕ → List ℕ → List Token) → Kind → RecordValue → List Token
-value_tokens nested k (Varint n) = varint_token k n ∷ []
-value_tokens nested k (Length bytes) = length_tokens nested k bytes
-value_tokens nested k (Fixed64 bytes) = null ∷ []
-value_tokens nested k (Group bytes) = null ∷ []
-value_tokens nested k (Fixed32 bytes) = null ∷ []
+abbrev pub value_tokens : Bool → (ℕ → List ℕ → List Token) → Kind → RecordValue → List Token
+value_tokens texts nested k (Varint n) = varint_token k n ∷ []
+value_tokens texts nested k (Length bytes) = length_tokens texts nested k bytes
+value_tokens texts nested k (Fixed64 bytes) = null ∷ []
+value_tokens texts nested k (Group bytes) = null ∷ []
+value_tokens texts nested k (Fixed32 bytes) = null ∷ []
 
 -- The end of the open list: that of the field of this number, or none if it is 0.
 abbrev pub end_tokens : ℕ → List Token
@@ -78,9 +77,9 @@ abbrev pub open_list_after : NamedField → ℕ
 open_list_after f = if f.is_element then f.number else 0
 
 -- The tokens of a record of the field, if there is one.
-abbrev pub record_tokens : (ℕ → List ℕ → List Token) → ℕ → Option NamedField → RecordValue → List Token
-record_tokens nested open_list None w = []
-record_tokens nested open_list (Some f) w = lead_tokens open_list f ++ value_tokens nested f.kind w
+abbrev pub record_tokens : Bool → (ℕ → List ℕ → List Token) → ℕ → Option NamedField → RecordValue → List Token
+record_tokens texts nested open_list None w = []
+record_tokens texts nested open_list (Some f) w = lead_tokens open_list f ++ value_tokens texts nested f.kind w
 
 -- The list that is open after it.
 abbrev pub next_open_list : ℕ → Option NamedField → ℕ
@@ -88,15 +87,15 @@ next_open_list open_list None = open_list
 next_open_list open_list (Some f) = open_list_after f
 
 -- The tokens of the items that reading a payload gives.
-unfoldable pub items_tokens : (ℕ → List ℕ → List Token) → List NamedField → ℕ → List (Result PlacedRecord WireError) → List Token
-items_tokens nested fields open_list [] = end_tokens open_list
-items_tokens nested fields open_list (Ok r ∷ items) =
-    record_tokens nested open_list (field_numbered fields r.field_record.number) r.field_record.value
-    ++ items_tokens nested fields (next_open_list open_list (field_numbered fields r.field_record.number)) items
-items_tokens nested fields open_list (Err e ∷ items) = items_tokens nested fields open_list items
+unfoldable pub items_tokens : Bool → (ℕ → List ℕ → List Token) → List NamedField → ℕ → List (Result PlacedRecord WireError) → List Token
+items_tokens texts nested fields open_list [] = end_tokens open_list
+items_tokens texts nested fields open_list (Ok r ∷ items) =
+    record_tokens texts nested open_list (field_numbered fields r.field_record.number) r.field_record.value
+    ++ items_tokens texts nested fields (next_open_list open_list (field_numbered fields r.field_record.number)) items
+items_tokens texts nested fields open_list (Err e ∷ items) = items_tokens texts nested fields open_list items
 
 -- The tokens of a payload of the schema s that may be nested this deep, itself included; null if the depth is 0.
-unfoldable pub payload_tokens : ℕ → ℕ → List ℕ → List Token
-payload_tokens zero s bytes = null ∷ []
-payload_tokens (suc left) s bytes =
-    begin_object ∷ (items_tokens (payload_tokens left) (schema_fields s) 0 (read_records left bytes) ++ end_object ∷ [])
+unfoldable pub payload_tokens : Bool → ℕ → ℕ → List ℕ → List Token
+payload_tokens texts zero s bytes = null ∷ []
+payload_tokens texts (suc left) s bytes =
+    begin_object ∷ (items_tokens texts (payload_tokens texts left) (schema_fields s) 0 (read_records left bytes) ++ end_object ∷ [])

@@ -1,4 +1,4 @@
-//! The JSON of a payload: of its canonical payload, which is made first if it is not canonical already.
+//! The JSON of a payload, which is that of its canonical payload.
 
 ghost use Rattle.std.specs.Prelude.{◌≡◌, ◌≤◌, ◌^◌, IfOk, OnOk};
 ghost use Rattle.std.specs.Result.{IsErrOf};

@@ -1,11 +1,11 @@
-//! The error of `canonical`: why a payload has no JSON.
+//! The error of writing JSON.
 
 use shared_core_wire::error::WireError;
 use std::alloc::AllocError;
 use std::error::Error;
 use std::fmt;
 
-/// The error of `canonical`: why a payload has no JSON.
+/// Why a payload has no JSON.
 #[derive(Debug, Drop)]
 pub enum JsonError {
     /// It is not well-formed for its message.

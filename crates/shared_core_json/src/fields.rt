@@ -1,4 +1,4 @@
-//! The fields that the rows of a schema have, told apart as JSON does: whether a record of one is an element of a list.
+//! The fields of a schema as JSON has them: whether each record of a field is an element of a list.
 
 ghost use Rattle.std.specs.Prelude.{◌≡◌, ◌&&◌, option_map};
 ghost use Rattle.shared_core_codec.specs.ProgramRows.{kind_view};

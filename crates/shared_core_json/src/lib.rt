@@ -14,4 +14,4 @@ mod write;
 
 pub use canonical::{json_of, write_canonical};
 pub use error::JsonError;
-pub use write::write_message;
+pub use write::{write_byte_string, write_message, write_message_with};

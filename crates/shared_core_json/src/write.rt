@@ -1,13 +1,15 @@
 //! Writing canonical payloads as JSON, in one pass and by the rows of schemas for all messages.
 
-ghost use Rattle.std.specs.Prelude.{◌≡◌, [], ◌∷◌, ◌++◌, false, nat_eq, OnOk, IfOk};
+ghost use Rattle.std.specs.Prelude.{◌≡◌, [], ◌∷◌, ◌++◌, codes, false, nat_eq, OnOk, IfOk};
 ghost use Rattle.json.specs.Token.{number, null, end_array};
 ghost use Rattle.json.specs.Token as token;
+ghost use Rattle.json.specs.Json.{object, string, member, no_members};
+ghost use Rattle.json.specs.Tree.{json_tokens};
 ghost use Rattle.base64.specs.GeneralPurpose.{encode_of};
 ghost use Rattle.base64.specs.Engines.{standard};
 ghost use Rattle.shared_core_wire.specs.View.{value_of};
 ghost use Rattle.shared_core_codec.specs.ProgramRows.{kind_view};
-ghost use Rattle.shared_core_json.specs.Form.{enum_digits};
+ghost use Rattle.shared_core_json.specs.Form.{enum_digits, byte_string_json};
 ghost use Rattle.shared_core_json.specs.Fields.{field_view, schema_fields, field_numbered};
 ghost use Rattle.shared_core_json.specs.Payloads.{WritesJson};
 ghost use Rattle.shared_core_json.specs.Written.{low, varint_token, run_tokens};
@@ -35,10 +37,25 @@ pub fn write_message(
     schema: u32,
     canonical: &[u8],
 ) -> Result<(), AllocError>
-    ensures tokens { OnOk result (WritesJson schema canonical.now out.old.tokens out.new.tokens) }
+    ensures tokens { OnOk result (WritesJson false schema canonical.now out.old.tokens out.new.tokens) }
     ensures before { out.new.before ≡ out.old.before }
 {
-    write_payload(out, base64, schema, canonical, LEVELS)
+    write_message_with(out, base64, false, schema, canonical)
+}
+
+/// Does what `write_message` does; if `texts` is given, bytes that are UTF-8 are not written in base64, but as the
+/// object `{"text":".."}`, which proto3's JSON form does not have.
+pub fn write_message_with(
+    out: &mut Writer,
+    base64: &mut String,
+    texts: bool,
+    schema: u32,
+    canonical: &[u8],
+) -> Result<(), AllocError>
+    ensures tokens { OnOk result (WritesJson texts schema canonical.now out.old.tokens out.new.tokens) }
+    ensures before { out.new.before ≡ out.old.before }
+{
+    write_payload(out, base64, texts, schema, canonical, LEVELS)
 }
 
 /// Writes a payload as an object; it may be nested this deep, itself included.
@@ -46,11 +63,12 @@ pub fn write_message(
 fn write_payload(
     out: &mut Writer,
     base64: &mut String,
+    texts: bool,
     schema: u32,
     payload: &[u8],
     levels: u32,
 ) -> Result<(), AllocError>
-    ensures tokens { OnOk result (out.new.tokens ≡ out.old.tokens ++ payload_tokens levels schema payload.now) }
+    ensures tokens { OnOk result (out.new.tokens ≡ out.old.tokens ++ payload_tokens texts levels schema payload.now) }
     ensures before { out.new.before ≡ out.old.before }
 {
     if levels == 0 {
@@ -60,7 +78,7 @@ fn write_payload(
     let mut open_list = 0;
     for item in Records::within(payload, levels - 1) {
         if let Ok(found) = item {
-            open_list = write_record(out, base64, schema, &found, open_list, levels - 1)?;
+            open_list = write_record(out, base64, texts, schema, &found, open_list, levels - 1)?;
         }
     }
     end_list(out, open_list)?;
@@ -73,14 +91,15 @@ fn write_payload(
 fn write_record(
     out: &mut Writer,
     base64: &mut String,
+    texts: bool,
     schema: u32,
     found: &Record<'_>,
     open_list: u32,
     left: u32,
 ) -> Result<u32, AllocError>
     ensures tokens { OnOk result (out.new.tokens ≡ out.old.tokens
-        ++ record_tokens (payload_tokens left) open_list (field_numbered (schema_fields schema) found.now.number)
-        (value_of found.now.value)) }
+        ++ record_tokens texts (payload_tokens texts left) open_list
+        (field_numbered (schema_fields schema) found.now.number) (value_of found.now.value)) }
     ensures open_list { IfOk result (λ now. now ≡ next_open_list open_list
         (field_numbered (schema_fields schema) found.now.number)) }
     ensures before { out.new.before ≡ out.old.before }
@@ -91,7 +110,7 @@ fn write_record(
     if open_list != field.number {
         begin_member(out, schema, &field, open_list)?;
     }
-    write_value(out, base64, field.kind, found.value, left)?;
+    write_value(out, base64, texts, field.kind, found.value, left)?;
     Ok(if field.is_element { field.number } else { 0 })
 }
 
@@ -131,12 +150,13 @@ fn end_list(out: &mut Writer, open_list: u32) -> Result<(), AllocError>
 fn write_value(
     out: &mut Writer,
     base64: &mut String,
+    texts: bool,
     kind: Kind,
     value: WireValue<'_>,
     left: u32,
 ) -> Result<(), AllocError>
     ensures tokens { OnOk result (out.new.tokens ≡ out.old.tokens
-        ++ value_tokens (payload_tokens left) (kind_view kind) (value_of value.entry)) }
+        ++ value_tokens texts (payload_tokens texts left) (kind_view kind) (value_of value.entry)) }
     ensures before { out.new.before ≡ out.old.before }
 {
     match value {
@@ -144,8 +164,8 @@ fn write_value(
         WireValue::Length(bytes) => match kind {
             Kind::U32 => write_run(out, bytes),
             Kind::Text => write_text(out, bytes),
-            Kind::ByteString => write_base64(out, base64, bytes),
-            Kind::Message(schema) => write_payload(out, base64, schema, bytes, left),
+            Kind::ByteString => write_byte_string(out, base64, texts, bytes),
+            Kind::Message(schema) => write_payload(out, base64, texts, schema, bytes, left),
             _ => out.null(),
         },
         _ => out.null(),
@@ -201,6 +221,38 @@ fn write_text(out: &mut Writer, bytes: &[u8]) -> Result<(), AllocError>
         Ok(text) => out.string(text),
         Err(_) => out.null(),
     }
+}
+
+/// Writes bytes of any kind: in base64, using the buffer `base64`; if texts are wanted, those that are UTF-8 as the
+/// object `{"text":".."}`. If an allocation fails, some tokens may be written.
+pub fn write_byte_string(
+    out: &mut Writer,
+    base64: &mut String,
+    texts: bool,
+    bytes: &[u8],
+) -> Result<(), AllocError>
+    ensures tokens { OnOk result (out.new.tokens ≡ out.old.tokens ++ json_tokens (byte_string_json texts bytes.now)) }
+    ensures before { out.new.before ≡ out.old.before }
+{
+    if !texts {
+        return write_base64(out, base64, bytes);
+    }
+    match std::str::from_utf8(bytes) {
+        Ok(text) => write_marked(out, text),
+        Err(_) => write_base64(out, base64, bytes),
+    }
+}
+
+/// Writes a text as the object that bytes are then.
+fn write_marked(out: &mut Writer, text: &str) -> Result<(), AllocError>
+    ensures tokens { OnOk result (out.new.tokens ≡ out.old.tokens
+        ++ json_tokens (object (member (codes "text") (string text.now) no_members))) }
+    ensures before { out.new.before ≡ out.old.before }
+{
+    out.begin_object()?;
+    out.key("text")?;
+    out.string(text)?;
+    out.end_object()
 }
 
 /// Writes bytes in base64, using the buffer `base64`.

@@ -116,7 +116,7 @@ module _ (nested_r : ℕ → Json → Option Parts) (nested_b : ℕ → Json →
   field_same : (plain : Bool) (f : NamedField) (j : Json) → field_bytes nested_b plain f j ≡ option_map (single_out plain f.number f.kind) (field_read nested_r f j)
   field_same plain f j = single_same plain f.number f.kind f.values j
 
-  -- two that are there, and both
+  -- if both lists exist, each does
   both_same : {A B C : Type 0} (F : A → List ℕ) (G : B → List ℕ) (H : C → List ℕ) (c : A → B → C) (a : Option A) (b : Option B) → ((x : A) (y : B) → F x ++ G y ≡ H (c x y))
       → both (option_map F a) (option_map G b) ≡ option_map H (option_and_then (λ x. option_map (c x) b) a)
   both_same F G H c None b e = refl

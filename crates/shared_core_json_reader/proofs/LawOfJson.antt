@@ -1,11 +1,14 @@
 -- The JSON of a value, as tokens, is read as the value's canonical payload.
-use Rattle.std.proofs.Common.{◌≡◌, ℕ, suc, ◌+◌, ◌*◌, ◌≤◌, max, List, [], ◌∷◌, ◌++◌, length, Bool, true, false, cond, Some, option_map, option_and_then, refl, sym, ap, subst, ◌∙◌, append-nil, arith}
+use Rattle.std.proofs.Common.{◌≡◌, ℕ, suc, ◌+◌, ◌*◌, ◌≤◌, max, List, [], ◌∷◌, ◌++◌, length, Bool, true, false, cond, ◌&&◌, Some, option_map, option_and_then, refl, sym, ap, subst, ◌∙◌, append-nil, arith}
 use Rattle.std.proofs.lemmas.Bool.{eqb-true}
 use Rattle.std.proofs.lemmas.Str.{is_utf8-from_IsUtf8}
 use Rattle.std.proofs.lemmas.List.Concat.{flat_map-append}
-use Rattle.base64.specs.GeneralPurpose.{IsBytes}
+use Rattle.std.specs.Prelude.{codes}
+use Rattle.std.specs.Str.{is_utf8}
+use Rattle.base64.specs.GeneralPurpose.{encode_of, IsBytes}
+use Rattle.base64.specs.Engines.{standard}
 use Rattle.base64.proofs.EngineFacts.{front_bytes}
-use Rattle.json.specs.Json.{Json, Members, if_last, value}
+use Rattle.json.specs.Json.{Json, Members, if_last, value, object, string, member, no_members}
 use Rattle.json.specs.Tree.{json_tokens, depth, items_depth, members_depth}
 use Rattle.json.proofs.Printed.Trees.{value-json_tokens}
 use Rattle.shared_core_wire.specs.Grammar.{RecordValue, Varint, Fixed64, Length, Group, Fixed32}
@@ -18,7 +21,7 @@ use Rattle.shared_core_wire.specs.Fitting.{is_single, has_shape, PartFits, Eleme
 use Rattle.shared_core_wire.proofs.Runs.{and_split}
 use Rattle.shared_core_codec.specs.Table.{table}
 use Rattle.shared_core_json.specs.Fields.{names_of, name_of}
-use Rattle.shared_core_json.specs.Form.{is_present, member_if, number_json, bytes_json, part_json, items_json, members_json, value_json}
+use Rattle.shared_core_json.specs.Form.{is_present, member_if, number_json, byte_string_json, bytes_json, part_json, items_json, members_json, json_with}
 use Rattle.shared_core_json_reader.specs.Laws.{JsonIsReadBack}
 use Rattle.shared_core_json_reader.specs.Reading.{only_value}
 use Rattle.shared_core_json_reader.proofs.Agreeing.{out_of}
@@ -36,14 +39,21 @@ number_depth Text n = refl
 number_depth ByteString n = refl
 number_depth (Message s) n = refl
 
-bytes_depth : (k : Kind) (b : List ℕ) → depth (bytes_json k b) ≡ 0
-bytes_depth U32 b = refl
-bytes_depth U64 b = refl
-bytes_depth Boolean b = refl
-bytes_depth Enumeration b = refl
-bytes_depth Text b = refl
-bytes_depth ByteString b = refl
-bytes_depth (Message s) b = refl
+byte_string_depth : (texts : Bool) (b : List ℕ) → depth (byte_string_json texts b) ≤ 1
+byte_string_depth texts b = by_test (texts && is_utf8 b)
+  where
+    by_test : (t : Bool) → depth (cond t (object (member (codes "text") (string b) no_members)) (string (encode_of standard b))) ≤ 1
+    by_test true = omega arith
+    by_test false = omega arith
+
+bytes_depth : (texts : Bool) (k : Kind) (b : List ℕ) → depth (bytes_json texts k b) ≤ 1
+bytes_depth texts U32 b = omega arith
+bytes_depth texts U64 b = omega arith
+bytes_depth texts Boolean b = omega arith
+bytes_depth texts Enumeration b = omega arith
+bytes_depth texts Text b = omega arith
+bytes_depth texts ByteString b = byte_string_depth texts b
+bytes_depth texts (Message s) b = omega arith
 
 -- what a oneof holds is a single value
 abbrev HoldsSingle : Part → Type 0
@@ -73,9 +83,9 @@ shape_holds (schema.Optional n k) (Member m p) h = absurd cc
 shape_holds (schema.Repeated n k) (Member m p) h = absurd cc
 shape_holds (schema.OneOf members) (Member m p) h = (and_split _ _ h).1
 
-record Low (p : Part) (k : Kind) : Type 0 where
-  low : depth (part_json p k) ≤ 2 * part_levels p + 1
-  lower : is_single p ≡ true → depth (part_json p k) ≤ 2 * part_levels p
+record Low (texts : Bool) (p : Part) (k : Kind) : Type 0 where
+  low : depth (part_json texts p k) ≤ 2 * part_levels p + 2
+  lower : is_single p ≡ true → depth (part_json texts p k) ≤ 2 * part_levels p + 1
 
 member_low : (b : Bool) (name : List ℕ) (j : Json) (others : Members) (bound : ℕ) → depth j ≤ bound → members_depth others ≤ bound → members_depth (member_if b name j others) ≤ bound
 member_low true name j others bound h g = omega arith
@@ -84,30 +94,30 @@ member_low false name j others bound h g = g
 mutual
   unfolding PartFits part_levels part_json
 
-  part_low : (p : Part) (k : Kind) → PartFits table p k → HoldsSingle p → Low p k
-  part_low Absent k f h = record { low = omega arith; lower = λ e. omega arith }
-  part_low (Number n) k f h = record { low = omega (arith, number_depth k n); lower = λ e. omega (arith, number_depth k n) }
-  part_low (Bytes b) k f h = record { low = omega (arith, bytes_depth k b); lower = λ e. omega (arith, bytes_depth k b) }
-  part_low (Nested ps) (Message t) f h = let m = members_low (names_of t) ps (table t) f in record { low = omega (arith, m); lower = λ e. omega (arith, m) }
-  part_low (Nested ps) U32 f h = absurd f
-  part_low (Nested ps) U64 f h = absurd f
-  part_low (Nested ps) Boolean f h = absurd f
-  part_low (Nested ps) Enumeration f h = absurd f
-  part_low (Nested ps) Text f h = absurd f
-  part_low (Nested ps) ByteString f h = absurd f
-  part_low (Elements ps) k f h = let m = items_low ps k f in record { low = omega (arith, m); lower = λ e. absurd cc }
-  part_low (Member n p) k f h = let m = part_low p k f (single_holds p h) in record { low = m.low; lower = λ e. absurd cc }
+  part_low : (texts : Bool) (p : Part) (k : Kind) → PartFits table p k → HoldsSingle p → Low texts p k
+  part_low texts Absent k f h = record { low = omega arith; lower = λ e. omega arith }
+  part_low texts (Number n) k f h = record { low = omega (arith, number_depth k n); lower = λ e. omega (arith, number_depth k n) }
+  part_low texts (Bytes b) k f h = record { low = omega (arith, bytes_depth texts k b); lower = λ e. omega (arith, bytes_depth texts k b) }
+  part_low texts (Nested ps) (Message t) f h = let m = members_low texts (names_of t) ps (table t) f in record { low = omega (arith, m); lower = λ e. omega (arith, m) }
+  part_low texts (Nested ps) U32 f h = absurd f
+  part_low texts (Nested ps) U64 f h = absurd f
+  part_low texts (Nested ps) Boolean f h = absurd f
+  part_low texts (Nested ps) Enumeration f h = absurd f
+  part_low texts (Nested ps) Text f h = absurd f
+  part_low texts (Nested ps) ByteString f h = absurd f
+  part_low texts (Elements ps) k f h = let m = items_low texts ps k f in record { low = omega (arith, m); lower = λ e. absurd cc }
+  part_low texts (Member n p) k f h = let m = part_low texts p k f (single_holds p h) in record { low = m.low; lower = λ e. absurd cc }
 
-  items_low : (ps : Parts) (k : Kind) → ElementsFit table ps k → items_depth (items_json ps k) ≤ 2 * levels ps
-  items_low nil k f = omega arith
-  items_low (cons p ps) k f = let one = (part_low p k f.1 (single_holds p f.0)).lower f.0 in omega (arith, one, items_low ps k f.2)
+  items_low : (texts : Bool) (ps : Parts) (k : Kind) → ElementsFit table ps k → items_depth (items_json texts ps k) ≤ 2 * levels ps + 1
+  items_low texts nil k f = omega arith
+  items_low texts (cons p ps) k f = let one = (part_low texts p k f.1 (single_holds p f.0)).lower f.0 in omega (arith, one, items_low texts ps k f.2)
 
-  members_low : (ns : List (ℕ × List ℕ)) (v : Parts) (rows : List Row) → Fits table v rows → members_depth (members_json ns v rows) ≤ 2 * levels v + 1
-  members_low ns nil rows f = omega arith
-  members_low ns (cons p ps) [] f = absurd f
-  members_low ns (cons p ps) (row ∷ rows) f =
-      let one = (part_low p (kind_of row p) f.1 (shape_holds row p f.0)).low in
-      member_low (is_present row p) (name_of ns (number_of row p)) (part_json p (kind_of row p)) (members_json ns ps rows) (2 * max (part_levels p) (levels ps) + 1) (omega (arith, one)) (omega (arith, members_low ns ps rows f.2))
+  members_low : (texts : Bool) (ns : List (ℕ × List ℕ)) (v : Parts) (rows : List Row) → Fits table v rows → members_depth (members_json texts ns v rows) ≤ 2 * levels v + 2
+  members_low texts ns nil rows f = omega arith
+  members_low texts ns (cons p ps) [] f = absurd f
+  members_low texts ns (cons p ps) (row ∷ rows) f =
+      let one = (part_low texts p (kind_of row p) f.1 (shape_holds row p f.0)).low in
+      member_low (is_present row p) (name_of ns (number_of row p)) (part_json texts p (kind_of row p)) (members_json texts ns ps rows) (2 * max (part_levels p) (levels ps) + 2) (omega (arith, one)) (omega (arith, members_low texts ns ps rows f.2))
 
 -- ---- the bytes of a value are those of its payload
 
@@ -243,10 +253,10 @@ whole_value : (j : Json) → depth j ≤ 1000 → only_value (json_tokens j) ≡
 unfolding only_value
 whole_value j h = ap (option_and_then (λ p. if_last p.0 p.1)) (ap (value 1000) (sym (append-nil (json_tokens j))) ∙ value-json_tokens j 1000 [] h)
 
-pub json_back : (s : ℕ) → JsonIsReadBack s
-json_back s v bytes text encoding small low utf8 lexed =
-    let deep : depth (value_json s v) ≤ 1000 = omega (arith, members_low (names_of s) v (table s) encoding.fits) in
+pub json_back : (texts : Bool) (s : ℕ) → JsonIsReadBack texts s
+json_back texts s v bytes text encoding small low utf8 lexed =
+    let deep : depth (json_with texts s v) ≤ 1000 = omega (arith, members_low texts (names_of s) v (table s) encoding.fits) in
     let held = message_bytes_of v (table s) encoding.fits (subst IsBytes encoding.canonical small) in
-    let is : IsText text (json_tokens (value_json s v)) = record { utf8 = is_utf8-from_IsUtf8 text utf8; lexed = sym lexed } in
-    text_of_value s text (value_json s v) (of_tokens text (json_tokens (value_json s v)) (Some (value_json s v)) is (whole_value (value_json s v) deep))
-    ∙ ap (option_map (canonical_payload table s)) (message_back 100 s v encoding.fits low held) ∙ ap (λ (b : List ℕ). Some b) (sym encoding.canonical)
+    let is : IsText text (json_tokens (json_with texts s v)) = record { utf8 = is_utf8-from_IsUtf8 text utf8; lexed = sym lexed } in
+    text_of_value s text (json_with texts s v) (of_tokens text (json_tokens (json_with texts s v)) (Some (json_with texts s v)) is (whole_value (json_with texts s v) deep))
+    ∙ ap (option_map (canonical_payload table s)) (message_back texts 100 s v encoding.fits low held) ∙ ap (λ (b : List ℕ). Some b) (sym encoding.canonical)

@@ -1,6 +1,7 @@
 pub mod Numbers
 pub mod Texts
 pub mod Levels
+pub mod FirstErrors
 pub mod Agreeing
 pub mod Whole
 pub mod Fitting

@@ -1,6 +1,6 @@
 -- What is written for a number, a text or bytes is read as that.
-use Rattle.std.proofs.Common.{◌≡◌, ℕ, zero, suc, ◌+◌, ◌-◌, ◌*◌, ◌%◌, ◌^◌, ◌<◌, ◌≤◌, negsuc, List, [], ◌∷◌, ◌++◌, length, take, drop, Bool, true, false, cond, not, Some, None, option_and_then, refl, sym, ap, ap₂, ◌∙◌, append-nil, arith, eqb, ltb}
-use Rattle.std.specs.Prelude.{decimal}
+use Rattle.std.proofs.Common.{◌≡◌, ℕ, zero, suc, ◌+◌, ◌-◌, ◌*◌, ◌%◌, ◌^◌, ◌<◌, ◌≤◌, negsuc, List, [], ◌∷◌, ◌++◌, length, take, drop, Bool, true, false, cond, not, ◌&&◌, Some, None, option_and_then, refl, sym, ap, ap₂, ◌∙◌, append-nil, arith, eqb, ltb}
+use Rattle.std.specs.Prelude.{codes, decimal}
 use Rattle.std.specs.Str.{is_utf8}
 use Rattle.std.specs.Str.Parse.{digits_value, AllDigits}
 use Rattle.std.specs.Float.Numeral.{Parts, IsWellFormed}
@@ -13,11 +13,12 @@ use Rattle.base64.specs.Engines.{standard, standard_pad_indifferent}
 use Rattle.base64.proofs.EngineFacts.{decode_of-encode_of}
 use Rattle.fast_float.specs.Text.{scan}
 use Rattle.fast_float.proofs.Writing.{scan-text_of}
-use Rattle.json.specs.Json.{number, string, boolean}
+use Rattle.json.specs.Json.{Json, number, string, boolean, object, member, no_members}
 use Rattle.json.specs.Word.{head, after_minus}
 use Rattle.json.proofs.Printed.Decimals.{IsNumber-decimal, IsNumber-signed_decimal}
-use Rattle.shared_core_json.specs.Form.{enum_digits}
+use Rattle.shared_core_json.specs.Form.{enum_digits, byte_string_json}
 use Rattle.shared_core_json_reader.specs.Scalars.{ends_there, magnitude_of, whole_of_text, unsigned_below, signed_bits, unsigned_read, boolean_read, enum_read, text_read, bytes_read}
+use Rattle.shared_core_json_reader.specs.Reading.{present}
 use Rattle.shared_core_json_reader.proofs.Numbers.{magnitude_is, with_sign, number_whole}
 use Rattle.shared_core_json_reader.proofs.Texts.{standard_bytes}
 
@@ -112,4 +113,23 @@ pub text_back : (b : List ℕ) → is_utf8 b ≡ true → text_read (string b) �
 text_back b h = ap (λ (t : Bool). cond t (Some b) None) h
 
 pub bytes_back : (b : List ℕ) → IsBytes b → bytes_read (string (encode_of standard b)) ≡ Some b
-bytes_back b h = standard_bytes (string (encode_of standard b)) (encode_of standard b) b refl (decode_of-encode_of standard_pad_indifferent b tt h)
+bytes_back b h = standard_bytes (encode_of standard b) b (decode_of-encode_of standard_pad_indifferent b tt h)
+
+-- as a text, or in base64
+pub byte_string_back : (texts : Bool) (b : List ℕ) → IsBytes b → bytes_read (byte_string_json texts b) ≡ Some b
+byte_string_back false b h = bytes_back b h
+byte_string_back true b h = by_test (is_utf8 b) refl
+  where
+    by_test : (t : Bool) → is_utf8 b ≡ t → bytes_read (cond t (object (member (codes "text") (string b) no_members)) (string (encode_of standard b))) ≡ Some b
+    by_test true e = text_back b e
+    by_test false e = bytes_back b h
+
+pub byte_string_there : (texts : Bool) (b : List ℕ) → present (byte_string_json texts b) ≡ Some (byte_string_json texts b)
+byte_string_there texts b = by_test (texts && is_utf8 b)
+  where
+    shown : Bool → Json
+    shown t = cond t (object (member (codes "text") (string b) no_members)) (string (encode_of standard b))
+
+    by_test : (t : Bool) → present (shown t) ≡ Some (shown t)
+    by_test true = refl
+    by_test false = refl

@@ -1,5 +1,5 @@
 -- Base64 read, varints appended, and the bytes of original names.
-use Rattle.std.proofs.Common.{◌≡◌, ℕ, ◌+◌, ◌/◌, ◌%◌, ◌<◌, ◌≤◌, List, [], ◌∷◌, ◌++◌, Bool, true, false, cond, ◌&&◌, Option, Some, None, option_and_then, Result, Ok, Err, refl, sym, ap, subst, ◌∙◌, append_assoc, eqb, leb}
+use Rattle.std.proofs.Common.{◌≡◌, ◌≢◌, Bor, length, ℕ, ◌+◌, ◌/◌, ◌%◌, ◌<◌, ◌≤◌, List, [], ◌∷◌, ◌++◌, Bool, true, false, cond, ◌&&◌, Option, Some, None, option_and_then, Result, Ok, Err, refl, sym, ap, subst, ◌∙◌, append_assoc, eqb, leb}
 use Rattle.std.specs.Result.{result_ok}
 use Rattle.std.specs.Option.{option_or}
 use Rattle.std.specs.Str.{bytes_eq, is_utf8}
@@ -10,20 +10,21 @@ use Rattle.base64.specs.declared.decode.DecodeAllocError.{DecodeAllocError}
 use Rattle.base64.specs.declared.decode.DecodeAllocError.TheVariants.{DecodeError as Failed}
 use Rattle.json.specs.Json.{Json}
 use Rattle.json.specs.Find.{as_str}
+use Rattle.json.specs.Value.{members_view}
+use Rattle.json.specs.declared.value.Value.{Value}
 use Rattle.shared_core_wire.specs.Encoding.{shortest_varint}
 use Rattle.shared_core_wire.proofs.Shortest.{shortest_small, shortest_large}
-use Rattle.shared_core_json_reader.specs.Scalars.{utf8_text, text_read, base64_bytes, bytes_read}
+use Rattle.shared_core_json_reader.specs.Scalars.{utf8_text, text_read, only_text, base64_bytes}
 use Rattle.shared_core_json_reader.specs.Original.{after_byte, after_original}
 use Rattle.shared_core_json_reader.specs.Reading.{original_name}
 
-pub standard_bytes : (j : Json) (s b : List ℕ) → Some s ≡ as_str j → decode_of standard_pad_indifferent s ≡ Ok b → bytes_read j ≡ Some b
+pub standard_bytes : (s b : List ℕ) → decode_of standard_pad_indifferent s ≡ Ok b → base64_bytes s ≡ Some b
 unfolding base64_bytes
-standard_bytes j s b e d = ap (λ (o : Option (List ℕ)). option_and_then base64_bytes o) (sym e) ∙ ap (λ (r : Result (List ℕ) DecodeError). option_or (result_ok r) (result_ok (decode_of url_safe_pad_indifferent s))) d
+standard_bytes s b d = ap (λ (r : Result (List ℕ) DecodeError). option_or (result_ok r) (result_ok (decode_of url_safe_pad_indifferent s))) d
 
-pub other_bytes : (j : Json) (s : List ℕ) (x : DecodeError) (o : Option (List ℕ)) → Some s ≡ as_str j → decode_of standard_pad_indifferent s ≡ Err x → result_ok (decode_of url_safe_pad_indifferent s) ≡ o → bytes_read j ≡ o
+pub other_bytes : (s : List ℕ) (x : DecodeError) (o : Option (List ℕ)) → decode_of standard_pad_indifferent s ≡ Err x → result_ok (decode_of url_safe_pad_indifferent s) ≡ o → base64_bytes s ≡ o
 unfolding base64_bytes
-other_bytes j s x o e d u =
-    ap (λ (o : Option (List ℕ)). option_and_then base64_bytes o) (sym e) ∙ ap (λ (r : Result (List ℕ) DecodeError). option_or (result_ok r) (result_ok (decode_of url_safe_pad_indifferent s))) d ∙ u
+other_bytes s x o d u = ap (λ (r : Result (List ℕ) DecodeError). option_or (result_ok r) (result_ok (decode_of url_safe_pad_indifferent s))) d ∙ u
 
 pub failed_with : (s : List ℕ) (e : DecodeAllocError) (d : DecodeError) → e ≡ Failed d → IsDecodeFailure standard_pad_indifferent s e → decode_of standard_pad_indifferent s ≡ Err d
 failed_with s e d is f = subst (IsDecodeFailure standard_pad_indifferent s) is f
@@ -60,3 +61,9 @@ original_then text c cs = by_test (leb 65 c && leb c 90)
 
 pub text_is : (j : Json) (s t : List ℕ) → Some s ≡ as_str j → t ≡ s → is_utf8 t ≡ true → text_read j ≡ Some t
 text_is j s t e q u = ap (λ (o : Option (List ℕ)). option_and_then utf8_text o) (sym e) ∙ ap utf8_text (sym q) ∙ ap (λ (b : Bool). cond b (Some t) None) u
+
+-- the members of an object that has none, or several
+pub other_members : {A : Type 0} (ms : List (Bor (List ℕ) × Value A)) → length ms ≢ 1 → only_text (members_view ms) ≡ None
+other_members [] h = refl
+other_members (x ∷ []) h = absurd (h refl)
+other_members (x ∷ (y ∷ ms)) h = refl

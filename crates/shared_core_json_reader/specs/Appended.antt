@@ -18,7 +18,7 @@ varint_record plain n value = if plain && (value == 0) then [] else (key_bytes n
 abbrev pub length_record : Bool → ℕ → List ℕ → List ℕ
 length_record plain n bytes = if plain && (length bytes == 0) then [] else (key_bytes n 2 ++ (shortest_varint (length bytes) ++ bytes))
 
--- A list and another one after it, if both are there.
+-- A list and after it another one, if both lists exist.
 abbrev pub both : Option (List ℕ) → Option (List ℕ) → Option (List ℕ)
 both a b = option_and_then (λ xs. option_map (λ ys. xs ++ ys) b) a
 
@@ -101,7 +101,7 @@ rows_bytes nested ms (r ∷ rs) = both (row_bytes nested ms r) (rows_bytes neste
 abbrev pub members_bytes : (ℕ → Json → Option (List ℕ)) → List NamedRow → Members → Option (List ℕ)
 members_bytes nested rows ms = if are_known rows ms then rows_bytes nested ms rows else None
 
--- The records of a value, which is to be an object.
+-- The records of a value, which has to be an object.
 abbrev pub object_bytes : (ℕ → Json → Option (List ℕ)) → List NamedRow → Json → Option (List ℕ)
 object_bytes nested rows null = None
 object_bytes nested rows (boolean b) = None
@@ -119,6 +119,6 @@ message_bytes (suc levels) s j = object_bytes (message_bytes levels) (named_rows
 abbrev pub after : List ℕ → Option (List ℕ) → Option (List ℕ)
 after old o = option_map (λ bytes. old ++ bytes) o
 
--- What a call appends: these bytes, if they are there. Otherwise it fails, as it may do too if an allocation fails.
+-- A call appends these bytes, if they exist; otherwise it fails. It may also fail because an allocation fails.
 abbrev pub Appends : {T : Type 0} → Result T Reason → Option (List ℕ) → List ℕ → List ℕ → Type 0
 Appends r o old new = MatchResult r (λ _. after old o ≡ Some new) (λ reason. reason ≢ OutOfMemory → o ≡ None)

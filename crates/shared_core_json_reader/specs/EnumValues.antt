@@ -11,8 +11,8 @@ pub record EnumField : Type 0 where
 -- The fields with an enum.
 abbrev pub enum_fields : List EnumField
 enum_fields =
-    -- combinator_type of Future, a CombinatorType
+    -- combinator_type of Future, the enum CombinatorType
     record { schema = 7; number = 5; values = (codes "COMBINATOR_TYPE_ZERO", 0) ∷ [] }
-    -- behavior of ErrorMessage, a ErrorBehavior
+    -- behavior of ErrorMessage, the enum ErrorBehavior
     ∷ record { schema = 13; number = 9; values = (codes "RETRY", 0) ∷ (codes "PAUSE", 1) ∷ [] }
     ∷ []

@@ -1,4 +1,4 @@
--- What the reasons for which a text is not taken print.
+-- The texts of the reasons for which a JSON text is rejected.
 use Rattle.std.specs.Prelude.{ℕ, List, codes}
 use Rattle.shared_core_json_reader.specs.declared.error.Reason.{Reason}
 use Rattle.shared_core_json_reader.specs.declared.error.Reason.TheVariants.{NotJson, UnknownMember, RepeatedMember, SeveralMembers, WrongKind, OutOfRange, NotBase64, TooDeep, OutOfMemory}

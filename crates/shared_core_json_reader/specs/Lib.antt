@@ -6,4 +6,5 @@ pub mod Appended
 pub mod Errors
 pub mod Views
 pub mod Original
+pub mod FirstError
 pub mod Laws

@@ -14,7 +14,8 @@ use Rattle.shared_core_json_reader.specs.Scalars.{unsigned_read, boolean_read, e
 
 -- ---- members
 
--- A byte of a name in lower camel case, as the original name has it: for a capital letter an underscore and the small letter.
+-- A byte of a name in lower camel case, as the original name has it: for a capital letter an underscore and the small
+-- letter.
 abbrev pub original_byte : ℕ → List ℕ
 original_byte c = if nat_le 65 c && nat_le c 90 then 95 ∷ (c + 32) ∷ [] else c ∷ []
 
@@ -62,7 +63,7 @@ present (string s) = Some (string s)
 present (array js) = Some (array js)
 present (object ms) = Some (object ms)
 
--- The one value, if it is there and is not null; of two there is none to take.
+-- The one value, or none if it is null or absent; several values have no meaning.
 abbrev pub the_only : List Json → Option (Option Json)
 the_only [] = Some None
 the_only (j ∷ []) = Some (present j)
@@ -102,12 +103,12 @@ list_read nested f (string s) = None
 list_read nested f (array js) = option_map Elements (elements_read nested f js)
 list_read nested f (object ms) = None
 
--- What is there if there is no value, and otherwise what it is read as.
+-- The absent value if there is no JSON value, otherwise what that is read as.
 abbrev pub or_absent : {A : Type 0} → A → (Json → Option A) → Option Json → Option A
 or_absent absent read None = Some absent
 or_absent absent read (Some j) = read j
 
--- A member of a oneof, which holds nothing yet.
+-- The member of a oneof that held no member before.
 abbrev pub member_read : (ℕ → Json → Option Parts) → Part → NamedField → Json → Option Part
 member_read nested Absent f j = option_map (Member f.number) (field_read nested f j)
 member_read nested (Number n) f j = None
@@ -116,7 +117,7 @@ member_read nested (Nested ps) f j = None
 member_read nested (Elements ps) f j = None
 member_read nested (Member n p) f j = None
 
--- A oneof that holds a part before these members: at most one of them may be there.
+-- A oneof that held a part before these members: at most one member may be present.
 abbrev pub oneof_read : (ℕ → Json → Option Parts) → Members → Part → List NamedField → Option Part
 oneof_read nested ms held [] = Some held
 oneof_read nested ms held (f ∷ fs) =
@@ -138,7 +139,7 @@ rows_read nested ms (r ∷ rs) = option_and_then (λ p. option_map (cons p) (row
 abbrev pub members_read : (ℕ → Json → Option Parts) → List NamedRow → Members → Option Parts
 members_read nested rows ms = if are_known rows ms then rows_read nested ms rows else None
 
--- What a value means for some rows: an object alone means something.
+-- What a value means for some rows: only an object means something.
 abbrev pub object_read : (ℕ → Json → Option Parts) → List NamedRow → Json → Option Parts
 object_read nested rows null = None
 object_read nested rows (boolean b) = None

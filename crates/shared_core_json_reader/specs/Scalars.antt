@@ -1,5 +1,5 @@
 -- Which numbers, texts and bytes a JSON value means.
-use Rattle.std.specs.Prelude.{ℕ, ◌-◌, ◌%◌, ◌^◌, Bool, true, false, not, ◌&&◌, ◌||◌, List, [], ◌∷◌, ◌++◌, drop, ◌==◌, nat_lt, nat_le, if◌then◌else◌, Option, Some, None, option_map, option_and_then}
+use Rattle.std.specs.Prelude.{ℕ, ◌-◌, ◌%◌, ◌^◌, Bool, true, false, not, ◌&&◌, ◌||◌, List, [], ◌∷◌, ◌++◌, codes, drop, ◌==◌, nat_lt, nat_le, if◌then◌else◌, Option, Some, None, option_map, option_and_then}
 use Rattle.std.specs.Option.{option_or}
 use Rattle.std.specs.Result.{result_ok}
 use Rattle.std.specs.Str.{is_utf8, bytes_eq}
@@ -8,7 +8,7 @@ use Rattle.fast_float.specs.Text.{Parts, scan, point_at, whole_of}
 use Rattle.base64.specs.GeneralPurpose.{decode_of}
 use Rattle.base64.specs.Engines.{standard_pad_indifferent, url_safe_pad_indifferent}
 use Rattle.json.specs.Word.{head, after_minus, after_number}
-use Rattle.json.specs.Json.{Json, null, boolean, number, string, array, object}
+use Rattle.json.specs.Json.{Json, null, boolean, number, string, array, object, Members, no_members, member}
 use Rattle.json.specs.Find.{as_str}
 
 -- ---- numbers
@@ -18,7 +18,7 @@ pub record Whole : Type 0 where
   pub negative : Bool
   pub magnitude : ℕ
 
--- The text that is to be a number: that of a number, or a string.
+-- The text of a value that should be a number: that of a number, or a string.
 abbrev pub number_text : Json → Option (List ℕ)
 number_text null = None
 number_text (boolean b) = None
@@ -97,6 +97,24 @@ text_read j = option_and_then utf8_text (as_str j)
 unfoldable pub base64_bytes : List ℕ → Option (List ℕ)
 base64_bytes s = option_or (result_ok (decode_of standard_pad_indifferent s)) (result_ok (decode_of url_safe_pad_indifferent s))
 
--- Bytes, in base64.
+-- The text of an object with the one member `text`.
+abbrev pub only_text : Members → Option (List ℕ)
+only_text no_members = None
+only_text (member k j no_members) = if bytes_eq k (codes "text") then text_read j else None
+only_text (member k j (member l i ms)) = None
+
+-- The text of a value that is such an object.
+abbrev pub marked_text : Json → Option (List ℕ)
+marked_text null = None
+marked_text (boolean b) = None
+marked_text (number s) = None
+marked_text (string s) = None
+marked_text (array js) = None
+marked_text (object ms) = only_text ms
+
+-- Bytes: a string in base64, or an object with the one member `text`.
 abbrev pub bytes_read : Json → Option (List ℕ)
-bytes_read j = option_and_then base64_bytes (as_str j)
+bytes_read j = elim (as_str j) [
+  | None ↦ marked_text j
+  | Some s ↦ base64_bytes s
+]

@@ -5,13 +5,13 @@ use crate::rows::{EnumField, EnumValue};
 
 /// The fields with an enum, in the order of the schemas.
 pub static ENUM_FIELDS: [EnumField; 2] = [
-    // combinator_type of Future, a CombinatorType
+    // combinator_type of Future, the enum CombinatorType
     EnumField {
         schema: 7,
         number: 5,
         values: &[EnumValue("COMBINATOR_TYPE_ZERO", 0)],
     },
-    // behavior of ErrorMessage, a ErrorBehavior
+    // behavior of ErrorMessage, the enum ErrorBehavior
     EnumField {
         schema: 13,
         number: 9,

@@ -1,19 +1,19 @@
-//! The error of `payload_of`: why a JSON text was not taken, and where.
+//! The error of reading JSON.
 
 use std::alloc::AllocError;
 use std::error::Error;
 use std::fmt;
 
-/// Why a JSON text was not taken.
+/// Why a JSON text was rejected.
 #[derive(Clone, Copy, Debug, PartialEq, Eq, Drop)]
 pub enum Reason {
     /// It is not JSON, or not UTF-8, or has arrays and objects nested more than one thousand levels deep.
     NotJson,
-    /// A member has no name of a field of its message.
+    /// The name of a member is not that of a field of its message.
     UnknownMember,
-    /// A member comes twice, by whichever of its names.
+    /// Two members have a name of the same field.
     RepeatedMember,
-    /// Two members of one oneof are there.
+    /// Two members of one oneof are present.
     SeveralMembers,
     /// A value is of another kind than its field.
     WrongKind,
@@ -59,14 +59,14 @@ impl From<AllocError> for Reason {
     }
 }
 
-/// Why a JSON text was not taken, and where.
+/// Why a JSON text was rejected, and where.
 #[derive(Debug, Drop)]
 pub struct JsonReadError {
     pub reason: Reason,
     /// Where the text stops being JSON, in bytes from its beginning; absent if it is JSON.
     pub offset: Option<usize>,
-    /// The members and indices that lead to what was not taken, as `headers[2].key`; empty if the text is not JSON, or
-    /// if memory ran out.
+    /// The members and indices that lead to the rejected value, as `headers[2].key`; empty if the text is not JSON, or
+    /// if an allocation failed.
     pub path: String,
 }
 

@@ -1,6 +1,6 @@
 //! The members of an object, by the names of fields.
 
-ghost use Rattle.std.specs.Prelude.{◌≡◌, ◌&&◌, ◌||◌, Some, None, option_map, MatchResult};
+ghost use Rattle.std.specs.Prelude.{◌≡◌, ◌&&◌, ◌||◌, Some, None, option_map, IfErr, MatchResult};
 ghost use Rattle.std.specs.Option.{is_none};
 ghost use Rattle.std.specs.Str.{bytes_eq};
 ghost use Rattle.json.specs.Value.{value_view as json_view, members_view};
@@ -8,6 +8,7 @@ ghost use Rattle.shared_core_json_reader.specs.Rows.{field_view, row_view, rows_
 ghost use Rattle.shared_core_json_reader.specs.Original.{after_byte, after_original};
 ghost use Rattle.shared_core_json_reader.specs.Reading.{original_name, is_named, names_field};
 ghost use Rattle.shared_core_json_reader.specs.Reading.{row_names, names_row, are_known, given};
+ghost use Rattle.shared_core_json_reader.specs.FirstError.{first_unknown};
 
 use crate::error::Reason;
 use crate::rows::{Field, named};
@@ -98,7 +99,9 @@ pub fn find_unknown<'a>(
     rows: &[Row],
     members: &Vec<(&'a str, Value<'a>)>,
 ) -> Option<&'a str>
-    ensures { is_none result ≡ are_known (rows_view schema rows.now) (members_view members.now.items) }
+    ensures known { is_none result ≡ are_known (rows_view schema rows.now) (members_view members.now.items) }
+    ensures first { option_map (λ key. key.now) result
+        ≡ first_unknown (rows_view schema rows.now) (members_view members.now.items) }
 {
     for member in members {
         if !names_row(schema, rows, member.0) {
@@ -113,10 +116,11 @@ pub fn given<'v, 'a>(
     field: &Field,
     members: &'v Vec<(&'a str, Value<'a>)>,
 ) -> Result<Option<&'v Value<'a>>, Reason>
-    ensures { MatchResult result
+    ensures given { MatchResult result
         (λ found. given (field_view field.now) (members_view members.now.items)
         ≡ Some (option_map (λ v. json_view v.now) found))
         (λ _. given (field_view field.now) (members_view members.now.items) ≡ None) }
+    ensures repeated { IfErr result (λ reason. reason ≡ Reason.RepeatedMember) }
 {
     let mut found: Option<&'v Value<'a>> = None;
     for member in members {

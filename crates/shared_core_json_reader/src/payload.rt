@@ -1,9 +1,10 @@
 //! The canonical payload of a JSON value, appended row by row in the order of the schema.
 //!
 //! Each function appends the records of what it is given. After an error, part of them may be there, and the path leads
-//! to what was not taken.
+//! to the rejected value.
 
-ghost use Rattle.std.specs.Prelude.{◌≡◌, ◌≢◌, Some, None, true, false, option_map, IfErr, MatchResult};
+ghost use Rattle.std.specs.Prelude.{◌≡◌, ◌≢◌, ◌++◌, [], ◌∷◌, Some, None, true, false, option_map, MatchOption};
+ghost use Rattle.std.specs.Prelude.{MatchResult};
 ghost use Rattle.shared_core_wire.specs.Schema.{Enumeration};
 ghost use Rattle.shared_core_wire.specs.Canonical.{written_number};
 ghost use Rattle.json.specs.Value.{value_view as json_view, items_view, members_view};
@@ -12,6 +13,10 @@ ghost use Rattle.shared_core_json_reader.specs.Reading.{given};
 ghost use Rattle.shared_core_json_reader.specs.Appended.{length_record, field_bytes, items_bytes, run_bytes};
 ghost use Rattle.shared_core_json_reader.specs.Appended.{list_bytes, given_bytes, oneof_bytes, row_bytes};
 ghost use Rattle.shared_core_json_reader.specs.Appended.{members_bytes, object_bytes, message_bytes, Appends};
+ghost use Rattle.shared_core_json_reader.specs.FirstError.{path_view, step_view, Leaves, HasError};
+ghost use Rattle.shared_core_json_reader.specs.FirstError.{field_error, items_error, run_error, list_error};
+ghost use Rattle.shared_core_json_reader.specs.FirstError.{given_error, oneof_error, row_error, members_error};
+ghost use Rattle.shared_core_json_reader.specs.FirstError.{object_error, message_error};
 
 use crate::error::Reason;
 use crate::members::{find_unknown, given};
@@ -25,14 +30,14 @@ use std::alloc::Global;
 /// The members of an object.
 type Members<'a> = Vec<(&'a str, Value<'a>)>;
 
-/// A step of the way to a value: a member by its name, or an element by its index.
+/// A step of the path to a value: a member by its name, or an element by its index.
 #[derive(Clone, Copy, Drop)]
 pub enum Step<'a> {
     Member(&'a str),
     Element(usize),
 }
 
-/// Where a payload is appended, and the way to the value that is read.
+/// Where a payload is appended, and the path to the value that is read.
 #[derive(Drop)]
 pub struct Walk<'a> {
     pub alloc: Global,
@@ -42,7 +47,8 @@ pub struct Walk<'a> {
 impl<'a> Walk<'a> {
     /// Goes one step further.
     fn enter(&mut self, step: Step<'a>) -> Result<(), Reason>
-        ensures { IfErr result (λ reason. reason ≡ Reason.OutOfMemory) }
+        ensures { MatchResult result (λ _. self.new.path.items ≡ self.old.path.items ++ step.entry ∷ [])
+            (λ reason. reason ≡ Reason.OutOfMemory) }
     {
         match self.path.push(step) {
             Ok(()) => Ok(()),
@@ -51,7 +57,9 @@ impl<'a> Walk<'a> {
     }
 
     /// Goes one step back.
-    fn leave(&mut self) {
+    fn leave(&mut self)
+        ensures { Leaves self.old.path.items self.new.path.items }
+    {
         self.path.pop();
     }
 }
@@ -65,7 +73,9 @@ pub fn append_message<'a>(
     value: &Value<'a>,
     levels: u32,
 ) -> Result<(), Reason>
-    ensures { Appends result (message_bytes levels schema (json_view value.now)) out.old.items out.new.items }
+    ensures appended { Appends result (message_bytes levels schema (json_view value.now)) out.old.items out.new.items }
+    ensures error { HasError result (λ path. message_error levels path schema (json_view value.now))
+        walk.old.path.items walk.new.path.items }
 {
     if levels == 0 {
         return Err(Reason::TooDeep);
@@ -82,8 +92,11 @@ fn append_object<'a>(
     value: &Value<'a>,
     left: u32,
 ) -> Result<(), Reason>
-    ensures { Appends result (object_bytes (message_bytes left) (named_rows schema) (json_view value.now))
+    ensures appended { Appends result (object_bytes (message_bytes left) (named_rows schema) (json_view value.now))
         out.old.items out.new.items }
+    ensures error { HasError result
+        (λ path. object_error (message_error left) (named_rows schema) path (json_view value.now))
+        walk.old.path.items walk.new.path.items }
 {
     let Value::Object(members) = value else {
         return Err(Reason::WrongKind);
@@ -100,8 +113,11 @@ fn append_members<'a>(
     members: &Members<'a>,
     left: u32,
 ) -> Result<(), Reason>
-    ensures { Appends result (members_bytes (message_bytes left) (named_rows schema)
+    ensures appended { Appends result (members_bytes (message_bytes left) (named_rows schema)
         (members_view members.now.items)) out.old.items out.new.items }
+    ensures error { HasError result
+        (λ path. members_error (message_error left) (named_rows schema) path (members_view members.now.items))
+        walk.old.path.items walk.new.path.items }
 {
     let rows = rows_of(schema);
     if let Some(key) = find_unknown(schema, rows, members) {
@@ -124,9 +140,12 @@ fn append_row<'a>(
     members: &Members<'a>,
     left: u32,
 ) -> Result<(), Reason>
-    ensures { Appends result (row_bytes (message_bytes left) (members_view members.now.items)
+    ensures appended { Appends result (row_bytes (message_bytes left) (members_view members.now.items)
         (row_view schema row.now))
         out.old.items out.new.items }
+    ensures error { HasError result
+        (λ path. row_error (message_error left) (members_view members.now.items) path (row_view schema row.now))
+        walk.old.path.items walk.new.path.items }
 {
     match row {
         Row::Plain(field) => append_given(walk, out, true, &named(schema, field), members, left),
@@ -144,10 +163,15 @@ fn enter_given<'v, 'a>(
     field: &Field,
     members: &'v Members<'a>,
 ) -> Result<Option<&'v Value<'a>>, Reason>
-    ensures { MatchResult result
+    ensures given { MatchResult result
         (λ found. given (field_view field.now) (members_view members.now.items)
         ≡ Some (option_map (λ v. json_view v.now) found))
         (λ reason. reason ≢ Reason.OutOfMemory → given (field_view field.now) (members_view members.now.items) ≡ None) }
+    ensures path { MatchResult result
+        (λ found. MatchOption found (walk.new.path.items ≡ walk.old.path.items)
+        (λ _. walk.new.path.items ≡ walk.old.path.items ++ Step.Member field.now.name ∷ []))
+        (λ reason. reason ≢ Reason.OutOfMemory → (reason ≡ Reason.RepeatedMember)
+        × (walk.new.path.items ≡ walk.old.path.items ++ Step.Member field.now.name ∷ [])) }
 {
     let found = given(field, members);
     if let Ok(None) = found {
@@ -167,9 +191,13 @@ fn append_given<'a>(
     members: &Members<'a>,
     left: u32,
 ) -> Result<(), Reason>
-    ensures { Appends result (given_bytes (field_bytes (message_bytes left) plain (field_view field.now))
+    ensures appended { Appends result (given_bytes (field_bytes (message_bytes left) plain (field_view field.now))
         (given (field_view field.now) (members_view members.now.items)))
         out.old.items out.new.items }
+    ensures error { HasError result
+        (λ path. given_error (field_error (message_error left) (field_view field.now)) (field_view field.now) path
+        (given (field_view field.now) (members_view members.now.items)))
+        walk.old.path.items walk.new.path.items }
 {
     let Some(value) = enter_given(walk, field, members)? else {
         return Ok(());
@@ -189,8 +217,12 @@ fn append_oneof<'a>(
     members: &Members<'a>,
     left: u32,
 ) -> Result<(), Reason>
-    ensures { Appends result (oneof_bytes (message_bytes left) (members_view members.now.items) false
+    ensures appended { Appends result (oneof_bytes (message_bytes left) (members_view members.now.items) false
         (named_members schema fields.now)) out.old.items out.new.items }
+    ensures error { HasError result
+        (λ path. oneof_error (message_error left) (members_view members.now.items) path false
+        (named_members schema fields.now))
+        walk.old.path.items walk.new.path.items }
 {
     let mut held = false;
     for member in fields {
@@ -217,9 +249,13 @@ fn append_list<'a>(
     members: &Members<'a>,
     left: u32,
 ) -> Result<(), Reason>
-    ensures { Appends result (given_bytes (list_bytes (message_bytes left) (field_view field.now))
+    ensures appended { Appends result (given_bytes (list_bytes (message_bytes left) (field_view field.now))
         (given (field_view field.now) (members_view members.now.items)))
         out.old.items out.new.items }
+    ensures error { HasError result
+        (λ path. given_error (list_error (message_error left) (field_view field.now)) (field_view field.now) path
+        (given (field_view field.now) (members_view members.now.items)))
+        walk.old.path.items walk.new.path.items }
 {
     let Some(value) = enter_given(walk, field, members)? else {
         return Ok(());
@@ -245,8 +281,12 @@ fn append_items<'a>(
     items: &Vec<Value<'a>>,
     left: u32,
 ) -> Result<(), Reason>
-    ensures { Appends result (items_bytes (message_bytes left) (field_view field.now) (items_view items.now.items))
+    ensures appended { Appends result
+        (items_bytes (message_bytes left) (field_view field.now) (items_view items.now.items))
         out.old.items out.new.items }
+    ensures error { HasError result
+        (λ path. items_error (message_error left) (field_view field.now) path 0 (items_view items.now.items))
+        walk.old.path.items walk.new.path.items }
 {
     for (index, item) in items.iter().enumerate() {
         walk.enter(Step::Element(index))?;
@@ -263,8 +303,10 @@ fn append_run<'a>(
     number: u32,
     items: &Vec<Value<'a>>,
 ) -> Result<(), Reason>
-    ensures { Appends result (option_map (length_record true number) (run_bytes (items_view items.now.items)))
+    ensures appended { Appends result (option_map (length_record true number) (run_bytes (items_view items.now.items)))
         out.old.items out.new.items }
+    ensures error { HasError result (λ path. run_error path 0 (items_view items.now.items))
+        walk.old.path.items walk.new.path.items }
 {
     let mut run = Vec::new(walk.alloc);
     append_numbers(walk, &mut run, items)?;
@@ -278,7 +320,9 @@ fn append_numbers<'a>(
     run: &mut Vec<u8>,
     items: &Vec<Value<'a>>,
 ) -> Result<(), Reason>
-    ensures { Appends result (run_bytes (items_view items.now.items)) run.old.items run.new.items }
+    ensures appended { Appends result (run_bytes (items_view items.now.items)) run.old.items run.new.items }
+    ensures error { HasError result (λ path. run_error path 0 (items_view items.now.items))
+        walk.old.path.items walk.new.path.items }
 {
     for (index, item) in items.iter().enumerate() {
         walk.enter(Step::Element(index))?;
@@ -298,8 +342,12 @@ fn append_value<'a>(
     value: &Value<'a>,
     left: u32,
 ) -> Result<(), Reason>
-    ensures { Appends result (field_bytes (message_bytes left) plain (field_view field.now) (json_view value.now))
+    ensures appended { Appends result
+        (field_bytes (message_bytes left) plain (field_view field.now) (json_view value.now))
         out.old.items out.new.items }
+    ensures error { HasError result
+        (λ path. field_error (message_error left) (field_view field.now) path (json_view value.now))
+        walk.old.path.items walk.new.path.items }
 {
     match field.kind {
         Kind::U32 => append_number(out, plain, field.number, u64::from(read_u32(value)?))?,

@@ -1,11 +1,14 @@
 //! Reading a text: it is parsed as a tree of JSON, and the payload is appended by the tree. Each step is a call of its
 //! own, for a text of which a message is a part.
 
-ghost use Rattle.std.specs.Prelude.{◌≡◌, ◌≢◌, Some, None, IfOk, IfErr, MatchResult};
+ghost use Rattle.std.specs.Prelude.{◌≡◌, ◌≢◌, ◌++◌, [], true, Some, None, IfOk, IfErr, OnOk, MatchOption, MatchResult};
+ghost use Rattle.std.specs.String.{string_bytes};
 ghost use Rattle.json.specs.Value.{value_view as json_view};
 ghost use Rattle.shared_core_codec.specs.Payloads.{IsAccepted, payload_meaning};
 ghost use Rattle.shared_core_json_reader.specs.Reading.{only_value, json_of_text, message_read};
 ghost use Rattle.shared_core_json_reader.specs.Reading.{value_payload, text_meaning, text_payload};
+ghost use Rattle.shared_core_json_reader.specs.FirstError.{offset_of, step_text, path_text, step_view, path_view};
+ghost use Rattle.shared_core_json_reader.specs.FirstError.{value_error, SaysError, IsNotJson};
 
 use crate::error::{JsonReadError, Reason};
 use crate::payload::{Step, Walk, append_message};
@@ -20,8 +23,9 @@ const MAX_DEPTH: usize = 1000;
 
 /// The one value of a text.
 fn parse<'a>(alloc: Global, reader: &mut Reader<'a>) -> Result<Value<'a>, Reason>
-    ensures { MatchResult result (λ value. only_value reader.old ≡ Some (json_view value))
+    ensures value { MatchResult result (λ value. only_value reader.old ≡ Some (json_view value))
         (λ reason. reason ≢ Reason.OutOfMemory → only_value reader.old ≡ None) }
+    ensures reason { IfErr result (λ reason. reason ≢ Reason.OutOfMemory → reason ≡ Reason.NotJson) }
 {
     let value = match Value::read(alloc, reader, MAX_DEPTH) {
         Ok(value) => value,
@@ -35,26 +39,38 @@ fn parse<'a>(alloc: Global, reader: &mut Reader<'a>) -> Result<Value<'a>, Reason
     }
 }
 
-/// The text of a path, as `headers[2].key`.
-fn path_text(alloc: Global, path: &Vec<Step<'_>>) -> Result<String, AllocError> {
-    let mut text = String::new(alloc);
-    for step in path {
-        match step {
-            Step::Member(name) => {
-                if !text.is_empty() {
-                    text.push('.')?;
-                }
-                text.push_str(name)?;
+/// Appends the text of a step; a name has a point before it, unless it is first.
+fn push_step(text: &mut String, is_first: bool, step: &Step<'_>) -> Result<(), AllocError>
+    ensures { OnOk result (string_bytes text.new ≡ string_bytes text.old ++ step_text is_first (step_view step.now)) }
+{
+    match step {
+        Step::Member(name) => {
+            if !is_first {
+                text.push('.')?;
             }
-            Step::Element(index) => write!(text, "[{index}]")?,
+            text.push_str(name)
         }
+        Step::Element(index) => write!(text, "[{index}]"),
+    }
+}
+
+/// The text of a path, as `headers[2].key`.
+fn path_text(alloc: Global, path: &Vec<Step<'_>>) -> Result<String, AllocError>
+    ensures { IfOk result (λ text. string_bytes text ≡ path_text true (path_view path.now.items)) }
+{
+    let mut text = String::new(alloc);
+    let mut is_first = true;
+    for step in path {
+        push_step(&mut text, is_first, step)?;
+        is_first = false;
     }
     Ok(text)
 }
 
 /// The error for a reason, at an offset if the text is not JSON.
 fn error_at(alloc: Global, reason: Reason, offset: usize) -> JsonReadError
-    ensures { result.reason ≡ reason }
+    ensures { (result.reason ≡ reason) × (string_bytes result.path ≡ [])
+        × (result.offset ≡ offset_of reason offset) }
 {
     JsonReadError {
         reason,
@@ -69,7 +85,8 @@ fn error_at(alloc: Global, reason: Reason, offset: usize) -> JsonReadError
 
 /// The error for what a path leads to.
 fn error_on(alloc: Global, reason: Reason, path: &Vec<Step<'_>>) -> JsonReadError
-    ensures { result.reason ≢ Reason.OutOfMemory → result.reason ≡ reason }
+    ensures { result.reason ≢ Reason.OutOfMemory → (result.reason ≡ reason) × (result.offset ≡ None)
+        × (string_bytes result.path ≡ path_text true (path_view path.now.items)) }
 {
     match path_text(alloc, path) {
         Ok(path) => JsonReadError {
@@ -90,6 +107,7 @@ pub fn value_of_text<'a>(
 ) -> Result<Value<'a>, JsonReadError>
     ensures ok { IfOk result (λ value. json_of_text text.now ≡ Some (json_view value)) }
     ensures refused { IfErr result (λ error. error.reason ≢ Reason.OutOfMemory → json_of_text text.now ≡ None) }
+    ensures place { IfErr result (λ error. error.reason ≢ Reason.OutOfMemory → IsNotJson error text.now) }
 {
     let text = match std::str::from_utf8(text) {
         Ok(text) => text,
@@ -100,7 +118,7 @@ pub fn value_of_text<'a>(
     };
     match parse(alloc, &mut reader) {
         Ok(value) => Ok(value),
-        Err(reason) => Err(error_at(alloc, reason, reader.offset())),
+        Err(reason) => Err(error_at(alloc, reason, reader.offset().min(text.len()))),
     }
 }
 
@@ -117,6 +135,10 @@ pub fn payload_of_value(
         × (message_read 101 schema (json_view value.now) ≡ Some (payload_meaning schema payload.items))) }
     ensures refused { IfErr result (λ error. error.reason ≢ Reason.OutOfMemory
         → value_payload schema (json_view value.now) ≡ None) }
+    // the first error of the value, and the path to the rejected value
+    ensures error { MatchResult result (λ _. value_error schema (json_view value.now) ≡ None)
+        (λ error. error.reason ≢ Reason.OutOfMemory
+        → SaysError error (value_error schema (json_view value.now))) }
 {
     let mut walk = Walk {
         alloc,
@@ -141,6 +163,10 @@ pub fn payload_of(alloc: Global, schema: u32, text: &[u8]) -> Result<Vec<u8>, Js
     ensures means { IfOk result (λ payload. IsAccepted schema payload.items
         × (text_meaning schema text.now ≡ Some (payload_meaning schema payload.items))) }
     ensures refused { IfErr result (λ error. error.reason ≢ Reason.OutOfMemory → text_payload schema text.now ≡ None) }
+    // where the text stops being JSON, or the first error of its value
+    ensures error { IfErr result (λ error. error.reason ≢ Reason.OutOfMemory
+        → MatchOption (json_of_text text.now) (IsNotJson error text.now)
+        (λ value. SaysError error (value_error schema value))) }
 {
     let mut scratch = Scratch::new(alloc);
     let value = value_of_text(alloc, text, &mut scratch)?;

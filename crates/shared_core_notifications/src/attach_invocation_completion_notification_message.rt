@@ -29,7 +29,7 @@ use std::result;
 /// The result of an awaited invocation.
 #[derive(Debug, PartialEq, Drop)]
 pub struct AttachInvocationCompletionNotificationMessage {
-    /// The id of the command that this answers.
+    /// The completion id of the command that this completes.
     pub completion_id: u32,
     /// The result.
     pub result: Option<Result>,

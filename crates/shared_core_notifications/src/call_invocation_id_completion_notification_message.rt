@@ -23,10 +23,10 @@ use shared_core_message::restate_message::{RestateEncodableMessage, RestateMessa
 use shared_core_wire::error::WireError;
 use std::alloc::Global;
 
-/// The invocation that a call started.
+/// The id of the invocation that a call started.
 #[derive(Debug, PartialEq, Drop)]
 pub struct CallInvocationIdCompletionNotificationMessage {
-    /// The id of the command that this answers.
+    /// The completion id of the command that this completes.
     pub completion_id: u32,
     /// The id of the invocation.
     pub invocation_id: String,

@@ -100,7 +100,7 @@ impl OneOf for Result {
 /// Whether a promise was completed.
 #[derive(Debug, PartialEq, Drop)]
 pub struct CompletePromiseCompletionNotificationMessage {
-    /// The id of the command that this answers.
+    /// The completion id of the command that this completes.
     pub completion_id: u32,
     /// The result.
     pub result: Option<Result>,

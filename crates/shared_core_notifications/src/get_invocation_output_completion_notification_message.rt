@@ -26,10 +26,10 @@ use shared_core_wire::error::WireError;
 use std::alloc::Global;
 use std::result;
 
-/// The result of an invocation that was looked at.
+/// The result of an invocation, which was read without awaiting it.
 #[derive(Debug, PartialEq, Drop)]
 pub struct GetInvocationOutputCompletionNotificationMessage {
-    /// The id of the command that this answers.
+    /// The completion id of the command that this completes.
     pub completion_id: u32,
     /// The result.
     pub result: Option<Result>,

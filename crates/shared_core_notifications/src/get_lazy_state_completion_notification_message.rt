@@ -97,10 +97,10 @@ impl OneOf for Result {
     ] };
 }
 
-/// The value of a requested key.
+/// The value of a key that was read.
 #[derive(Debug, PartialEq, Drop)]
 pub struct GetLazyStateCompletionNotificationMessage {
-    /// The id of the command that this answers.
+    /// The completion id of the command that this completes.
     pub completion_id: u32,
     /// The result.
     pub result: Option<Result>,

@@ -24,10 +24,10 @@ use shared_core_parts::state_keys::StateKeys;
 use shared_core_wire::error::WireError;
 use std::alloc::Global;
 
-/// The requested keys.
+/// All keys that were read.
 #[derive(Debug, PartialEq, Drop)]
 pub struct GetLazyStateKeysCompletionNotificationMessage {
-    /// The id of the command that this answers.
+    /// The completion id of the command that this completes.
     pub completion_id: u32,
     /// The keys.
     pub state_keys: Option<StateKeys>,

@@ -26,10 +26,10 @@ use shared_core_wire::error::WireError;
 use std::alloc::Global;
 use std::result;
 
-/// The result of a promise that was looked at.
+/// The result of a promise, which was read without awaiting it.
 #[derive(Debug, PartialEq, Drop)]
 pub struct PeekPromiseCompletionNotificationMessage {
-    /// The id of the command that this answers.
+    /// The completion id of the command that this completes.
     pub completion_id: u32,
     /// The result.
     pub result: Option<Result>,

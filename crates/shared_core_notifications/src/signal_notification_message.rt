@@ -28,7 +28,7 @@ use shared_core_wire::error::WireError;
 use std::alloc::Global;
 use std::result;
 
-/// Which signal it is.
+/// The id or the name of the signal.
 #[derive(Debug, PartialEq, Drop)]
 pub enum SignalId {
     /// The id of the signal.
@@ -93,7 +93,7 @@ impl OneOf for SignalId {
 /// A signal.
 #[derive(Debug, PartialEq, Drop)]
 pub struct SignalNotificationMessage {
-    /// Which signal it is.
+    /// The id or the name of the signal.
     pub signal_id: Option<SignalId>,
     /// The result.
     pub result: Option<Result>,

@@ -27,9 +27,9 @@ use std::alloc::Global;
 /// A sleep is over.
 #[derive(Debug, PartialEq, Drop)]
 pub struct SleepCompletionNotificationMessage {
-    /// The id of the command that this answers.
+    /// The completion id of the command that this completes.
     pub completion_id: u32,
-    /// Nothing, or that the sleep is over.
+    /// Nothing: the sleep is over.
     pub void: Option<Void>,
 }
 

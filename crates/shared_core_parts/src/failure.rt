@@ -19,7 +19,7 @@ use std::alloc::Global;
 pub struct Failure {
     /// The code of the failure.
     pub code: u32,
-    /// What happened, for people.
+    /// A human-readable description.
     pub message: String,
     /// Further pairs of names and texts.
     pub metadata: Vec<FailureMetadata>,

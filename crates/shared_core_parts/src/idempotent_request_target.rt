@@ -18,13 +18,13 @@ use std::alloc::Global;
 pub struct IdempotentRequestTarget {
     /// The name of the service.
     pub service_name: String,
-    /// The key of the object, where the service has keys.
+    /// The key of the object, if the service has keys.
     pub service_key: Option<String>,
     /// The name of the handler.
     pub handler_name: String,
-    /// The key by which the request is known again.
+    /// The idempotency key of the request.
     pub idempotency_key: String,
-    /// The scope of the request, where there is one.
+    /// The scope of the request, if any.
     pub scope: Option<String>,
 }
 

@@ -22,10 +22,10 @@ use shared_core_wire::error::WireError;
 use std::alloc::Global;
 use std::result;
 
-/// What it belongs to.
+/// The completion or the signal.
 #[derive(Debug, PartialEq, Eq, Hash, Drop)]
 pub enum Id {
-    /// The id of the command that it answers.
+    /// The completion id of a command.
     CompletionId(u32),
     /// The id of a signal.
     SignalId(u32),
@@ -207,10 +207,10 @@ impl OneOf for Result {
     ] };
 }
 
-/// What all notifications have in common: reads each of them without knowing its type.
+/// The common form of all notifications: each of them can be decoded with it, whatever its type.
 #[derive(Debug, PartialEq, Drop)]
 pub struct NotificationTemplate {
-    /// What it belongs to.
+    /// The completion or the signal.
     pub id: Option<Id>,
     /// The result.
     pub result: Option<Result>,

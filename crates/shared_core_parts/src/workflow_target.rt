@@ -20,7 +20,7 @@ pub struct WorkflowTarget {
     pub workflow_name: String,
     /// The key of its run.
     pub workflow_key: String,
-    /// The scope of the request, where there is one.
+    /// The scope of the request, if any.
     pub scope: Option<String>,
 }
 

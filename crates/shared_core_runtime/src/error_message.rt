@@ -23,24 +23,24 @@ use shared_core_message::restate_message::{RestateEncodableMessage, RestateMessa
 use shared_core_wire::error::WireError;
 use std::alloc::Global;
 
-/// Ends the stream with an error that may be tried again.
+/// Ends the attempt with an error, after which the service may retry.
 #[derive(Debug, PartialEq, Drop)]
 pub struct ErrorMessage {
     /// The code of the error.
     pub code: u32,
-    /// What happened, for people.
+    /// A human-readable description.
     pub message: String,
-    /// Where it happened, for people.
+    /// A human-readable stack trace.
     pub stacktrace: String,
-    /// The index of the command that it belongs to, where there is one.
+    /// The index of the command that the error is about, if any.
     pub related_command_index: Option<u32>,
-    /// The name of that command, where it has one.
+    /// The name of that command, if it has one.
     pub related_command_name: Option<String>,
     /// The type of that command, as its code.
     pub related_command_type: Option<u32>,
-    /// After how many milliseconds to try again, where it says so.
+    /// The delay before the next retry in milliseconds, if any.
     pub next_retry_delay: Option<u64>,
-    /// What is to be done then.
+    /// What the service does after the error.
     pub behavior: i32,
 }
 

@@ -22,12 +22,12 @@ use shared_core_message::restate_message::{RestateEncodableMessage, RestateMessa
 use shared_core_wire::error::WireError;
 use std::alloc::Global;
 
-/// Asks for a state that is not recorded in the journal.
+/// Reads the value of a key, without recording it in the journal.
 #[derive(Debug, PartialEq, Drop)]
 pub struct GetStateEphemeralCommandMessage {
     /// The key, as bytes.
     pub key: Bytes,
-    /// The id by which the answer will come.
+    /// The completion id of the result.
     pub completion_id: u32,
 }
 

@@ -97,10 +97,10 @@ impl OneOf for Result {
     ] };
 }
 
-/// The state that was requested without recording it.
+/// The value of a key that was read without recording it.
 #[derive(Debug, PartialEq, Drop)]
 pub struct GetStateEphemeralNotificationMessage {
-    /// The id of the command that this answers.
+    /// The completion id of the command that this completes.
     pub completion_id: u32,
     /// The result.
     pub result: Option<Result>,

@@ -24,32 +24,32 @@ use shared_core_parts::state_entry::StateEntry;
 use shared_core_wire::error::WireError;
 use std::alloc::Global;
 
-/// Starts an invocation, or goes on with it.
+/// Starts or resumes an invocation.
 #[derive(Debug, PartialEq, Drop)]
 pub struct StartMessage {
     /// The id of the invocation, as bytes.
     pub id: Bytes,
-    /// The id of the invocation, for people.
+    /// The human-readable id of the invocation.
     pub debug_id: String,
-    /// How many entries of the journal follow.
+    /// The number of journal entries that follow.
     pub known_entries: u32,
-    /// The state that comes along.
+    /// The state of the object, all of it or some keys.
     pub state_map: Vec<StateEntry>,
     /// Whether keys may be missing from that state.
     pub partial_state: bool,
-    /// The key of the object, where the service has keys.
+    /// The key of the object, if the service has keys.
     pub key: String,
-    /// How often the invocation was tried again since the last entry was stored.
+    /// The number of retries since the last entry was stored.
     pub retry_count_since_last_stored_entry: u32,
-    /// How long ago that was, in milliseconds.
+    /// The time since the last entry was stored, in milliseconds.
     pub duration_since_last_stored_entry: u64,
     /// The seed for the invocation's random numbers.
     pub random_seed: u64,
-    /// The scope of the request, where there is one.
+    /// The scope of the request, if any.
     pub scope: Option<String>,
-    /// The key by which requests are limited, where there is one.
+    /// The limit key of the request, if any.
     pub limit_key: Option<String>,
-    /// The key by which the request is known again, where there is one.
+    /// The idempotency key of the request, if any.
     pub idempotency_key: Option<String>,
 }
 

@@ -18,7 +18,7 @@ use shared_core_message::restate_message::RestateMessage;
 use shared_core_wire::error::WireError;
 use std::alloc::Global;
 
-/// The suspension as it is written before version 7: all that is awaited, in three lists.
+/// A suspension as it is written before version 7: all that is awaited, in three lists.
 #[derive(Debug, PartialEq, Drop)]
 pub struct SuspensionMessageV6 {
     /// The completions that are awaited, by their ids.

@@ -26,7 +26,7 @@ use std::alloc::Global;
 /// Clears all keys.
 #[derive(Debug, PartialEq, Drop)]
 pub struct ClearAllStateCommandMessage {
-    /// The name of the command, for people.
+    /// The human-readable name of the command.
     pub name: String,
 }
 

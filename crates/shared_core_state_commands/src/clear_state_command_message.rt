@@ -28,7 +28,7 @@ use std::alloc::Global;
 pub struct ClearStateCommandMessage {
     /// The key, as bytes.
     pub key: Bytes,
-    /// The name of the command, for people.
+    /// The human-readable name of the command.
     pub name: String,
 }
 

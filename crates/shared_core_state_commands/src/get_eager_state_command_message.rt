@@ -97,12 +97,12 @@ impl OneOf for Result {
     ] };
 }
 
-/// The value of a key, out of the state that came with the start.
+/// Reads the value of a key from the state in the start message.
 #[derive(Debug, PartialEq, Drop)]
 pub struct GetEagerStateCommandMessage {
     /// The key, as bytes.
     pub key: Bytes,
-    /// The name of the command, for people.
+    /// The human-readable name of the command.
     pub name: String,
     /// The result.
     pub result: Option<Result>,

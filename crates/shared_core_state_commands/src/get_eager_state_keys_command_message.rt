@@ -24,10 +24,10 @@ use shared_core_parts::state_keys::StateKeys;
 use shared_core_wire::error::WireError;
 use std::alloc::Global;
 
-/// All keys, out of the state that came with the start.
+/// Reads all keys from the state in the start message.
 #[derive(Debug, PartialEq, Drop)]
 pub struct GetEagerStateKeysCommandMessage {
-    /// The name of the command, for people.
+    /// The human-readable name of the command.
     pub name: String,
     /// The keys.
     pub value: Option<StateKeys>,

@@ -23,12 +23,12 @@ use shared_core_message::restate_message::{RestateEncodableMessage, RestateMessa
 use shared_core_wire::error::WireError;
 use std::alloc::Global;
 
-/// Asks for all keys.
+/// Reads all keys.
 #[derive(Debug, PartialEq, Drop)]
 pub struct GetLazyStateKeysCommandMessage {
-    /// The id by which the result will come.
+    /// The completion id of the result.
     pub result_completion_id: u32,
-    /// The name of the command, for people.
+    /// The human-readable name of the command.
     pub name: String,
 }
 

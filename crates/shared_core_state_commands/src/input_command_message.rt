@@ -30,9 +30,9 @@ use std::alloc::Global;
 pub struct InputCommandMessage {
     /// The headers of the request.
     pub headers: Vec<Header>,
-    /// The name of the command, for people.
+    /// The human-readable name of the command.
     pub name: String,
-    /// The value that came in.
+    /// The input, as a value.
     pub value: Option<Value>,
 }
 

@@ -97,10 +97,10 @@ impl OneOf for Result {
     ] };
 }
 
-/// What the handler returns.
+/// The output of the handler.
 #[derive(Debug, PartialEq, Drop)]
 pub struct OutputCommandMessage {
-    /// The name of the command, for people.
+    /// The human-readable name of the command.
     pub name: String,
     /// The result.
     pub result: Option<Result>,

@@ -31,7 +31,7 @@ pub struct SetStateCommandMessage {
     pub key: Bytes,
     /// The new value.
     pub value: Option<Value>,
-    /// The name of the command, for people.
+    /// The human-readable name of the command.
     pub name: String,
 }
 

@@ -1,4 +1,4 @@
--- How the printing of a stream goes on, and what stands written when it ends.
+-- How the printing of a stream continues, and what is written when it ends.
 use Rattle.std.proofs.Common.{ℕ, ◌+◌, ◌-◌, ◌<◌, ◌≤◌, drop, Some, None, Bool, true, false, cond, length-append, length-drop, ◌≡◌, List, [], ◌∷◌, ◌++◌, length, ap, sym, subst, ◌∙◌, append_assoc, append-nil, arith, Result, Ok, Err, Option, inl, inr, refl}
 use Rattle.std.specs.Io.KnownBytes.{Appends, Consumes, IsAtEnd}
 use Rattle.std.proofs.KnownBytes.{Appends-nil, Appends-trans, Consumes-nil, Consumes-trans, Consumes-kept}
@@ -54,7 +54,7 @@ first_join trouble at (item ∷ items) others =
     ∙ sym (or_assoc (trouble_at trouble at item) rest (first_trouble trouble ((at + item_size item) + items_size items) others))
     ∙ ap (λ (o : Option (ℕ × Trouble)). option_or (trouble_at trouble at item) o) (first_join trouble (at + item_size item) items others)
 
--- what is wrong first, with one more item
+-- the first trouble of items, with one more item
 pub first_next : (trouble : Item → Option Trouble) (before : Option (ℕ × Trouble)) (at : ℕ) (items : List Item) (item : Item)
     → option_or (option_or before (first_trouble trouble at items)) (trouble_at trouble (at + items_size items) item) ≡ option_or before (first_trouble trouble at (items ++ item ∷ []))
 first_next trouble before at items item =
@@ -63,7 +63,7 @@ first_next trouble before at items item =
     (ap (λ (o : Option (ℕ × Trouble)). option_or (first_trouble trouble at items) o) (sym (or_none (trouble_at trouble (at + items_size items) item)))
     ∙ first_join trouble at items (item ∷ []))
 
--- what is wrong first, after the next item
+-- the first trouble after the next item
 pub next_trouble : (trouble : Item → Option Trouble) (before old found : Option (ℕ × Trouble)) (at first : ℕ) (items : List Item) (item : Item)
     → old ≡ option_or before (first_trouble trouble first items) → at ≡ first + items_size items → found ≡ option_or old (trouble_at trouble at item)
     → found ≡ option_or before (first_trouble trouble first (items ++ item ∷ []))
@@ -145,19 +145,19 @@ begins_after front text whole (more, is) = (more, ap (λ l. front ++ l) is ∙ s
 begins_longer : {A : Type 0} (text whole more : List A) → Begins text whole → Begins text (whole ++ more)
 begins_longer text whole more (left, is) = (left ++ more, ap (λ l. l ++ more) is ∙ append_assoc text left more)
 
-consumes_none : (first left now : Option (List ℕ)) (read piece : List ℕ) → Consumes first left read → Consumes left now piece → length piece ≡ 0 → Consumes first now read
+consumes_none : (first left now : Option (List ℕ)) (read chunk : List ℕ) → Consumes first left read → Consumes left now chunk → length chunk ≡ 0 → Consumes first now read
 consumes_none first left now read [] came taken none = subst (Consumes first now) (append-nil read) (Consumes-trans first left now read [] came taken)
-consumes_none first left now read (x ∷ piece) came taken none = absurd (omega (arith, none))
+consumes_none first left now read (x ∷ chunk) came taken none = absurd (omega (arith, none))
 
--- what is too long is one of the items
+-- the item that is too long is one of the items
 pub lack_in : (is_long : Item → Type 0) (version : Version) (bytes rest : List ℕ) (front : List Item) (item : Item) (error : PrintError) → IsItemsThen version bytes (front ++ item ∷ []) rest → IsLack (is_long item) error → IsLack (IsLongIn is_long version bytes) error
 lack_in is_long version bytes rest front item Input is lack = absurd lack
 lack_in is_long version bytes rest front item Output is lack = absurd lack
 lack_in is_long version bytes rest front item OutOfMemory is lack = tt
 lack_in is_long version bytes rest front item TooLong is lack = (front, item, rest, is, lack)
 
--- A printing that goes on: the items of what was read have their lines, and these bytes are pending, which no item
--- begins.
+-- A printing that is not at its end: the items of what was read have their lines, and these bytes are pending, which
+-- begin with no item.
 pub record GoesOn (line : ℕ → ℕ → Item → List ℕ) (trouble : Item → Option Trouble) (version : Version) (first start left out : Option (List ℕ)) (total : ℕ) (pending : List ℕ) (found : Option (ℕ × Trouble)) : Type 0 where
   pub read : List ℕ
   pub items : List Item
@@ -222,44 +222,44 @@ module _ (line : ℕ → ℕ → Item → List ℕ) (last : ℕ → List ℕ →
       record { items = so_far.items; rest = pending; split = so_far.split; stands = refl },
     )
 
-    module _ (now : Option (List ℕ)) (piece : List ℕ) (taken : Consumes left now piece) where
-      with_piece : Consumes first now (so_far.read ++ piece)
-      with_piece = Consumes-trans first left now so_far.read piece so_far.came taken
+    module _ (now : Option (List ℕ)) (chunk : List ℕ) (taken : Consumes left now chunk) where
+      with_chunk : Consumes first now (so_far.read ++ chunk)
+      with_chunk = Consumes-trans first left now so_far.read chunk so_far.came taken
 
-      then_piece : IsItemsThen version (so_far.read ++ piece) so_far.items (pending ++ piece)
-      then_piece = then_more version so_far.read pending piece so_far.items so_far.split.items_then
+      then_chunk : IsItemsThen version (so_far.read ++ chunk) so_far.items (pending ++ chunk)
+      then_chunk = then_more version so_far.read pending chunk so_far.items so_far.split.items_then
 
       -- they are the lines of the same items, a chunk later
       abbrev with_more : List ℕ
-      with_more = lines line 0 (so_far.read ++ piece) so_far.items
+      with_more = lines line 0 (so_far.read ++ chunk) so_far.items
 
       wrote_more : Appends start out with_more
-      wrote_more = subst (Appends start out) (lines_more version line 0 so_far.read pending piece so_far.items so_far.split.items_then) so_far.wrote
+      wrote_more = subst (Appends start out) (lines_more version line 0 so_far.read pending chunk so_far.items so_far.split.items_then) so_far.wrote
 
-      -- what is to be done with a chunk cannot be done
-      pub ended_lack : (error : PrintError) → IsLack (IsLongIn is_long version (pending ++ piece)) error → HasEnded line last is_long trouble version first start now out (Err error)
-      ended_lack error lack = (so_far.read ++ piece, with_more, with_piece, wrote_more, printed_lack error (so_far.read ++ piece) (pending ++ piece) so_far.items now lack then_piece)
+      -- an error on a chunk
+      pub ended_lack : (error : PrintError) → IsLack (IsLongIn is_long version (pending ++ chunk)) error → HasEnded line last is_long trouble version first start now out (Err error)
+      ended_lack error lack = (so_far.read ++ chunk, with_more, with_chunk, wrote_more, printed_lack error (so_far.read ++ chunk) (pending ++ chunk) so_far.items now lack then_chunk)
 
-      module _ (rest : List ℕ) (more : List Item) (split : SplitsInto version (pending ++ piece) more rest) where
-        then_items : IsItemsThen version (so_far.read ++ piece) (so_far.items ++ more) rest
-        then_items = then_join version (so_far.read ++ piece) (pending ++ piece) rest so_far.items more then_piece split.items_then
+      module _ (rest : List ℕ) (more : List Item) (split : SplitsInto version (pending ++ chunk) more rest) where
+        then_items : IsItemsThen version (so_far.read ++ chunk) (so_far.items ++ more) rest
+        then_items = then_join version (so_far.read ++ chunk) (pending ++ chunk) rest so_far.items more then_chunk split.items_then
 
         -- the lines of the items of a chunk are those after the others
-        joined : with_more ++ lines line (items_size so_far.items) (pending ++ piece) more ≡ lines line 0 (so_far.read ++ piece) (so_far.items ++ more)
+        joined : with_more ++ lines line (items_size so_far.items) (pending ++ chunk) more ≡ lines line 0 (so_far.read ++ chunk) (so_far.items ++ more)
         joined =
-            ap (λ (n : ℕ). with_more ++ lines line n (pending ++ piece) more) (zero_more (items_size so_far.items))
-            ∙ ap (λ (l : List ℕ). with_more ++ lines line (0 + items_size so_far.items) l more) (sym (rest_after version (so_far.read ++ piece) (pending ++ piece) so_far.items then_piece))
-            ∙ lines_join line 0 (so_far.read ++ piece) so_far.items more
+            ap (λ (n : ℕ). with_more ++ lines line n (pending ++ chunk) more) (zero_more (items_size so_far.items))
+            ∙ ap (λ (l : List ℕ). with_more ++ lines line (0 + items_size so_far.items) l more) (sym (rest_after version (so_far.read ++ chunk) (pending ++ chunk) so_far.items then_chunk))
+            ∙ lines_join line 0 (so_far.read ++ chunk) so_far.items more
 
-        pub goes_on : (grown : Option (List ℕ)) (count : ℕ) (now_found : Option (ℕ × Trouble)) → count ≡ length piece → Appends out grown (lines line (items_size so_far.items) (pending ++ piece) more)
+        pub goes_on : (grown : Option (List ℕ)) (count : ℕ) (now_found : Option (ℕ × Trouble)) → count ≡ length chunk → Appends out grown (lines line (items_size so_far.items) (pending ++ chunk) more)
             → now_found ≡ option_or found (first_trouble trouble (items_size so_far.items) more) → GoesOn line trouble version first start now grown (total + count) rest now_found
         goes_on grown count now_found counted wrote noted = record {
-          read = so_far.read ++ piece;
+          read = so_far.read ++ chunk;
           items = so_far.items ++ more;
           split = record { items_then = then_items; no_more = split.no_more };
-          long = omega (arith, so_far.long, counted, length-append so_far.read piece);
-          came = with_piece;
-          wrote = subst (Appends start grown) joined (Appends-trans start out grown with_more (lines line (items_size so_far.items) (pending ++ piece) more) wrote_more wrote);
+          long = omega (arith, so_far.long, counted, length-append so_far.read chunk);
+          came = with_chunk;
+          wrote = subst (Appends start grown) joined (Appends-trans start out grown with_more (lines line (items_size so_far.items) (pending ++ chunk) more) wrote_more wrote);
           noted =
               noted ∙ ap (λ (o : Option (ℕ × Trouble)). option_or o (first_trouble trouble (items_size so_far.items) more)) so_far.noted
               ∙ ap (λ (n : ℕ). option_or (first_trouble trouble 0 so_far.items) (first_trouble trouble n more)) (zero_more (items_size so_far.items))
@@ -267,23 +267,23 @@ module _ (line : ℕ → ℕ → Item → List ℕ) (last : ℕ → List ℕ →
         }
 
         -- the lines of a chunk are not written whole
-        pub ended_output : (grown : Option (List ℕ)) (written : List ℕ) → Appends out grown written → Begins written (lines line (items_size so_far.items) (pending ++ piece) more) → HasEnded line last is_long trouble version first start now grown (Err Output)
+        pub ended_output : (grown : Option (List ℕ)) (written : List ℕ) → Appends out grown written → Begins written (lines line (items_size so_far.items) (pending ++ chunk) more) → HasEnded line last is_long trouble version first start now grown (Err Output)
         ended_output grown written wrote is = (
-          so_far.read ++ piece,
+          so_far.read ++ chunk,
           with_more ++ written,
-          with_piece,
+          with_chunk,
           Appends-trans start out grown with_more written wrote_more wrote,
-          printed_output (so_far.read ++ piece) rest (with_more ++ written) (so_far.items ++ more) now then_items
-              (subst (Begins (with_more ++ written)) joined (begins_after with_more written (lines line (items_size so_far.items) (pending ++ piece) more) is)),
+          printed_output (so_far.read ++ chunk) rest (with_more ++ written) (so_far.items ++ more) now then_items
+              (subst (Begins (with_more ++ written)) joined (begins_after with_more written (lines line (items_size so_far.items) (pending ++ chunk) more) is)),
         )
 
       -- the input has ended, and the last line is written, or cut short
-      module _ (grown : Option (List ℕ)) (written : List ℕ) (none : length piece ≡ 0) (end : IsAtEnd now) (wrote : Appends out grown written) where
+      module _ (grown : Option (List ℕ)) (written : List ℕ) (none : length chunk ≡ 0) (end : IsAtEnd now) (wrote : Appends out grown written) where
         then_last : (result : Result Report PrintError) → StandsWritten line last is_long trouble result so_far.read so_far.items pending (written_so_far ++ written) now → HasEnded line last is_long trouble version first start now grown result
         then_last result stands = (
           so_far.read,
           written_so_far ++ written,
-          consumes_none first left now so_far.read piece so_far.came taken none,
+          consumes_none first left now so_far.read chunk so_far.came taken none,
           Appends-trans start out grown written_so_far written so_far.wrote wrote,
           record { items = so_far.items; rest = pending; split = so_far.split; stands = stands },
         )
@@ -307,10 +307,10 @@ module _ (line : ℕ → ℕ → Item → List ℕ) (last : ℕ → List ℕ →
     ended_read now OutOfMemory (lost, taken) = ended_lack now lost taken OutOfMemory tt
     ended_read now TooLong is = absurd is
 
--- the pending bytes begin where they began, with a chunk after them
-pub still_there : (size total : ℕ) (pending piece : List ℕ) → total ≡ size + length pending → (total + length piece) - length (pending ++ piece) ≡ size
-still_there size total pending piece e = omega (arith, length-append pending piece)
+-- the offset of the pending bytes stays if a chunk is appended to them
+pub still_there : (size total : ℕ) (pending chunk : List ℕ) → total ≡ size + length pending → (total + length chunk) - length (pending ++ chunk) ≡ size
+still_there size total pending chunk e = omega (arith, length-append pending chunk)
 
--- what no byte of is pending ends where the stream does
+-- the offset of the pending bytes, by their number
 pub begins_at : (size total count : ℕ) → total ≡ size + count → total - count ≡ size
 begins_at size total count e = omega arith

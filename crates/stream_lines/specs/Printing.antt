@@ -34,11 +34,11 @@ lines line at bytes (item ∷ items) =
 abbrev pub all_lines : (ℕ → ℕ → Item → List ℕ) → (ℕ → List ℕ → List ℕ) → List ℕ → List Item → List ℕ → List ℕ
 all_lines line last stream items rest = lines line 0 stream items ++ last (items_size items) rest
 
--- What is wrong with an item that begins at an offset, with that offset.
+-- The trouble of an item, with the offset at which the item begins.
 abbrev pub trouble_at : (Item → Option Trouble) → ℕ → Item → Option (ℕ × Trouble)
 trouble_at trouble at item = option_map (λ what. (at, what)) (trouble item)
 
--- What is wrong first with items, the first of which begins at an offset.
+-- The first trouble of items, the first of which begins at an offset.
 abbrev pub first_trouble : (Item → Option Trouble) → ℕ → List Item → Option (ℕ × Trouble)
 first_trouble trouble at [] = None
 first_trouble trouble at (item ∷ items) = option_or (trouble_at trouble at item) (first_trouble trouble (at + item_size item) items)
@@ -68,8 +68,8 @@ IsLack is_long TooLong = is_long
 IsLack is_long error = ⊥
 
 -- What is written for each result, for a stream of these items and these remaining bytes, and what the reader has left:
--- all lines and the report, at the input's end; the lines of all items; a prefix of these or, at the input's end, of all lines; the
--- lines of the first items; or those of the items before one that is too long.
+-- all lines and the report, at the input's end; the lines of all items; a prefix of these or, at the input's end, of
+-- all lines; the lines of the first items; or those of the items before one that is too long.
 abbrev pub StandsWritten : (ℕ → ℕ → Item → List ℕ) → (ℕ → List ℕ → List ℕ) → (Item → Type 0) → (Item → Option Trouble) → Result Report PrintError → List ℕ → List Item → List ℕ → List ℕ → Option (List ℕ) → Type 0
 StandsWritten line last is_long trouble (Ok report) stream items rest written left =
     IsAtEnd left × (written ≡ all_lines line last stream items rest) × IsReport trouble items rest report
@@ -92,7 +92,7 @@ pub record ArePrinted (line : ℕ → ℕ → Item → List ℕ) (last : ℕ →
 -- What one read took of the reader's bytes, by its result: a chunk, which is empty only at the end; nothing if it
 -- failed; or bytes that could not be stored.
 abbrev pub IsRead : Result (List ℕ) PrintError → Option (List ℕ) → Option (List ℕ) → Type 0
-IsRead (Ok piece) old new = Consumes old new piece × (length piece ≡ 0 → IsAtEnd new)
+IsRead (Ok chunk) old new = Consumes old new chunk × (length chunk ≡ 0 → IsAtEnd new)
 IsRead (Err Input) old new = Keeps old new
 IsRead (Err OutOfMemory) old new = (lost : List ℕ) × Consumes old new lost
 IsRead (Err error) old new = ⊥

@@ -1,11 +1,11 @@
-//! The error of `print_lines`: why printing ended before the last line.
+//! The error of `print_lines`.
 
 use crate::output::OutputFailed;
 use std::alloc::AllocError;
 use std::error::Error;
 use std::fmt;
 
-/// The error of `print_lines`: why printing ended before the last line.
+/// Why printing ended before the last line.
 #[derive(Clone, Copy, Debug, PartialEq, Eq, Drop)]
 pub enum PrintError {
     /// A read failed, or 2^64 - 1 reads met no end.

@@ -25,13 +25,13 @@ pub trait LinePrinter {
     /// Holds of the items for which `print_item` may return `TooLong`.
     ghost is_long: { Self → AnyItem → Type 0 };
 
-    /// What is wrong with an item, as far as the report of a printing has it.
+    /// The trouble of an item, if a report has it.
     ghost item_trouble: { Self → AnyItem → Option AnyTrouble };
 
     /// Returns empty buffers.
     fn scratch(&self, alloc: Global) -> Self::Scratch;
 
-    /// What is wrong with an item, if the report is to have it.
+    /// The trouble of an item, if the report is to have it.
     fn trouble(&self, item: &Item) -> Option<Trouble>
         ensures trouble { result ≡ item_trouble self.now item.now };
 

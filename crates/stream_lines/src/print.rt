@@ -23,9 +23,9 @@ use std::io::{Read, Write};
 /// Writes a line for each item of a stream of a version, of at least V5, and at its end a line for the bytes that are
 /// in no item.
 ///
-/// It reads at most `piece` bytes at a time, from 1 to 65,536, and writes the lines of the items that a chunk completes
-/// before it reads the next. `Ok` comes only if the reader has no byte left, and then all is written; the report says
-/// with which item something is wrong first, by the printer, and which bytes are in no item. After `Input` the lines of
+/// It reads at most `chunk` bytes at a time, from 1 to 65,536, and writes the lines of the items that a chunk completes
+/// before it reads the next. `Ok` comes only if the reader has no byte left, and then all is written; the report has
+/// the first trouble that the printer finds in an item, and the bytes that are in no item. After `Input` the lines of
 /// all items of what was read are written; after `Output` a prefix of these lines, or of all if the input had ended;
 /// after `OutOfMemory` and `TooLong` the lines of the first items. `TooLong` comes only if one of the items after them
 /// is too long for a line.
@@ -35,11 +35,11 @@ pub fn print_lines<P: LinePrinter, R: Read, W: Write>(
     printer: &P,
     input: &mut R,
     output: &mut W,
-    piece: usize,
+    chunk: usize,
 ) -> Result<Report, PrintError>
     requires spoken { 5 ≤ version_number version }
-    requires low { 1 ≤ piece }
-    requires high { piece ≤ 65536 }
+    requires low { 1 ≤ chunk }
+    requires high { chunk ≤ 65536 }
     ensures { (read : List ℕ) × (written : List ℕ)
         × Consumes (R.remaining input.old) (R.remaining input.new) read
         × Appends (W.contents output.old) (W.contents output.new) written
@@ -49,13 +49,13 @@ pub fn print_lines<P: LinePrinter, R: Read, W: Write>(
     let mut decoder = Decoder::new(alloc, version);
     let mut scratch = printer.scratch(alloc);
     let mut text = Vec::new(alloc);
-    let mut buffer = Vec::from_elem(alloc, 0u8, piece)?;
+    let mut buffer = Vec::from_elem(alloc, 0u8, chunk)?;
     let buffer = buffer.as_mut_slice();
     let mut trouble = None;
     // 2^64 - 1 reads may give more bytes than 64 bits can count
     let mut total = 0u128;
     for _ in 0..u64::MAX {
-        let bytes = read_piece(alloc, input, buffer)?;
+        let bytes = read_chunk(alloc, input, buffer)?;
         if bytes.is_empty() {
             text.clear();
             let rest = decoder.pending();
@@ -81,10 +81,10 @@ pub fn print_lines<P: LinePrinter, R: Read, W: Write>(
 }
 
 /// Reads once, at most as much as the buffer has room for. No byte means the end of the input.
-fn read_piece<R: Read>(alloc: Global, input: &mut R, buffer: &mut [u8]) -> Result<Bytes, PrintError>
+fn read_chunk<R: Read>(alloc: Global, input: &mut R, buffer: &mut [u8]) -> Result<Bytes, PrintError>
     requires { 0 < length buffer.old }
     ensures taken { IsRead result (R.remaining input.old) (R.remaining input.new) }
-    ensures fits { IfOk result (λ piece. length piece ≤ length buffer.old) }
+    ensures fits { IfOk result (λ chunk. length chunk ≤ length buffer.old) }
 {
     let Ok(count) = input.read(buffer) else {
         return Err(PrintError::Input);
@@ -93,19 +93,19 @@ fn read_piece<R: Read>(alloc: Global, input: &mut R, buffer: &mut [u8]) -> Resul
 }
 
 /// Pushes a chunk. A decoder that holds no whole item has room for it, so none is too long.
-fn feed(decoder: &mut Decoder, piece: Bytes) -> Result<(), AllocError>
+fn feed(decoder: &mut Decoder, chunk: Bytes) -> Result<(), AllocError>
     requires short { length decoder.old.bytes ≤ most_pending }
-    requires fits { length piece ≤ 65536 }
-    ensures fed { OnOk result (decoder.new ≡ record decoder.old { bytes = decoder.old.bytes ++ piece }) }
+    requires fits { length chunk ≤ 65536 }
+    ensures fed { OnOk result (decoder.new ≡ record decoder.old { bytes = decoder.old.bytes ++ chunk }) }
 {
-    match decoder.push(piece) {
+    match decoder.push(chunk) {
         Ok(()) => Ok(()),
         Err(PushError::OutOfMemory(_)) => Err(AllocError),
         Err(PushError::TooLong(_)) => unreachable!(),
     }
 }
 
-/// The next item with the word of its header, which an item does not hold all of; `None` if no whole one remains.
+/// The next item, with the word of its header, of which an item holds only a part; `None` if no whole item is left.
 #[tactic(auto, using(crate::proofs::Progress::none_without_header))]
 fn next_item(decoder: &mut Decoder) -> Result<Option<(u64, Item)>, AllocError>
     ensures taken { IfOk result (λ found. MatchOption found
@@ -126,7 +126,7 @@ fn next_item(decoder: &mut Decoder) -> Result<Option<(u64, Item)>, AllocError>
     Ok(Some((word, item)))
 }
 
-/// What is wrong first: what was found before, or else what is wrong with this item.
+/// The first trouble: the one that was found before, otherwise that of this item.
 fn first<P: LinePrinter>(
     printer: &P,
     offset: u128,
@@ -141,8 +141,8 @@ fn first<P: LinePrinter>(
     }
 }
 
-/// Makes a text of the lines of the decoder's whole items, after `total` bytes of the stream have come, and notes what
-/// is wrong first.
+/// Makes a text of the lines of the decoder's whole items, after `total` bytes of the stream have come, and records the
+/// first trouble.
 fn print_items<P: LinePrinter>(
     alloc: Global,
     printer: &P,

@@ -1,4 +1,4 @@
-//! What the printing of a whole stream found.
+//! The report on a stream.
 
 use shared_core::header::MessageType;
 

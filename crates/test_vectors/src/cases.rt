@@ -54,15 +54,15 @@ pub enum Question<'a> {
 pub struct Case<'a> {
     pub question: Question<'a>,
     pub bytes: Vec<Bytes>,
-    pub answer: &'a str,
+    pub expected: &'a str,
 }
 
 /// The test vector of a line, or None if it is none.
 pub fn read_case<'a>(alloc: Global, line: &'a str) -> Result<Option<Case<'a>>, AllocError> {
-    let Some((asked, answer)) = line.split_once(" = ") else {
+    let Some((input, expected)) = line.split_once(" = ") else {
         return Ok(None);
     };
-    let Some((question, words)) = read_question(asked) else {
+    let Some((question, words)) = read_question(input) else {
         return Ok(None);
     };
     let Some(bytes) = read_all_bytes(alloc, words)? else {
@@ -71,13 +71,13 @@ pub fn read_case<'a>(alloc: Global, line: &'a str) -> Result<Option<Case<'a>>, A
     Ok(Some(Case {
         question,
         bytes,
-        answer,
+        expected,
     }))
 }
 
 /// The kind of a test vector, and its bytes as text.
-fn read_question(asked: &str) -> Option<(Question<'_>, &str)> {
-    let (kind, words) = asked.split_once(' ')?;
+fn read_question(input: &str) -> Option<(Question<'_>, &str)> {
+    let (kind, words) = input.split_once(' ')?;
     let (subject, words) = words.split_once(' ')?;
     match kind {
         "payload" => Some((Question::Payload(subject), words)),

@@ -9,8 +9,8 @@ use crate::verdict::{Failed, Verdict};
 use std::alloc::Global;
 use std::borrow::CowStr;
 
-/// What the library returns in place of a line's result, or what is wrong with the line; `None` where the library
-/// returns that result.
+/// What the library returns instead of the expected result of a line, or what is wrong with the line; `None` if it
+/// returns the expected result.
 pub fn refutation(alloc: Global, line: &str) -> Option<CowStr<'static>> {
     let Ok(case) = read_case(alloc, line) else {
         return Some(CowStr::Borrowed("out of memory"));
@@ -18,7 +18,7 @@ pub fn refutation(alloc: Global, line: &str) -> Option<CowStr<'static>> {
     let Some(case) = case else {
         return Some(CowStr::Borrowed("no case"));
     };
-    let mut verdict = Verdict::new(alloc, case.answer);
+    let mut verdict = Verdict::new(alloc, case.expected);
     match check(&case, &mut verdict) {
         Ok(()) => None,
         Err(Failed::Otherwise) => Some(CowStr::Owned(verdict.given)),

@@ -47,10 +47,10 @@ fn check_as<M: CommandMessage>(
 ) -> Result<(), Failed> {
     let alloc = verdict.alloc;
     let Some(actual) = decoded::<M>(alloc, actual)? else {
-        return verdict.answer("malformed");
+        return verdict.check("malformed");
     };
     let Some(expected) = decoded::<M>(alloc, expected)? else {
-        return verdict.answer("malformed");
+        return verdict.check("malformed");
     };
     let with_payloads = sameness(actual.header_eq(&expected, false));
     let without_payloads = sameness(actual.header_eq(&expected, true));
@@ -61,7 +61,7 @@ fn check_as<M: CommandMessage>(
     let difference = format!(in alloc; "{difference}")?;
     let difference = encoded(alloc, difference.as_bytes())?;
     let given = format!(in alloc; "{with_payloads} {without_payloads} {difference}")?;
-    verdict.answer(given.as_str())
+    verdict.check(given.as_str())
 }
 
 /// The word for whether two commands are the same.

@@ -16,10 +16,10 @@ pub fn check_frame_of<M: RestateEncodableMessage, D: RestateMessage>(
 ) -> Result<(), Failed> {
     let alloc = verdict.alloc;
     let Some(message) = decoded::<M>(alloc, payload)? else {
-        return verdict.answer("malformed");
+        return verdict.check("malformed");
     };
     let frame = Encoder::new(version.version()).encode(alloc, &message)?;
-    verdict.answer_bytes(frame.as_slice())?;
+    verdict.check_bytes(frame.as_slice())?;
     let Some(message) = only_message(alloc, version, frame.as_slice())? else {
         return verdict.refuse("no single message comes out of the frame");
     };

@@ -51,7 +51,7 @@ fn main(rt: HostRuntime) -> ExitCode {
         Err(error) if error.kind() == ErrorKind::OutOfMemory => "out of memory",
         Err(_) => "input or output failed",
     };
-    // There is nothing to do if that fails too.
+    // there is nothing to do if that fails too
     let _ = eprintln!(rt; "test_vectors: {why}, after line {number}");
     ExitCode::FAILURE
 }

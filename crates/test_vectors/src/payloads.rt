@@ -90,10 +90,10 @@ fn check_meaning<M: WireRecord>(
     verdict: &mut Verdict<'_>,
 ) -> Result<(), Failed> {
     let Some(record) = record else {
-        return verdict.answer("malformed");
+        return verdict.check("malformed");
     };
     let canonical = record.encode_payload(verdict.alloc)?;
-    verdict.answer_bytes(canonical.as_slice())?;
+    verdict.check_bytes(canonical.as_slice())?;
     check_canonical(record, &canonical, verdict)?;
     if canonical.len() > SHORT {
         return Ok(());
@@ -128,10 +128,10 @@ pub fn check_printed<M: WireRecord + Debug>(
 ) -> Result<(), Failed> {
     let alloc = verdict.alloc;
     let Some(record) = decoded::<M>(alloc, payload)? else {
-        return verdict.answer("malformed");
+        return verdict.check("malformed");
     };
     let printed = format!(in alloc; "{record:?}")?;
-    verdict.answer(printed.as_str())?;
+    verdict.check(printed.as_str())?;
     let written = record.encode_payload(alloc)?;
     verdict.require(written == *payload, "it is not canonical")?;
     check_canonical(&record, payload, verdict)?;

@@ -17,30 +17,30 @@ const SIZES: [usize; 8] = [1, 2, 3, 7, 8, 9, 64, usize::MAX];
 /// Checks the listing of a stream that comes in chunks, and that it is the same in other chunks.
 pub fn check_stream(
     version: SpokenVersion,
-    pieces: &[Bytes],
+    chunks: &[Bytes],
     verdict: &mut Verdict<'_>,
 ) -> Result<(), Failed> {
-    let listing = listing(verdict.alloc, version, pieces)?;
-    verdict.answer(listing.as_str())?;
+    let listing = listing(verdict.alloc, version, chunks)?;
+    verdict.check(listing.as_str())?;
     let mut stream = Vec::new(verdict.alloc);
-    for piece in pieces {
-        stream.extend_from_slice(piece.as_slice())?;
+    for chunk in chunks {
+        stream.extend_from_slice(chunk.as_slice())?;
     }
     let stream = stream.as_slice();
     if stream.len() > SHORT {
         for size in SIZES {
-            check_pieces(version, stream, size, verdict)?;
+            check_chunks(version, stream, size, verdict)?;
         }
         return Ok(());
     }
     for size in 1..stream.len() + 1 {
-        check_pieces(version, stream, size, verdict)?;
+        check_chunks(version, stream, size, verdict)?;
     }
     check_cuts(version, stream, verdict)
 }
 
 /// Checks that the listing is the same in chunks of a size.
-fn check_pieces(
+fn check_chunks(
     version: SpokenVersion,
     stream: &[u8],
     size: usize,
@@ -48,13 +48,13 @@ fn check_pieces(
 ) -> Result<(), Failed>
     requires { 1 ≤ size }
 {
-    let mut pieces = Vec::new(verdict.alloc);
-    for piece in stream.chunks(size) {
-        pieces.push(copied(verdict.alloc, piece)?)?;
+    let mut chunks = Vec::new(verdict.alloc);
+    for chunk in stream.chunks(size) {
+        chunks.push(copied(verdict.alloc, chunk)?)?;
     }
-    let listing = listing(verdict.alloc, version, pieces.as_slice())?;
+    let listing = listing(verdict.alloc, version, chunks.as_slice())?;
     let same = listing.as_str() == verdict.wanted;
-    verdict.require_at(same, "it is listed otherwise in pieces of", size)
+    verdict.require_at(same, "it is listed otherwise in chunks of", size)
 }
 
 /// Checks that the listing is the same in any two chunks.
@@ -68,14 +68,14 @@ fn check_cuts(
         let back = copied(verdict.alloc, &stream[cut..])?;
         let listing = listing(verdict.alloc, version, &[front, back])?;
         let same = listing.as_str() == verdict.wanted;
-        verdict.require_at(same, "it is listed otherwise where it is cut at", cut)?;
+        verdict.require_at(same, "it is listed otherwise where it is split at", cut)?;
     }
     Ok(())
 }
 
 /// The items of a stream that comes in chunks, each with a comma after it, and the number of bytes that are in none.
-fn listing(alloc: Global, version: SpokenVersion, pieces: &[Bytes]) -> Result<String, Failed> {
-    let (items, decoder) = decode_pieces(alloc, version.version(), pieces)?;
+fn listing(alloc: Global, version: SpokenVersion, chunks: &[Bytes]) -> Result<String, Failed> {
+    let (items, decoder) = decode_pieces(alloc, version.version(), chunks)?;
     let mut text = String::new(alloc);
     for item in items.as_slice() {
         append_item(&mut text, item)?;

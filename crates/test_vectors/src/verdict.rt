@@ -67,7 +67,7 @@ impl<'a> Verdict<'a> {
     }
 
     /// Checks that the library's result is the expected one.
-    pub fn answer(&mut self, given: &str) -> Result<(), Failed> {
+    pub fn check(&mut self, given: &str) -> Result<(), Failed> {
         if given == self.wanted {
             return Ok(());
         }
@@ -75,9 +75,9 @@ impl<'a> Verdict<'a> {
     }
 
     /// Checks the library's result, which is bytes.
-    pub fn answer_bytes(&mut self, given: &[u8]) -> Result<(), Failed> {
+    pub fn check_bytes(&mut self, given: &[u8]) -> Result<(), Failed> {
         let given = encoded(self.alloc, given)?;
-        self.answer(given.as_str())
+        self.check(given.as_str())
     }
 
     /// Checks a condition that must hold whenever the result is the expected one; `otherwise` is the result to report.

@@ -16,7 +16,7 @@ module Pendratsoa
       TooLong => "the result would have more than 4,294,967,295 bytes"
     }.freeze
 
-    # Why a JSON text is not taken.
+    # Why a JSON text is rejected.
     REASONS = {
       not_json: "not JSON",
       unknown_member: "unknown member",
@@ -103,7 +103,7 @@ module Pendratsoa
       written(function, *parameters).force_encoding(Encoding::UTF_8)
     end
 
-    # The error of a JSON text that is not taken: for a reason, at an offset, by the path to what is not taken.
+    # The error of a rejected JSON text: the reason, the offset, and the path to the rejected value.
     def not_taken(reason, offset, path)
       value = @arguments.fetch(:json)
       where = reason == :not_json ? " at byte #{offset}" : ""

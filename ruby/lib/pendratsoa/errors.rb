@@ -39,7 +39,7 @@ module Pendratsoa
   # A JSON text means no value of its schema.
   class JsonError < Error
     # Why, as one of JSON_REASONS; where the text stops being JSON, in bytes, which is nil if it is JSON; and then what
-    # leads to what is not taken, as "headers[2].key".
+    # leads to the rejected value, as "headers[2].key".
     attr_reader :reason, :offset, :path
 
     def initialize(message = nil, reason: nil, offset: nil, path: "", **details)

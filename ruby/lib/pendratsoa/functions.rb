@@ -7,7 +7,7 @@ module Pendratsoa
   # How many schemas there are; their numbers begin at 0.
   SCHEMAS = SCHEMA_NAMES.length
 
-  # Why a JSON text is not taken.
+  # Why a JSON text is rejected.
   JSON_REASONS = %i[
     not_json unknown_member repeated_member several_members wrong_kind out_of_range not_base64 too_deep
   ].freeze

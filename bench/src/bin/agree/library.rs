@@ -1,7 +1,7 @@
 //! The results of the library for random cases.
 
 use pendratsoa::{next_item, Item, Next};
-use pendratsoa_bench::cases::{any, any_piece};
+use pendratsoa_bench::cases::{any, any_chunk};
 use pendratsoa_bench::conformance::{hex, Case, Listing, MALFORMED};
 use pendratsoa_bench::ours::{self, FrameCall, Refusal};
 use pendratsoa_bench::peer;
@@ -103,15 +103,15 @@ fn compare_case(tally: &mut Tally, random: &mut Random) {
                 equal(tally, kind, &case, &written(&ours), &verdict.result);
             }
         }
-        Case::Stream { version, pieces } => {
-            let stream = pieces.concat();
-            let piece = any_piece(random, stream.len());
+        Case::Stream { version, chunks } => {
+            let stream = chunks.concat();
+            let chunk = any_chunk(random, stream.len());
             let rounds = random.below(3);
-            let ours = list(*version, &stream, piece, rounds);
+            let ours = list(*version, &stream, chunk, rounds);
             equal(tally, kind, &case, &ours, &verdict.result);
             let next = list_by_next(*version, &stream);
             equal(tally, "items of streams", &case, &next, &verdict.result);
-            compare_messages(tally, &case, *version, &stream, piece, rounds);
+            compare_messages(tally, &case, *version, &stream, chunk, rounds);
         }
     }
 }
@@ -124,9 +124,9 @@ fn merge(schema: usize, payloads: &[Vec<u8>]) -> Result<Vec<u8>, Refusal> {
 }
 
 /// The listing of the items that the library finds in a stream.
-fn list(version: u32, stream: &[u8], piece: usize, rounds: usize) -> String {
+fn list(version: u32, stream: &[u8], chunk: usize, rounds: usize) -> String {
     let mut words = vec![0; stream.len() / 8 + 1];
-    let count = match ours::items(version, stream, piece, rounds, &mut words) {
+    let count = match ours::items(version, stream, chunk, rounds, &mut words) {
         Ok(count) => count,
         Err(refusal) => return refusal.to_string(),
     };
@@ -174,13 +174,13 @@ fn compare_messages(
     case: &Case,
     version: u32,
     stream: &[u8],
-    piece: usize,
+    chunk: usize,
     rounds: usize,
 ) {
     const KIND: &str = "messages of streams";
-    let ours = number(ours::messages(version, stream, piece, rounds));
+    let ours = number(ours::messages(version, stream, chunk, rounds));
     let (expected, departs) = messages_by_rules(version, stream);
-    let peer = peer::messages(version, stream, piece, rounds).ok();
+    let peer = peer::messages(version, stream, chunk, rounds).ok();
     if peer != expected && !departs {
         let results = format!("  prost:     {peer:?}\n  the rules: {expected:?}");
         return tally.fails(KIND, case, results);

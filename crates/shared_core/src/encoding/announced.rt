@@ -1,4 +1,4 @@
-//! Reading the first eight bytes of an item: the one place that knows what they announce at a version.
+//! Reading the first eight bytes of an item. Only this module knows what they announce at a version.
 ghost use Rattle.std.specs.Prelude.{◌≡◌};
 ghost use Rattle.shared_core.specs.Borrowed.{Announces, announced_length, kind_announced};
 
@@ -6,7 +6,7 @@ use crate::encoding::item_ref::ItemKind;
 use shared_core_base::header::{MessageHeader, UnknownMessageType};
 use shared_core_base::version::Version;
 
-/// What the first eight bytes of an item say of it.
+/// What the first eight bytes of an item announce.
 #[derive(Drop)]
 pub(crate) enum Announced {
     Message(MessageHeader),
@@ -17,7 +17,7 @@ pub(crate) enum Announced {
 }
 
 impl Announced {
-    /// What this word says at a version.
+    /// What this word announces at a version.
     #[inline(always)]
     pub(crate) fn by(version: Version, word: u64) -> Announced
         ensures { Announces version word result }
@@ -43,7 +43,7 @@ impl Announced {
         }
     }
 
-    /// What the item is.
+    /// The kind of the item.
     #[inline(always)]
     pub(crate) fn kind(&self) -> ItemKind
         ensures { result ≡ kind_announced self.now }

@@ -36,7 +36,7 @@ impl Model for Decoder {
         × (length (held_bytes decoder.head) ≡ held_length decoder.head) };
 }
 
-/// The eight bytes that are held as a header. Where none are and eight have come, they are held from now on.
+/// The eight bytes that are held as a header. If none are held and eight have come, these are held from now on.
 fn hold_head(head: &mut Option<[u8; 8]>, pending: &mut PendingBytes) -> Option<[u8; 8]>
     requires { length (held_bytes head.old) ≡ held_length head.old }
     ensures same { held_bytes head.new ++ pending.new ≡ held_bytes head.old ++ pending.old }
@@ -81,7 +81,7 @@ impl Decoder {
     ghost use Rattle.std.specs.Prelude.{◌≡◌, ◌+◌, ◌≤◌, ◌++◌, [], length, OnOk, OnErr, IfOk, IfErr, IsOk, MatchOption};
     ghost use Rattle.std.specs.Prelude.{None, Ok, false};
     ghost use Rattle.shared_core_base.specs.Version.{version_number};
-    ghost use Rattle.shared_core.specs.Items.{ReturnsNext, NoItemBegins, PayloadIsNext, RefusesPiece, TakesEight};
+    ghost use Rattle.shared_core.specs.Items.{ReturnsNext, NoItemBegins, PayloadIsNext, PushFails, TakesEight};
     ghost use Rattle.std.specs.Prelude.{◌<◌};
     ghost use Rattle.shared_core.specs.Items.{TakesItem, front_word, item_taken};
 
@@ -105,7 +105,7 @@ impl Decoder {
         held + self.pending.len() as u64
     }
 
-    /// Returns a copy of the bytes that no call has taken yet, as of those that are left at the end of a stream.
+    /// Returns a copy of the bytes that no call has taken yet: at the end of a stream, of those that are in no item.
     pub fn copy_pending(&self) -> Result<Vec<u8>, AllocError>
         ensures { IfOk result (λ bytes. bytes.items ≡ self.now.bytes) }
     {
@@ -117,10 +117,10 @@ impl Decoder {
         Ok(bytes)
     }
 
-    /// The word of the next header, or `None` where its eight bytes have not all come. Takes nothing.
+    /// The word of the next header, or `None` if its eight bytes have not all come. Takes nothing.
     ///
-    /// An item does not hold all of its word: of a known type bits that say nothing are left out, of a code that is no
-    /// type's all but the code.
+    /// An item does not hold its whole word: bits without a meaning are left out, and for a code that is no type's, all
+    /// bits but the code.
     pub fn next_word(&mut self) -> Option<u64>
         ensures kept { self.new ≡ self.old }
         ensures word { MatchOption result (length self.old.bytes < 8)
@@ -134,32 +134,32 @@ impl Decoder {
     ///
     /// An empty chunk is not kept and never rejected. A rejected chunk is returned in the error, and nothing has
     /// changed: `TooLong` only if the pending bytes would be more than 2^64 - 1, otherwise `OutOfMemory`.
-    pub fn push(&mut self, piece: Bytes) -> Result<(), PushError>
-        ensures ok { OnOk result (self.new ≡ record self.old { bytes = self.old.bytes ++ piece }) }
-        ensures err { IfErr result (RefusesPiece self.old.bytes piece) }
+    pub fn push(&mut self, chunk: Bytes) -> Result<(), PushError>
+        ensures ok { OnOk result (self.new ≡ record self.old { bytes = self.old.bytes ++ chunk }) }
+        ensures err { IfErr result (PushFails self.old.bytes chunk) }
         ensures kept { OnErr result (self.new ≡ self.old) }
-        ensures empty { length piece ≡ 0 → IsOk result }
+        ensures empty { length chunk ≡ 0 → IsOk result }
     {
-        if piece.is_empty() {
+        if chunk.is_empty() {
             return Ok(());
         }
-        if self.pending().checked_add(piece.len() as u64).is_none() {
-            return Err(PushError::TooLong(piece));
+        if self.pending().checked_add(chunk.len() as u64).is_none() {
+            return Err(PushError::TooLong(chunk));
         }
-        match self.pending.push(piece) {
+        match self.pending.push(chunk) {
             Ok(()) => Ok(()),
             Err(failed) => Err(PushError::OutOfMemory(failed.value)),
         }
     }
 
-    /// The next message, or `None` exactly where the bytes that came hold no further whole item; then at most
+    /// The next message, or `None` if and only if the pending bytes begin with no whole item; then at most
     /// 4,294,967,302 bytes are pending, a header and all but one byte of its payload.
     ///
-    /// A payload that lies in one chunk is cut from it; one that straddles chunks is joined, once. Where the next
-    /// header's code is no type's, the result goes by the version: before V9 it is `UnknownMessageType`, which takes
-    /// exactly the eight bytes of the header, and reading goes on after them; from V9 on it is `SkippedMessage`, which
-    /// takes the header and its payload, once that has come. `OutOfMemory` comes only where a whole payload is to be
-    /// taken, and takes nothing: a later call returns as if this one had not been made.
+    /// A payload within one chunk shares its memory; one that straddles chunks is joined, once. If the next header's
+    /// code is no type's, the result depends on the version: before V9 it is `UnknownMessageType`, and exactly the
+    /// eight bytes of the header are taken; from V9 on it is `SkippedMessage` once the payload has come, and the header
+    /// and the payload are taken. `OutOfMemory` comes only if a whole payload would be taken, and takes nothing: a
+    /// later call returns as if this one had not been made.
     pub fn consume_next(&mut self) -> Result<Option<RawMessage>, DecodingError>
         ensures next { ReturnsNext self.old.version self.old.bytes result self.new.bytes }
         ensures version { self.new.version ≡ self.old.version }
@@ -180,9 +180,9 @@ impl Decoder {
         }
     }
 
-    /// The next item, of any kind, or `None` exactly where no whole one remains: what `consume_next` returns, for a
-    /// caller to whom an unknown header or a skipped message is an item like any other. A failed allocation takes
-    /// nothing, and comes only where a whole payload is to be taken.
+    /// The next item, of any kind, or `None` if and only if no whole one is left: as `consume_next`, but an unknown
+    /// header or a skipped message is an item and no error. A failed allocation takes nothing, and comes only if a
+    /// whole payload would be taken.
     pub fn next_item(&mut self) -> Result<Option<Item>, AllocError>
         ensures taken { IfOk result (λ found. MatchOption found
             (NoItemBegins self.old.version self.old.bytes × (self.new.bytes ≡ self.old.bytes)

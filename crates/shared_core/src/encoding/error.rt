@@ -103,16 +103,16 @@ impl fmt::Display for DecodingError {
 
 impl Error for DecodingError {}
 
-/// Why a chunk was not taken. The chunk is returned.
+/// Why a chunk was rejected, and the chunk.
 #[derive(Debug, Drop)]
 pub enum PushError {
-    /// There is no memory for one more segment.
+    /// The allocation of one more segment failed.
     OutOfMemory(Bytes),
     /// The pending bytes would be more than 2^64 - 1.
     TooLong(Bytes),
 }
 
-/// Says which of the two it is.
+/// Prints which of the two it is.
 impl fmt::Display for PushError {
     ghost use Rattle.std.specs.Prelude.{Some};
     ghost use Rattle.shared_core.specs.Errors.{push_error_text};
@@ -134,11 +134,11 @@ impl Error for PushError {}
 pub enum PiecesError {
     /// The joined chunks are more than 2^64 - 1 bytes.
     TooLong,
-    /// There is no memory for the list of items, a segment or a payload.
+    /// The list of items, a segment or a payload could not be allocated.
     OutOfMemory,
 }
 
-/// Says which of the two it is.
+/// Prints which of the two it is.
 impl fmt::Display for PiecesError {
     ghost use Rattle.std.specs.Prelude.{Some};
     ghost use Rattle.shared_core.specs.Errors.{pieces_error_text};
@@ -147,7 +147,7 @@ impl fmt::Display for PiecesError {
 
     fn fmt<W: fmt::Write>(&self, f: &mut fmt::Formatter<W>) -> fmt::Result {
         match self {
-            PiecesError::TooLong => f.write_str("the pieces have more than 2^64 - 1 bytes"),
+            PiecesError::TooLong => f.write_str("the chunks have more than 2^64 - 1 bytes"),
             PiecesError::OutOfMemory => f.write_str("out of memory"),
         }
     }

@@ -6,7 +6,7 @@ use crate::encoding::RawMessage;
 use bytes::Bytes;
 use shared_core_base::header::UnknownMessageType;
 
-/// The items of a stream: messages, and what has a code that is no type's.
+/// An item of a stream: a message, or what has a code that is no type's.
 #[derive(Debug, PartialEq, Drop)]
 pub enum Item {
     /// A header and its payload.

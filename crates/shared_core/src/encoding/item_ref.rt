@@ -9,7 +9,7 @@ use shared_core_base::version::Version;
 use std::error::Error;
 use std::fmt;
 
-/// What the first eight bytes of an item say that it is, at a version.
+/// The kind of an item, by its first eight bytes at a version.
 #[derive(Clone, Copy, Debug, PartialEq, Eq)]
 pub enum ItemKind {
     /// A message with this header.
@@ -20,15 +20,15 @@ pub enum ItemKind {
     Skipped(u16),
 }
 
-/// An item of a stream, where its bytes are: an `Item` that owns nothing.
+/// An item of a stream, as an `Item` that owns nothing.
 ///
-/// Its bytes are the eight of `head`, and the payload. Written one after the other, they are the item again, also where
-/// it is of no type.
+/// Its bytes are the eight of `head` and the payload. Written one after the other, they encode the same item, even if
+/// its code is no type's.
 #[derive(Clone, Copy, Debug, PartialEq, Eq)]
 pub struct ItemRef<'a> {
     /// Its first eight bytes as a number, the most significant byte first.
     pub word: u64,
-    /// What they say that it is.
+    /// Its kind.
     pub kind: ItemKind,
     /// The bytes after them; none of an unknown header.
     pub payload: &'a [u8],
@@ -37,8 +37,8 @@ pub struct ItemRef<'a> {
 impl<'a> ItemRef<'a> {
     /// The item that the bytes begin with, and the bytes after it. It copies nothing and does not allocate.
     ///
-    /// An error says how many bytes are missing at least: of a header that is not whole, or else of the payload that it
-    /// announces. With any fewer after them, no whole item is at the front of the bytes.
+    /// The error has the least number of missing bytes: of a header that is not whole, otherwise of the payload that it
+    /// announces. With fewer bytes appended, no whole item is at the front.
     #[inline(always)]
     pub fn first(version: Version, bytes: &'a [u8]) -> Result<(ItemRef<'a>, &'a [u8]), MissingBytes>
         ensures item { IfOk result (λ found. IsAtFront version bytes.now found.0 found.1.now) }
@@ -84,7 +84,7 @@ impl<'a> ItemRef<'a> {
 /// Bytes that do not begin with a whole item.
 #[derive(Clone, Copy, Debug, PartialEq, Eq)]
 pub struct MissingBytes {
-    /// How many more bytes there are to be at least, which is never 0.
+    /// The least number of missing bytes, which is never 0.
     pub count: usize,
 }
 

@@ -1,10 +1,10 @@
-//! Iterating over the items that lie in a slice.
+//! Iterating over the items of a slice.
 ghost use Rattle.std.specs.Prelude.{◌≡◌};
 
 use crate::encoding::ItemRef;
 use shared_core_base::version::Version;
 
-/// The items of the bytes of a slice, in order, each borrowed from them. It ends where no whole item is left. It copies
+/// An iterator over the items of a slice, in order, each borrowed from it. It ends if no whole item is left. It copies
 /// nothing, does not allocate, and counts no owners: for a stream that is in memory as a whole.
 ///
 /// A contract sees it as its version, and the bytes that it has not returned.

@@ -3,8 +3,8 @@
 use crate::encoding::{Decoder, Item};
 use std::alloc::AllocError;
 
-/// The items that a decoder holds, in order, each taken as it is returned. It ends where no whole item is left, and
-/// after a failed allocation, which takes nothing: a new iterator goes on from there.
+/// An iterator over the items that a decoder holds, in order; each is taken as it is returned. It ends if no whole item
+/// is left, and after a failed allocation, which takes nothing: a new iterator continues from there.
 ///
 /// A contract sees it as its decoder, and whether it has failed.
 #[derive(Drop)]

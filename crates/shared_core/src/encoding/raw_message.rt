@@ -18,7 +18,7 @@ use shared_core_parts::notification_template::NotificationTemplate;
 use shared_core_wire::error::WireError;
 use std::alloc::Global;
 
-/// A message as it is in the stream: its header, and its payload, which is not looked into.
+/// A message as it is in the stream: its header and its undecoded payload.
 #[derive(Debug, PartialEq, Drop)]
 pub struct RawMessage {
     header: MessageHeader,
@@ -39,7 +39,7 @@ impl RawMessage {
         RawMessage { header, payload }
     }
 
-    /// The type that the header says.
+    /// The type in the header.
     pub fn ty(&self) -> MessageType
         ensures { result ≡ self.now.header.ty }
     {
@@ -53,7 +53,7 @@ impl RawMessage {
         self.header
     }
 
-    /// The bytes after the header, as many as it says.
+    /// The payload: the bytes after the header.
     pub fn payload(&self) -> &Bytes
         ensures { result.now ≡ self.now.payload }
     {
@@ -109,8 +109,8 @@ impl RawMessage {
         decode_payload(alloc, &self.payload)
     }
 
-    /// The message as a notification, whatever notification it is: its id and its result, read by what all
-    /// notifications have in common. The type must be that of a notification.
+    /// The message as a notification of any type: its id and its result, decoded with the template of notifications.
+    /// The type must be that of a notification.
     ///
     /// First `DecodeMessage` if the payload is not well-formed for the template of notifications, then `MissingField`
     /// with the field `id` if there is none, then with `result`. `OutOfMemory` if an allocation fails. Bytes fields
@@ -127,7 +127,7 @@ impl RawMessage {
             → IsAccepted notification_template self.now.payload }
         ensures agrees { IfOk result (λ found. (s : ℕ) → message_schema self.now.header.ty ≡ Some s
             → IsOfNotification s self.now.payload → AgreesWithType s self.now.payload (notification_parts found)) }
-        // a field is missing exactly where no record is one
+        // a field is missing if and only if no record is one
         ensures lacking { IsAccepted notification_template self.now.payload
             → ReturnsLacking self.now (lacking_field self.now.payload) result }
     {
@@ -141,7 +141,7 @@ impl RawMessage {
         Ok(Notification { id, result })
     }
 
-    /// That a field of the notification is missing.
+    /// The error of a missing field of a notification.
     fn missing(&self, field: &'static str) -> DecodingError
         ensures { IsMissing self.now field.now result }
     {

@@ -16,10 +16,10 @@ use crate::messages::{
 };
 use shared_core_base::header::MessageType;
 
-/// What a visitor answers for a command's type, or `None` where it is the type of no command.
+/// The result of a visitor for a command's type, or `None` if it is not the type of a command.
 pub fn visit_command<V: CommandVisitor>(ty: MessageType, visitor: V) -> Option<V::Output>
     requires { V.may_visit visitor ty }
-    ensures answer { IsVisited (V.answers visitor ty) (command_schema ty) result }
+    ensures visited { IsVisited (V.results visitor ty) (command_schema ty) result }
     ensures each { IsSome (command_type_of ty) → IsSome result }
 {
     Some(match ty {

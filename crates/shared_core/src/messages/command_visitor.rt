@@ -34,12 +34,12 @@ pub trait CommandVisitor: Sized + Drop {
     ghost may_visit: { Self → AnyType → Type 0 } = { λ visitor ty. Unit {0} };
 
     /// What it returns for a type whose payloads have this schema: anything, unless an impl says otherwise.
-    ghost answers: { Self → AnyType → ℕ → Self.Output → Type 0 } = { λ visitor ty schema answer. Unit {0} };
+    ghost results: { Self → AnyType → ℕ → Self.Output → Type 0 } = { λ visitor ty schema output. Unit {0} };
 
     /// Visits the record of this type.
     fn visit<M: CommandMessage>(self) -> Self::Output
         requires asked { may_visit self M.message_type }
         // its payloads have the record's schema
         requires own { message_schema M.message_type ≡ Some M.schema }
-        ensures { answers self M.message_type M.schema result };
+        ensures { results self M.message_type M.schema result };
 }

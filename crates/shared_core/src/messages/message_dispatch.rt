@@ -24,10 +24,10 @@ use crate::messages::{
 };
 use shared_core_base::header::MessageType;
 
-/// What a visitor answers for a message's type, or `None` where it is a custom entry, which has no record.
+/// The result of a visitor for a message's type, or `None` for a custom entry, which has no record.
 pub fn visit_message<V: MessageVisitor>(ty: MessageType, visitor: V) -> Option<V::Output>
     requires { V.may_visit visitor ty }
-    ensures { IsVisited (V.answers visitor ty) (message_schema ty) result }
+    ensures { IsVisited (V.results visitor ty) (message_schema ty) result }
 {
     Some(match ty {
         MessageType::Start => visitor.visit::<StartMessage>(),

@@ -21,7 +21,7 @@ pub trait MessageVisitor: Sized + Drop {
     ghost may_visit: { Self → AnyType → Type 0 } = { λ visitor ty. Unit {0} };
 
     /// What it returns for a type whose payloads have this schema: anything, unless an impl says otherwise.
-    ghost answers: { Self → AnyType → ℕ → Self.Output → Type 0 } = { λ visitor ty schema answer. Unit {0} };
+    ghost results: { Self → AnyType → ℕ → Self.Output → Type 0 } = { λ visitor ty schema output. Unit {0} };
 
     /// Visits the record of this type.
     fn visit<M: RestateEncodableMessage + Debug>(self) -> Self::Output
@@ -31,5 +31,5 @@ pub trait MessageVisitor: Sized + Drop {
         // what the record is written as follows from the type
         requires form { (message : M) (version : AnyVersion)
             → M.wire_form message version ≡ written_form M.message_type M.schema version (M.parts message) }
-        ensures { answers self M.message_type M.schema result };
+        ensures { results self M.message_type M.schema result };
 }

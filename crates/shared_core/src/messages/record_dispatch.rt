@@ -24,10 +24,10 @@ use crate::messages::{
     WorkflowTarget,
 };
 
-/// What a visitor answers for a schema, by its number: its place in the table of the 53 schemas, from 0 for `Void` to
+/// The result of a visitor for a schema, by its number: its place in the table of the 53 schemas, from 0 for `Void` to
 /// 52 for `NotificationTemplate`. `None` where no schema has the number.
 pub fn visit_record<V: RecordVisitor>(schema: u32, visitor: V) -> Option<V::Output>
-    ensures { IsVisited (V.answers visitor) (known_schema schema) result }
+    ensures { IsVisited (V.results visitor) (known_schema schema) result }
 {
     Some(match schema {
         0 => visitor.visit::<Void>(),

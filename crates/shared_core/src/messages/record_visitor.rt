@@ -11,9 +11,9 @@ pub trait RecordVisitor: Sized + Drop {
     type Output;
 
     /// What it returns for a schema: anything, unless an impl says otherwise.
-    ghost answers: { Self → ℕ → Self.Output → Type 0 } = { λ visitor schema answer. Unit {0} };
+    ghost results: { Self → ℕ → Self.Output → Type 0 } = { λ visitor schema output. Unit {0} };
 
     /// Visits the record of this schema.
     fn visit<M: WireRecord + Debug>(self) -> Self::Output
-        ensures { answers self M.schema result };
+        ensures { results self M.schema result };
 }

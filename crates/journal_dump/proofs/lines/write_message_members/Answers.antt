@@ -18,7 +18,7 @@ returns-in_ok-write_payload-clause-tokens c =
     let len : c.write_number-2.new.out.tokens ≡ c.write_number.new.out.tokens ++ (key (codes "length") ∷ number (decimal (length message.payload)) ∷ []) = search rules in
     let ack : c.write_ack.new.out.tokens ≡ c.write_number-2.new.out.tokens ++ ack_tokens message.header.requested_ack = search rules in
     let head : c.write_header.new.out.tokens ≡ c.write_ack.new.out.tokens ++ header_tokens c.args.word (word_of message.header) = search rules in
-    let members = payload_members (schema_at c.args.options.now.version message.header.ty) message.payload in
+    let members = payload_members c.args.options.now.texts (schema_at c.args.options.now.version message.header.ty) message.payload in
     let last : c.write_payload.new.out.tokens ++ (end_object ∷ []) ≡ c.write_header.new.out.tokens ++ members_tokens members = search rules in
     rw c.if-options.true (last ∙ head_with_header c.args.out.now.tokens _ _ _ _ _ _ _ _ message.header.requested_ack c.args.word (word_of message.header) members ty code len ack head)
 

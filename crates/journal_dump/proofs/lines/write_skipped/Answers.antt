@@ -1,10 +1,10 @@
 use Rattle.std.proofs.Common.{◌≡◌, ◌+◌, ◌*◌, ◌^◌, [], ◌∷◌, ◌++◌, true, rules, length, ◌∙◌}
 use Rattle.std.specs.Prelude.{codes, decimal}
-use Rattle.base64.specs.GeneralPurpose.{encode_of}
-use Rattle.base64.specs.Engines.{standard}
-use Rattle.json.specs.Token.{key, string, number, boolean, end_object}
+use Rattle.json.specs.Token.{key, number, boolean, end_object}
 use Rattle.json.specs.Json.{member, no_members}
-use Rattle.journal_dump.specs.Lines.{bytes_json, header_tokens}
+use Rattle.json.specs.Tree.{json_tokens}
+use Rattle.shared_core_json.specs.Form.{byte_string_json}
+use Rattle.journal_dump.specs.Lines.{header_tokens}
 use Rattle.journal_dump.proofs.Tokens.{length_with_header, then_tokens}
 use Rattle.journal_dump.proofs.lines.write_skipped.Goals as goal
 
@@ -15,9 +15,10 @@ returns-in_ok-write_bytes-clause-tokens c =
     let code : c.write_number.new.out.tokens ≡ c.write_flag.new.out.tokens ++ (key (codes "code") ∷ number (decimal c.args.code) ∷ []) = search rules in
     let len : c.write_number-2.new.out.tokens ≡ c.write_number.new.out.tokens ++ (key (codes "length") ∷ number (decimal (length payload)) ∷ []) = search rules in
     let head : c.write_header.new.out.tokens ≡ c.write_number-2.new.out.tokens ++ header_tokens c.args.word (c.args.code * 2 ^ 48 + length payload) = search rules in
-    let bytes : c.write_bytes.new.out.tokens ≡ c.write_header.new.out.tokens ++ (key (codes "bytes") ∷ string (encode_of standard payload) ∷ []) = search rules in
-    let members = member (codes "bytes") (bytes_json payload) no_members in
-    rw c.if-options.true (then_tokens c.write_header.new.out.tokens c.write_bytes.new.out.tokens (key (codes "bytes") ∷ string (encode_of standard payload) ∷ []) (end_object ∷ []) bytes
+    let json = byte_string_json c.args.options.now.texts payload in
+    let bytes : c.write_bytes.new.out.tokens ≡ c.write_header.new.out.tokens ++ (key (codes "bytes") ∷ json_tokens json) = search rules in
+    let members = member (codes "bytes") json no_members in
+    rw c.if-options.true (then_tokens c.write_header.new.out.tokens c.write_bytes.new.out.tokens (key (codes "bytes") ∷ json_tokens json) (end_object ∷ []) bytes
     ∙ length_with_header c.args.out.now.tokens _ _ _ _ _ _ _ c.args.word (c.args.code * 2 ^ 48 + length payload) members flag code len head)
 
 pub returns-else-options-clause-tokens : goal.returns-else-options-clause-tokens

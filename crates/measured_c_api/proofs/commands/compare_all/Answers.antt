@@ -2,10 +2,10 @@ use Rattle.std.proofs.Common.{◌∙◌, ◌++◌, ◌∷◌, [], arith}
 use Rattle.std.proofs.lemmas.Result.{err_from_is_err_and}
 use Rattle.shared_core.proofs.Items.{then_takes}
 use Rattle.shared_core.specs.Visiting.{command_schema}
-use Rattle.measured_c_api.specs.Pieces.{untaken}
+use Rattle.measured_c_api.specs.Chunks.{untaken}
 use Rattle.measured_c_api.proofs.Comparing.{comparisons_more, item_compared, item_refused}
 use Rattle.measured_c_api.proofs.Counting.{all_decode_more}
-use Rattle.measured_c_api.proofs.Pieces.{none_of_all, one_taken, same_version, taken_of_all}
+use Rattle.measured_c_api.proofs.Chunks.{none_of_all, one_taken, same_version, taken_of_all}
 use Rattle.measured_c_api.proofs.commands.compare_all.Goals as goal
 
 pub returns-in_err-held : goal.returns-in_err-held

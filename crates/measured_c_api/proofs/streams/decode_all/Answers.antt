@@ -3,8 +3,8 @@ use Rattle.std.proofs.lemmas.Result.{err_from_is_err_and}
 use Rattle.shared_core.proofs.Items.{item_is_long, then_takes}
 use Rattle.shared_core_message.specs.Messages.{message_schema}
 use Rattle.measured_c_api.proofs.Counting.{all_decode_more, count_more, item_counts, item_decoded, item_refused}
-use Rattle.measured_c_api.proofs.Pieces.{none_of_all, one_taken, same_version, taken_of_all}
-use Rattle.measured_c_api.specs.Pieces.{untaken}
+use Rattle.measured_c_api.proofs.Chunks.{none_of_all, one_taken, same_version, taken_of_all}
+use Rattle.measured_c_api.specs.Chunks.{untaken}
 use Rattle.measured_c_api.proofs.streams.decode_all.Goals as goal
 
 pub returns-in_err-count : goal.returns-in_err-count

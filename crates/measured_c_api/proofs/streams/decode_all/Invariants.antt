@@ -2,7 +2,7 @@ use Rattle.std.proofs.Common.{◌≡◌, ◌+◌, ◌≤◌, List, length}
 use Rattle.shared_core.specs.declared.encoding.item.Item.{Item}
 use Rattle.shared_core.specs.Items.{IsItemsThen}
 use Rattle.shared_core_message.specs.Messages.{message_schema}
-use Rattle.measured_c_api.specs.Pieces.{untaken}
+use Rattle.measured_c_api.specs.Chunks.{untaken}
 use Rattle.measured_c_api.specs.Streams.{AllDecode, count_with}
 use Rattle.measured_c_api.proofs.streams.decode_all.Given as goal
 

@@ -1,8 +1,8 @@
 use Rattle.std.proofs.Common.{◌∙◌, ◌++◌, ◌∷◌, [], arith, ◌<◌, length, length-set}
 use Rattle.shared_core.proofs.Items.{then_takes}
 use Rattle.measured_c_api.proofs.Counting.{word_written, length_more, taken_has_word}
-use Rattle.measured_c_api.proofs.Pieces.{none_of_all, one_taken, same_version, taken_of_all}
-use Rattle.measured_c_api.specs.Pieces.{untaken}
+use Rattle.measured_c_api.proofs.Chunks.{none_of_all, one_taken, same_version, taken_of_all}
+use Rattle.measured_c_api.specs.Chunks.{untaken}
 use Rattle.measured_c_api.proofs.streams.write_words.Goals as goal
 
 pub returns-then-count-words : goal.returns-then-count-words

@@ -1,7 +1,7 @@
 use Rattle.std.proofs.Common.{◌≡◌, ◌≤◌, List, length, take, map}
 use Rattle.shared_core.specs.declared.encoding.item.Item.{Item}
 use Rattle.shared_core.specs.Items.{IsItemsThen}
-use Rattle.measured_c_api.specs.Pieces.{untaken}
+use Rattle.measured_c_api.specs.Chunks.{untaken}
 use Rattle.measured_c_api.specs.Streams.{item_word}
 use Rattle.measured_c_api.proofs.streams.write_words.Given as goal
 

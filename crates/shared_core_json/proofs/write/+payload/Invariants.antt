@@ -16,7 +16,7 @@ decreases-write_value l = 3 * l.left + 1
 
 abbrev pub invariant-write_payload-loop-item : goal.invariant-write_payload-loop-item
 invariant-write_payload-loop-item l = record {
-  tokens : l.out.tokens ++ items_tokens (payload_tokens (l.levels - 1)) (schema_fields l.schema) l.open_list (records_left l.item-iterator)
-      ≡ l.initial.out.tokens ++ items_tokens (payload_tokens (l.levels - 1)) (schema_fields l.schema) 0 (read_records (l.levels - 1) l.payload);
+  tokens : l.out.tokens ++ items_tokens l.texts (payload_tokens l.texts (l.levels - 1)) (schema_fields l.schema) l.open_list (records_left l.item-iterator)
+      ≡ l.initial.out.tokens ++ items_tokens l.texts (payload_tokens l.texts (l.levels - 1)) (schema_fields l.schema) 0 (read_records (l.levels - 1) l.payload);
   before : l.out.before ≡ l.fn.out.before;
 }

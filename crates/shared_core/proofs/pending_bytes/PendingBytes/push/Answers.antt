@@ -6,12 +6,12 @@ use Rattle.shared_core.proofs.pending_bytes.PendingBytes.push.Goals as goal
 pub invariant_of-self-2 : goal.invariant_of-self-2
 invariant_of-self-2 c =
     let some : 0 < length c.self.inside.front = search rules in
-    let more : 0 < length c.args.piece = search rules in
+    let more : 0 < length c.args.chunk = search rules in
     rw (c.in_ok-push_back.ensures.items, c.len.ensures.value)
-    (segments_push c.self.inside.front c.self.inside.after.items c.self.inside.len c.args.piece c.self.invariant some more)
+    (segments_push c.self.inside.front c.self.inside.after.items c.self.inside.len c.args.chunk c.self.invariant some more)
 
 pub returns-clause-ok : goal.returns-clause-ok
 returns-clause-ok c =
     ap (λ l. c.self.inside.front ++ concat l) c.in_ok-push_back.ensures.items
-    ∙ joined_push c.self.inside.front c.self.inside.after.items c.args.piece
-    ∙ ap (λ l. l ++ c.args.piece) c.self.view_is
+    ∙ joined_push c.self.inside.front c.self.inside.after.items c.args.chunk
+    ∙ ap (λ l. l ++ c.args.chunk) c.self.view_is
