@@ -103,6 +103,13 @@ def section(page, heading):
     return re.sub(r"<!--.*?-->", "", found[2]), found[1]
 
 
+def title(name, text):
+    """The line of a page's name, which is not filled: mandoc complains of one of more than 80 bytes."""
+    line = f"{name} \\- {inline(text[0].lower() + text[1:])}\n"
+    assert len(line.encode()) <= 81, f"the title of {name} is too long: {line}"
+    return line
+
+
 def page(name, number, *sections):
     """A man page, of sections with their names; those without a text are left out."""
     head = f'.TH {name.upper()} {number} {DATE} "pendratsoa {version()}"\n.nh\n.ad l\n'
@@ -137,7 +144,7 @@ def program_page(name):
     return page(
         name,
         1,
-        ("NAME", f"{name} \\- {inline(heading.removeprefix(': '))}\n"),
+        ("NAME", title(name, heading.removeprefix(": "))),
         ("SYNOPSIS", as_it_is(synopsis[1])),
         *parts.items(),
         ("SEE ALSO", " ,\n".join(others) + "\n"),
@@ -191,13 +198,13 @@ def calls():
 def library_page():
     """The man page of the library, from docs/C.md and the header."""
     text = read("docs/C.md")
-    title = " ".join(re.search(r"^# .*\n\n((?:.+\n)+)", text)[1].split()).partition(":")[0]
+    about = " ".join(re.search(r"^# .*\n\n((?:.+\n)+)", text)[1].split()).partition(":")[0]
     names = re.findall(r"^int64_t (journal_\w+)\(", read(HEADER), re.M)
     build = section(text, "Build")[0]
     return page(
         "pendratsoa",
         3,
-        ("NAME", f"pendratsoa \\- {inline(title[0].lower() + title[1:])}\n"),
+        ("NAME", title("pendratsoa", about)),
         ("SYNOPSIS", as_it_is("#include <pendratsoa.h>\n\ncc ... $(pkg-config --cflags --libs pendratsoa)")),
         ("DESCRIPTION", "The calls are\n" + "".join(f".BR {name} (){',' if name != names[-1] else '.'}\n" for name in names)),
         *((name, prose(section(text, heading)[0])) for heading, name in LIBRARY_SECTIONS),
