@@ -8,8 +8,8 @@ use Rattle.shared_core_base.specs.declared.message_header.MessageHeader.{Message
 use Rattle.shared_core_base.specs.MessageHeader.{word_of}
 use Rattle.shared_core_base.specs.MessageType.{type_of}
 use Rattle.shared_core_base.specs.Version.{requests_acknowledgement}
-use Rattle.journal_c_api.specs.declared.outcome.Refusal.{Refusal}
-use Rattle.journal_c_api.specs.declared.outcome.Refusal.TheVariants.{Unknown}
+use Rattle.journal_c_api.specs.declared.outcome.CallError.{CallError}
+use Rattle.journal_c_api.specs.declared.outcome.CallError.TheVariants.{Unknown}
 use Rattle.journal_c_api.specs.Outcomes.{supported_version}
 
 -- The flag of a type's headers at a version: the proposal of a run's result requests an acknowledgement from V7 on, and
@@ -23,10 +23,10 @@ abbrev pub header_at : Version → MessageType → ℕ → MessageHeader
 header_at version ty payload_length = record { ty = ty; length = payload_length; requested_ack = flag_at version ty }
 
 -- The eight bytes of a header, the first byte highest; Unknown if there is no version or no type.
-abbrev pub header_outcome : Option Version → Option MessageType → ℕ → Result (List ℕ) Refusal
+abbrev pub header_outcome : Option Version → Option MessageType → ℕ → Result (List ℕ) CallError
 header_outcome (Some version) (Some ty) payload_length = Ok (to_be_bytes w64 (word_of (header_at version ty payload_length)))
 header_outcome version ty payload_length = Err Unknown
 
 -- The result of journal_header.
-abbrev pub ReturnsHeader : ℕ → ℕ → ℕ → Result (List ℕ) Refusal → Type 0
+abbrev pub ReturnsHeader : ℕ → ℕ → ℕ → Result (List ℕ) CallError → Type 0
 ReturnsHeader number code payload_length outcome = outcome ≡ header_outcome (supported_version number) (type_of code) payload_length

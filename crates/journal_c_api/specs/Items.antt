@@ -7,8 +7,8 @@ use Rattle.shared_core.specs.declared.encoding.item.Item.{Item}
 use Rattle.shared_core.specs.declared.encoding.item.Item.TheVariants.{Message, Unknown as UnknownCode, Skipped}
 use Rattle.shared_core.specs.Items.{front_word, IsItem, NoItemBegins}
 use Rattle.shared_core.specs.Borrowed.{missing_bytes}
-use Rattle.journal_c_api.specs.declared.outcome.Refusal.{Refusal}
-use Rattle.journal_c_api.specs.declared.outcome.Refusal.TheVariants.{NoRoom, Unknown}
+use Rattle.journal_c_api.specs.declared.outcome.CallError.{CallError}
+use Rattle.journal_c_api.specs.declared.outcome.CallError.TheVariants.{NoRoom, Unknown}
 use Rattle.journal_c_api.specs.Outcomes.{supported_version, written_over}
 
 -- Which of the three kinds an item is.
@@ -55,10 +55,10 @@ pub record FindsItem (version : Version) (bytes old new : List ℕ) (missing : �
 
 -- The result of journal_next, and what it writes: Unknown if the number denotes no version, otherwise NoRoom if the
 -- slice has fewer than six numbers; after either the slice is unchanged.
-abbrev pub WritesNext : ℕ → List ℕ → List ℕ → List ℕ → Result ℕ Refusal → Type 0
+abbrev pub WritesNext : ℕ → List ℕ → List ℕ → List ℕ → Result ℕ CallError → Type 0
 WritesNext number bytes old new (Ok missing) =
     (version : Version) × (supported_version number ≡ Some version) × (6 ≤ length old) × FindsItem version bytes old new missing
 WritesNext number bytes old new (Err Unknown) = (supported_version number ≡ None) × (new ≡ old)
 WritesNext number bytes old new (Err NoRoom) =
     (version : Version) × (supported_version number ≡ Some version) × (length old < 6) × (new ≡ old)
-WritesNext number bytes old new (Err refusal) = ⊥
+WritesNext number bytes old new (Err error) = ⊥

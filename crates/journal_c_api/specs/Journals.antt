@@ -5,8 +5,8 @@ use Rattle.shared_core_base.specs.declared.version.Version.{Version}
 use Rattle.replay_bench.specs.declared.verdicts.Side.TheVariants.{Recorded, Replayed}
 use Rattle.replay_bench.specs.Outcomes.{Outcome, SameCommands, RecordedEnds, ReplayedEnds, OtherType, OtherCommand, NotWellFormed}
 use Rattle.replay_bench.specs.Verdicts.{HasOutcome}
-use Rattle.journal_c_api.specs.declared.outcome.Refusal.{Refusal}
-use Rattle.journal_c_api.specs.declared.outcome.Refusal.TheVariants.{OutOfMemory, NoRoom}
+use Rattle.journal_c_api.specs.declared.outcome.CallError.{CallError}
+use Rattle.journal_c_api.specs.declared.outcome.CallError.TheVariants.{OutOfMemory, NoRoom}
 use Rattle.journal_c_api.specs.declared.journals.Report.{Report}
 use Rattle.journal_c_api.specs.Outcomes.{AtVersion, supported_version, written_over}
 
@@ -32,28 +32,28 @@ ReportsOutcome outcome report =
     ((report.kind ∷ report.index ∷ []) ≡ verdict_numbers outcome) × (string_bytes report.text ≡ verdict_text outcome)
 
 -- A report has the numbers and the text of the result of two journals. An allocation may fail.
-abbrev pub ReportsJournals : Version → Bool → List ℕ → List ℕ → Result Report Refusal → Type 0
+abbrev pub ReportsJournals : Version → Bool → List ℕ → List ℕ → Result Report CallError → Type 0
 ReportsJournals version ignore recorded replayed (Ok report) =
     (outcome : Outcome) × HasOutcome version ignore recorded replayed outcome × ReportsOutcome outcome report
-ReportsJournals version ignore recorded replayed (Err refusal) = refusal ≡ OutOfMemory
+ReportsJournals version ignore recorded replayed (Err error) = error ≡ OutOfMemory
 
 -- The result is that of two journals. An allocation may fail.
-abbrev pub ReturnsJournals : Version → Bool → List ℕ → List ℕ → Result Outcome Refusal → Type 0
+abbrev pub ReturnsJournals : Version → Bool → List ℕ → List ℕ → Result Outcome CallError → Type 0
 ReturnsJournals version ignore recorded replayed (Ok outcome) = HasOutcome version ignore recorded replayed outcome
-ReturnsJournals version ignore recorded replayed (Err refusal) = refusal ≡ OutOfMemory
+ReturnsJournals version ignore recorded replayed (Err error) = error ≡ OutOfMemory
 
 -- The result of journal_verdict: NoRoom if there is room for fewer than two numbers.
-abbrev pub ReturnsVerdict : ℕ → ℕ → Bool → List ℕ → List ℕ → Result Outcome Refusal → Type 0
+abbrev pub ReturnsVerdict : ℕ → ℕ → Bool → List ℕ → List ℕ → Result Outcome CallError → Type 0
 ReturnsVerdict number room ignore recorded replayed outcome =
     AtVersion (supported_version number) outcome
     (λ version. MatchBool (nat_lt room 2) (outcome ≡ Err NoRoom) (ReturnsJournals version ignore recorded replayed outcome))
 
 -- The numbers and the text of a result of which this holds are written at the front of two slices, and the count is
 -- that of the text's bytes; an error leaves both slices unchanged.
-abbrev pub WritesVerdict : (Result Outcome Refusal → Type 0) → List ℕ → List ℕ → List ℕ → List ℕ → Result ℕ Refusal → Type 0
+abbrev pub WritesVerdict : (Result Outcome CallError → Type 0) → List ℕ → List ℕ → List ℕ → List ℕ → Result ℕ CallError → Type 0
 WritesVerdict holds old_numbers new_numbers old new (Ok count) =
     (outcome : Outcome) × holds (Ok outcome)
     × (new_numbers ≡ written_over (verdict_numbers outcome) old_numbers)
     × (count ≡ length (verdict_text outcome)) × (new ≡ written_over (verdict_text outcome) old)
-WritesVerdict holds old_numbers new_numbers old new (Err refusal) =
-    holds (Err refusal) × (new_numbers ≡ old_numbers) × (new ≡ old)
+WritesVerdict holds old_numbers new_numbers old new (Err error) =
+    holds (Err error) × (new_numbers ≡ old_numbers) × (new ≡ old)

@@ -7,8 +7,8 @@ use Rattle.shared_core_json_reader.specs.declared.error.Reason.TheVariants as re
 use Rattle.shared_core_json_reader.specs.declared.error.JsonReadError.{JsonReadError}
 use Rattle.shared_core_json_reader.specs.Reading.{json_of_text, text_payload}
 use Rattle.shared_core_json_reader.specs.FirstError.{value_error, IsPlace}
-use Rattle.journal_c_api.specs.declared.outcome.Refusal.{Refusal}
-use Rattle.journal_c_api.specs.declared.outcome.Refusal.TheVariants.{OutOfMemory, NoRoom, TooLong, Unknown}
+use Rattle.journal_c_api.specs.declared.outcome.CallError.{CallError}
+use Rattle.journal_c_api.specs.declared.outcome.CallError.TheVariants.{OutOfMemory, NoRoom, TooLong, Unknown}
 use Rattle.journal_c_api.specs.declared.json_payloads.Reading.{Reading}
 use Rattle.journal_c_api.specs.declared.json_payloads.Reading.TheVariants.{Payload, NotJson, NotTaken}
 use Rattle.journal_c_api.specs.Outcomes.{written_over}
@@ -55,45 +55,45 @@ abbrev pub MeansTooLong : ℕ → List ℕ → Type 0
 MeansTooLong s text = (payload : List ℕ) × (text_payload s text ≡ Some payload) × (2 ^ 32 ≤ length payload)
 
 -- The result is what a text is read as, or that its payload is too long. An allocation may fail.
-abbrev pub ReadsText : ℕ → List ℕ → Result Reading Refusal → Type 0
+abbrev pub ReadsText : ℕ → List ℕ → Result Reading CallError → Type 0
 ReadsText s text (Ok reading) = IsReading s text reading
 ReadsText s text (Err TooLong) = MeansTooLong s text
 ReadsText s text (Err OutOfMemory) = Unit {0}
-ReadsText s text (Err refusal) = ⊥
+ReadsText s text (Err failure) = ⊥
 
 -- The result for the error of a text that is not JSON.
-abbrev pub SaysNotJson : JsonReadError → Result Reading Refusal → Type 0
+abbrev pub SaysNotJson : JsonReadError → Result Reading CallError → Type 0
 SaysNotJson error (Ok (NotJson offset)) =
     (error.reason ≢ reasons.OutOfMemory) × ((text : List ℕ) → IsPlace text error.offset → IsPlace text (Some offset))
 SaysNotJson error (Ok reading) = ⊥
-SaysNotJson error (Err refusal) = refusal ≡ OutOfMemory
+SaysNotJson error (Err failure) = failure ≡ OutOfMemory
 
 -- The result for the error of a text that is JSON without a meaning.
-abbrev pub SaysNotTaken : JsonReadError → Result Reading Refusal → Type 0
+abbrev pub SaysNotTaken : JsonReadError → Result Reading CallError → Type 0
 SaysNotTaken error (Ok (NotTaken kind path)) =
     (error.reason ≢ reasons.OutOfMemory) × (kind ≡ kind_of error.reason) × (string_bytes path ≡ string_bytes error.path)
 SaysNotTaken error (Ok reading) = ⊥
-SaysNotTaken error (Err refusal) = refusal ≡ OutOfMemory
+SaysNotTaken error (Err failure) = failure ≡ OutOfMemory
 
 -- The result is the payload, or that it is too long for a header.
-abbrev pub IsIfShort : List ℕ → Result Reading Refusal → Type 0
+abbrev pub IsIfShort : List ℕ → Result Reading CallError → Type 0
 IsIfShort bytes (Ok (Payload payload)) = (payload.items ≡ bytes) × (length bytes < 2 ^ 32)
 IsIfShort bytes (Ok reading) = ⊥
-IsIfShort bytes (Err refusal) = (refusal ≡ TooLong) × (2 ^ 32 ≤ length bytes)
+IsIfShort bytes (Err failure) = (failure ≡ TooLong) × (2 ^ 32 ≤ length bytes)
 
 -- Why the call is rejected: Unknown if no schema has the number, otherwise NoRoom if there is room for fewer than two
 -- numbers, otherwise for the reason for which the text is rejected.
-abbrev pub RefusesReading : ℕ → ℕ → List ℕ → Refusal → Type 0
-RefusesReading s room text Unknown = nat_lt s schema_count ≡ false
-RefusesReading s room text NoRoom = (nat_lt s schema_count ≡ true) × (room < 2)
-RefusesReading s room text refusal = (nat_lt s schema_count ≡ true) × (2 ≤ room) × ReadsText s text (Err refusal)
+abbrev pub RejectsReading : ℕ → ℕ → List ℕ → CallError → Type 0
+RejectsReading s room text Unknown = nat_lt s schema_count ≡ false
+RejectsReading s room text NoRoom = (nat_lt s schema_count ≡ true) × (room < 2)
+RejectsReading s room text failure = (nat_lt s schema_count ≡ true) × (2 ≤ room) × ReadsText s text (Err failure)
 
 -- The result of journal_payload_of_json, and what it writes: the numbers and the bytes of what the text is read as. An
 -- error leaves both slices unchanged.
-abbrev pub WritesReading : ℕ → List ℕ → List ℕ → List ℕ → List ℕ → List ℕ → Result ℕ Refusal → Type 0
+abbrev pub WritesReading : ℕ → List ℕ → List ℕ → List ℕ → List ℕ → List ℕ → Result ℕ CallError → Type 0
 WritesReading s text numbers_old numbers_new old new (Ok count) =
     (nat_lt s schema_count ≡ true) × (2 ≤ length numbers_old) × (reading : Reading) × IsReading s text reading
     × (count ≡ length (reading_bytes reading)) × (numbers_new ≡ written_over (reading_numbers reading) numbers_old)
     × (new ≡ written_over (reading_bytes reading) old)
-WritesReading s text numbers_old numbers_new old new (Err refusal) =
-    RefusesReading s (length numbers_old) text refusal × (numbers_new ≡ numbers_old) × (new ≡ old)
+WritesReading s text numbers_old numbers_new old new (Err failure) =
+    RejectsReading s (length numbers_old) text failure × (numbers_new ≡ numbers_old) × (new ≡ old)

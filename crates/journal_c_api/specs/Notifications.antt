@@ -17,8 +17,8 @@ use Rattle.shared_core_parts.specs.contracts.failure.FailureWireRecord.TheImpl a
 use Rattle.shared_core_parts.specs.contracts.state_keys.StateKeysWireRecord.TheImpl as state_keys
 use Rattle.shared_core.specs.Typed.{MeansParts}
 use Rattle.shared_core.specs.View.{notification_parts, LacksField}
-use Rattle.journal_c_api.specs.declared.outcome.Refusal.{Refusal}
-use Rattle.journal_c_api.specs.declared.outcome.Refusal.TheVariants.{Malformed, OutOfMemory, NoRoom, TooLong, Unknown, NoId, NoResult}
+use Rattle.journal_c_api.specs.declared.outcome.CallError.{CallError}
+use Rattle.journal_c_api.specs.declared.outcome.CallError.TheVariants.{Malformed, OutOfMemory, NoRoom, TooLong, Unknown, NoId, NoResult}
 use Rattle.journal_c_api.specs.Outcomes.{written_over}
 
 -- The code is that of a type of notifications, named or custom.
@@ -83,38 +83,38 @@ MeansLacking field payload = (parts : Parts) × MeansParts schema.notification_t
 
 -- The result is the notification that a payload means, or the field that it lacks; Malformed if it is not well-formed.
 -- An allocation may fail.
-abbrev pub ReadsNotification : List ℕ → Result Notification Refusal → Type 0
+abbrev pub ReadsNotification : List ℕ → Result Notification CallError → Type 0
 ReadsNotification payload (Ok found) = MeansNotification payload found
 ReadsNotification payload (Err Malformed) = ¬ (IsAccepted schema.notification_template payload)
 ReadsNotification payload (Err NoId) = MeansLacking (codes "id") payload
 ReadsNotification payload (Err NoResult) = MeansLacking (codes "result") payload
 ReadsNotification payload (Err OutOfMemory) = Unit {0}
-ReadsNotification payload (Err refusal) = ⊥
+ReadsNotification payload (Err error) = ⊥
 
 -- Why a result is not written: it is too long, or an allocation fails.
-abbrev pub RefusesResult : Outcome → Refusal → Type 0
-RefusesResult outcome TooLong = IsTooLong outcome
-RefusesResult outcome OutOfMemory = Unit {0}
-RefusesResult outcome refusal = ⊥
+abbrev pub RejectsResult : Outcome → CallError → Type 0
+RejectsResult outcome TooLong = IsTooLong outcome
+RejectsResult outcome OutOfMemory = Unit {0}
+RejectsResult outcome error = ⊥
 
 -- Why a payload has no result: it cannot be read as a notification, or its result is too long.
-abbrev pub RefusesPayload : List ℕ → Refusal → Type 0
-RefusesPayload payload TooLong = (found : Notification) × MeansNotification payload found × IsTooLong found.result
-RefusesPayload payload refusal = ReadsNotification payload (Err refusal)
+abbrev pub RejectsPayload : List ℕ → CallError → Type 0
+RejectsPayload payload TooLong = (found : Notification) × MeansNotification payload found × IsTooLong found.result
+RejectsPayload payload error = ReadsNotification payload (Err error)
 
 -- Why the call is rejected: Unknown if the code is that of no notification, otherwise NoRoom if there is room for fewer
 -- than four numbers, otherwise for the reason for which the payload is rejected.
-abbrev pub RefusesCall : ℕ → ℕ → List ℕ → Refusal → Type 0
-RefusesCall code room payload Unknown = ¬ (IsNotificationCode code)
-RefusesCall code room payload NoRoom = IsNotificationCode code × (room < 4)
-RefusesCall code room payload refusal = IsNotificationCode code × (4 ≤ room) × RefusesPayload payload refusal
+abbrev pub RejectsCall : ℕ → ℕ → List ℕ → CallError → Type 0
+RejectsCall code room payload Unknown = ¬ (IsNotificationCode code)
+RejectsCall code room payload NoRoom = IsNotificationCode code × (room < 4)
+RejectsCall code room payload error = IsNotificationCode code × (4 ≤ room) × RejectsPayload payload error
 
 -- The result of journal_notification, and what it writes: the numbers and the bytes of the notification that the
 -- payload means. An error leaves both slices unchanged.
-abbrev pub WritesNotification : ℕ → List ℕ → List ℕ → List ℕ → List ℕ → List ℕ → Result ℕ Refusal → Type 0
+abbrev pub WritesNotification : ℕ → List ℕ → List ℕ → List ℕ → List ℕ → List ℕ → Result ℕ CallError → Type 0
 WritesNotification code payload numbers_old numbers_new old new (Ok count) =
     IsNotificationCode code × (4 ≤ length numbers_old) × (found : Notification) × MeansNotification payload found
     × (count ≡ length (notification_bytes found)) × (numbers_new ≡ written_over (notification_numbers found) numbers_old)
     × (new ≡ written_over (notification_bytes found) old)
-WritesNotification code payload numbers_old numbers_new old new (Err refusal) =
-    RefusesCall code (length numbers_old) payload refusal × (numbers_new ≡ numbers_old) × (new ≡ old)
+WritesNotification code payload numbers_old numbers_new old new (Err error) =
+    RejectsCall code (length numbers_old) payload error × (numbers_new ≡ numbers_old) × (new ≡ old)

@@ -14,92 +14,92 @@ use Rattle.shared_core.specs.Typed.{MeansParts}
 use Rattle.shared_core.specs.Visiting.{written_form}
 use Rattle.shared_core_json.specs.Form.{json_text}
 use Rattle.shared_core_json.specs.Payloads.{IsEncoding, IsTooLong}
-use Rattle.journal_c_api.specs.declared.outcome.Refusal.{Refusal}
-use Rattle.journal_c_api.specs.declared.outcome.Refusal.TheVariants.{Malformed, OutOfMemory, TooLong, Unknown}
+use Rattle.journal_c_api.specs.declared.outcome.CallError.{CallError}
+use Rattle.journal_c_api.specs.declared.outcome.CallError.TheVariants.{Malformed, OutOfMemory, TooLong, Unknown}
 use Rattle.journal_c_api.specs.Outcomes.{AtVersion, supported_version}
 
 -- A record has the parts that a payload means for the schema. Malformed if the payload is not well-formed. An
 -- allocation may fail.
-abbrev pub MeansRecord : {M : Type 0} → ℕ → (M → Parts) → List ℕ → Result M Refusal → Type 0
+abbrev pub MeansRecord : {M : Type 0} → ℕ → (M → Parts) → List ℕ → Result M CallError → Type 0
 MeansRecord s parts payload (Ok decoded) = MeansParts s payload (parts decoded)
 MeansRecord s parts payload (Err Malformed) = ¬ (IsAccepted s payload)
 MeansRecord s parts payload (Err OutOfMemory) = Unit {0}
-MeansRecord s parts payload (Err refusal) = ⊥
+MeansRecord s parts payload (Err error) = ⊥
 
 -- If each part of a payload is well-formed, the result is the canonical payload of what the joined parts mean, or that
 -- it is too long for a header; otherwise it is Malformed. An allocation may fail.
-abbrev pub ReturnsMeaning : ℕ → List ℕ → List (List ℕ) → Result (List ℕ) Refusal → Type 0
+abbrev pub ReturnsMeaning : ℕ → List ℕ → List (List ℕ) → Result (List ℕ) CallError → Type 0
 ReturnsMeaning s first rest (Ok bytes) =
     IsAccepted s first × All (IsAccepted s) rest × (bytes ≡ canonical_payload table s (payload_meaning s (first ++ concat rest)))
 ReturnsMeaning s first rest (Err Malformed) = ¬ (IsAccepted s first × All (IsAccepted s) rest)
 ReturnsMeaning s first rest (Err TooLong) =
     IsAccepted s first × All (IsAccepted s) rest × (2 ^ 32 ≤ size table s (payload_meaning s (first ++ concat rest)))
 ReturnsMeaning s first rest (Err OutOfMemory) = Unit {0}
-ReturnsMeaning s first rest (Err refusal) = ⊥
+ReturnsMeaning s first rest (Err error) = ⊥
 
 -- The result of journal_canonical and journal_merge: Unknown if no schema has the number.
-abbrev pub ReturnsCanonical : ℕ → List ℕ → List (List ℕ) → Result (List ℕ) Refusal → Type 0
+abbrev pub ReturnsCanonical : ℕ → List ℕ → List (List ℕ) → Result (List ℕ) CallError → Type 0
 ReturnsCanonical s first rest outcome =
     MatchBool (nat_lt s (length schemas)) (ReturnsMeaning s first rest outcome) (outcome ≡ Err Unknown)
 
 -- If the payload is well-formed for the schema, the result is the canonical payload of what it means, or that it is too
 -- long for a header; otherwise it is Malformed. An allocation may fail.
-abbrev pub EncodesPayload : {Z : Type 0} → ℕ → List ℕ → Result (Vec ℕ Z) Refusal → Type 0
+abbrev pub EncodesPayload : {Z : Type 0} → ℕ → List ℕ → Result (Vec ℕ Z) CallError → Type 0
 EncodesPayload s payload (Ok canonical) = IsAccepted s payload × IsEncoding s (payload_meaning s payload) canonical.items
 EncodesPayload s payload (Err Malformed) = ¬ (IsAccepted s payload)
 EncodesPayload s payload (Err TooLong) = IsTooLong s payload
 EncodesPayload s payload (Err OutOfMemory) = Unit {0}
-EncodesPayload s payload (Err refusal) = ⊥
+EncodesPayload s payload (Err error) = ⊥
 
 -- If the payload is well-formed for the schema, the result is the JSON of what it means, or that its canonical payload
 -- is too long for a header; otherwise it is Malformed. An allocation may fail.
-abbrev pub PrintsPayload : ℕ → List ℕ → Result (List ℕ) Refusal → Type 0
+abbrev pub PrintsPayload : ℕ → List ℕ → Result (List ℕ) CallError → Type 0
 PrintsPayload s payload (Ok text) = IsAccepted s payload × (text ≡ json_text s (payload_meaning s payload))
 PrintsPayload s payload (Err Malformed) = ¬ (IsAccepted s payload)
 PrintsPayload s payload (Err TooLong) = IsTooLong s payload
 PrintsPayload s payload (Err OutOfMemory) = Unit {0}
-PrintsPayload s payload (Err refusal) = ⊥
+PrintsPayload s payload (Err error) = ⊥
 
 -- The result of journal_json: Unknown if no schema has the number.
-abbrev pub ReturnsJson : ℕ → List ℕ → Result (List ℕ) Refusal → Type 0
+abbrev pub ReturnsJson : ℕ → List ℕ → Result (List ℕ) CallError → Type 0
 ReturnsJson s payload outcome = MatchBool (nat_lt s (length schemas)) (PrintsPayload s payload outcome) (outcome ≡ Err Unknown)
 
 -- The result is 1 if the payload is well-formed for the schema, otherwise 0. An allocation may fail.
-abbrev pub ChecksPayload : ℕ → List ℕ → Result ℕ Refusal → Type 0
+abbrev pub ChecksPayload : ℕ → List ℕ → Result ℕ CallError → Type 0
 ChecksPayload s payload (Ok outcome) = ((outcome ≡ 1) × IsAccepted s payload) ⊎ ((outcome ≡ 0) × ¬ (IsAccepted s payload))
 ChecksPayload s payload (Err OutOfMemory) = Unit {0}
-ChecksPayload s payload (Err refusal) = ⊥
+ChecksPayload s payload (Err error) = ⊥
 
 -- The result of journal_is_well_formed: Unknown if no schema has the number.
-abbrev pub ReturnsWellFormed : ℕ → List ℕ → Result ℕ Refusal → Type 0
+abbrev pub ReturnsWellFormed : ℕ → List ℕ → Result ℕ CallError → Type 0
 ReturnsWellFormed s payload outcome = MatchBool (nat_lt s (length schemas)) (ChecksPayload s payload outcome) (outcome ≡ Err Unknown)
 
 -- The result is the frame of a wire form, or that its payload is too long for a header. An allocation may fail.
-abbrev pub EncodesForm : MessageType → WireForm → Result (List ℕ) Refusal → Type 0
+abbrev pub EncodesForm : MessageType → WireForm → Result (List ℕ) CallError → Type 0
 EncodesForm ty form (Ok bytes) = bytes ≡ wire_frame ty form
 EncodesForm ty form (Err TooLong) = 2 ^ 32 ≤ wire_size form
 EncodesForm ty form (Err OutOfMemory) = Unit {0}
-EncodesForm ty form (Err refusal) = ⊥
+EncodesForm ty form (Err error) = ⊥
 
 -- If the payload is well-formed for the schema, the result is the frame of what it means; otherwise it is Malformed. An
 -- allocation may fail.
-abbrev pub EncodesFrame : MessageType → ℕ → Version → List ℕ → Result (List ℕ) Refusal → Type 0
+abbrev pub EncodesFrame : MessageType → ℕ → Version → List ℕ → Result (List ℕ) CallError → Type 0
 EncodesFrame ty s version payload (Err Malformed) = ¬ (IsAccepted s payload)
 EncodesFrame ty s version payload (Err OutOfMemory) = Unit {0}
 EncodesFrame ty s version payload outcome =
     IsAccepted s payload × EncodesForm ty (written_form ty s version (payload_meaning s payload)) outcome
 
 -- The result for a type with this schema: Unknown if it has none.
-abbrev pub ReturnsFrameOf : MessageType → Option ℕ → Version → List ℕ → Result (List ℕ) Refusal → Type 0
+abbrev pub ReturnsFrameOf : MessageType → Option ℕ → Version → List ℕ → Result (List ℕ) CallError → Type 0
 ReturnsFrameOf ty (Some s) version payload outcome = EncodesFrame ty s version payload outcome
 ReturnsFrameOf ty None version payload outcome = outcome ≡ Err Unknown
 
 -- The result for the type that a code denotes: Unknown if it denotes none.
-abbrev pub ReturnsFrameAt : Option MessageType → Version → List ℕ → Result (List ℕ) Refusal → Type 0
+abbrev pub ReturnsFrameAt : Option MessageType → Version → List ℕ → Result (List ℕ) CallError → Type 0
 ReturnsFrameAt (Some ty) version payload outcome = ReturnsFrameOf ty (message_schema ty) version payload outcome
 ReturnsFrameAt None version payload outcome = outcome ≡ Err Unknown
 
 -- The result of journal_frame.
-abbrev pub ReturnsFrame : ℕ → ℕ → List ℕ → Result (List ℕ) Refusal → Type 0
+abbrev pub ReturnsFrame : ℕ → ℕ → List ℕ → Result (List ℕ) CallError → Type 0
 ReturnsFrame number code payload outcome =
     AtVersion (supported_version number) outcome (λ version. ReturnsFrameAt (type_of code) version payload outcome)

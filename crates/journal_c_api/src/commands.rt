@@ -4,7 +4,7 @@ ghost use Rattle.journal_c_api.specs.Outcomes.{Writes, bytes_of};
 ghost use Rattle.journal_c_api.specs.Commands.{ReturnsDifference, ReturnsSameness};
 ghost use Rattle.journal_c_api.specs.Commands.{ComparesPayloads, IsDifference, IsOneWhereSame};
 
-use crate::outcome::{Refusal, write_outcome};
+use crate::outcome::{CallError, write_outcome};
 use crate::payloads::decoded;
 use shared_core::fmt::Difference;
 use shared_core::header::MessageType;
@@ -21,7 +21,7 @@ pub fn header_eq(
     first: &[u8],
     second: &[u8],
     ignore_payloads: bool,
-) -> Result<usize, Refusal>
+) -> Result<usize, CallError>
     ensures { ReturnsSameness code ignore_payloads first.now second.now result }
 {
     let ty = MessageType::try_from(code)?;
@@ -31,7 +31,7 @@ pub fn header_eq(
         second,
         ignore_payloads,
     };
-    visit_command(ty, comparing).ok_or(Refusal::Unknown)?
+    visit_command(ty, comparing).ok_or(CallError::Unknown)?
 }
 
 /// Writes a line for each printed field in which the commands that two payloads of a code mean differ: a line feed,
@@ -45,14 +45,14 @@ pub fn write_difference(
     first: &[u8],
     second: &[u8],
     out: &mut [u8],
-) -> Result<usize, Refusal>
+) -> Result<usize, CallError>
     ensures { Writes (ReturnsDifference code first.now second.now) out.old out.new result }
 {
     write_outcome(difference(alloc, code, first, second), out)
 }
 
 /// The lines of the printed fields in which the commands that two payloads of a code mean differ.
-fn difference(alloc: Global, code: u16, first: &[u8], second: &[u8]) -> Result<Vec<u8>, Refusal>
+fn difference(alloc: Global, code: u16, first: &[u8], second: &[u8]) -> Result<Vec<u8>, CallError>
     ensures { ReturnsDifference code first.now second.now (bytes_of result) }
 {
     let ty = MessageType::try_from(code)?;
@@ -61,7 +61,7 @@ fn difference(alloc: Global, code: u16, first: &[u8], second: &[u8]) -> Result<V
         first,
         second,
     };
-    visit_command(ty, printing).ok_or(Refusal::Unknown)?
+    visit_command(ty, printing).ok_or(CallError::Unknown)?
 }
 
 /// Decodes two payloads, and returns 1 if the commands are the same, otherwise 0.
@@ -74,12 +74,12 @@ struct Comparing<'a> {
 }
 
 impl<'a> CommandVisitor for Comparing<'a> {
-    type Output = Result<usize, Refusal>;
+    type Output = Result<usize, CallError>;
 
     ghost results = { λ self ty schema output. ComparesPayloads
         (IsOneWhereSame schema self.ignore_payloads) schema self.first.now self.second.now output };
 
-    fn visit<M: CommandMessage>(self) -> Result<usize, Refusal> {
+    fn visit<M: CommandMessage>(self) -> Result<usize, CallError> {
         let first = decoded::<M>(self.alloc, self.first)?;
         let second = decoded::<M>(self.alloc, self.second)?;
         Ok(usize::from(first.header_eq(&second, self.ignore_payloads)))
@@ -95,12 +95,12 @@ struct Printing<'a> {
 }
 
 impl<'a> CommandVisitor for Printing<'a> {
-    type Output = Result<Vec<u8>, Refusal>;
+    type Output = Result<Vec<u8>, CallError>;
 
     ghost results = { λ self ty schema output. ComparesPayloads
         (IsDifference schema) schema self.first.now self.second.now (bytes_of output) };
 
-    fn visit<M: CommandMessage>(self) -> Result<Vec<u8>, Refusal> {
+    fn visit<M: CommandMessage>(self) -> Result<Vec<u8>, CallError> {
         let actual = decoded::<M>(self.alloc, self.first)?;
         let expected = decoded::<M>(self.alloc, self.second)?;
         let difference = Difference {

@@ -4,7 +4,7 @@ ghost use Rattle.shared_core_message.specs.Messages.{message_schema};
 ghost use Rattle.journal_c_api.specs.Outcomes.{Writes, bytes_of};
 ghost use Rattle.journal_c_api.specs.Payloads.{ReturnsFrame, ReturnsFrameOf, EncodesFrame};
 
-use crate::outcome::{Refusal, version_of, write_outcome};
+use crate::outcome::{CallError, version_of, write_outcome};
 use crate::payloads::decoded;
 use shared_core::encoding::Encoder;
 use shared_core::header::MessageType;
@@ -20,14 +20,14 @@ pub fn write_frame(
     code: u16,
     payload: &[u8],
     out: &mut [u8],
-) -> Result<usize, Refusal>
+) -> Result<usize, CallError>
     ensures { Writes (ReturnsFrame version code payload.now) out.old out.new result }
 {
     write_outcome(frame(alloc, version, code, payload), out)
 }
 
 /// The frame, at a version, of the message of a named type that a payload encodes.
-fn frame(alloc: Global, version: u32, code: u16, payload: &[u8]) -> Result<Vec<u8>, Refusal>
+fn frame(alloc: Global, version: u32, code: u16, payload: &[u8]) -> Result<Vec<u8>, CallError>
     ensures { ReturnsFrame version code payload.now (bytes_of result) }
 {
     let encoder = Encoder::new(version_of(version)?);
@@ -41,7 +41,7 @@ fn frame_of(
     encoder: Encoder,
     ty: MessageType,
     payload: &[u8],
-) -> Result<Vec<u8>, Refusal>
+) -> Result<Vec<u8>, CallError>
     ensures { ReturnsFrameOf ty (message_schema ty) encoder.version payload.now (bytes_of result) }
 {
     let framing = Framing {
@@ -49,7 +49,7 @@ fn frame_of(
         encoder,
         payload,
     };
-    visit_message(ty, framing).ok_or(Refusal::Unknown)?
+    visit_message(ty, framing).ok_or(CallError::Unknown)?
 }
 
 /// Decodes a payload to a record, and returns its frame.
@@ -61,12 +61,12 @@ struct Framing<'a> {
 }
 
 impl<'a> MessageVisitor for Framing<'a> {
-    type Output = Result<Vec<u8>, Refusal>;
+    type Output = Result<Vec<u8>, CallError>;
 
     ghost results = { λ self ty schema output. EncodesFrame ty schema self.encoder.version self.payload.now
         (bytes_of output) };
 
-    fn visit<M: RestateEncodableMessage + Debug>(self) -> Result<Vec<u8>, Refusal> {
+    fn visit<M: RestateEncodableMessage + Debug>(self) -> Result<Vec<u8>, CallError> {
         let message = decoded::<M>(self.alloc, self.payload)?;
         let mut frame = Vec::new(self.alloc);
         self.encoder.encode_into(&message, &mut frame)?;

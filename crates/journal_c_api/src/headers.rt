@@ -5,7 +5,7 @@ ghost use Rattle.journal_c_api.specs.Outcomes.{Writes};
 ghost use Rattle.journal_c_api.specs.Headers.{ReturnsHeader, flag_at};
 ghost use Rattle.journal_c_api.specs.Payloads.{ReturnsFrame};
 
-use crate::outcome::{Refusal, version_of, write_over};
+use crate::outcome::{CallError, version_of, write_over};
 use shared_core::header::{MessageHeader, MessageType};
 use shared_core::version::Version;
 
@@ -16,7 +16,7 @@ pub fn write_header(
     code: u16,
     payload_length: u32,
     out: &mut [u8],
-) -> Result<usize, Refusal>
+) -> Result<usize, CallError>
     ensures { Writes (ReturnsHeader version code payload_length) out.old out.new result }
 {
     let version = version_of(version)?;

@@ -4,7 +4,7 @@ ghost use Rattle.std.specs.Prelude.{◌≡◌, ◌+◌, ◌∷◌, [], length};
 ghost use Rattle.shared_core.specs.Borrowed.{item_borrowed};
 ghost use Rattle.journal_c_api.specs.Items.{FindsItem, WritesNext, item_ack, item_code, item_kind};
 
-use crate::outcome::{Refusal, version_of, write_over};
+use crate::outcome::{CallError, version_of, write_over};
 use shared_core::encoding::{ItemKind, ItemRef};
 use shared_core::header::MessageHeader;
 use shared_core::version::Version;
@@ -28,12 +28,12 @@ const SKIPPED: u64 = 2;
 /// `Unknown` if the number denotes no version, otherwise `NoRoom` if the slice has fewer than six numbers. A reader
 /// that continues after the size of each item finds the items that the stream splits into, and stops at the rest that
 /// begins with no item.
-pub fn write_next(version: u32, bytes: &[u8], item: &mut [u64]) -> Result<usize, Refusal>
+pub fn write_next(version: u32, bytes: &[u8], item: &mut [u64]) -> Result<usize, CallError>
     ensures { WritesNext version bytes.now item.old item.new result }
 {
     let version = version_of(version)?;
     if item.len() < ITEM_NUMBERS {
-        return Err(Refusal::NoRoom);
+        return Err(CallError::NoRoom);
     }
     Ok(write_item(version, bytes, item))
 }

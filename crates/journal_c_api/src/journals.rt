@@ -5,7 +5,7 @@ ghost use Rattle.shared_core_base.specs.Version.{version_number};
 ghost use Rattle.journal_c_api.specs.Journals.{ReturnsVerdict, ReportsOutcome, ReportsJournals, WritesVerdict};
 ghost use Rattle.replay_bench.specs.Outcomes.{NotWellFormed, outcome_of};
 
-use crate::outcome::{Refusal, version_of, write_over};
+use crate::outcome::{CallError, version_of, write_over};
 use bytes::Bytes;
 use replay_bench::{BenchError, Side, Verdict, compare_journals};
 use shared_core::version::Version;
@@ -28,13 +28,13 @@ pub fn write_verdict(
     ignore_payloads: bool,
     numbers: &mut [u64],
     out: &mut [u8],
-) -> Result<usize, Refusal>
+) -> Result<usize, CallError>
     ensures { WritesVerdict (ReturnsVerdict version (length numbers.old) ignore_payloads recorded.now replayed.now)
         numbers.old numbers.new out.old out.new result }
 {
     let version = version_of(version)?;
     if numbers.len() < VERDICT_NUMBERS {
-        return Err(Refusal::NoRoom);
+        return Err(CallError::NoRoom);
     }
     let report = compare(alloc, version, recorded, replayed, ignore_payloads)?;
     write_over(&[report.kind, report.index], numbers);
@@ -60,7 +60,7 @@ fn compare(
     recorded: &[u8],
     replayed: &[u8],
     ignore_payloads: bool,
-) -> Result<Report, Refusal>
+) -> Result<Report, CallError>
     requires { 5 ≤ version_number version }
     ensures { ReportsJournals version ignore_payloads recorded.now replayed.now result }
 {
@@ -69,7 +69,7 @@ fn compare(
     match compare_journals(alloc, version, &[recorded], &[replayed], ignore_payloads) {
         Ok(verdict) => Ok(report_of(alloc, verdict)),
         Err(BenchError::Malformed { side, index }) => Ok(malformed(alloc, side, index)),
-        Err(BenchError::OutOfMemory) => Err(Refusal::OutOfMemory),
+        Err(BenchError::OutOfMemory) => Err(CallError::OutOfMemory),
         // no slice has this many bytes
         Err(BenchError::TooLong) => unreachable!(),
     }

@@ -4,7 +4,7 @@ ghost use Rattle.std.specs.Prelude.{◌≡◌};
 ghost use Rattle.journal_c_api.specs.JsonPayloads.{IsIfShort, ReadsText, SaysNotJson, SaysNotTaken, WritesReading};
 ghost use Rattle.journal_c_api.specs.JsonPayloads.{reading_bytes, reading_numbers};
 
-use crate::outcome::{Refusal, write_over};
+use crate::outcome::{CallError, write_over};
 use json::Scratch;
 use shared_core_codec::check::is_schema;
 use shared_core_json_reader::{JsonReadError, Reason, payload_of_value, value_of_text};
@@ -25,14 +25,14 @@ pub fn write_payload_of_json(
     json: &[u8],
     numbers: &mut [u64],
     out: &mut [u8],
-) -> Result<usize, Refusal>
+) -> Result<usize, CallError>
     ensures { WritesReading schema json.now numbers.old numbers.new out.old out.new result }
 {
     if !is_schema(schema) {
-        return Err(Refusal::Unknown);
+        return Err(CallError::Unknown);
     }
     if numbers.len() < READ_NUMBERS {
-        return Err(Refusal::NoRoom);
+        return Err(CallError::NoRoom);
     }
     let reading = read(alloc, schema, json)?;
     write_over(&numbers_of(&reading), numbers);
@@ -75,7 +75,7 @@ fn bytes_of(reading: &Reading) -> &[u8]
 }
 
 /// Reads a text for a schema.
-fn read(alloc: Global, schema: u32, json: &[u8]) -> Result<Reading, Refusal>
+fn read(alloc: Global, schema: u32, json: &[u8]) -> Result<Reading, CallError>
     ensures { ReadsText schema json.now result }
 {
     let mut scratch = Scratch::new(alloc);
@@ -90,27 +90,27 @@ fn read(alloc: Global, schema: u32, json: &[u8]) -> Result<Reading, Refusal>
 }
 
 /// The reading of a text that is not JSON, by the error.
-fn not_json(error: JsonReadError) -> Result<Reading, Refusal>
+fn not_json(error: JsonReadError) -> Result<Reading, CallError>
     ensures { SaysNotJson error result }
 {
     if error.reason == Reason::OutOfMemory {
-        return Err(Refusal::OutOfMemory);
+        return Err(CallError::OutOfMemory);
     }
     Ok(Reading::NotJson(error.offset.unwrap_or(0)))
 }
 
 /// The reading of a payload, if a header can hold its length.
-fn if_short(payload: Vec<u8>) -> Result<Reading, Refusal>
+fn if_short(payload: Vec<u8>) -> Result<Reading, CallError>
     ensures { IsIfShort payload.items result }
 {
     if u32::try_from(payload.len()).is_err() {
-        return Err(Refusal::TooLong);
+        return Err(CallError::TooLong);
     }
     Ok(Reading::Payload(payload))
 }
 
 /// The reading of a text that is JSON without a meaning, by the error.
-fn not_taken(error: JsonReadError) -> Result<Reading, Refusal>
+fn not_taken(error: JsonReadError) -> Result<Reading, CallError>
     ensures { SaysNotTaken error result }
 {
     let JsonReadError { reason, path, .. } = error;
@@ -123,7 +123,7 @@ fn not_taken(error: JsonReadError) -> Result<Reading, Refusal>
         Reason::OutOfRange => 6,
         Reason::NotBase64 => 7,
         Reason::TooDeep => 8,
-        Reason::OutOfMemory => return Err(Refusal::OutOfMemory),
+        Reason::OutOfMemory => return Err(CallError::OutOfMemory),
     };
     Ok(Reading::NotTaken { kind, path })
 }

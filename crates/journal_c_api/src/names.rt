@@ -6,7 +6,7 @@ ghost use Rattle.shared_core_base.specs.declared.header.MessageType.TheVariants.
 ghost use Rattle.journal_c_api.specs.Outcomes.{Writes, written_over};
 ghost use Rattle.journal_c_api.specs.Names.{ReturnsSchema, ReturnsTypeCode, ReturnsTypeName};
 
-use crate::outcome::{Refusal, version_of, write_over};
+use crate::outcome::{CallError, version_of, write_over};
 use arrayvec::ArrayString;
 use itoa::Buffer;
 use shared_core::header::MessageType;
@@ -16,24 +16,24 @@ use shared_core::messages::schema_at;
 pub const LIBRARY_VERSION: &str = "0.1.0";
 
 /// Writes the version of the library, and returns its length in bytes.
-pub fn write_library_version(out: &mut [u8]) -> Result<usize, Refusal>
+pub fn write_library_version(out: &mut [u8]) -> Result<usize, CallError>
     ensures { Writes (λ written. written ≡ Ok (codes "0.1.0")) out.old out.new result }
 {
     Ok(write_text(LIBRARY_VERSION, out))
 }
 
 /// The number of the schema that payloads of a type have at a version.
-pub fn schema(version: u32, code: u16) -> Result<usize, Refusal>
+pub fn schema(version: u32, code: u16) -> Result<usize, CallError>
     ensures { ReturnsSchema version code result }
 {
     let version = version_of(version)?;
     let ty = MessageType::try_from(code)?;
-    let schema = schema_at(version, ty).ok_or(Refusal::Unknown)?;
+    let schema = schema_at(version, ty).ok_or(CallError::Unknown)?;
     Ok(schema as usize)
 }
 
 /// Writes the name of the type that has a code, and returns its length in bytes.
-pub fn write_type_name(code: u16, out: &mut [u8]) -> Result<usize, Refusal>
+pub fn write_type_name(code: u16, out: &mut [u8]) -> Result<usize, CallError>
     ensures { Writes (ReturnsTypeName code) out.old out.new result }
 {
     match MessageType::try_from(code)? {
@@ -43,12 +43,12 @@ pub fn write_type_name(code: u16, out: &mut [u8]) -> Result<usize, Refusal>
 }
 
 /// The code of the named type that has a name.
-pub fn type_code(name: &[u8]) -> Result<usize, Refusal>
+pub fn type_code(name: &[u8]) -> Result<usize, CallError>
     ensures { ReturnsTypeCode name.now result }
 {
     match MessageType::from_name(name) {
         Some(ty) => Ok(usize::from(u16::from(ty))),
-        None => Err(Refusal::Unknown),
+        None => Err(CallError::Unknown),
     }
 }
 

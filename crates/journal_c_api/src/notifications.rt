@@ -1,11 +1,11 @@
 //! Notifications of any type: their ids and their results.
 
 ghost use Rattle.std.specs.Prelude.{◌≡◌, ◌↔◌, ◌++◌, IsTrue, IfErr, IfOk, OnOk};
-ghost use Rattle.journal_c_api.specs.Notifications.{IsNotificationCode, ReadsNotification, RefusesResult};
+ghost use Rattle.journal_c_api.specs.Notifications.{IsNotificationCode, ReadsNotification, RejectsResult};
 ghost use Rattle.journal_c_api.specs.Notifications.{WritesNotification, id_name, notification_bytes};
 ghost use Rattle.journal_c_api.specs.Notifications.{notification_numbers, result_bytes, result_kind};
 
-use crate::outcome::{Refusal, write_over};
+use crate::outcome::{CallError, write_over};
 use crate::payloads::decoded;
 use shared_core::header::MessageType;
 use shared_core::messages::{
@@ -31,14 +31,14 @@ pub fn write_notification(
     payload: &[u8],
     numbers: &mut [u64],
     out: &mut [u8],
-) -> Result<usize, Refusal>
+) -> Result<usize, CallError>
     ensures { WritesNotification code payload.now numbers.old numbers.new out.old out.new result }
 {
     if !is_notification(code) {
-        return Err(Refusal::Unknown);
+        return Err(CallError::Unknown);
     }
     if numbers.len() < NOTIFICATION_NUMBERS {
-        return Err(Refusal::NoRoom);
+        return Err(CallError::NoRoom);
     }
     let notification = read_notification(alloc, payload)?;
     let bytes = bytes_of(alloc, &notification)?;
@@ -58,12 +58,12 @@ fn is_notification(code: u16) -> bool
 }
 
 /// The notification that a payload means, by what all notifications have in common.
-fn read_notification(alloc: Global, payload: &[u8]) -> Result<Notification, Refusal>
+fn read_notification(alloc: Global, payload: &[u8]) -> Result<Notification, CallError>
     ensures { ReadsNotification payload.now result }
 {
     let template = decoded::<NotificationTemplate>(alloc, payload)?;
-    let id = template.id.ok_or(Refusal::NoId)?;
-    let result = template.result.ok_or(Refusal::NoResult)?;
+    let id = template.id.ok_or(CallError::NoId)?;
+    let result = template.result.ok_or(CallError::NoResult)?;
     Ok(Notification { id, result })
 }
 
@@ -94,9 +94,9 @@ fn result_kind(outcome: &NotificationResult) -> u64
 }
 
 /// The bytes of a notification: its signal's name, and its result after it.
-fn bytes_of(alloc: Global, notification: &Notification) -> Result<Vec<u8>, Refusal>
+fn bytes_of(alloc: Global, notification: &Notification) -> Result<Vec<u8>, CallError>
     ensures ok { IfOk result (λ bytes. bytes.items ≡ notification_bytes notification.now) }
-    ensures err { IfErr result (RefusesResult notification.now.result) }
+    ensures err { IfErr result (RejectsResult notification.now.result) }
 {
     let mut bytes = Vec::new(alloc);
     bytes.extend_from_slice(name_of(&notification.id).as_bytes())?;
@@ -115,9 +115,9 @@ fn name_of(id: &NotificationId) -> &str
 }
 
 /// Appends the bytes of a result. After an error the buffer may hold more than it held.
-fn append_result(outcome: &NotificationResult, out: &mut Vec<u8>) -> Result<(), Refusal>
+fn append_result(outcome: &NotificationResult, out: &mut Vec<u8>) -> Result<(), CallError>
     ensures ok { OnOk result (out.new.items ≡ out.old.items ++ result_bytes outcome.now) }
-    ensures err { IfErr result (RefusesResult outcome.now) }
+    ensures err { IfErr result (RejectsResult outcome.now) }
 {
     match outcome {
         NotificationResult::Void(_) => {}

@@ -13,7 +13,7 @@ use std::alloc::AllocError;
 
 /// The errors of the calls.
 #[derive(Clone, Copy, Debug, PartialEq, Eq)]
-pub enum Refusal {
+pub enum CallError {
     /// A payload is not well-formed for its schema.
     Malformed,
     /// An allocation failed.
@@ -30,98 +30,98 @@ pub enum Refusal {
     NoResult,
 }
 
-impl From<AllocError> for Refusal {
+impl From<AllocError> for CallError {
     ghost use Rattle.std.specs.Prelude.{◌≡◌};
-    ghost use Rattle.journal_c_api.specs.declared.outcome.Refusal.TheVariants.{OutOfMemory};
+    ghost use Rattle.journal_c_api.specs.declared.outcome.CallError.TheVariants.{OutOfMemory};
 
-    ghost from_gives = { λ _ refusal. refusal ≡ OutOfMemory };
+    ghost from_gives = { λ _ failure. failure ≡ OutOfMemory };
 
-    fn from(_error: AllocError) -> Refusal {
-        Refusal::OutOfMemory
+    fn from(_error: AllocError) -> CallError {
+        CallError::OutOfMemory
     }
 }
 
-impl From<UnknownMessageType> for Refusal {
+impl From<UnknownMessageType> for CallError {
     ghost use Rattle.std.specs.Prelude.{◌≡◌};
-    ghost use Rattle.journal_c_api.specs.declared.outcome.Refusal.TheVariants.{Unknown};
+    ghost use Rattle.journal_c_api.specs.declared.outcome.CallError.TheVariants.{Unknown};
 
-    ghost from_gives = { λ _ refusal. refusal ≡ Unknown };
+    ghost from_gives = { λ _ failure. failure ≡ Unknown };
 
-    fn from(_error: UnknownMessageType) -> Refusal {
-        Refusal::Unknown
+    fn from(_error: UnknownMessageType) -> CallError {
+        CallError::Unknown
     }
 }
 
-impl From<WireError> for Refusal {
+impl From<WireError> for CallError {
     ghost use Rattle.std.specs.Prelude.{◌≡◌};
-    ghost use Rattle.journal_c_api.specs.Outcomes.{wire_refusal};
+    ghost use Rattle.journal_c_api.specs.Outcomes.{wire_error};
 
-    ghost from_gives = { λ error refusal. refusal ≡ wire_refusal error };
+    ghost from_gives = { λ error failure. failure ≡ wire_error error };
 
-    fn from(error: WireError) -> Refusal {
+    fn from(error: WireError) -> CallError {
         match error {
-            WireError::Malformed => Refusal::Malformed,
-            WireError::OutOfMemory => Refusal::OutOfMemory,
+            WireError::Malformed => CallError::Malformed,
+            WireError::OutOfMemory => CallError::OutOfMemory,
         }
     }
 }
 
-impl From<EncodingError> for Refusal {
+impl From<EncodingError> for CallError {
     ghost use Rattle.std.specs.Prelude.{◌≡◌};
-    ghost use Rattle.journal_c_api.specs.Outcomes.{encoding_refusal};
+    ghost use Rattle.journal_c_api.specs.Outcomes.{encoding_error};
 
-    ghost from_gives = { λ error refusal. refusal ≡ encoding_refusal error };
+    ghost from_gives = { λ error failure. failure ≡ encoding_error error };
 
-    fn from(error: EncodingError) -> Refusal {
+    fn from(error: EncodingError) -> CallError {
         match error {
-            EncodingError::PayloadTooLong => Refusal::TooLong,
-            EncodingError::OutOfMemory => Refusal::OutOfMemory,
+            EncodingError::PayloadTooLong => CallError::TooLong,
+            EncodingError::OutOfMemory => CallError::OutOfMemory,
         }
     }
 }
 
-impl From<JsonError> for Refusal {
+impl From<JsonError> for CallError {
     ghost use Rattle.std.specs.Prelude.{◌≡◌};
-    ghost use Rattle.journal_c_api.specs.Outcomes.{json_refusal};
+    ghost use Rattle.journal_c_api.specs.Outcomes.{json_error};
 
-    ghost from_gives = { λ error refusal. refusal ≡ json_refusal error };
+    ghost from_gives = { λ error failure. failure ≡ json_error error };
 
-    fn from(error: JsonError) -> Refusal {
+    fn from(error: JsonError) -> CallError {
         match error {
-            JsonError::Malformed => Refusal::Malformed,
-            JsonError::TooLong => Refusal::TooLong,
-            JsonError::OutOfMemory => Refusal::OutOfMemory,
+            JsonError::Malformed => CallError::Malformed,
+            JsonError::TooLong => CallError::TooLong,
+            JsonError::OutOfMemory => CallError::OutOfMemory,
         }
     }
 }
 
 /// Returns a count unchanged, and an error as its number. A count of 2^63 or more, which no slice holds, is `TooLong`.
-pub fn outcome_of(outcome: Result<usize, Refusal>) -> i64
+pub fn outcome_of(outcome: Result<usize, CallError>) -> i64
     ensures { result ≡ outcome_number outcome }
 {
-    let refusal = match outcome {
+    let failure = match outcome {
         Ok(count) => match i64::try_from(count) {
             Ok(count) => return count,
-            Err(_) => Refusal::TooLong,
+            Err(_) => CallError::TooLong,
         },
-        Err(refusal) => refusal,
+        Err(failure) => failure,
     };
-    match refusal {
-        Refusal::Malformed => -1,
-        Refusal::OutOfMemory => -2,
-        Refusal::NoRoom => -3,
-        Refusal::TooLong => -4,
-        Refusal::Unknown => -5,
-        Refusal::NoId => -6,
-        Refusal::NoResult => -7,
+    match failure {
+        CallError::Malformed => -1,
+        CallError::OutOfMemory => -2,
+        CallError::NoRoom => -3,
+        CallError::TooLong => -4,
+        CallError::Unknown => -5,
+        CallError::NoId => -6,
+        CallError::NoResult => -7,
     }
 }
 
 /// The version that a number denotes, if it is supported.
-pub fn version_of(number: u32) -> Result<Version, Refusal>
+pub fn version_of(number: u32) -> Result<Version, CallError>
     ensures { IsSpoken number result }
 {
-    Version::from_number(number).ok_or(Refusal::Unknown)
+    Version::from_number(number).ok_or(CallError::Unknown)
 }
 
 /// Writes elements at the front of a slice if it has room for all of them, otherwise nothing.
@@ -135,7 +135,10 @@ pub fn write_over<T: Copy>(elements: &[T], out: &mut [T])
 
 /// Writes the bytes of a result at the front of a slice if it has room for all of them, otherwise nothing. Returns the
 /// number of the bytes in both cases.
-pub fn write_outcome(outcome: Result<Vec<u8>, Refusal>, out: &mut [u8]) -> Result<usize, Refusal>
+pub fn write_outcome(
+    outcome: Result<Vec<u8>, CallError>,
+    out: &mut [u8],
+) -> Result<usize, CallError>
     ensures { Writes (λ written. written ≡ bytes_of outcome) out.old out.new result }
 {
     let bytes = outcome?;

@@ -8,7 +8,7 @@ ghost use Rattle.journal_c_api.specs.Outcomes.{Writes, bytes_of};
 ghost use Rattle.journal_c_api.specs.Payloads.{ReturnsCanonical, ReturnsJson, ReturnsMeaning};
 ghost use Rattle.journal_c_api.specs.Payloads.{ReturnsWellFormed, MeansRecord, EncodesPayload};
 
-use crate::outcome::{Refusal, write_outcome, write_over};
+use crate::outcome::{CallError, write_outcome, write_over};
 use bytes::Bytes;
 use json::Writer;
 use shared_core::messages::{RecordVisitor, visit_record};
@@ -26,7 +26,7 @@ pub fn write_canonical(
     schema: u32,
     payload: &[u8],
     out: &mut [u8],
-) -> Result<usize, Refusal>
+) -> Result<usize, CallError>
     ensures { Writes (ReturnsCanonical schema payload.now []) out.old out.new result }
 {
     if check::is_schema(schema) && is_canonical(schema, payload) {
@@ -44,7 +44,7 @@ pub fn write_merged(
     first: &[u8],
     second: &[u8],
     out: &mut [u8],
-) -> Result<usize, Refusal>
+) -> Result<usize, CallError>
     ensures { Writes (ReturnsCanonical schema first.now (second.now ∷ [])) out.old out.new result }
 {
     write_outcome(merged(alloc, schema, first, second), out)
@@ -57,18 +57,18 @@ pub fn write_json(
     schema: u32,
     payload: &[u8],
     out: &mut [u8],
-) -> Result<usize, Refusal>
+) -> Result<usize, CallError>
     ensures { Writes (ReturnsJson schema payload.now) out.old out.new result }
 {
     write_outcome(json(alloc, schema, payload), out)
 }
 
 /// 1 if a payload is well-formed for a schema, otherwise 0. Nothing is allocated.
-pub fn is_well_formed(_alloc: Global, schema: u32, payload: &[u8]) -> Result<usize, Refusal>
+pub fn is_well_formed(_alloc: Global, schema: u32, payload: &[u8]) -> Result<usize, CallError>
     ensures { ReturnsWellFormed schema payload.now result }
 {
     if !check::is_schema(schema) {
-        return Err(Refusal::Unknown);
+        return Err(CallError::Unknown);
     }
     if check::is_well_formed(schema, payload) {
         Ok(1)
@@ -78,10 +78,10 @@ pub fn is_well_formed(_alloc: Global, schema: u32, payload: &[u8]) -> Result<usi
 }
 
 /// The canonical payload of what a payload means.
-fn canonical(alloc: Global, schema: u32, payload: &[u8]) -> Result<Vec<u8>, Refusal>
+fn canonical(alloc: Global, schema: u32, payload: &[u8]) -> Result<Vec<u8>, CallError>
     ensures { ReturnsCanonical schema payload.now [] (bytes_of result) }
 {
-    visit_record(schema, Encoding { alloc, payload }).ok_or(Refusal::Unknown)?
+    visit_record(schema, Encoding { alloc, payload }).ok_or(CallError::Unknown)?
 }
 
 /// Decodes a payload, and returns the canonical payload of what it means.
@@ -92,11 +92,11 @@ struct Encoding<'a> {
 }
 
 impl<'a> RecordVisitor for Encoding<'a> {
-    type Output = Result<Vec<u8>, Refusal>;
+    type Output = Result<Vec<u8>, CallError>;
 
     ghost results = { λ self schema output. ReturnsMeaning schema self.payload.now [] (bytes_of output) };
 
-    fn visit<M: WireRecord + Debug>(self) -> Result<Vec<u8>, Refusal> {
+    fn visit<M: WireRecord + Debug>(self) -> Result<Vec<u8>, CallError> {
         let record = decoded::<M>(self.alloc, self.payload)?;
         let mut canonical = Vec::new(self.alloc);
         record.encode_payload_into(&mut canonical)?;
@@ -105,7 +105,7 @@ impl<'a> RecordVisitor for Encoding<'a> {
 }
 
 /// The canonical payload of what two payloads mean, the second merged into the first.
-fn merged(alloc: Global, schema: u32, first: &[u8], second: &[u8]) -> Result<Vec<u8>, Refusal>
+fn merged(alloc: Global, schema: u32, first: &[u8], second: &[u8]) -> Result<Vec<u8>, CallError>
     ensures { ReturnsCanonical schema first.now (second.now ∷ []) (bytes_of result) }
 {
     let merging = Merging {
@@ -113,7 +113,7 @@ fn merged(alloc: Global, schema: u32, first: &[u8], second: &[u8]) -> Result<Vec
         first,
         second,
     };
-    visit_record(schema, merging).ok_or(Refusal::Unknown)?
+    visit_record(schema, merging).ok_or(CallError::Unknown)?
 }
 
 /// Decodes a payload that comes in two parts, and returns the canonical payload of what it means.
@@ -125,12 +125,12 @@ struct Merging<'a> {
 }
 
 impl<'a> RecordVisitor for Merging<'a> {
-    type Output = Result<Vec<u8>, Refusal>;
+    type Output = Result<Vec<u8>, CallError>;
 
     ghost results = { λ self schema output. ReturnsMeaning schema self.first.now (self.second.now ∷ [])
         (bytes_of output) };
 
-    fn visit<M: WireRecord + Debug>(self) -> Result<Vec<u8>, Refusal> {
+    fn visit<M: WireRecord + Debug>(self) -> Result<Vec<u8>, CallError> {
         let first = Bytes::copy_from_slice(self.alloc, self.first)?;
         let second = Bytes::copy_from_slice(self.alloc, self.second)?;
         let record = decode_parts::<M>(self.alloc, first, &[second])?;
@@ -142,14 +142,14 @@ impl<'a> RecordVisitor for Merging<'a> {
 
 /// The JSON of what a payload means. One that is canonical is printed as it is.
 #[tactic(auto, using(shared_core_json::proofs::Payloads::canonical_encoding))]
-fn json(alloc: Global, schema: u32, payload: &[u8]) -> Result<Vec<u8>, Refusal>
+fn json(alloc: Global, schema: u32, payload: &[u8]) -> Result<Vec<u8>, CallError>
     ensures { ReturnsJson schema payload.now (bytes_of result) }
 {
     if check::is_schema(schema) && is_canonical(schema, payload) {
         return Ok(print(alloc, schema, payload)?);
     }
     let decoding = CanonicalPayload { alloc, payload };
-    let canonical = visit_record(schema, decoding).ok_or(Refusal::Unknown)??;
+    let canonical = visit_record(schema, decoding).ok_or(CallError::Unknown)??;
     Ok(print(alloc, schema, canonical.as_slice())?)
 }
 
@@ -172,11 +172,11 @@ struct CanonicalPayload<'a> {
 }
 
 impl<'a> RecordVisitor for CanonicalPayload<'a> {
-    type Output = Result<Vec<u8>, Refusal>;
+    type Output = Result<Vec<u8>, CallError>;
 
     ghost results = { λ self schema output. EncodesPayload schema self.payload.now output };
 
-    fn visit<M: WireRecord + Debug>(self) -> Result<Vec<u8>, Refusal> {
+    fn visit<M: WireRecord + Debug>(self) -> Result<Vec<u8>, CallError> {
         let payload = Bytes::copy_from_slice(self.alloc, self.payload)?;
         let mut canonical = Vec::new(self.alloc);
         encode_canonical::<M>(self.alloc, &payload, &mut canonical)?;
@@ -185,7 +185,7 @@ impl<'a> RecordVisitor for CanonicalPayload<'a> {
 }
 
 /// The record that a payload means.
-pub fn decoded<M: WireRecord>(alloc: Global, payload: &[u8]) -> Result<M, Refusal>
+pub fn decoded<M: WireRecord>(alloc: Global, payload: &[u8]) -> Result<M, CallError>
     ensures { MeansRecord M.schema M.parts payload.now result }
 {
     let payload = Bytes::copy_from_slice(alloc, payload)?;

@@ -11,7 +11,7 @@ use std::io::{Read, Write};
 use stream_lines::{PrintError, Report, print_lines};
 
 /// The number of bytes that are read at a time.
-const PIECE: usize = 65536;
+const CHUNK: usize = 65536;
 
 /// Writes a line for each selected item of a stream, and at its end a line for the bytes that are in no item.
 ///
@@ -31,5 +31,5 @@ pub fn dump<R: Read, W: Write>(
         × Appends (W.contents output.old) (W.contents output.new) written
         × IsDumped options.now result read written (R.remaining input.new) }
 {
-    print_lines(alloc, options.version, options, input, output, PIECE)
+    print_lines(alloc, options.version, options, input, output, CHUNK)
 }

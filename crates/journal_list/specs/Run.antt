@@ -3,21 +3,21 @@ use Rattle.std.specs.Prelude.{ℕ, List, [], codes, Result, Ok, Err, ⊤}
 use Rattle.journal_list.specs.declared.error.ListError.{ListError}
 use Rattle.journal_list.specs.declared.error.ListError.TheVariants.{Input, Output, OutOfMemory}
 use Rattle.journal_list.specs.declared.run.Outcome.{Outcome}
-use Rattle.journal_list.specs.declared.run.Outcome.TheVariants.{Refused, Listed}
+use Rattle.journal_list.specs.declared.run.Outcome.TheVariants.{Rejected, Listed}
 
 -- The arguments were rejected.
-abbrev pub IsRefused : Outcome → Type 0
-IsRefused Refused = ⊤
-IsRefused (Listed _) = ⊥
+abbrev pub IsRejected : Outcome → Type 0
+IsRejected Rejected = ⊤
+IsRejected (Listed _) = ⊥
 
 -- The condition holds of the listing's result, if there is one.
 abbrev pub IfListed : Outcome → (Result (Unit {0}) ListError → Type 0) → Type 0
-IfListed Refused fact = ⊤
+IfListed Rejected fact = ⊤
 IfListed (Listed listing) fact = fact listing
 
 -- The line on the standard error: none after a whole listing.
 abbrev pub message_of : Outcome → List ℕ
-message_of Refused = codes "usage: journal_list [1..65536] [v9]\n"
+message_of Rejected = codes "usage: journal_list [1..65536] [v9]\n"
 message_of (Listed (Ok _)) = []
 message_of (Listed (Err Input)) = codes "journal_list: input failed\n"
 message_of (Listed (Err Output)) = codes "journal_list: output failed\n"
@@ -25,6 +25,6 @@ message_of (Listed (Err OutOfMemory)) = codes "journal_list: out of memory\n"
 
 -- The exit status: 0 after a whole listing, 1 after a failure, 2 for rejected arguments.
 abbrev pub status_of : Outcome → ℕ
-status_of Refused = 2
+status_of Rejected = 2
 status_of (Listed (Ok _)) = 0
 status_of (Listed (Err _)) = 1

@@ -65,7 +65,7 @@ fn list_path(rt: &HostRuntime, asked: &Arguments<'_>) -> ExitCode
     match open_file(rt, asked.path) {
         Ok(mut file) => list_input(rt, asked, &mut file),
         Err(error) if error.kind() == ErrorKind::NotFound && !looks_like_path(asked.path) => {
-            end(rt, Outcome::Refused)
+            end(rt, Outcome::Rejected)
         }
         Err(error) => fail(rt, PROGRAM, format_args!("{}: {error}", asked.path), 2),
     }
@@ -97,6 +97,6 @@ fn main(rt: HostRuntime) -> ExitCode {
     }
     match parse_words(words) {
         Some(asked) => list_path(&rt, &asked),
-        None => end(&rt, Outcome::Refused),
+        None => end(&rt, Outcome::Rejected),
     }
 }

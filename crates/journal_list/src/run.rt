@@ -5,7 +5,7 @@ ghost use Rattle.std.specs.Process.{exit_status};
 ghost use Rattle.shared_core_base.specs.declared.version.Version.{Version as AnyVersion};
 ghost use Rattle.journal_list.specs.Listing.{IsListed};
 ghost use Rattle.journal_list.specs.Options.{AreOptions};
-ghost use Rattle.journal_list.specs.Run.{message_of, status_of, IsRefused, IfListed};
+ghost use Rattle.journal_list.specs.Run.{message_of, status_of, IsRejected, IfListed};
 
 use crate::error::ListError;
 use crate::list::list_at;
@@ -18,7 +18,7 @@ use std::process::ExitCode;
 #[derive(Drop)]
 pub enum Outcome {
     /// The arguments were rejected.
-    Refused,
+    Rejected,
     /// The listing's result.
     Listed(Result<(), ListError>),
 }
@@ -33,10 +33,10 @@ pub fn run<R: Read, W: Write>(
     input: &mut R,
     output: &mut W,
 ) -> Outcome
-    ensures refused { IsRefused result → (version : AnyVersion) → (chunk_size : ℕ)
+    ensures rejected { IsRejected result → (version : AnyVersion) → (chunk_size : ℕ)
         → AreOptions (map string_bytes words.now) version chunk_size → ⊥ }
-    ensures unread { IsRefused result → input.new ≡ input.old }
-    ensures unwritten { IsRefused result → output.new ≡ output.old }
+    ensures unread { IsRejected result → input.new ≡ input.old }
+    ensures unwritten { IsRejected result → output.new ≡ output.old }
     ensures listed { IfListed result (λ listing.
         (version : AnyVersion) × (chunk_size : ℕ) × AreOptions (map string_bytes words.now) version chunk_size
         × (read : List ℕ) × (written : List ℕ)
@@ -45,7 +45,7 @@ pub fn run<R: Read, W: Write>(
         × IsListed version listing read written (R.remaining input.new)) }
 {
     let Some((version, chunk_size)) = options(words) else {
-        return Outcome::Refused;
+        return Outcome::Rejected;
     };
     Outcome::Listed(list_at(alloc, version, input, output, chunk_size))
 }
@@ -55,7 +55,7 @@ pub fn message(outcome: &Outcome) -> &'static str
     ensures { result.now ≡ message_of outcome.now }
 {
     match outcome {
-        Outcome::Refused => "usage: journal_list [1..65536] [v9]\n",
+        Outcome::Rejected => "usage: journal_list [1..65536] [v9]\n",
         Outcome::Listed(Ok(())) => "",
         Outcome::Listed(Err(ListError::Input)) => "journal_list: input failed\n",
         Outcome::Listed(Err(ListError::Output)) => "journal_list: output failed\n",
@@ -68,7 +68,7 @@ pub fn exit_code(outcome: &Outcome) -> ExitCode
     ensures { exit_status result ≡ status_of outcome.now }
 {
     match outcome {
-        Outcome::Refused => ExitCode::from(2),
+        Outcome::Rejected => ExitCode::from(2),
         Outcome::Listed(Ok(())) => ExitCode::SUCCESS,
         Outcome::Listed(Err(_)) => ExitCode::FAILURE,
     }

@@ -93,22 +93,22 @@ module _ (version : Version) (first start : Option (List ℕ)) where
       )
 
     -- a chunk was taken
-    module _ (now grown : Option (List ℕ)) (piece written : List ℕ) (old new : Lines) (came : Consumes left now piece) (wrote : Appends out grown written)
+    module _ (now grown : Option (List ℕ)) (chunk written : List ℕ) (old new : Lines) (came : Consumes left now chunk) (wrote : Appends out grown written)
         (held : old.pending.items ≡ pending) (count : old.taken ≡ taken) where
-      came_more : Consumes first now (so_far.read ++ piece)
-      came_more = Consumes-trans first left now so_far.read piece so_far.came came
+      came_more : Consumes first now (so_far.read ++ chunk)
+      came_more = Consumes-trans first left now so_far.read chunk so_far.came came
 
       wrote_more : Appends start grown (so_far.bytes ++ written)
       wrote_more = Appends-trans start out grown so_far.bytes written so_far.wrote wrote
 
-      then_begin : (ls : List (List ℕ)) (rest : List ℕ) → BeginWith (old.pending.items ++ piece) ls rest → BeginWith (so_far.read ++ piece) (so_far.lines ++ ls) rest
+      then_begin : (ls : List (List ℕ)) (rest : List ℕ) → BeginWith (old.pending.items ++ chunk) ls rest → BeginWith (so_far.read ++ chunk) (so_far.lines ++ ls) rest
       then_begin ls rest b =
-          then_lines (so_far.read ++ piece) (pending ++ piece) rest so_far.lines ls (then_bytes so_far.read pending piece so_far.lines so_far.split.begins)
-          (subst (λ (xs : List ℕ). BeginWith (xs ++ piece) ls rest) held b)
+          then_lines (so_far.read ++ chunk) (pending ++ chunk) rest so_far.lines ls (then_bytes so_far.read pending chunk so_far.lines so_far.split.begins)
+          (subst (λ (xs : List ℕ). BeginWith (xs ++ chunk) ls rest) held b)
 
-      pub goes_on : IsStep (line_made version) (old.pending.items ++ piece) (Ok tt) written old new → GoesOn version first start now grown new.pending.items new.taken
+      pub goes_on : IsStep (line_made version) (old.pending.items ++ chunk) (Ok tt) written old new → GoesOn version first start now grown new.pending.items new.taken
       goes_on (ls, are, e, none, n) = record {
-        read = so_far.read ++ piece;
+        read = so_far.read ++ chunk;
         lines = so_far.lines ++ ls;
         bytes = so_far.bytes ++ written;
         split = record { begins = then_begin ls new.pending.items are.begins; unended = are.unended };
@@ -118,11 +118,11 @@ module _ (version : Version) (first start : Option (List ℕ)) where
         count = n ∙ ap (λ (k : ℕ). counted (k + length ls)) (count ∙ so_far.count) ∙ counted_more (length so_far.lines) (length ls) ∙ ap counted (sym (length-append so_far.lines ls));
       }
 
-      pub ended_step : (error : MakeError) → IsStep (line_made version) (old.pending.items ++ piece) (Err error) written old new → HasEnded version first start now grown (Err error)
+      pub ended_step : (error : MakeError) → IsStep (line_made version) (old.pending.items ++ chunk) (Err error) written old new → HasEnded version first start now grown (Err error)
       ended_step Input is = absurd is
       ended_step Output (ls, rest, more, b, e, cut) =
-          let (all, last, are, first_ones) = all_lines (so_far.read ++ piece) rest (so_far.lines ++ ls) (then_begin ls rest b) in (
-            so_far.read ++ piece,
+          let (all, last, are, first_ones) = all_lines (so_far.read ++ chunk) rest (so_far.lines ++ ls) (then_begin ls rest b) in (
+            so_far.read ++ chunk,
             so_far.bytes ++ written,
             came_more,
             wrote_more,
@@ -134,8 +134,8 @@ module _ (version : Version) (first start : Option (List ℕ)) where
             },
           )
       ended_step OutOfMemory none =
-          let (all, last, are, first_ones) = all_lines (so_far.read ++ piece) (pending ++ piece) so_far.lines (then_bytes so_far.read pending piece so_far.lines so_far.split.begins) in (
-            so_far.read ++ piece,
+          let (all, last, are, first_ones) = all_lines (so_far.read ++ chunk) (pending ++ chunk) so_far.lines (then_bytes so_far.read pending chunk so_far.lines so_far.split.begins) in (
+            so_far.read ++ chunk,
             so_far.bytes ++ written,
             came_more,
             wrote_more,
@@ -149,9 +149,9 @@ module _ (version : Version) (first start : Option (List ℕ)) where
       ended_step (Line number error) (ls, line, rest, b, e, n, c) =
           let joined = then_begin (ls ++ line ∷ []) rest b in
           let before = so_far.lines ++ ls in
-          let until = subst (λ (xs : List (List ℕ)). BeginWith (so_far.read ++ piece) xs rest) (sym (append_assoc so_far.lines ls (line ∷ []))) joined in
-          let (all, last, are, first_ones) = all_lines (so_far.read ++ piece) rest (before ++ line ∷ []) until in (
-            so_far.read ++ piece,
+          let until = subst (λ (xs : List (List ℕ)). BeginWith (so_far.read ++ chunk) xs rest) (sym (append_assoc so_far.lines ls (line ∷ []))) joined in
+          let (all, last, are, first_ones) = all_lines (so_far.read ++ chunk) rest (before ++ line ∷ []) until in (
+            so_far.read ++ chunk,
             so_far.bytes ++ written,
             came_more,
             wrote_more,

@@ -4,8 +4,8 @@ use Rattle.journal_make.specs.declared.error.LineError.{LineError}
 use Rattle.journal_make.specs.Errors.{lack}
 
 -- Unless an allocation failed, the line has no meaning.
-abbrev pub Refuses : {A : Type 0} → Option A → LineError → Type 0
-Refuses o error = error.reason ≢ lack → o ≡ None
+abbrev pub Rejects : {A : Type 0} → Option A → LineError → Type 0
+Rejects o error = error.reason ≢ lack → o ≡ None
 
 -- A call appends these bytes, if they exist; otherwise it fails, and nothing is appended. It may also fail because an
 -- allocation fails.

@@ -4,30 +4,30 @@ use Rattle.stream_lines.specs.Printing.{Begins}
 use Rattle.journal_make.specs.declared.error.MakeError.{MakeError}
 use Rattle.journal_make.specs.declared.error.MakeError.TheVariants.{Input, Output, OutOfMemory, Line}
 use Rattle.journal_make.specs.declared.make.Lines.{Lines}
-use Rattle.journal_make.specs.declared.make.Refused.{Refused}
+use Rattle.journal_make.specs.declared.make.Rejected.{Rejected}
 use Rattle.journal_make.specs.Made.{made, counted, AreLines, BeginWith}
 
 -- A line is taken, and what it means is appended; or it is rejected, and nothing is appended. If an allocation fails,
 -- nothing is specified.
-abbrev pub LineIsTaken : {E : Type 0} → (List ℕ → Option (List ℕ)) → Result (Option Refused) E → Lines → Lines → Type 0
+abbrev pub LineIsTaken : {E : Type 0} → (List ℕ → Option (List ℕ)) → Result (Option Rejected) E → Lines → Lines → Type 0
 LineIsTaken means (Ok None) old new =
     (bytes : List ℕ) × (means old.pending.items ≡ Some bytes) × (new.made.items ≡ old.made.items ++ bytes) × (new.pending.items ≡ []) × (new.taken ≡ counted (suc old.taken))
-LineIsTaken means (Ok (Some refused)) old new =
-    (means old.pending.items ≡ None) × (new.made.items ≡ old.made.items) × (refused.number ≡ counted (suc old.taken))
+LineIsTaken means (Ok (Some rejected)) old new =
+    (means old.pending.items ≡ None) × (new.made.items ≡ old.made.items) × (rejected.number ≡ counted (suc old.taken))
 LineIsTaken means (Err lack) old new = Unit {0}
 
 -- The lines that these bytes end are taken, or those before a rejected one.
-abbrev pub AreTaken : (List ℕ → Option (List ℕ)) → List ℕ → Option Refused → Lines → Lines → Type 0
+abbrev pub AreTaken : (List ℕ → Option (List ℕ)) → List ℕ → Option Rejected → Lines → Lines → Type 0
 AreTaken means bytes None old new =
     (lines : List (List ℕ)) × (more : List ℕ) × AreLines bytes lines new.pending.items × (made means lines ≡ Some more)
     × (new.made.items ≡ old.made.items ++ more) × (new.taken ≡ counted (old.taken + length lines))
-AreTaken means bytes (Some refused) old new =
+AreTaken means bytes (Some rejected) old new =
     (lines : List (List ℕ)) × (line rest more : List ℕ) × BeginWith bytes (lines ++ line ∷ []) rest × (made means lines ≡ Some more)
-    × (new.made.items ≡ old.made.items ++ more) × (means line ≡ None) × (refused.number ≡ counted (suc (old.taken + length lines)))
+    × (new.made.items ≡ old.made.items ++ more) × (means line ≡ None) × (rejected.number ≡ counted (suc (old.taken + length lines)))
 
 -- The lines that these bytes end are taken, or those before a rejected one, unless an allocation failed.
-abbrev pub IsTaken : {E : Type 0} → (List ℕ → Option (List ℕ)) → List ℕ → Result (Option Refused) E → Lines → Lines → Type 0
-IsTaken means bytes (Ok refused) old new = AreTaken means bytes refused old new
+abbrev pub IsTaken : {E : Type 0} → (List ℕ → Option (List ℕ)) → List ℕ → Result (Option Rejected) E → Lines → Lines → Type 0
+IsTaken means bytes (Ok rejected) old new = AreTaken means bytes rejected old new
 IsTaken means bytes (Err lack) old new = Unit {0}
 
 -- What is written for the lines that these bytes end: what they mean; a prefix of it; nothing, if an allocation fails;

@@ -12,11 +12,11 @@ ghost use Rattle.journal_make.specs.Lines.{message_said, nothing_said, line_payl
 ghost use Rattle.journal_make.specs.Lines.{has_flag, line_flag, word, is_alone, header_given, line_header, framed};
 ghost use Rattle.journal_make.specs.Lines.{item_said, says_no_item, rest_said, line_said};
 ghost use Rattle.journal_make.specs.Lines.{is_space, is_blank, line_made};
-ghost use Rattle.journal_make.specs.Appending.{Appends, Refuses};
+ghost use Rattle.journal_make.specs.Appending.{Appends, Rejects};
 
 use crate::error::{LineError, LineReason};
 use crate::members::{check_line, given, given_either};
-use crate::refuse::{out_of_memory, refuse, refuse_json};
+use crate::reject::{out_of_memory, reject, reject_json};
 use json::{Scratch, Value};
 use shared_core::header::MessageType;
 use shared_core::messages::schema_at;
@@ -31,23 +31,23 @@ use std::alloc::{AllocError, Global};
 /// The code that a value is.
 fn read_code(alloc: Global, value: &Value<'_>) -> Result<u16, LineError>
     ensures { MatchResult result (λ code. code_read (json_view value.now) ≡ Some code)
-        (Refuses (code_read (json_view value.now))) }
+        (Rejects (code_read (json_view value.now))) }
 {
     match read_u32(value) {
         Ok(code) if code < 65536 => Ok(code as u16),
-        Ok(_) => Err(refuse(alloc, LineReason::Json(Reason::OutOfRange), "code")),
-        Err(reason) => Err(refuse(alloc, LineReason::Json(reason), "code")),
+        Ok(_) => Err(reject(alloc, LineReason::Json(Reason::OutOfRange), "code")),
+        Err(reason) => Err(reject(alloc, LineReason::Json(reason), "code")),
     }
 }
 
 /// The name that a value is.
 fn read_name<'a>(alloc: Global, value: &Value<'a>) -> Result<&'a str, LineError>
     ensures { MatchResult result (λ name. as_str (json_view value.now) ≡ Some name.now)
-        (Refuses (as_str (json_view value.now))) }
+        (Rejects (as_str (json_view value.now))) }
 {
     match value.as_str() {
         Some(name) => Ok(name),
-        None => Err(refuse(alloc, LineReason::Json(Reason::WrongKind), "type")),
+        None => Err(reject(alloc, LineReason::Json(Reason::WrongKind), "type")),
     }
 }
 
@@ -77,14 +77,14 @@ fn is_name_of(alloc: Global, ty: MessageType, name: &str) -> Result<bool, AllocE
 /// A code, if its type has this name.
 fn code_if(alloc: Global, code: u16, name: &str) -> Result<u16, LineError>
     ensures { MatchResult result (λ said. code_if code name.now ≡ Some said)
-        (Refuses (code_if code name.now)) }
+        (Rejects (code_if code name.now)) }
 {
     let Ok(ty) = MessageType::try_from(code) else {
-        return Err(refuse(alloc, LineReason::OtherType, "type"));
+        return Err(reject(alloc, LineReason::OtherType, "type"));
     };
     match is_name_of(alloc, ty, name) {
         Ok(true) => Ok(code),
-        Ok(false) => Err(refuse(alloc, LineReason::OtherType, "type")),
+        Ok(false) => Err(reject(alloc, LineReason::OtherType, "type")),
         Err(_) => Err(out_of_memory(alloc)),
     }
 }
@@ -92,17 +92,17 @@ fn code_if(alloc: Global, code: u16, name: &str) -> Result<u16, LineError>
 /// The code of a line, by its type and its code.
 fn code_of(alloc: Global, line: &Value<'_>) -> Result<u16, LineError>
     ensures { MatchResult result (λ code. line_code (json_view line.now) ≡ Some code)
-        (Refuses (line_code (json_view line.now))) }
+        (Rejects (line_code (json_view line.now))) }
 {
     let ty = given("type", line);
     let Some(code) = given("code", line) else {
         let Some(ty) = ty else {
-            return Err(refuse(alloc, LineReason::NoType, ""));
+            return Err(reject(alloc, LineReason::NoType, ""));
         };
         let name = read_name(alloc, ty)?;
         return match code_named(name.as_bytes()) {
             Some(code) => Ok(code),
-            None => Err(refuse(alloc, LineReason::UnknownType, "type")),
+            None => Err(reject(alloc, LineReason::UnknownType, "type")),
         };
     };
     let code = read_code(alloc, code)?;
@@ -117,11 +117,11 @@ fn code_of(alloc: Global, line: &Value<'_>) -> Result<u16, LineError>
 /// The bytes that a value is, in base64.
 fn bytes_of(alloc: Global, value: &Value<'_>, member: &str) -> Result<Vec<u8>, LineError>
     ensures { MatchResult result (λ bytes. bytes_read (json_view value.now) ≡ Some bytes.items)
-        (Refuses (bytes_read (json_view value.now))) }
+        (Rejects (bytes_read (json_view value.now))) }
 {
     match read_bytes(alloc, value) {
         Ok(bytes) => Ok(bytes),
-        Err(reason) => Err(refuse(alloc, LineReason::Json(reason), member)),
+        Err(reason) => Err(reject(alloc, LineReason::Json(reason), member)),
     }
 }
 
@@ -151,25 +151,25 @@ fn message_of(
     message: &Value<'_>,
 ) -> Result<Vec<u8>, LineError>
     ensures { MatchResult result (λ bytes. message_said version code (json_view message.now) ≡ Some bytes.items)
-        (Refuses (message_said version code (json_view message.now))) }
+        (Rejects (message_said version code (json_view message.now))) }
 {
     let Some(schema) = schema_of(version, code) else {
-        return Err(refuse(alloc, LineReason::NoSchema, "message"));
+        return Err(reject(alloc, LineReason::NoSchema, "message"));
     };
     match payload_of_value(alloc, schema, message) {
         Ok(payload) => Ok(payload),
-        Err(error) => Err(refuse_json(alloc, &error, "message")),
+        Err(error) => Err(reject_json(alloc, &error, "message")),
     }
 }
 
 /// The payload of an item that is a header alone.
 fn nothing_of(alloc: Global, value: &Value<'_>) -> Result<Vec<u8>, LineError>
     ensures { MatchResult result (λ bytes. nothing_said (json_view value.now) ≡ Some bytes.items)
-        (Refuses (nothing_said (json_view value.now))) }
+        (Rejects (nothing_said (json_view value.now))) }
 {
     match value.as_bool() {
         Some(true) => Ok(Vec::new(alloc)),
-        _ => Err(refuse(alloc, LineReason::Json(Reason::WrongKind), "unknown")),
+        _ => Err(reject(alloc, LineReason::Json(Reason::WrongKind), "unknown")),
     }
 }
 
@@ -181,7 +181,7 @@ fn payload_of(
     line: &Value<'_>,
 ) -> Result<Vec<u8>, LineError>
     ensures { MatchResult result (λ payload. line_payload version code (json_view line.now) ≡ Some payload.items)
-        (Refuses (line_payload version code (json_view line.now))) }
+        (Rejects (line_payload version code (json_view line.now))) }
 {
     let message = given("message", line);
     let bytes = given_either("bytes", "payload", line);
@@ -190,8 +190,8 @@ fn payload_of(
         (Some(message), None, None) => message_of(alloc, version, code, message),
         (None, Some(bytes), None) => bytes_of(alloc, bytes, bytes_name(line)),
         (None, None, Some(unknown)) => nothing_of(alloc, unknown),
-        (None, None, None) => Err(refuse(alloc, LineReason::NoPayload, "")),
-        _ => Err(refuse(alloc, LineReason::SeveralPayloads, "")),
+        (None, None, None) => Err(reject(alloc, LineReason::NoPayload, "")),
+        _ => Err(reject(alloc, LineReason::SeveralPayloads, "")),
     }
 }
 
@@ -210,17 +210,17 @@ fn has_flag(code: u16) -> bool
 /// Whether a line requests an acknowledgement.
 fn flag_of(alloc: Global, code: u16, line: &Value<'_>) -> Result<bool, LineError>
     ensures { MatchResult result (λ flag. line_flag code (json_view line.now) ≡ Some flag)
-        (Refuses (line_flag code (json_view line.now))) }
+        (Rejects (line_flag code (json_view line.now))) }
 {
     let Some(value) = given_either("requestedAck", "ack", line) else {
         return Ok(false);
     };
     if !has_flag(code) {
-        return Err(refuse(alloc, LineReason::NoFlag, ""));
+        return Err(reject(alloc, LineReason::NoFlag, ""));
     }
     match value.as_bool() {
         Some(flag) => Ok(flag),
-        None => Err(refuse(alloc, LineReason::Json(Reason::WrongKind), "requestedAck")),
+        None => Err(reject(alloc, LineReason::Json(Reason::WrongKind), "requestedAck")),
     }
 }
 
@@ -251,13 +251,13 @@ fn append_given(
     ensures { Appends result (header_given alone size header.now) out.old.items out.new.items }
 {
     if header.len() != 8 {
-        return Err(refuse(alloc, LineReason::HeaderLength, "header"));
+        return Err(reject(alloc, LineReason::HeaderLength, "header"));
     }
     if alone {
         return append(alloc, header, out);
     }
     let Ok(size) = u32::try_from(size) else {
-        return Err(refuse(alloc, LineReason::TooLong, ""));
+        return Err(reject(alloc, LineReason::TooLong, ""));
     };
     append(alloc, &header[..4], out)?;
     append(alloc, &size.to_be_bytes(), out)
@@ -279,7 +279,7 @@ fn append_header(
         return append_given(alloc, is_alone(line), size, header.as_slice(), out);
     }
     let Ok(size) = u32::try_from(size) else {
-        return Err(refuse(alloc, LineReason::TooLong, ""));
+        return Err(reject(alloc, LineReason::TooLong, ""));
     };
     append(alloc, &word(code, flag, size).to_be_bytes(), out)
 }
@@ -344,18 +344,18 @@ fn says_no_item(line: &Value<'_>) -> bool
 #[tactic(auto, unfolding(crate::specs::Lines::rest_said))]
 fn rest_of(alloc: Global, rest: &Value<'_>, line: &Value<'_>) -> Result<Vec<u8>, LineError>
     ensures { MatchResult result (λ bytes. rest_said (json_view rest.now) (json_view line.now) ≡ Some bytes.items)
-        (Refuses (rest_said (json_view rest.now) (json_view line.now))) }
+        (Rejects (rest_said (json_view rest.now) (json_view line.now))) }
 {
     if !says_no_item(line) {
-        return Err(refuse(alloc, LineReason::ItemInRest, "rest"));
+        return Err(reject(alloc, LineReason::ItemInRest, "rest"));
     }
     if let Some(bytes) = given_either("bytes", "payload", line) {
         return bytes_of(alloc, bytes, bytes_name(line));
     }
     match read_u64(rest) {
         Ok(0) => Ok(Vec::new(alloc)),
-        Ok(_) => Err(refuse(alloc, LineReason::NoBytes, "rest")),
-        Err(reason) => Err(refuse(alloc, LineReason::Json(reason), "rest")),
+        Ok(_) => Err(reject(alloc, LineReason::NoBytes, "rest")),
+        Err(reason) => Err(reject(alloc, LineReason::Json(reason), "rest")),
     }
 }
 
@@ -413,6 +413,6 @@ pub fn append_line(
     }
     match value_of_text(alloc, line, scratch) {
         Ok(value) => append_said(alloc, version, &value, out),
-        Err(error) => Err(refuse_json(alloc, &error, "")),
+        Err(error) => Err(reject_json(alloc, &error, "")),
     }
 }

@@ -6,7 +6,7 @@ mod error;
 mod line;
 mod make;
 mod members;
-mod refuse;
+mod reject;
 
 use crate::arguments::{Arguments, parse_arguments};
 use crate::error::MakeError;

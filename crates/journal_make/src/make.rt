@@ -17,7 +17,7 @@ use std::io::{Read, Write};
 use stream_lines::output::write_whole;
 
 /// The number of bytes that are read at a time.
-const PIECE: usize = 65536;
+const CHUNK: usize = 65536;
 
 /// What was read and is not written yet.
 #[derive(Drop)]
@@ -32,7 +32,7 @@ pub struct Lines {
 
 /// A rejected line, with its number.
 #[derive(Drop)]
-pub struct Refused {
+pub struct Rejected {
     pub number: u64,
     pub error: LineError,
 }
@@ -43,7 +43,7 @@ fn take_line(
     version: Version,
     scratch: &mut Scratch,
     lines: &mut Lines,
-) -> Result<Option<Refused>, AllocError>
+) -> Result<Option<Rejected>, AllocError>
     ensures { LineIsTaken (line_made version) result lines.old lines.new }
 {
     let number = lines.taken.saturating_add(1);
@@ -60,7 +60,7 @@ fn take_line(
             Ok(None)
         }
         Err(error) if error.reason == LineReason::Json(Reason::OutOfMemory) => Err(AllocError),
-        Err(error) => Ok(Some(Refused { number, error })),
+        Err(error) => Ok(Some(Rejected { number, error })),
     }
 }
 
@@ -71,15 +71,15 @@ fn take_chunk(
     chunk: &[u8],
     scratch: &mut Scratch,
     lines: &mut Lines,
-) -> Result<Option<Refused>, AllocError>
+) -> Result<Option<Rejected>, AllocError>
     requires { has_newline lines.old.pending.items ≡ false }
     ensures { IsTaken (line_made version) (lines.old.pending.items ++ chunk.now) result lines.old lines.new }
 {
     let mut rest = chunk;
     while let Some(at) = memchr(b'\n', rest) {
         lines.pending.extend_from_slice(&rest[..at])?;
-        if let Some(refused) = take_line(alloc, version, scratch, lines)? {
-            return Ok(Some(refused));
+        if let Some(rejected) = take_line(alloc, version, scratch, lines)? {
+            return Ok(Some(rejected));
         }
         rest = &rest[at + 1..];
     }
@@ -102,11 +102,11 @@ fn step<W: Write>(
         × Appends (W.contents output.old) (W.contents output.new) written
         × IsStep (line_made version) (lines.old.pending.items ++ chunk.now) result written lines.old lines.new }
 {
-    let refused = take_chunk(alloc, version, chunk, scratch, lines)?;
+    let rejected = take_chunk(alloc, version, chunk, scratch, lines)?;
     write_whole(output, lines.made.as_slice())?;
     lines.made.clear();
-    match refused {
-        Some(refused) => Err(MakeError::Line(refused.number, refused.error)),
+    match rejected {
+        Some(rejected) => Err(MakeError::Line(rejected.number, rejected.error)),
         None => Ok(()),
     }
 }
@@ -124,8 +124,8 @@ fn finish<W: Write>(
         × Appends (W.contents output.old) (W.contents output.new) written
         × IsFinished (line_made version) result written lines.old }
 {
-    if let Some(refused) = take_line(alloc, version, scratch, lines)? {
-        return Err(MakeError::Line(refused.number, refused.error));
+    if let Some(rejected) = take_line(alloc, version, scratch, lines)? {
+        return Err(MakeError::Line(rejected.number, rejected.error));
     }
     write_whole(output, lines.made.as_slice())?;
     Ok(())
@@ -153,7 +153,7 @@ pub fn make<R: Read, W: Write>(
         taken: 0,
         made: Vec::new(alloc),
     };
-    let mut buffer = Vec::from_elem(alloc, 0u8, PIECE)?;
+    let mut buffer = Vec::from_elem(alloc, 0u8, CHUNK)?;
     let buffer = buffer.as_mut_slice();
     let mut scratch = Scratch::new(alloc);
     for _ in 0..u64::MAX {

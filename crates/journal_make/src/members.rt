@@ -8,7 +8,7 @@ ghost use Rattle.journal_make.specs.Members.{has_key, are_members, has_members};
 ghost use Rattle.journal_make.specs.Members.{given, given_either, gives_both, is_line};
 
 use crate::error::{LineError, LineReason};
-use crate::refuse::refuse;
+use crate::reject::reject;
 use json::Value;
 use shared_core_json_reader::Reason;
 use std::alloc::Global;
@@ -68,10 +68,10 @@ fn check_members(alloc: Global, members: &[Member<'_>]) -> Result<(), LineError>
 {
     for (index, member) in members.iter().enumerate() {
         if !is_known(member.0) {
-            return Err(refuse(alloc, LineReason::Json(Reason::UnknownMember), member.0));
+            return Err(reject(alloc, LineReason::Json(Reason::UnknownMember), member.0));
         }
         if has_key(member.0, &members[index + 1..]) {
-            return Err(refuse(alloc, LineReason::Json(Reason::RepeatedMember), member.0));
+            return Err(reject(alloc, LineReason::Json(Reason::RepeatedMember), member.0));
         }
     }
     Ok(())
@@ -93,7 +93,7 @@ fn check_object(alloc: Global, line: &Value<'_>) -> Result<(), LineError>
 {
     match line {
         Value::Object(members) => check_all(alloc, members),
-        _ => Err(refuse(alloc, LineReason::Json(Reason::WrongKind), "")),
+        _ => Err(reject(alloc, LineReason::Json(Reason::WrongKind), "")),
     }
 }
 
@@ -112,10 +112,10 @@ pub fn check_line(alloc: Global, line: &Value<'_>) -> Result<(), LineError>
 {
     check_object(alloc, line)?;
     if gives_both("bytes", "payload", line) {
-        return Err(refuse(alloc, LineReason::SeveralPayloads, ""));
+        return Err(reject(alloc, LineReason::SeveralPayloads, ""));
     }
     if gives_both("requestedAck", "ack", line) {
-        return Err(refuse(alloc, LineReason::Json(Reason::RepeatedMember), "ack"));
+        return Err(reject(alloc, LineReason::Json(Reason::RepeatedMember), "ack"));
     }
     Ok(())
 }

@@ -6,8 +6,8 @@ use Rattle.shared_core.specs.declared.encoding.item.Item.{Item}
 use Rattle.shared_core.specs.declared.encoding.item.Item.TheVariants.{Message, Unknown, Skipped}
 use Rattle.shared_core.specs.Items.{TakesItem, IsItemsThen}
 use Rattle.shared_core.proofs.Items.{then_takes}
-use Rattle.journal_c_api.specs.declared.outcome.Refusal.{Refusal}
-use Rattle.journal_c_api.specs.declared.outcome.Refusal.TheVariants.{Malformed, OutOfMemory}
+use Rattle.journal_c_api.specs.declared.outcome.CallError.{CallError}
+use Rattle.journal_c_api.specs.declared.outcome.CallError.TheVariants.{Malformed, OutOfMemory}
 use Rattle.shared_core.specs.Visiting.{command_schema}
 use Rattle.measured_c_api.specs.Comparisons.{ComparesItem, ComparesAll}
 use Rattle.measured_c_api.specs.Streams.{Decodes, count_with}
@@ -30,15 +30,15 @@ comparisons_more rounds items item count held before one =
     omega (arith, before, one, each, all)
 
 does_not_decode : (rounds : ℕ) (item : Item) → ComparesItem rounds item (Err Malformed) → ¬ (Decodes command_schema item)
-does_not_decode rounds (Message message) refused = refused
-does_not_decode rounds (Unknown code) refused = absurd refused
-does_not_decode rounds (Skipped code payload) refused = absurd refused
+does_not_decode rounds (Message message) rejected = rejected
+does_not_decode rounds (Unknown code) rejected = absurd rejected
+does_not_decode rounds (Skipped code payload) rejected = absurd rejected
 
-pub item_refused : (rounds : ℕ) (version : Version) (stream old new : List ℕ) (items : List Item) (item : Item) (refusal : Refusal)
-    → IsItemsThen version stream items old → TakesItem version old item new → ComparesItem rounds item (Err refusal)
-    → ComparesAll rounds version stream (Err refusal)
-item_refused rounds version stream old new items item Malformed before taken refused = (items, item, new, then_takes version stream old new items item before taken, does_not_decode rounds item refused)
-item_refused rounds version stream old new items item OutOfMemory before taken refused = tt
-item_refused rounds version stream old new items (Message message) other before taken refused = absurd refused
-item_refused rounds version stream old new items (Unknown code) other before taken refused = absurd refused
-item_refused rounds version stream old new items (Skipped code payload) other before taken refused = absurd refused
+pub item_rejected : (rounds : ℕ) (version : Version) (stream old new : List ℕ) (items : List Item) (item : Item) (error : CallError)
+    → IsItemsThen version stream items old → TakesItem version old item new → ComparesItem rounds item (Err error)
+    → ComparesAll rounds version stream (Err error)
+item_rejected rounds version stream old new items item Malformed before taken rejected = (items, item, new, then_takes version stream old new items item before taken, does_not_decode rounds item rejected)
+item_rejected rounds version stream old new items item OutOfMemory before taken rejected = tt
+item_rejected rounds version stream old new items (Message message) other before taken rejected = absurd rejected
+item_rejected rounds version stream old new items (Unknown code) other before taken rejected = absurd rejected
+item_rejected rounds version stream old new items (Skipped code payload) other before taken rejected = absurd rejected

@@ -9,8 +9,8 @@ use Rattle.shared_core.specs.declared.encoding.item.Item.{Item}
 use Rattle.shared_core.specs.declared.encoding.item.Item.TheVariants.{Message, Unknown, Skipped}
 use Rattle.shared_core.specs.Items.{IsItem, TakesItem, IsItemsThen, body_length, front_word, item_of, skips_unknown_messages}
 use Rattle.shared_core.proofs.Items.{then_takes}
-use Rattle.journal_c_api.specs.declared.outcome.Refusal.{Refusal}
-use Rattle.journal_c_api.specs.declared.outcome.Refusal.TheVariants.{Malformed, OutOfMemory}
+use Rattle.journal_c_api.specs.declared.outcome.CallError.{CallError}
+use Rattle.journal_c_api.specs.declared.outcome.CallError.TheVariants.{Malformed, OutOfMemory}
 use Rattle.measured_c_api.specs.Streams.{item_word, HasWord, count_with, one_with, Decodes, AllDecode, DecodesItem, DecodesAll}
 use Rattle.shared_core_message.specs.Messages.{message_schema}
 
@@ -79,14 +79,14 @@ item_counts (Unknown code) count is = omega (arith, is)
 item_counts (Skipped code payload) count is = omega (arith, is)
 
 does_not_decode : (item : Item) → DecodesItem item (Err Malformed) → ¬ (Decodes message_schema item)
-does_not_decode (Message message) refused = refused
-does_not_decode (Unknown code) refused = absurd refused
-does_not_decode (Skipped code payload) refused = absurd refused
+does_not_decode (Message message) rejected = rejected
+does_not_decode (Unknown code) rejected = absurd rejected
+does_not_decode (Skipped code payload) rejected = absurd rejected
 
-pub item_refused : (version : Version) (stream old new : List ℕ) (items : List Item) (item : Item) (refusal : Refusal)
-    → IsItemsThen version stream items old → TakesItem version old item new → DecodesItem item (Err refusal) → DecodesAll version stream (Err refusal)
-item_refused version stream old new items item Malformed before taken refused = (items, item, new, then_takes version stream old new items item before taken, does_not_decode item refused)
-item_refused version stream old new items item OutOfMemory before taken refused = tt
-item_refused version stream old new items (Message message) other before taken refused = absurd refused
-item_refused version stream old new items (Unknown code) other before taken refused = absurd refused
-item_refused version stream old new items (Skipped code payload) other before taken refused = absurd refused
+pub item_rejected : (version : Version) (stream old new : List ℕ) (items : List Item) (item : Item) (error : CallError)
+    → IsItemsThen version stream items old → TakesItem version old item new → DecodesItem item (Err error) → DecodesAll version stream (Err error)
+item_rejected version stream old new items item Malformed before taken rejected = (items, item, new, then_takes version stream old new items item before taken, does_not_decode item rejected)
+item_rejected version stream old new items item OutOfMemory before taken rejected = tt
+item_rejected version stream old new items (Message message) other before taken rejected = absurd rejected
+item_rejected version stream old new items (Unknown code) other before taken rejected = absurd rejected
+item_rejected version stream old new items (Skipped code payload) other before taken rejected = absurd rejected

@@ -7,8 +7,8 @@ use Rattle.shared_core_codec.specs.Payloads.{IsAccepted}
 use Rattle.shared_core.specs.declared.encoding.item.Item.{Item}
 use Rattle.shared_core.specs.declared.encoding.item.Item.TheVariants.{Message, Unknown, Skipped}
 use Rattle.shared_core.specs.Items.{IsItemsThen, SplitsInto}
-use Rattle.journal_c_api.specs.declared.outcome.Refusal.{Refusal}
-use Rattle.journal_c_api.specs.declared.outcome.Refusal.TheVariants.{Malformed, OutOfMemory, NoRoom}
+use Rattle.journal_c_api.specs.declared.outcome.CallError.{CallError}
+use Rattle.journal_c_api.specs.declared.outcome.CallError.TheVariants.{Malformed, OutOfMemory, NoRoom}
 use Rattle.journal_c_api.specs.Outcomes.{AtVersion, supported_version}
 use Rattle.shared_core_message.specs.Messages.{message_schema}
 
@@ -26,13 +26,13 @@ HasWord other = Unit {0}
 
 -- The numbers of the stream's items are at the beginning of the slice, or the stream begins with more items than the
 -- slice has room for.
-abbrev pub WritesWords : Version → List ℕ → List ℕ → Result ℕ Refusal → Type 0
+abbrev pub WritesWords : Version → List ℕ → List ℕ → Result ℕ CallError → Type 0
 WritesWords version stream words (Ok count) =
     (items : List Item) × (rest : List ℕ) × SplitsInto version stream items rest × (count ≡ length items) × (take count words ≡ map item_word items)
 WritesWords version stream words (Err OutOfMemory) = Unit {0}
 WritesWords version stream words (Err NoRoom) =
     (items : List Item) × (rest : List ℕ) × IsItemsThen version stream items rest × (length words < length items)
-WritesWords version stream words (Err refusal) = ⊥
+WritesWords version stream words (Err error) = ⊥
 
 -- The number of messages that a type adds to a count: one if it has a schema.
 abbrev pub one_with : Option ℕ → ℕ
@@ -52,17 +52,17 @@ IsAcceptedFor None payload = Unit {0}
 
 -- A payload is decoded to a record of its schema, which counts as one; without a schema none is made. Malformed if it
 -- is not well-formed.
-abbrev pub DecodesPayload : Option ℕ → List ℕ → Result ℕ Refusal → Type 0
+abbrev pub DecodesPayload : Option ℕ → List ℕ → Result ℕ CallError → Type 0
 DecodesPayload schema payload (Ok count) = IsAcceptedFor schema payload × (count ≡ one_with schema)
 DecodesPayload schema payload (Err Malformed) = ¬ (IsAcceptedFor schema payload)
 DecodesPayload schema payload (Err OutOfMemory) = Unit {0}
-DecodesPayload schema payload (Err refusal) = ⊥
+DecodesPayload schema payload (Err error) = ⊥
 
 -- A message is decoded to a record of its type, and any other item to none.
-abbrev pub DecodesItem : Item → Result ℕ Refusal → Type 0
+abbrev pub DecodesItem : Item → Result ℕ CallError → Type 0
 DecodesItem (Message message) outcome = DecodesPayload (message_schema message.header.ty) message.payload outcome
 DecodesItem other (Ok count) = count ≡ 0
-DecodesItem other (Err refusal) = ⊥
+DecodesItem other (Err error) = ⊥
 
 -- An item of which a record is made, if its type has a schema: its payload is well-formed for it.
 abbrev pub Decodes : (MessageType → Option ℕ) → Item → Type 0
@@ -81,17 +81,17 @@ HasMalformed schema_of version stream =
 
 -- Each item of the stream decodes, and the count is that of its messages of a named type; or one of its items does not
 -- decode.
-abbrev pub DecodesAll : Version → List ℕ → Result ℕ Refusal → Type 0
+abbrev pub DecodesAll : Version → List ℕ → Result ℕ CallError → Type 0
 DecodesAll version stream (Ok count) =
     (items : List Item) × (rest : List ℕ) × SplitsInto version stream items rest × (count ≡ count_with message_schema items) × AllDecode message_schema items
 DecodesAll version stream (Err Malformed) = HasMalformed message_schema version stream
 DecodesAll version stream (Err OutOfMemory) = Unit {0}
-DecodesAll version stream (Err refusal) = ⊥
+DecodesAll version stream (Err error) = ⊥
 
 -- The result of measure_items.
-abbrev pub ReturnsItems : ℕ → List ℕ → List ℕ → Result ℕ Refusal → Type 0
+abbrev pub ReturnsItems : ℕ → List ℕ → List ℕ → Result ℕ CallError → Type 0
 ReturnsItems number stream words outcome = AtVersion (supported_version number) outcome (λ version. WritesWords version stream words outcome)
 
 -- The result of measure_messages.
-abbrev pub ReturnsMessages : ℕ → List ℕ → Result ℕ Refusal → Type 0
+abbrev pub ReturnsMessages : ℕ → List ℕ → Result ℕ CallError → Type 0
 ReturnsMessages number stream outcome = AtVersion (supported_version number) outcome (λ version. DecodesAll version stream outcome)

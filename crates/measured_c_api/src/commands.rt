@@ -9,7 +9,7 @@ ghost use Rattle.measured_c_api.specs.Comparisons.{ComparesItem, ComparesPayload
 
 use crate::chunked_stream::ChunkedStream;
 use bytes::Bytes;
-use journal_c_api::outcome::{Refusal, version_of};
+use journal_c_api::outcome::{CallError, version_of};
 use shared_core::encoding::{Item, RawMessage};
 use shared_core::messages::{
     CommandMessage, CommandMessageHeaderEq, CommandVisitor, visit_command,
@@ -25,7 +25,7 @@ pub fn compare(
     stream: &[u8],
     ignore_payloads: bool,
     rounds: usize,
-) -> Result<usize, Refusal>
+) -> Result<usize, CallError>
     ensures { ReturnsComparisons version stream.now rounds result }
 {
     let version = version_of(version)?;
@@ -40,7 +40,7 @@ fn compare_all(
     whole: Bytes,
     ignore_payloads: bool,
     rounds: usize,
-) -> Result<usize, Refusal>
+) -> Result<usize, CallError>
     requires { 5 ≤ version_number version }
     ensures { ComparesAll rounds version whole result }
 {
@@ -49,7 +49,7 @@ fn compare_all(
     while let Some(item) = stream.next_item()? {
         let held = compare_item(alloc, item, ignore_payloads, rounds)?;
         let Some(sum) = count.checked_add(held) else {
-            return Err(Refusal::TooLong);
+            return Err(CallError::TooLong);
         };
         count = sum;
     }
@@ -62,7 +62,7 @@ fn compare_item(
     item: Item,
     ignore_payloads: bool,
     rounds: usize,
-) -> Result<usize, Refusal>
+) -> Result<usize, CallError>
     ensures { ComparesItem rounds item result }
 {
     match item {
@@ -77,7 +77,7 @@ fn compare_message(
     message: &RawMessage,
     ignore_payloads: bool,
     rounds: usize,
-) -> Result<usize, Refusal>
+) -> Result<usize, CallError>
     ensures { ComparesPayload rounds (command_schema message.now.header.ty) message.now.payload result }
 {
     let comparing = Comparing {
@@ -102,14 +102,14 @@ struct Comparing<'a> {
 }
 
 impl<'a> CommandVisitor for Comparing<'a> {
-    type Output = Result<usize, Refusal>;
+    type Output = Result<usize, CallError>;
 
     ghost may_visit = { λ self ty. self.message.now.header.ty ≡ ty };
 
     ghost results = { λ self ty schema output. ComparesPayload self.rounds
         (Some schema) self.message.now.payload output };
 
-    fn visit<M: CommandMessage>(self) -> Result<usize, Refusal> {
+    fn visit<M: CommandMessage>(self) -> Result<usize, CallError> {
         let first = self.message.decode_as::<M>(self.alloc)?;
         let second = self.message.decode_as::<M>(self.alloc)?;
         Ok(count_same(&first, &second, self.ignore_payloads, self.rounds))

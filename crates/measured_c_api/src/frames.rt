@@ -8,7 +8,7 @@ ghost use Rattle.journal_c_api.specs.Payloads.{ReturnsFrame, ReturnsFrameOf, Enc
 
 use crate::rounds::repeated;
 use bytes::{Bytes, BytesMut};
-use journal_c_api::outcome::{Refusal, version_of, write_over};
+use journal_c_api::outcome::{CallError, version_of, write_over};
 use journal_c_api::payloads::decoded;
 use shared_core::encoding::Encoder;
 use shared_core::header::MessageType;
@@ -53,7 +53,7 @@ pub fn write_frame(
     payload: &[u8],
     rounds: Rounds,
     out: &mut [u8],
-) -> Result<usize, Refusal>
+) -> Result<usize, CallError>
     ensures { Writes (ReturnsFrame version code payload.now) out.old out.new result }
 {
     let frame = frame(alloc, version, code, payload, rounds)?;
@@ -68,7 +68,7 @@ fn frame(
     code: u16,
     payload: &[u8],
     rounds: Rounds,
-) -> Result<Bytes, Refusal>
+) -> Result<Bytes, CallError>
     ensures { ReturnsFrame version code payload.now result }
 {
     let encoder = Encoder::new(version_of(version)?);
@@ -83,7 +83,7 @@ fn frame_of(
     ty: MessageType,
     payload: &[u8],
     rounds: Rounds,
-) -> Result<Bytes, Refusal>
+) -> Result<Bytes, CallError>
     ensures { ReturnsFrameOf ty (message_schema ty) encoder.version payload.now result }
 {
     let framing = Framing {
@@ -92,7 +92,7 @@ fn frame_of(
         payload,
         rounds,
     };
-    visit_message(ty, framing).ok_or(Refusal::Unknown)?
+    visit_message(ty, framing).ok_or(CallError::Unknown)?
 }
 
 /// Decodes a payload to a record, and returns its frame.
@@ -105,11 +105,11 @@ struct Framing<'a> {
 }
 
 impl<'a> MessageVisitor for Framing<'a> {
-    type Output = Result<Bytes, Refusal>;
+    type Output = Result<Bytes, CallError>;
 
     ghost results = { λ self ty schema output. EncodesFrame ty schema self.encoder.version self.payload.now output };
 
-    fn visit<M: RestateEncodableMessage + Debug>(self) -> Result<Bytes, Refusal> {
+    fn visit<M: RestateEncodableMessage + Debug>(self) -> Result<Bytes, CallError> {
         let message = decoded::<M>(self.alloc, self.payload)?;
         match self.rounds.buffer {
             Buffer::New => encode_new(self.alloc, self.encoder, &message, self.rounds.count),
@@ -126,7 +126,7 @@ fn encode_new<M: RestateEncodableMessage>(
     encoder: Encoder,
     message: &M,
     rounds: usize,
-) -> Result<Bytes, Refusal>
+) -> Result<Bytes, CallError>
     ensures { EncodesForm M.message_type (M.wire_form message.now encoder.version) result }
 {
     repeated(
@@ -142,7 +142,7 @@ fn encode_reused<M: RestateEncodableMessage>(
     encoder: Encoder,
     message: &M,
     rounds: usize,
-) -> Result<Bytes, Refusal>
+) -> Result<Bytes, CallError>
     ensures { EncodesForm M.message_type (M.wire_form message.now encoder.version) result }
 {
     let mut frame = Vec::new(alloc);
@@ -153,7 +153,7 @@ fn encode_reused<M: RestateEncodableMessage>(
     frame.clear();
     encoder.encode_into(message, &mut frame)?;
     let Ok(frame) = Bytes::from_vec(frame) else {
-        return Err(Refusal::OutOfMemory);
+        return Err(CallError::OutOfMemory);
     };
     Ok(frame)
 }
@@ -164,7 +164,7 @@ fn encode_spare<M: RestateEncodableMessage>(
     encoder: Encoder,
     message: &M,
     rounds: usize,
-) -> Result<Bytes, Refusal>
+) -> Result<Bytes, CallError>
     ensures { EncodesForm M.message_type (M.wire_form message.now encoder.version) result }
 {
     let mut frame = BytesMut::new(alloc);
@@ -175,7 +175,7 @@ fn encode_spare<M: RestateEncodableMessage>(
     frame.clear();
     encoder.encode_into_bytes(message, &mut frame)?;
     let Ok(frame) = frame.freeze() else {
-        return Err(Refusal::OutOfMemory);
+        return Err(CallError::OutOfMemory);
     };
     Ok(frame)
 }
@@ -186,7 +186,7 @@ fn encode_shared<M: RestateEncodableMessage>(
     encoder: Encoder,
     message: &M,
     rounds: usize,
-) -> Result<Bytes, Refusal>
+) -> Result<Bytes, CallError>
     ensures { EncodesForm M.message_type (M.wire_form message.now encoder.version) result }
 {
     let mut block = BytesMut::with_capacity(alloc, BLOCK)?;
@@ -198,7 +198,7 @@ fn encode_shared<M: RestateEncodableMessage>(
             continue;
         }
         let Ok(()) = held.push(frame) else {
-            return Err(Refusal::OutOfMemory);
+            return Err(CallError::OutOfMemory);
         };
     }
     shared_frame(&encoder, message, &mut block)
@@ -209,7 +209,7 @@ fn shared_frame<M: RestateEncodableMessage>(
     encoder: &Encoder,
     message: &M,
     block: &mut BytesMut,
-) -> Result<Bytes, Refusal>
+) -> Result<Bytes, CallError>
     ensures { EncodesForm M.message_type (M.wire_form message.now encoder.now.version) result }
 {
     block.clear();

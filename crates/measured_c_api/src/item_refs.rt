@@ -6,7 +6,7 @@ ghost use Rattle.shared_core.specs.Borrowed.{item_borrowed};
 ghost use Rattle.measured_c_api.specs.Streams.{HasWord, ReturnsItems, WritesWords, item_word};
 
 use crate::rounds::repeated;
-use journal_c_api::outcome::{Refusal, version_of};
+use journal_c_api::outcome::{CallError, version_of};
 use shared_core::encoding::{ItemKind, ItemRef, ItemRefs};
 use shared_core::version::Version;
 
@@ -16,7 +16,7 @@ pub fn items(
     stream: &[u8],
     rounds: usize,
     words: &mut [u64],
-) -> Result<usize, Refusal>
+) -> Result<usize, CallError>
     ensures { ReturnsItems version stream.now words.new result }
 {
     let version = version_of(version)?;
@@ -24,7 +24,7 @@ pub fn items(
 }
 
 /// Writes the number of each item, and returns how many items there are.
-fn write_words(version: Version, stream: &[u8], words: &mut [u64]) -> Result<usize, Refusal>
+fn write_words(version: Version, stream: &[u8], words: &mut [u64]) -> Result<usize, CallError>
     requires { 5 ≤ version_number version }
     ensures { WritesWords version stream.now words.new result }
 {
@@ -32,7 +32,7 @@ fn write_words(version: Version, stream: &[u8], words: &mut [u64]) -> Result<usi
     let mut count = 0;
     while let Some(item) = items.next() {
         if count == words.len() {
-            return Err(Refusal::NoRoom);
+            return Err(CallError::NoRoom);
         }
         words[count] = word_of(&item);
         count += 1;

@@ -3,7 +3,7 @@
 ghost use Rattle.journal_c_api.specs.Payloads.{ReturnsWellFormed};
 
 use crate::rounds::repeated;
-use journal_c_api::outcome::Refusal;
+use journal_c_api::outcome::CallError;
 use journal_c_api::payloads;
 use std::alloc::Global;
 
@@ -13,7 +13,7 @@ pub fn is_well_formed(
     schema: u32,
     payload: &[u8],
     rounds: usize,
-) -> Result<usize, Refusal>
+) -> Result<usize, CallError>
     ensures { ReturnsWellFormed schema payload.now result }
 {
     repeated(

@@ -9,7 +9,7 @@ use crate::chunked_stream::ChunkedStream;
 use crate::messages::decode;
 use crate::rounds::repeated;
 use bytes::Bytes;
-use journal_c_api::outcome::{Refusal, version_of};
+use journal_c_api::outcome::{CallError, version_of};
 use shared_core::encoding::Item;
 use shared_core::version::Version;
 use std::alloc::Global;
@@ -22,7 +22,7 @@ pub fn items(
     chunk_size: usize,
     rounds: usize,
     words: &mut [u64],
-) -> Result<usize, Refusal>
+) -> Result<usize, CallError>
     ensures { ReturnsItems version stream.now words.new result }
 {
     let version = version_of(version)?;
@@ -39,7 +39,7 @@ pub fn messages(
     stream: &[u8],
     chunk_size: usize,
     rounds: usize,
-) -> Result<usize, Refusal>
+) -> Result<usize, CallError>
     ensures { ReturnsMessages version stream.now result }
 {
     let version = version_of(version)?;
@@ -56,7 +56,7 @@ fn write_words(
     whole: &Bytes,
     chunk_size: usize,
     words: &mut [u64],
-) -> Result<usize, Refusal>
+) -> Result<usize, CallError>
     requires { 5 ≤ version_number version }
     ensures { WritesWords version whole.now words.new result }
 {
@@ -64,7 +64,7 @@ fn write_words(
     let mut count = 0;
     while let Some(item) = stream.next_item()? {
         if count == words.len() {
-            return Err(Refusal::NoRoom);
+            return Err(CallError::NoRoom);
         }
         words[count] = word_of(item);
         count += 1;
@@ -90,7 +90,7 @@ fn decode_all(
     version: Version,
     whole: &Bytes,
     chunk_size: usize,
-) -> Result<usize, Refusal>
+) -> Result<usize, CallError>
     requires { 5 ≤ version_number version }
     ensures { DecodesAll version whole.now result }
 {
@@ -103,7 +103,7 @@ fn decode_all(
 }
 
 /// Decodes an item that is a message, and returns how many records that are.
-fn decode_item(alloc: Global, item: Item) -> Result<usize, Refusal>
+fn decode_item(alloc: Global, item: Item) -> Result<usize, CallError>
     ensures { DecodesItem item result }
 {
     match item {

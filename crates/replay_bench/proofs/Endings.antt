@@ -148,15 +148,15 @@ module _ (version : Version) (ignore : Bool) where
   returns_out_of_memory (Some recorded) (Some replayed) = tt
 
   -- two commands have an error
-  pub returns_error : (index : ℕ) (recorded_command replayed_command : RawMessage) (recorded replayed left others now then : Option (List ℕ)) (refusal : BenchError)
+  pub returns_error : (index : ℕ) (recorded_command replayed_command : RawMessage) (recorded replayed left others now then : Option (List ℕ)) (error : BenchError)
       → GoesOn recorded replayed index left others
-      → TakesFirst version left (Some recorded_command) now → TakesFirst version others (Some replayed_command) then → ReturnsPair ignore index recorded_command replayed_command (Err refusal)
-      → ComparesKnown version ignore recorded replayed (Err (Bench refusal))
+      → TakesFirst version left (Some recorded_command) now → TakesFirst version others (Some replayed_command) then → ReturnsPair ignore index recorded_command replayed_command (Err error)
+      → ComparesKnown version ignore recorded replayed (Err (Bench error))
   unfolding ReturnsPair
-  returns_error index recorded_command replayed_command recorded replayed left others now then OutOfMemory goes one other refused = returns_out_of_memory recorded replayed
-  returns_error index recorded_command replayed_command recorded replayed left others now then TooLong goes one other refused = absurd refused
-  returns_error index recorded_command replayed_command recorded replayed left others now then (Malformed side at) goes one other refused =
-      returns_malformed recorded replayed (ends_found index recorded_command replayed_command recorded replayed left others now then (NotWellFormed side at) goes one other refused)
+  returns_error index recorded_command replayed_command recorded replayed left others now then OutOfMemory goes one other rejected = returns_out_of_memory recorded replayed
+  returns_error index recorded_command replayed_command recorded replayed left others now then TooLong goes one other rejected = absurd rejected
+  returns_error index recorded_command replayed_command recorded replayed left others now then (Malformed side at) goes one other rejected =
+      returns_malformed recorded replayed (ends_found index recorded_command replayed_command recorded replayed left others now then (NotWellFormed side at) goes one other rejected)
     where
       returns_malformed : (recorded replayed : Option (List ℕ)) → IsKnownOutcome recorded replayed (NotWellFormed side at) → ComparesKnown version ignore recorded replayed (Err (Bench (Malformed side at)))
       returns_malformed None replayed has = tt

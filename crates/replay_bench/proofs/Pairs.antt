@@ -61,16 +61,16 @@ module _ (ignore : Bool) (index : ℕ) (recorded replayed : RawMessage) where
     -- the recorded command is not decoded
     pub pair_recorded : (error : WireError) → (error ≡ wire.Malformed → ¬ (IsAccepted s recorded.payload)) → ReturnsPair ignore index recorded replayed (Err (bench_error_of Recorded index error))
     unfolding ReturnsPair
-    pair_recorded wire.OutOfMemory refused = tt
-    pair_recorded wire.Malformed refused =
-        (typed.one_type, refl, of_schema (IsMalformedOn Recorded recorded.payload replayed.payload) (refused refl))
+    pair_recorded wire.OutOfMemory rejected = tt
+    pair_recorded wire.Malformed rejected =
+        (typed.one_type, refl, of_schema (IsMalformedOn Recorded recorded.payload replayed.payload) (rejected refl))
 
     -- the replayed one is not
     pub pair_replayed : (one : Parts) (error : WireError) → MeansParts s recorded.payload one → (error ≡ wire.Malformed → ¬ (IsAccepted s replayed.payload)) → ReturnsPair ignore index recorded replayed (Err (bench_error_of Replayed index error))
     unfolding ReturnsPair
-    pair_replayed one wire.OutOfMemory means refused = tt
-    pair_replayed one wire.Malformed means refused =
-        (typed.one_type, refl, of_schema (IsMalformedOn Replayed recorded.payload replayed.payload) (means.0, refused refl))
+    pair_replayed one wire.OutOfMemory means rejected = tt
+    pair_replayed one wire.Malformed means rejected =
+        (typed.one_type, refl, of_schema (IsMalformedOn Replayed recorded.payload replayed.payload) (means.0, rejected refl))
 
     module _ (one other : Parts) (means : MeansParts s recorded.payload one) (means_other : MeansParts s replayed.payload other) where
       -- both mean the same

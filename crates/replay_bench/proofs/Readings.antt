@@ -22,7 +22,7 @@ use Rattle.replay_bench.specs.declared.verdicts.ReaderError.TheVariants.{Read, B
 use Rattle.replay_bench.specs.declared.verdicts.BenchError.{BenchError}
 use Rattle.replay_bench.specs.declared.verdicts.BenchError.TheVariants.{Malformed, TooLong, OutOfMemory}
 use Rattle.replay_bench.specs.Journals.{command_of, if_command}
-use Rattle.replay_bench.specs.Taking.{GivesChunk, KeepsLength, MayRefuse, RefusesLength, known_length}
+use Rattle.replay_bench.specs.Taking.{GivesChunk, KeepsLength, MayReject, RejectsLength, known_length}
 use Rattle.replay_bench.specs.Reading.{HasItems, HasRead, HasReadOn, IsKnownLast, IsKnownSurvey, IsNew}
 use Rattle.replay_bench.proofs.Lengths.{chunk_too_long, too_long_before}
 
@@ -49,22 +49,22 @@ commands_noted version is_strict items item found before after noted is command 
     ∙ ap (λ n. n + cond (is_command item) 1 0) (sym (ap (λ (s : Survey). s.commands) is))
     ∙ ap (λ b. before.commands + cond b 1 0) (counts_found item ∙ ap is_some (sym command))
 
--- ---- what a refusal says of the whole journal
+-- ---- what an error says of the whole journal
 
-pub refuses_before : (side : Side) (may : Bool) (old new : Option ℕ) (error : ReaderError) → KeepsLength old new → MayRefuse side may new error → MayRefuse side may old error
-refuses_before side may old new (Read failed) keeps refuse = refuse
-refuses_before side may old new (Bench TooLong) keeps refuse = too_long_before old new keeps refuse
-refuses_before side may old new (Bench OutOfMemory) keeps refuse = tt
-refuses_before side may old new (Bench (Malformed other index)) keeps refuse = absurd refuse
+pub rejects_before : (side : Side) (may : Bool) (old new : Option ℕ) (error : ReaderError) → KeepsLength old new → MayReject side may new error → MayReject side may old error
+rejects_before side may old new (Read failed) keeps reject = reject
+rejects_before side may old new (Bench TooLong) keeps reject = too_long_before old new keeps reject
+rejects_before side may old new (Bench OutOfMemory) keeps reject = tt
+rejects_before side may old new (Bench (Malformed other index)) keeps reject = absurd reject
 
 -- a chunk is rejected
-pub refuses_chunk : (side : Side) (may : Bool) (refusal : BenchError) (known : Option ℕ) (taken : ℕ) (chunk : List ℕ) (old new : Option (List ℕ))
-    → KeepsLength known (known_length taken old) → GivesChunk old (Some chunk) new → RefusesLength (taken + length chunk) refusal
-    → MayRefuse side may known (Bench refusal)
-refuses_chunk side may TooLong known taken chunk old new keeps gives long =
+pub rejects_chunk : (side : Side) (may : Bool) (failure : BenchError) (known : Option ℕ) (taken : ℕ) (chunk : List ℕ) (old new : Option (List ℕ))
+    → KeepsLength known (known_length taken old) → GivesChunk old (Some chunk) new → RejectsLength (taken + length chunk) failure
+    → MayReject side may known (Bench failure)
+rejects_chunk side may TooLong known taken chunk old new keeps gives long =
     too_long_before known (known_length taken old) keeps (chunk_too_long taken chunk old new gives long)
-refuses_chunk side may OutOfMemory known taken chunk old new keeps gives long = tt
-refuses_chunk side may (Malformed other index) known taken chunk old new keeps gives long = absurd long
+rejects_chunk side may OutOfMemory known taken chunk old new keeps gives long = tt
+rejects_chunk side may (Malformed other index) known taken chunk old new keeps gives long = absurd long
 
 -- a survey is of no item, strict or not, as it says
 pub nothing_noted : (version : Version) (is_strict : Bool) (survey : Survey) → survey ≡ survey_of version is_strict [] 0 → survey ≡ survey_of version survey.is_strict [] 0

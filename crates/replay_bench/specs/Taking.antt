@@ -48,15 +48,15 @@ abbrev pub IsTooLong : Option ℕ → Type 0
 IsTooLong known = IfSome known (λ count. 2 ^ 64 ≤ count)
 
 -- Why a chunk is rejected, with which this many bytes would have come.
-abbrev pub RefusesLength : ℕ → BenchError → Type 0
-RefusesLength count TooLong = 2 ^ 64 ≤ count
-RefusesLength count OutOfMemory = Unit {0}
-RefusesLength count refusal = ⊥
+abbrev pub RejectsLength : ℕ → BenchError → Type 0
+RejectsLength count TooLong = 2 ^ 64 ≤ count
+RejectsLength count OutOfMemory = Unit {0}
+RejectsLength count error = ⊥
 
 -- Why the next command of a journal is not returned: a read of this side failed, where it may; the journal is too long;
 -- or an allocation fails.
-abbrev pub MayRefuse : Side → Bool → Option ℕ → ReaderError → Type 0
-MayRefuse side may_fail known (Read failed) = (failed ≡ side) × (may_fail ≡ true)
-MayRefuse side may_fail known (Bench TooLong) = IsTooLong known
-MayRefuse side may_fail known (Bench OutOfMemory) = Unit {0}
-MayRefuse side may_fail known (Bench refusal) = ⊥
+abbrev pub MayReject : Side → Bool → Option ℕ → ReaderError → Type 0
+MayReject side may_fail known (Read failed) = (failed ≡ side) × (may_fail ≡ true)
+MayReject side may_fail known (Bench TooLong) = IsTooLong known
+MayReject side may_fail known (Bench OutOfMemory) = Unit {0}
+MayReject side may_fail known (Bench error) = ⊥

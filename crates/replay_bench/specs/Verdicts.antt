@@ -119,7 +119,7 @@ Compares version ignore recorded replayed (Err OutOfMemory) = Unit {0}
 -- What a comparison of the journals of two sources returns: the same, or that one of them could not be read.
 abbrev pub ComparesRead : Version → Bool → List ℕ → List ℕ → Result Verdict ReaderError → Type 0
 ComparesRead version ignore recorded replayed (Ok verdict) = Compares version ignore recorded replayed (Ok verdict)
-ComparesRead version ignore recorded replayed (Err (Bench refusal)) = Compares version ignore recorded replayed (Err refusal)
+ComparesRead version ignore recorded replayed (Err (Bench failure)) = Compares version ignore recorded replayed (Err failure)
 ComparesRead version ignore recorded replayed (Err (Read side)) = Unit {0}
 
 -- The same of the bytes that two sources will give, where both are known.

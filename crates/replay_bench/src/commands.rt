@@ -9,7 +9,7 @@ ghost use Rattle.shared_core.specs.Items.{NoItemBegins};
 ghost use Rattle.replay_bench.specs.Journals.{command_of, IsCommand};
 ghost use Rattle.replay_bench.specs.Reading.{HasItems, HasRead, HasReadOn, HasReadSome, IsKnownSurvey, IsNew};
 ghost use Rattle.replay_bench.specs.Taking.{known_length, HasNoCommand, LeadsTo};
-ghost use Rattle.replay_bench.specs.Taking.{KeepsLength, MayRefuse, RefusesLength, TakesFirst};
+ghost use Rattle.replay_bench.specs.Taking.{KeepsLength, MayReject, RejectsLength, TakesFirst};
 
 use crate::sources::{Source, SourceError};
 use crate::verdicts::{BenchError, ReaderError, Side};
@@ -82,7 +82,7 @@ impl<S: Source> Commands<S> {
         ensures counted { IfOk result (λ found. IfSome found (λ command. KeepsLength
             (known_length self.old.taken (S.coming self.old.source))
             (known_length self.new.taken (S.coming self.new.source)))) }
-        ensures refused { IfErr result (MayRefuse self.old.side S.may_fail
+        ensures rejected { IfErr result (MayReject self.old.side S.may_fail
             (known_length self.old.taken (S.coming self.old.source))) }
         ensures fits { OnOk result (self.new.taken < 2 ^ 64) }
         ensures version { OnOk result (self.new.decoder.version ≡ self.old.decoder.version) }
@@ -135,10 +135,10 @@ impl<S: Source> Commands<S> {
             → HasReadOn self.version is_strict first has_ended
             (S.coming self.source) self.decoder.bytes self.taken self.survey
             → IsKnownSurvey self.version is_strict first survey) }
-        ensures refused { IfErr result (λ error. (is_strict : Bool) (first : Option (List ℕ))
+        ensures rejected { IfErr result (λ error. (is_strict : Bool) (first : Option (List ℕ))
             → HasReadOn self.version is_strict first has_ended
             (S.coming self.source) self.decoder.bytes self.taken self.survey
-            → MayRefuse self.side S.may_fail (known_length 0 first) error) }
+            → MayReject self.side S.may_fail (known_length 0 first) error) }
     {
         let mut has_ended = has_ended;
         while !has_ended {
@@ -154,7 +154,7 @@ fn push(decoder: &mut Decoder, taken: u64, chunk: Bytes) -> Result<u64, BenchErr
     ensures pushed { OnOk result (decoder.new ≡ record decoder.old { bytes = decoder.old.bytes ++ chunk }) }
     ensures counted { IfOk result (λ sum. sum ≡ taken + length chunk) }
     ensures fits { IfOk result (λ sum. sum < 2 ^ 64) }
-    ensures refused { IfErr result (λ refusal. RefusesLength (taken + length chunk) refusal) }
+    ensures rejected { IfErr result (λ failure. RejectsLength (taken + length chunk) failure) }
 {
     let Some(sum) = taken.checked_add(chunk.len() as u64) else {
         return Err(BenchError::TooLong);

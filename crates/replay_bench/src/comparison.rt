@@ -18,7 +18,7 @@ use shared_core::version::Version;
 use std::alloc::Global;
 use std::io::Read;
 
-/// Compares two journals of a version, at least V5, each of which lies in chunks, split anywhere.
+/// Compares two journals of a version, at least V5, each of which is given in chunks, split anywhere.
 ///
 /// The commands of a journal are, in order, the messages of its joined chunks whose type `CommandType::try_from` takes;
 /// all other items, and bytes after the last whole item, are passed over. Commands at the same index are compared,
@@ -70,10 +70,10 @@ pub fn compare_readers<A: Read + Drop, B: Read + Drop>(
     compare_sources(alloc, version, recorded, replayed, ignore_payload_equality)
 }
 
-/// Compares two journals of any sources, as `compare_journals` does: one may lie in chunks, and a reader give the
-/// other.
+/// Compares two journals of any sources, as `compare_journals` does: one may be given in chunks and the
+/// other by a reader.
 ///
-/// A source is asked for chunks only as far as the result needs. `Read` names a side only where its source may fail,
+/// Chunks are taken from a source only as far as the result needs them. `Read` names a side only where its source may fail,
 /// which a slice does not.
 pub fn compare_sources<A: Source, B: Source>(
     alloc: Global,

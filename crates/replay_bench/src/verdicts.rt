@@ -164,10 +164,10 @@ impl From<BenchError> for ReaderError {
     ghost use Rattle.std.specs.Prelude.{◌≡◌};
     ghost use Rattle.replay_bench.specs.declared.verdicts.ReaderError.TheVariants.{Bench};
 
-    ghost from_gives = { λ refusal error. error ≡ Bench refusal };
+    ghost from_gives = { λ failure error. error ≡ Bench failure };
 
-    fn from(refusal: BenchError) -> ReaderError {
-        ReaderError::Bench(refusal)
+    fn from(failure: BenchError) -> ReaderError {
+        ReaderError::Bench(failure)
     }
 }
 

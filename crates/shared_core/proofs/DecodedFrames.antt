@@ -44,8 +44,8 @@ frame_is_read_back form fits small low = canonical_is_read_back form.schema form
 
 -- a decoder whose pending bytes begin with a frame returns the message that was written, whatever follows the frame
 frame_comes_out : (version : Version) (ty : MessageType) (form : WireForm) (bytes : List ℕ) → IsNamed ty → WireFits form → wire_size form < 2 ^ 32 → bytes ≡ wire_frame ty form → levels form.parts ≤ 100
-    → (rest new : List ℕ) (answer : Result (Option RawMessage) DecodingError) → ReturnsNext version (bytes ++ rest) answer new → ReturnsWritten ty form (bytes ++ rest) answer rest new
-frame_comes_out version ty form bytes named fits small is low rest new answer = by_answer answer
+    → (rest new : List ℕ) (returned : Result (Option RawMessage) DecodingError) → ReturnsNext version (bytes ++ rest) returned new → ReturnsWritten ty form (bytes ++ rest) returned rest new
+frame_comes_out version ty form bytes named fits small is low rest new returned = by_result returned
   where
     written : IsItem version bytes (item_written ty form) × DecodesTo ty form.schema form.parts (item_written ty form)
     written = rw is (form_decodes version ty form named small fits low)
@@ -55,15 +55,15 @@ frame_comes_out version ty form bytes named fits small is low rest new answer = 
         let same = items_are_prefix_free version bytes first rest new (item_written ty form) item written.0 encoded joined in
         (subst (DecodesTo ty form.schema form.parts) same.1 written.1, sym same.2)
 
-    by_answer : (answer : Result (Option RawMessage) DecodingError) → ReturnsNext version (bytes ++ rest) answer new → ReturnsWritten ty form (bytes ++ rest) answer rest new
-    by_answer (Ok (Some message)) = comes (Message message)
-    by_answer (Ok None) = λ answers. answers.0 (item_written ty form) rest (bytes, written.0, refl)
-    by_answer (Err refusal) =
-        elim refusal as (λ refusal. ReturnsNext version (bytes ++ rest) (Err refusal) new → ReturnsWritten ty form (bytes ++ rest) (Err refusal) rest new) [
+    by_result : (returned : Result (Option RawMessage) DecodingError) → ReturnsNext version (bytes ++ rest) returned new → ReturnsWritten ty form (bytes ++ rest) returned rest new
+    by_result (Ok (Some message)) = comes (Message message)
+    by_result (Ok None) = λ returns. returns.0 (item_written ty form) rest (bytes, written.0, refl)
+    by_result (Err error) =
+        elim error as (λ error. ReturnsNext version (bytes ++ rest) (Err error) new → ReturnsWritten ty form (bytes ++ rest) (Err error) rest new) [
           | UnknownMessageType unknown ↦ λ taken. absurd (comes (Unknown unknown.0) taken).0
           | SkippedMessage code payload ↦ λ taken. absurd (comes (Skipped code payload) taken).0
-          | OutOfMemory ↦ λ answers. (refl, answers.0)
-          | _ ↦ λ answers. absurd answers
+          | OutOfMemory ↦ λ returns. (refl, returns.0)
+          | _ ↦ λ returns. absurd returns
         ]
 
 -- what is written is a frame

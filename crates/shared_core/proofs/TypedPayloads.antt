@@ -8,7 +8,7 @@ use Rattle.shared_core_codec.proofs.PayloadLaws.{canonical_is_read_back}
 use Rattle.shared_core.specs.declared.encoding.raw_message.RawMessage.{RawMessage}
 use Rattle.shared_core.specs.declared.encoding.error.DecodingError.{DecodingError}
 use Rattle.shared_core.specs.declared.encoding.error.DecodingError.TheVariants.{DecodeMessage, OutOfMemory}
-use Rattle.shared_core.specs.Typed.{IsCanonical, RefusesPayload, RefusesTyped}
+use Rattle.shared_core.specs.Typed.{IsCanonical, RejectsPayload, RejectsTyped}
 
 pub written_means : (schema : ℕ) (v : Parts) (payload : List ℕ) → IsCanonical schema v payload → IsAccepted schema payload × (payload_meaning schema payload ≡ v)
 written_means schema v payload (writable, encoded) =
@@ -19,14 +19,14 @@ pub if_ok : {T E : Type 0} (r : Result T E) (P : Type 0) → P → IfOk r (λ _.
 if_ok (Ok x) P holds = holds
 if_ok (Err e) P holds = tt
 
-refuses : (ty : MessageType) (schema : ℕ) (message : RawMessage) (index : ℤ) (e : DecodingError) → message.header.ty ≡ ty → RefusesPayload schema message e → RefusesTyped ty schema message index e
-refuses ty schema message index e =
-    elim e as (λ e. message.header.ty ≡ ty → RefusesPayload schema message e → RefusesTyped ty schema message index e) [
-      | DecodeMessage found error ↦ λ same refused. (same, refused)
-      | OutOfMemory ↦ λ same refused. (same, refused)
-      | _ ↦ λ same refused. absurd refused
+rejects : (ty : MessageType) (schema : ℕ) (message : RawMessage) (index : ℤ) (e : DecodingError) → message.header.ty ≡ ty → RejectsPayload schema message e → RejectsTyped ty schema message index e
+rejects ty schema message index e =
+    elim e as (λ e. message.header.ty ≡ ty → RejectsPayload schema message e → RejectsTyped ty schema message index e) [
+      | DecodeMessage found error ↦ λ same rejected. (same, rejected)
+      | OutOfMemory ↦ λ same rejected. (same, rejected)
+      | _ ↦ λ same rejected. absurd rejected
     ]
 
-pub if_err : {T : Type 0} (ty : MessageType) (schema : ℕ) (message : RawMessage) (index : ℤ) (r : Result T DecodingError) → message.header.ty ≡ ty → IfErr r (RefusesPayload schema message) → IfErr r (RefusesTyped ty schema message index)
-if_err ty schema message index (Ok x) same refused = tt
-if_err ty schema message index (Err e) same refused = refuses ty schema message index e same refused
+pub if_err : {T : Type 0} (ty : MessageType) (schema : ℕ) (message : RawMessage) (index : ℤ) (r : Result T DecodingError) → message.header.ty ≡ ty → IfErr r (RejectsPayload schema message) → IfErr r (RejectsTyped ty schema message index)
+if_err ty schema message index (Ok x) same rejected = tt
+if_err ty schema message index (Err e) same rejected = rejects ty schema message index e same rejected

@@ -25,7 +25,7 @@ use Rattle.shared_core_parts.specs.contracts.notification_template.ResultOneOf.T
 use Rattle.shared_core.specs.declared.encoding.raw_message.RawMessage.{RawMessage}
 use Rattle.shared_core.specs.declared.encoding.error.DecodingError.{DecodingError}
 use Rattle.shared_core.specs.declared.encoding.error.DecodingError.TheVariants.{DecodeMessage, OutOfMemory}
-use Rattle.shared_core.specs.Typed.{MeansParts, RefusesPayload}
+use Rattle.shared_core.specs.Typed.{MeansParts, RejectsPayload}
 use Rattle.shared_core.specs.View.{IsOfNotification, AgreesWithType, ReturnsLacking, IsMissing, has_record, id_numbers, lacking_field, result_numbers}
 
 -- whether the schema, if there is one, has rows of the template
@@ -103,42 +103,42 @@ records_held payload id result means =
 held_field : Bool → Bool → Option (List ℕ)
 held_field id result = cond id (cond result None (Some (codes "result"))) (Some (codes "id"))
 
-answers_held : (message : RawMessage) (id result : Part) (answer : Result Notification DecodingError) → MeansParts notification_template message.payload (cons id (cons result nil))
-    → ReturnsLacking message (held_field (is_present id) (is_present result)) answer → ReturnsLacking message (lacking_field message.payload) answer
+returns_held : (message : RawMessage) (id result : Part) (returned : Result Notification DecodingError) → MeansParts notification_template message.payload (cons id (cons result nil))
+    → ReturnsLacking message (held_field (is_present id) (is_present result)) returned → ReturnsLacking message (lacking_field message.payload) returned
 unfolding held_field
-answers_held message id result answer means answers =
+returns_held message id result returned means returns =
     let held = records_held message.payload id result means in
-    subst (λ (b : Bool). ReturnsLacking message (held_field b (has_record result_numbers message.payload)) answer) (sym held.0)
-    (subst (λ (b : Bool). ReturnsLacking message (held_field (is_present id) b) answer) (sym held.1) answers)
+    subst (λ (b : Bool). ReturnsLacking message (held_field b (has_record result_numbers message.payload)) returned) (sym held.0)
+    (subst (λ (b : Bool). ReturnsLacking message (held_field (is_present id) b) returned) (sym held.1) returns)
 
-pub lacks_id : (message : RawMessage) (result : Part) (refusal : DecodingError) → MeansParts notification_template message.payload (cons Absent (cons result nil)) → IsMissing message (codes "id") refusal
-    → ReturnsLacking message (lacking_field message.payload) (Err refusal)
+pub lacks_id : (message : RawMessage) (result : Part) (failure : DecodingError) → MeansParts notification_template message.payload (cons Absent (cons result nil)) → IsMissing message (codes "id") failure
+    → ReturnsLacking message (lacking_field message.payload) (Err failure)
 unfolding held_field
-lacks_id message result refusal means missing = answers_held message Absent result (Err refusal) means (inl missing)
+lacks_id message result failure means missing = returns_held message Absent result (Err failure) means (inl missing)
 
-pub lacks_result : (message : RawMessage) (id : Part) (refusal : DecodingError) → MeansParts notification_template message.payload (cons id (cons Absent nil)) → is_present id ≡ true → IsMissing message (codes "result") refusal
-    → ReturnsLacking message (lacking_field message.payload) (Err refusal)
+pub lacks_result : (message : RawMessage) (id : Part) (failure : DecodingError) → MeansParts notification_template message.payload (cons id (cons Absent nil)) → is_present id ≡ true → IsMissing message (codes "result") failure
+    → ReturnsLacking message (lacking_field message.payload) (Err failure)
 unfolding held_field
-lacks_result message id refusal means there missing =
-    answers_held message id Absent (Err refusal) means (subst (λ (b : Bool). ReturnsLacking message (held_field b false) (Err refusal)) (sym there) (inl missing))
+lacks_result message id failure means there missing =
+    returns_held message id Absent (Err failure) means (subst (λ (b : Bool). ReturnsLacking message (held_field b false) (Err failure)) (sym there) (inl missing))
 
 pub lacks_nothing : (message : RawMessage) (id result : Part) (found : Notification) → MeansParts notification_template message.payload (cons id (cons result nil)) → is_present id ≡ true → is_present result ≡ true
     → ReturnsLacking message (lacking_field message.payload) (Ok found)
 unfolding held_field
 lacks_nothing message id result found means there here =
-    answers_held message id result (Ok found) means
+    returns_held message id result (Ok found) means
     (subst (λ (b : Bool). ReturnsLacking message (held_field b (is_present result)) (Ok found)) (sym there)
     (subst (λ (b : Bool). ReturnsLacking message (held_field true b) (Ok found)) (sym here) tt))
 
 -- if a well-formed payload is rejected, an allocation failed
-pub refused_for_memory : (message : RawMessage) (refusal : DecodingError) (lacking : Option (List ℕ)) → RefusesPayload notification_template message refusal → IsAccepted notification_template message.payload
-    → ReturnsLacking message lacking (Err refusal)
-refused_for_memory message refusal lacking refused accepted =
-    elim refusal as (λ refusal. RefusesPayload notification_template message refusal → ReturnsLacking message lacking (Err refusal)) [
-      | DecodeMessage found error ↦ λ refused. absurd (refused.2 accepted)
+pub rejected_for_memory : (message : RawMessage) (failure : DecodingError) (lacking : Option (List ℕ)) → RejectsPayload notification_template message failure → IsAccepted notification_template message.payload
+    → ReturnsLacking message lacking (Err failure)
+rejected_for_memory message failure lacking rejected accepted =
+    elim failure as (λ failure. RejectsPayload notification_template message failure → ReturnsLacking message lacking (Err failure)) [
+      | DecodeMessage found error ↦ λ rejected. absurd (rejected.2 accepted)
       | OutOfMemory ↦ λ _. memory_lacks lacking
-      | _ ↦ λ refused. absurd refused
-    ] refused
+      | _ ↦ λ rejected. absurd rejected
+    ] rejected
   where
     memory_lacks : (lacking : Option (List ℕ)) → ReturnsLacking message lacking (Err OutOfMemory)
     memory_lacks None = refl

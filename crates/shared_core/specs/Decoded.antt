@@ -36,7 +36,7 @@ FrameEncodes version ty form HasProperty =
 abbrev pub ReturnsWritten : MessageType → WireForm → List ℕ → Result (Option RawMessage) DecodingError → List ℕ → List ℕ → Type 0
 ReturnsWritten ty form old (Ok (Some message)) rest new = DecodesTo ty form.schema form.parts (Message message) × (new ≡ rest)
 ReturnsWritten ty form old (Ok None) rest new = ⊥
-ReturnsWritten ty form old (Err refusal) rest new = (refusal ≡ OutOfMemory) × (new ≡ old)
+ReturnsWritten ty form old (Err error) rest new = (error ≡ OutOfMemory) × (new ≡ old)
 
 -- The bytes are the frame of a wire form: they encode one item, whose payload means what was written; and whatever
 -- follows them, a decoder that they were pushed to returns what was written.
@@ -44,5 +44,5 @@ pub record IsFrameOf (version : Version) (ty : MessageType) (form : WireForm) (b
   pub is_frame : bytes ≡ wire_frame ty form
   pub is_item : IsItem version bytes (item_written ty form)
   pub reads_back : IsReadBack form.schema form.parts (wire_payload form)
-  pub comes_out : levels form.parts ≤ 100 → (rest new : List ℕ) (answer : Result (Option RawMessage) DecodingError)
-      → ReturnsNext version (bytes ++ rest) answer new → ReturnsWritten ty form (bytes ++ rest) answer rest new
+  pub comes_out : levels form.parts ≤ 100 → (rest new : List ℕ) (returned : Result (Option RawMessage) DecodingError)
+      → ReturnsNext version (bytes ++ rest) returned new → ReturnsWritten ty form (bytes ++ rest) returned rest new

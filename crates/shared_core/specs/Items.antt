@@ -100,7 +100,7 @@ ReturnsNext version old (Err other) new = ⊥
 abbrev pub TakesEight : List ℕ → Result (Option RawMessage) DecodingError → List ℕ → Type 0
 TakesEight old (Ok None) new = Unit {0}
 TakesEight old (Err OutOfMemory) new = Unit {0}
-TakesEight old answer new = length new + 8 ≤ length old
+TakesEight old returned new = length new + 8 ≤ length old
 
 -- A rejected chunk is returned unchanged, and is too long only if the bytes would be 2 ^ 64 or more.
 abbrev pub PushFails : List ℕ → List ℕ → PushError → Type 0

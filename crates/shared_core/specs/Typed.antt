@@ -21,17 +21,17 @@ abbrev pub MeansParts : ℕ → List ℕ → Parts → Type 0
 MeansParts schema payload parts = IsAccepted schema payload × (parts ≡ payload_meaning schema payload)
 
 -- When a payload is rejected: it is not well-formed for the schema, or an allocation fails.
-abbrev pub RefusesPayload : ℕ → RawMessage → DecodingError → Type 0
-RefusesPayload schema message (DecodeMessage found error) =
+abbrev pub RejectsPayload : ℕ → RawMessage → DecodingError → Type 0
+RejectsPayload schema message (DecodeMessage found error) =
     (found ≡ message.header.ty) × (error ≡ Malformed) × ¬ (IsAccepted schema message.payload)
-RefusesPayload schema message OutOfMemory = Unit {0}
-RefusesPayload schema message refusal = ⊥
+RejectsPayload schema message OutOfMemory = Unit {0}
+RejectsPayload schema message failure = ⊥
 
 -- When a message is rejected: the types differ; or they are the same, and its payload is rejected.
-abbrev pub RefusesTyped : MessageType → ℕ → RawMessage → ℤ → DecodingError → Type 0
-RefusesTyped ty schema message index (UnexpectedMessageType mismatch) =
+abbrev pub RejectsTyped : MessageType → ℕ → RawMessage → ℤ → DecodingError → Type 0
+RejectsTyped ty schema message index (UnexpectedMessageType mismatch) =
     (message.header.ty ≢ ty) × (mismatch ≡ mismatch_of ty message index)
-RefusesTyped ty schema message index refusal = (message.header.ty ≡ ty) × RefusesPayload schema message refusal
+RejectsTyped ty schema message index failure = (message.header.ty ≡ ty) × RejectsPayload schema message failure
 
 -- The payload is the canonical encoding of the value, which fits the schema and has at most one hundred levels.
 abbrev pub IsCanonical : ℕ → Parts → List ℕ → Type 0

@@ -13,7 +13,7 @@ use Rattle.shared_core_parts.specs.contracts.notification_template.ResultOneOf.T
 use Rattle.shared_core.specs.declared.encoding.raw_message.RawMessage.{RawMessage}
 use Rattle.shared_core.specs.declared.encoding.error.DecodingError.{DecodingError}
 use Rattle.shared_core.specs.declared.encoding.error.DecodingError.TheVariants.{MissingField, OutOfMemory}
-use Rattle.shared_core.specs.Typed.{MeansParts, RefusesPayload}
+use Rattle.shared_core.specs.Typed.{MeansParts, RejectsPayload}
 
 -- The parts of the template that a notification is: its id and its result.
 abbrev pub notification_parts : Notification → Parts
@@ -22,7 +22,7 @@ notification_parts found = cons (ids.part-value.it found.id) (cons (results.part
 -- The error says that a field of the message is missing.
 abbrev pub IsMissing : RawMessage → List ℕ → DecodingError → Type 0
 IsMissing message field (MissingField expected missing) = (expected ≡ message.header.ty) × (missing.now ≡ field)
-IsMissing message field refusal = ⊥
+IsMissing message field error = ⊥
 
 -- The template lacks the field: an id, or a result beside an id.
 abbrev pub LacksField : List ℕ → Parts → Type 0
@@ -31,10 +31,10 @@ LacksField field parts =
     ⊎ ((field ≡ codes "result") × (id : Part) × (id ≢ Absent) × (parts ≡ cons id (cons Absent nil)))
 
 -- When the view is rejected: the payload is, or it means a template that lacks a field, the id first.
-abbrev pub RefusesNotification : RawMessage → DecodingError → Type 0
-RefusesNotification message (MissingField expected missing) =
+abbrev pub RejectsNotification : RawMessage → DecodingError → Type 0
+RejectsNotification message (MissingField expected missing) =
     (expected ≡ message.header.ty) × (parts : Parts) × MeansParts notification_template message.payload parts × LacksField missing.now parts
-RefusesNotification message refusal = RefusesPayload notification_template message refusal
+RejectsNotification message error = RejectsPayload notification_template message error
 
 -- The numbers of an id in the template.
 abbrev pub id_numbers : List ℕ
@@ -57,8 +57,8 @@ lacking_field payload = if has_record id_numbers payload then (if has_record res
 abbrev pub ReturnsLacking : RawMessage → Option (List ℕ) → Result Notification DecodingError → Type 0
 ReturnsLacking message None (Ok found) = Unit {0}
 ReturnsLacking message (Some field) (Ok found) = ⊥
-ReturnsLacking message None (Err refusal) = refusal ≡ OutOfMemory
-ReturnsLacking message (Some field) (Err refusal) = IsMissing message field refusal ⊎ (refusal ≡ OutOfMemory)
+ReturnsLacking message None (Err error) = error ≡ OutOfMemory
+ReturnsLacking message (Some field) (Err error) = IsMissing message field error ⊎ (error ≡ OutOfMemory)
 
 -- The payload is well-formed for the schema, and each of its numbers is one of the schema's or none of the template's.
 abbrev pub IsOfNotification : ℕ → List ℕ → Type 0

@@ -8,7 +8,7 @@ pub use Rattle.shared_core_base.specs.CommandTable.{command_text_of, message_typ
 -- Converting a message type returns its command type, or the type itself if it has none.
 abbrev pub ConvertsToCommand : MessageType → Result CommandType MessageType → Type 0
 ConvertsToCommand ty (Ok found) = command_type_of ty ≡ Some found
-ConvertsToCommand ty (Err refused) = (command_type_of ty ≡ None) × (refused ≡ ty)
+ConvertsToCommand ty (Err rejected) = (command_type_of ty ≡ None) × (rejected ≡ ty)
 
 -- The text that a message type prints: its command's text if it has a command type, otherwise its debug name.
 abbrev pub message_type_text : MessageType → List ℕ

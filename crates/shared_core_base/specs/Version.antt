@@ -53,15 +53,15 @@ NamesNoVersion text = (version : Version) → text ≢ content_type_of version
 
 -- A rejected text is returned: if it begins as a content type of the protocol, in the error for these, otherwise in the
 -- other; unless it is not empty and the allocation to keep it failed.
-abbrev pub RefusesContentType : List ℕ → ContentTypeError → Type 0
-RefusesContentType text (RestateContentType kept) = (starts_with nat_eq text restate_content_types ≡ true) × (string_bytes kept ≡ text)
-RefusesContentType text (OtherContentType kept) = (starts_with nat_eq text restate_content_types ≡ false) × (string_bytes kept ≡ text)
-RefusesContentType text OutOfMemory = text ≢ []
+abbrev pub RejectsContentType : List ℕ → ContentTypeError → Type 0
+RejectsContentType text (RestateContentType kept) = (starts_with nat_eq text restate_content_types ≡ true) × (string_bytes kept ≡ text)
+RejectsContentType text (OtherContentType kept) = (starts_with nat_eq text restate_content_types ≡ false) × (string_bytes kept ≡ text)
+RejectsContentType text OutOfMemory = text ≢ []
 
 -- Reading a text returns the version whose content type it is, and rejects the text of no version.
 abbrev pub ReadsVersion : List ℕ → Result Version ContentTypeError → Type 0
 ReadsVersion text (Ok version) = text ≡ content_type_of version
-ReadsVersion text (Err refusal) = NamesNoVersion text × RefusesContentType text refusal
+ReadsVersion text (Err error) = NamesNoVersion text × RejectsContentType text error
 
 -- The code of an error: that of a media type which is not supported, or of a failed allocation.
 abbrev pub content_type_error_code : ContentTypeError → ℕ

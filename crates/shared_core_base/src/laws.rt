@@ -45,7 +45,7 @@ pub fn command_types_convert_back(command: CommandType) -> Result<CommandType, M
 }
 
 /// A message type that has a command type converts to it; one that has none is rejected, and is returned unchanged.
-pub fn refused_types_come_back(ty: MessageType) -> Result<CommandType, MessageType>
+pub fn rejected_types_come_back(ty: MessageType) -> Result<CommandType, MessageType>
     ensures { result ≡ ok_or (command_type_of ty) ty }
 {
     CommandType::try_from(ty)

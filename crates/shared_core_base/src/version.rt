@@ -11,7 +11,7 @@ ghost use Rattle.shared_core_base.specs.Version.{
 ghost use Rattle.shared_core_base.specs.Version.{
   content_type_of,
   ReadsVersion,
-  RefusesContentType,
+  RejectsContentType,
   content_type_error_code,
   content_type_error_text,
 };
@@ -156,15 +156,15 @@ impl Version {
             "application/vnd.restate.invocation.v7" => Ok(Version::V7),
             "application/vnd.restate.invocation.v8" => Ok(Version::V8),
             "application/vnd.restate.invocation.v9" => Ok(Version::V9),
-            _ => Err(refusal(alloc, text)),
+            _ => Err(unsupported(alloc, text)),
         }
     }
 }
 
 /// Why a text that names no version is rejected.
 #[tactic(auto, using(std::proofs::lemmas::Str::Pattern::starts_text))]
-fn refusal(alloc: Global, text: &str) -> ContentTypeError
-    ensures { RefusesContentType text.now result }
+fn unsupported(alloc: Global, text: &str) -> ContentTypeError
+    ensures { RejectsContentType text.now result }
 {
     match copy_text(alloc, text) {
         Ok(kept) => {

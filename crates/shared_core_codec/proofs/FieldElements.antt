@@ -57,10 +57,10 @@ pub packed_extends : {X : Type 0} (old new bytes : List ℕ) (result : Result X 
 packed_extends old new bytes (Ok x) h = onto old new (packed_numbers bytes) h
 packed_extends old new bytes (Err e) h = tt
 
-pub packed_refused : {X : Type 0} (old new bytes : List ℕ) (result : Result X WireError) → IsComputed (λ _. new) result (packed_onto old bytes) → IsErrOf result Malformed → is_some (packed_numbers bytes) ≡ false
-packed_refused old new bytes (Ok x) h e = absurd cc
-packed_refused old new bytes (Err Malformed) h e = not_onto old (packed_numbers bytes) h
-packed_refused old new bytes (Err OutOfMemory) h e = absurd cc
+pub packed_rejected : {X : Type 0} (old new bytes : List ℕ) (result : Result X WireError) → IsComputed (λ _. new) result (packed_onto old bytes) → IsErrOf result Malformed → is_some (packed_numbers bytes) ≡ false
+packed_rejected old new bytes (Ok x) h e = absurd cc
+packed_rejected old new bytes (Err Malformed) h e = not_onto old (packed_numbers bytes) h
+packed_rejected old new bytes (Err OutOfMemory) h e = absurd cc
 
 -- ---- one element more
 
@@ -74,14 +74,14 @@ from_empty nested Text p q w h e = e
 from_empty nested ByteString p q w h e = e
 from_empty nested (Message s) p q w h e = ap (λ (t : Part). singular_of table nested (Message s) t w []) (sym h) ∙ e
 
-pub element_refused : (accepts_nested : NestedAcceptance) (k : Kind) (w : RecordValue) → unpacked k ≡ true → accepts_value accepts_nested k w ≡ false → accepts_element accepts_nested k w ≡ false
-element_refused accepts_nested U32 w u h = cc
-element_refused accepts_nested U64 w u h = h
-element_refused accepts_nested Boolean w u h = h
-element_refused accepts_nested Enumeration w u h = h
-element_refused accepts_nested Text w u h = h
-element_refused accepts_nested ByteString w u h = h
-element_refused accepts_nested (Message s) w u h = h
+pub element_rejected : (accepts_nested : NestedAcceptance) (k : Kind) (w : RecordValue) → unpacked k ≡ true → accepts_value accepts_nested k w ≡ false → accepts_element accepts_nested k w ≡ false
+element_rejected accepts_nested U32 w u h = cc
+element_rejected accepts_nested U64 w u h = h
+element_rejected accepts_nested Boolean w u h = h
+element_rejected accepts_nested Enumeration w u h = h
+element_rejected accepts_nested Text w u h = h
+element_rejected accepts_nested ByteString w u h = h
+element_rejected accepts_nested (Message s) w u h = h
 
 message_element : (s : ℕ) (nested : NestedOverlay) (accepts_nested : NestedAcceptance) (w : RecordValue) (p : Part)
     → accepts_value accepts_nested (Message s) w ≡ true → singular_of table nested (Message s) Absent w [] ≡ p

@@ -69,8 +69,8 @@ module _ (left s : ℕ) where
   not_accepted true h = absurd (h refl)
   not_accepted false h = refl
 
-  pub fold_refused : (payload : List ℕ) (v : Parts) → fold_read merge v (read_records left payload) ≡ None → accepts_payload table left s payload ≡ false
-  fold_refused payload v e =
+  pub fold_rejected : (payload : List ℕ) (v : Parts) → fold_read merge v (read_records left payload) ≡ None → accepts_payload table left s payload ≡ false
+  fold_rejected payload v e =
       elim (cases_option (record_list left payload)) [
         | inl absent ↦ ap (some_passes (accepts_records table left s)) absent
         | inr w ↦
@@ -87,10 +87,10 @@ module _ (left s : ℕ) where
   computed_merged w payload v (Ok x) h = (fold_accepted payload v w h).1
   computed_merged w payload v (Err e) h = tt
 
-  pub computed_refused : {X : Type 0} (f : X → Parts) (payload : List ℕ) (v : Parts) (result : Result X WireError) → IsComputed f result (fold_read merge v (read_records left payload)) → IsErrOf result Malformed → accepts_payload table left s payload ≡ false
-  computed_refused f payload v (Ok x) h e = absurd cc
-  computed_refused f payload v (Err Malformed) h e = fold_refused payload v h
-  computed_refused f payload v (Err OutOfMemory) h e = absurd cc
+  pub computed_rejected : {X : Type 0} (f : X → Parts) (payload : List ℕ) (v : Parts) (result : Result X WireError) → IsComputed f result (fold_read merge v (read_records left payload)) → IsErrOf result Malformed → accepts_payload table left s payload ≡ false
+  computed_rejected f payload v (Ok x) h e = absurd cc
+  computed_rejected f payload v (Err Malformed) h e = fold_rejected payload v h
+  computed_rejected f payload v (Err OutOfMemory) h e = absurd cc
 
 -- ---- one level down
 
@@ -116,8 +116,8 @@ message_becomes below left s bytes v w (Ok x) h a m =
     (message_below below left s bytes h ∙ a, ap Nested (ap (message_overlay table left s v) (append-nil bytes) ∙ overlay_below below left s v bytes h ∙ sym m))
 message_becomes below left s bytes v w (Err e) h a m = tt
 
-pub message_refused : (below left s : ℕ) (bytes : List ℕ) → below + 1 ≡ left → accepts_payload table below s bytes ≡ false → accepts_message table left s bytes ≡ false
-message_refused below left s bytes h e = message_below below left s bytes h ∙ e
+pub message_rejected : (below left s : ℕ) (bytes : List ℕ) → below + 1 ≡ left → accepts_payload table below s bytes ≡ false → accepts_message table left s bytes ≡ false
+message_rejected below left s bytes h e = message_below below left s bytes h ∙ e
 
 -- where an occurrence may hold no message, no message field accepts it
 pub no_message : (left s : ℕ) (w : RecordValue) → (is_length w && nat_lt 0 left) ≡ false → accepts_value (accepts_message table left) (Message s) w ≡ false

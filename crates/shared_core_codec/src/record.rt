@@ -123,7 +123,7 @@ pub trait WireRecord: Sized + Drop + PartialEq {
         ensures full { IsErrOf result OutOfMemory
             → vec_capacity out.old < vec_len out.old + size table schema (parts self.now) }
         ensures too_long { IsErrOf result PayloadTooLong → 2 ^ 32 ≤ size table schema (parts self.now) }
-        ensures refused { 2 ^ 32 ≤ size table schema (parts self.now) → result ≡ Err PayloadTooLong }
+        ensures rejected { 2 ^ 32 ≤ size table schema (parts self.now) → result ≡ Err PayloadTooLong }
     {
         let Some(len) = self.encoded_len() else {
             return Err(EncodingError::PayloadTooLong);
@@ -146,7 +146,7 @@ pub trait WireRecord: Sized + Drop + PartialEq {
         ensures spare { OnOk result (out.old.spare ≤ out.new.spare + size table schema (parts self.now)) }
         ensures kept { OnErr result (out.old.spare ≤ out.new.spare) }
         ensures too_long { IsErrOf result PayloadTooLong → 2 ^ 32 ≤ size table schema (parts self.now) }
-        ensures refused { 2 ^ 32 ≤ size table schema (parts self.now) → result ≡ Err PayloadTooLong }
+        ensures rejected { 2 ^ 32 ≤ size table schema (parts self.now) → result ≡ Err PayloadTooLong }
     {
         let len = match self.encoded_len() {
             Some(len) => len as usize,
@@ -166,7 +166,7 @@ pub trait WireRecord: Sized + Drop + PartialEq {
         ensures short { IfOk result (λ b. length b < 2 ^ 32) }
         ensures reads_back { IfOk result (IsReadBack schema (parts self.now)) }
         ensures too_long { IsErrOf result PayloadTooLong → 2 ^ 32 ≤ size table schema (parts self.now) }
-        ensures refused { 2 ^ 32 ≤ size table schema (parts self.now) → result ≡ Err PayloadTooLong }
+        ensures rejected { 2 ^ 32 ≤ size table schema (parts self.now) → result ≡ Err PayloadTooLong }
     {
         let mut out = Vec::new(alloc);
         self.encode_payload_into(&mut out)?;
@@ -192,7 +192,7 @@ pub(crate) fn merge_occurrences<M: WireRecord>(
 }
 
 /// Merges a whole payload into a record. After an error some of its fields may have changed.
-#[tactic(auto, using(crate::proofs::MergingRecords::computed_accepted, crate::proofs::MergingRecords::computed_merged, crate::proofs::MergingRecords::computed_refused))]
+#[tactic(auto, using(crate::proofs::MergingRecords::computed_accepted, crate::proofs::MergingRecords::computed_merged, crate::proofs::MergingRecords::computed_rejected))]
 fn merge_payload<M: WireRecord>(
     target: &mut M,
     alloc: Global,

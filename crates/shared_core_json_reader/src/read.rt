@@ -106,7 +106,7 @@ pub fn value_of_text<'a>(
     scratch: &'a mut Scratch,
 ) -> Result<Value<'a>, JsonReadError>
     ensures ok { IfOk result (λ value. json_of_text text.now ≡ Some (json_view value)) }
-    ensures refused { IfErr result (λ error. error.reason ≢ Reason.OutOfMemory → json_of_text text.now ≡ None) }
+    ensures rejected { IfErr result (λ error. error.reason ≢ Reason.OutOfMemory → json_of_text text.now ≡ None) }
     ensures place { IfErr result (λ error. error.reason ≢ Reason.OutOfMemory → IsNotJson error text.now) }
 {
     let text = match std::str::from_utf8(text) {
@@ -133,7 +133,7 @@ pub fn payload_of_value(
     // the payload is accepted, and means what the value means
     ensures means { IfOk result (λ payload. IsAccepted schema payload.items
         × (message_read 101 schema (json_view value.now) ≡ Some (payload_meaning schema payload.items))) }
-    ensures refused { IfErr result (λ error. error.reason ≢ Reason.OutOfMemory
+    ensures rejected { IfErr result (λ error. error.reason ≢ Reason.OutOfMemory
         → value_payload schema (json_view value.now) ≡ None) }
     // the first error of the value, and the path to the rejected value
     ensures error { MatchResult result (λ _. value_error schema (json_view value.now) ≡ None)
@@ -162,7 +162,7 @@ pub fn payload_of(alloc: Global, schema: u32, text: &[u8]) -> Result<Vec<u8>, Js
     // the payload is accepted, and means what the text means
     ensures means { IfOk result (λ payload. IsAccepted schema payload.items
         × (text_meaning schema text.now ≡ Some (payload_meaning schema payload.items))) }
-    ensures refused { IfErr result (λ error. error.reason ≢ Reason.OutOfMemory → text_payload schema text.now ≡ None) }
+    ensures rejected { IfErr result (λ error. error.reason ≢ Reason.OutOfMemory → text_payload schema text.now ≡ None) }
     // where the text stops being JSON, or the first error of its value
     ensures error { IfErr result (λ error. error.reason ≢ Reason.OutOfMemory
         → MatchOption (json_of_text text.now) (IsNotJson error text.now)

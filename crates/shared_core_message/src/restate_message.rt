@@ -52,7 +52,7 @@ pub trait RestateEncodableMessage: RestateMessage {
         ensures full { IsErrOf result OutOfMemory
             → vec_capacity out.old < vec_len out.old + (8 + wire_size (wire_form self.now version)) }
         ensures too_long { IsErrOf result PayloadTooLong → 2 ^ 32 ≤ wire_size (wire_form self.now version) }
-        ensures refused { 2 ^ 32 ≤ wire_size (wire_form self.now version) → result ≡ Err PayloadTooLong };
+        ensures rejected { 2 ^ 32 ≤ wire_size (wire_form self.now version) → result ≡ Err PayloadTooLong };
 
     /// Appends the frame, as `encode_into` does, to a buffer whose spare room is initialized, so that no byte is
     /// written twice.
@@ -67,7 +67,7 @@ pub trait RestateEncodableMessage: RestateMessage {
         ensures spare { OnOk result (out.old.spare ≤ out.new.spare + (8 + wire_size (wire_form self.now version))) }
         ensures kept { OnErr result (out.old.spare ≤ out.new.spare) }
         ensures too_long { IsErrOf result PayloadTooLong → 2 ^ 32 ≤ wire_size (wire_form self.now version) }
-        ensures refused { 2 ^ 32 ≤ wire_size (wire_form self.now version) → result ≡ Err PayloadTooLong };
+        ensures rejected { 2 ^ 32 ≤ wire_size (wire_form self.now version) → result ≡ Err PayloadTooLong };
 
     /// Returns the frame: the header's eight bytes and the canonical payload of what it is written as.
     ///
@@ -79,7 +79,7 @@ pub trait RestateEncodableMessage: RestateMessage {
         // what is written fits its schema
         ensures fits { IfOk result (λ bytes. WireFits (wire_form self.now version)) }
         ensures too_long { IsErrOf result PayloadTooLong → 2 ^ 32 ≤ wire_size (wire_form self.now version) }
-        ensures refused { 2 ^ 32 ≤ wire_size (wire_form self.now version) → result ≡ Err PayloadTooLong }
+        ensures rejected { 2 ^ 32 ≤ wire_size (wire_form self.now version) → result ≡ Err PayloadTooLong }
     {
         let mut frame = Vec::new(alloc);
         self.encode_into(version, &mut frame)?;

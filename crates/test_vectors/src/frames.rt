@@ -21,7 +21,7 @@ pub fn check_frame_of<M: RestateEncodableMessage, D: RestateMessage>(
     let frame = Encoder::new(version.version()).encode(alloc, &message)?;
     verdict.check_bytes(frame.as_slice())?;
     let Some(message) = only_message(alloc, version, frame.as_slice())? else {
-        return verdict.refuse("no single message comes out of the frame");
+        return verdict.reject("no single message comes out of the frame");
     };
     let after = frame.as_slice().get(8..);
     verdict.require(
@@ -39,7 +39,7 @@ fn check_decoded<D: RestateMessage>(
     let record = match message.decode_to::<D>(verdict.alloc, 0) {
         Ok(record) => record,
         Err(DecodingError::OutOfMemory) => return Err(Failed::OutOfMemory),
-        Err(_) => return verdict.refuse("the message of the frame is not decoded to its type"),
+        Err(_) => return verdict.reject("the message of the frame is not decoded to its type"),
     };
     let canonical = record.encode_payload(verdict.alloc)?;
     verdict.require(

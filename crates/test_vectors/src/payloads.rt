@@ -111,7 +111,7 @@ fn check_canonical<M: WireRecord>(
         matches!(record.encoded_len(), Some(length) if length as usize == canonical.len());
     verdict.require(measured, "its length is measured otherwise")?;
     let Some(again) = decoded::<M>(verdict.alloc, canonical)? else {
-        return verdict.refuse("its canonical payload is malformed");
+        return verdict.reject("its canonical payload is malformed");
     };
     verdict.require(again == *record, "its canonical payload is another record")?;
     let written = again.encode_payload(verdict.alloc)?;
@@ -146,7 +146,7 @@ fn check_cuts<M: WireRecord>(
     verdict: &mut Verdict<'_>,
 ) -> Result<(), Failed> {
     let Some(ends) = ends_of_records(verdict.alloc, payload)? else {
-        return verdict.refuse(
+        return verdict.reject(
             "its canonical payload has a record of another wire type than 0 and 2",
         );
     };

@@ -71,7 +71,7 @@ impl<'a> Verdict<'a> {
         if given == self.wanted {
             return Ok(());
         }
-        self.refuse(given)
+        self.reject(given)
     }
 
     /// Checks the library's result, which is bytes.
@@ -85,7 +85,7 @@ impl<'a> Verdict<'a> {
         if holds {
             return Ok(());
         }
-        self.refuse(otherwise)
+        self.reject(otherwise)
     }
 
     /// Checks a condition that must hold for each way to split; `otherwise`, with its index or size, is the result to
@@ -100,7 +100,7 @@ impl<'a> Verdict<'a> {
     }
 
     /// Fails the test vector, with this result instead.
-    pub fn refuse(&mut self, instead: &str) -> Result<(), Failed> {
+    pub fn reject(&mut self, instead: &str) -> Result<(), Failed> {
         self.given.clear();
         self.given.push_str(instead)?;
         Err(Failed::Otherwise)

@@ -22,9 +22,9 @@ pub fn decode_pieces(
     chunks: &[Bytes],
 ) -> Result<(Vec<Item>, Decoder), PiecesError>
     requires { 5 ≤ version_number version }
-    ensures items { IfOk result (λ answer. SplitsInto version (concat chunks.now) answer.0.items answer.1.bytes) }
-    ensures written { IfOk result (λ answer. BeginsWithWritten version (concat chunks.now) answer.0.items) }
-    ensures version { IfOk result (λ answer. answer.1.version ≡ version) }
+    ensures items { IfOk result (λ returned. SplitsInto version (concat chunks.now) returned.0.items returned.1.bytes) }
+    ensures written { IfOk result (λ returned. BeginsWithWritten version (concat chunks.now) returned.0.items) }
+    ensures version { IfOk result (λ returned. returned.1.version ≡ version) }
     ensures too_long { IsErrOf result PiecesError.TooLong → 2 ^ 64 ≤ length (concat chunks.now) }
     ensures none { chunks.now ≡ [] → IsOk result }
 {

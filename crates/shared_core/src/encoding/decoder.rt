@@ -66,7 +66,7 @@ fn take_payload(
         ((length pending.old < count) × (head.new ≡ head.old) × (pending.new ≡ pending.old))
         (λ payload. (count ≤ length pending.old) × (payload ≡ take count pending.old)
         × (head.new ≡ None) × (pending.new ≡ drop count pending.old))) }
-    ensures refused { OnErr result
+    ensures rejected { OnErr result
         ((count ≤ length pending.old) × (head.new ≡ head.old) × (pending.new ≡ pending.old)) }
 {
     if pending.len() < count {
@@ -188,7 +188,7 @@ impl Decoder {
             (NoItemBegins self.old.version self.old.bytes × (self.new.bytes ≡ self.old.bytes)
             × (length self.new.bytes ≤ 4294967302))
             (λ item. TakesItem self.old.version self.old.bytes item self.new.bytes)) }
-        ensures refused { OnErr result
+        ensures rejected { OnErr result
             ((self.new.bytes ≡ self.old.bytes) × PayloadIsNext self.old.version self.old.bytes) }
         ensures shorter { IfOk result (λ found.
             IfSome found (λ item. length self.new.bytes + 8 ≤ length self.old.bytes)) }
@@ -218,7 +218,7 @@ impl Decoder {
             (NoItemBegins self.old.version self.old.bytes × (self.new.bytes ≡ self.old.bytes))
             (λ taken. TakesItem self.old.version self.old.bytes (item_taken taken) self.new.bytes)) }
         ensures short { IfOk result (λ found. IfNone found (length self.new.bytes ≤ 4294967302)) }
-        ensures refused { OnErr result
+        ensures rejected { OnErr result
             ((self.new.bytes ≡ self.old.bytes) × PayloadIsNext self.old.version self.old.bytes) }
         ensures shorter { IfOk result (λ found.
             IfSome found (λ taken. length self.new.bytes + 8 ≤ length self.old.bytes)) }

@@ -45,7 +45,7 @@ impl Encoder {
             (IsFrameOf self.now.version M.message_type (M.wire_form message.now self.now.version)) }
         ensures too_long { IsErrOf result PayloadTooLong
             → 2 ^ 32 ≤ wire_size (M.wire_form message.now self.now.version) }
-        ensures refused { 2 ^ 32 ≤ wire_size (M.wire_form message.now self.now.version)
+        ensures rejected { 2 ^ 32 ≤ wire_size (M.wire_form message.now self.now.version)
             → result ≡ Err PayloadTooLong }
     {
         message.encode(alloc, self.version)
@@ -73,7 +73,7 @@ impl Encoder {
             → vec_capacity out.old < vec_len out.old + (8 + wire_size (M.wire_form message.now self.now.version)) }
         ensures too_long { IsErrOf result PayloadTooLong
             → 2 ^ 32 ≤ wire_size (M.wire_form message.now self.now.version) }
-        ensures refused { 2 ^ 32 ≤ wire_size (M.wire_form message.now self.now.version)
+        ensures rejected { 2 ^ 32 ≤ wire_size (M.wire_form message.now self.now.version)
             → result ≡ Err PayloadTooLong }
     {
         message.encode_into(self.version, out)
@@ -104,7 +104,7 @@ impl Encoder {
         ensures kept { OnErr result (out.old.spare ≤ out.new.spare) }
         ensures too_long { IsErrOf result PayloadTooLong
             → 2 ^ 32 ≤ wire_size (M.wire_form message.now self.now.version) }
-        ensures refused { 2 ^ 32 ≤ wire_size (M.wire_form message.now self.now.version)
+        ensures rejected { 2 ^ 32 ≤ wire_size (M.wire_form message.now self.now.version)
             → result ≡ Err PayloadTooLong }
     {
         message.encode_into_bytes(self.version, out)

@@ -26,9 +26,9 @@ pub struct RawMessage {
 }
 
 impl RawMessage {
-    ghost use Rattle.shared_core.specs.Typed.{MeansParts, IsCanonical, RefusesPayload, RefusesTyped, mismatch_of};
+    ghost use Rattle.shared_core.specs.Typed.{MeansParts, IsCanonical, RejectsPayload, RejectsTyped, mismatch_of};
     ghost use Rattle.shared_core.specs.View.{notification_parts, lacking_field, AgreesWithType, ReturnsLacking};
-    ghost use Rattle.shared_core.specs.View.{IsMissing, IsOfNotification, RefusesNotification};
+    ghost use Rattle.shared_core.specs.View.{IsMissing, IsOfNotification, RejectsNotification};
     ghost use Rattle.shared_core.specs.declared.encoding.error.DecodingError.TheVariants as error;
     ghost use Rattle.shared_core_wire.specs.declared.error.WireError.TheVariants as wire;
 
@@ -73,13 +73,13 @@ impl RawMessage {
     ) -> Result<M, DecodingError>
         ensures typed { IfOk result (λ message. self.now.header.ty ≡ M.message_type) }
         ensures ok { IfOk result (λ message. MeansParts M.schema self.now.payload (M.parts message)) }
-        ensures err { IfErr result (RefusesTyped M.message_type M.schema self.now command_index) }
+        ensures err { IfErr result (RejectsTyped M.message_type M.schema self.now command_index) }
         // whatever the payload
         ensures unexpected { self.now.header.ty ≢ M.message_type
             → result ≡ Err (error.UnexpectedMessageType (mismatch_of M.message_type self.now command_index)) }
         // what was written is read again
         ensures written { (v : Parts) → self.now.header.ty ≡ M.message_type → IsCanonical M.schema v self.now.payload
-            → MatchResult result (λ message. M.parts message ≡ v) (λ refusal. refusal ≡ error.OutOfMemory) }
+            → MatchResult result (λ message. M.parts message ≡ v) (λ failure. failure ≡ error.OutOfMemory) }
     {
         let actual = self.ty();
         let expected = M::ty();
@@ -104,7 +104,7 @@ impl RawMessage {
         ensures malformed { IsErrOf result wire.Malformed → ¬ (IsAccepted M.schema self.now.payload) }
         // what was written is read again
         ensures written { (v : Parts) → IsCanonical M.schema v self.now.payload
-            → MatchResult result (λ message. M.parts message ≡ v) (λ refusal. refusal ≡ wire.OutOfMemory) }
+            → MatchResult result (λ message. M.parts message ≡ v) (λ failure. failure ≡ wire.OutOfMemory) }
     {
         decode_payload(alloc, &self.payload)
     }
@@ -121,7 +121,7 @@ impl RawMessage {
         requires last { code_of self.now.header.ty < 0xFC00 }
         ensures ok { IfOk result (λ found.
             MeansParts notification_template self.now.payload (notification_parts found)) }
-        ensures err { IfErr result (RefusesNotification self.now) }
+        ensures err { IfErr result (RejectsNotification self.now) }
         // what the notification's own type accepts is no error, and the view holds what its meaning holds
         ensures accepts { (s : ℕ) → message_schema self.now.header.ty ≡ Some s → IsOfNotification s self.now.payload
             → IsAccepted notification_template self.now.payload }
@@ -155,9 +155,9 @@ impl RawMessage {
     #[tactic(auto, using(crate::proofs::TypedPayloads::written_means))]
     fn decode_payload<M: WireRecord>(&self, alloc: Global) -> Result<M, DecodingError>
         ensures ok { IfOk result (λ found. MeansParts M.schema self.now.payload (M.parts found)) }
-        ensures err { IfErr result (RefusesPayload M.schema self.now) }
+        ensures err { IfErr result (RejectsPayload M.schema self.now) }
         ensures written { (v : Parts) → IsCanonical M.schema v self.now.payload
-            → MatchResult result (λ found. M.parts found ≡ v) (λ refusal. refusal ≡ error.OutOfMemory) }
+            → MatchResult result (λ found. M.parts found ≡ v) (λ failure. failure ≡ error.OutOfMemory) }
     {
         match decode_payload(alloc, &self.payload) {
             Ok(found) => Ok(found),

@@ -18,7 +18,7 @@ returns-in-Some-2 c =
     let at = c.in-Some.at in
     let line = c.extend_from_slice.new.self.items in
     let grown : line ≡ pending ++ take at rest = search rules in
-    let (refused, kept, number) = rw c.in-Some-2.is at c.in_ok-refused.ensures in (
+    let (rejected, kept, number) = rw c.in-Some-2.is at c.in_ok-rejected.ensures in (
       ls,
       line,
       drop (suc at) rest,
@@ -26,7 +26,7 @@ returns-in-Some-2 c =
       then_lines _ (pending ++ rest) (drop (suc at) rest) ls (line ∷ []) begins (line_found pending rest line at unended none here grown),
       meant,
       kept ∙ made_is,
-      refused,
+      rejected,
       number ∙ ap (λ (n : ℕ). counted (suc n)) count ∙ counted_suc (c.args.lines.now.taken + length ls),
     )
 
@@ -39,7 +39,7 @@ loop-at-preserved c =
     let at = c.in-Some.at in
     let line = c.extend_from_slice.new.self.items in
     let grown : line ≡ pending ++ take at rest = search rules in
-    let (bytes, means, wrote, empty, number) = rw c.in_default-2.is at c.in_ok-refused.ensures in (
+    let (bytes, means, wrote, empty, number) = rw c.in_default-2.is at c.in_ok-rejected.ensures in (
       subst (λ (xs : List ℕ). has_newline xs ≡ false) (sym empty) refl,
       ls ++ line ∷ [],
       more ++ bytes,

@@ -3,7 +3,7 @@ use Rattle.std.proofs.lemmas.Result.{err_from_is_err_and}
 use Rattle.shared_core.proofs.Items.{then_takes}
 use Rattle.shared_core.specs.Visiting.{command_schema}
 use Rattle.measured_c_api.specs.Chunks.{untaken}
-use Rattle.measured_c_api.proofs.Comparing.{comparisons_more, item_compared, item_refused}
+use Rattle.measured_c_api.proofs.Comparing.{comparisons_more, item_compared, item_rejected}
 use Rattle.measured_c_api.proofs.Counting.{all_decode_more}
 use Rattle.measured_c_api.proofs.Chunks.{none_of_all, one_taken, same_version, taken_of_all}
 use Rattle.measured_c_api.proofs.commands.compare_all.Goals as goal
@@ -14,7 +14,7 @@ returns-in_err-held c =
     let step = rw c.in-Some.is at c.in_ok-item.ensures in
     let taken = taken_of_all c.args.version _ _ c.in-Some.item version step in
     let from = err_from_is_err_and c.from_residual-in_err-held.result c.from_residual-in_err-held.ensures.1 in
-    rw (from.1, from.2) (item_refused c.args.rounds c.args.version _ _ _ items c.in-Some.item c.in_err-held.field-0.0 front taken c.in_err-held.ensures)
+    rw (from.1, from.2) (item_rejected c.args.rounds c.args.version _ _ _ items c.in-Some.item c.in_err-held.field-0.0 front taken c.in_err-held.ensures)
 
 pub returns-in_default-checked_add : goal.returns-in_default-checked_add
 returns-in_default-checked_add c =

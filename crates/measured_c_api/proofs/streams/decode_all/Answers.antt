@@ -2,7 +2,7 @@ use Rattle.std.proofs.Common.{◌∙◌, ◌++◌, ◌∷◌, [], arith}
 use Rattle.std.proofs.lemmas.Result.{err_from_is_err_and}
 use Rattle.shared_core.proofs.Items.{item_is_long, then_takes}
 use Rattle.shared_core_message.specs.Messages.{message_schema}
-use Rattle.measured_c_api.proofs.Counting.{all_decode_more, count_more, item_counts, item_decoded, item_refused}
+use Rattle.measured_c_api.proofs.Counting.{all_decode_more, count_more, item_counts, item_decoded, item_rejected}
 use Rattle.measured_c_api.proofs.Chunks.{none_of_all, one_taken, same_version, taken_of_all}
 use Rattle.measured_c_api.specs.Chunks.{untaken}
 use Rattle.measured_c_api.proofs.streams.decode_all.Goals as goal
@@ -13,7 +13,7 @@ returns-in_err-count c =
     let step = rw c.in-Some.is at c.in_ok-item.ensures in
     let taken = taken_of_all c.args.version _ _ c.in-Some.item version step in
     let from = err_from_is_err_and c.from_residual-in_err-count.result c.from_residual-in_err-count.ensures.1 in
-    rw (from.1, from.2) (item_refused c.args.version _ _ _ items c.in-Some.item c.in_err-count.field-0.0 front taken c.in_err-count.ensures)
+    rw (from.1, from.2) (item_rejected c.args.version _ _ _ items c.in-Some.item c.in_err-count.field-0.0 front taken c.in_err-count.ensures)
 
 pub loop-stream-preserved : goal.loop-stream-preserved
 loop-stream-preserved c =

@@ -27,5 +27,5 @@ unreachable-requires-in-Err-decode_to g c =
     let came = alone _ (g.M.RestateEncodableMessage.wire_form c.args.message.now) _ _ _ (ap (λ e. e.version) c.new.ensures) c.requires.low c.in-Ok.ensures.frame.comes_out
     _ c.new-decoder.ensures _ c.in-Ok-push.ensures.ok (Ok c.in-Ok-Some.field-0) c.consume_next.new.self.bytes c.in-Ok-Some.ensures.next in
     let came = rw c.in-Ok-Some.field-0-is at came in
-    let refused = c.in-Err-decode_to.ensures.written _ came.0.0 (subst (λ s. IsCanonical s (g.M.RestateEncodableMessage.wire_form c.args.message.now c.args.version).parts c.in-Ok-Some.received.payload) c.requires.own came.0.1) in
-    search (rules, refused)
+    let rejected = c.in-Err-decode_to.ensures.written _ came.0.0 (subst (λ s. IsCanonical s (g.M.RestateEncodableMessage.wire_form c.args.message.now c.args.version).parts c.in-Ok-Some.received.payload) c.requires.own came.0.1) in
+    search (rules, rejected)

@@ -1,6 +1,6 @@
 use Rattle.std.proofs.Common.{refl}
 use Rattle.shared_core_wire.specs.Value.{Number}
-use Rattle.shared_core_codec.proofs.FieldElements.{packed_extends, packed_refused, parts_push}
+use Rattle.shared_core_codec.proofs.FieldElements.{packed_extends, packed_rejected, parts_push}
 use Rattle.shared_core_codec.proofs.packed.merge.Goals as goal
 
 pub returns-in_ok-push-in-Varint-clause-ok : goal.returns-in_ok-push-in-Varint-clause-ok
@@ -10,4 +10,4 @@ pub returns-in-Length-clause-ok : goal.returns-in-Length-clause-ok
 returns-in-Length-clause-ok c = rw c.in-Length.is (packed_extends c.args.field.now.items c.merge_run.new.numbers.items c.in-Length.content.now c.merge_run.result c.merge_run.ensures)
 
 pub returns-in-Length-clause-malformed : goal.returns-in-Length-clause-malformed
-returns-in-Length-clause-malformed c e = rw c.in-Length.is (packed_refused c.args.field.now.items c.merge_run.new.numbers.items c.in-Length.content.now c.merge_run.result c.merge_run.ensures e)
+returns-in-Length-clause-malformed c e = rw c.in-Length.is (packed_rejected c.args.field.now.items c.merge_run.new.numbers.items c.in-Length.content.now c.merge_run.result c.merge_run.ensures e)

@@ -11,5 +11,5 @@ returns-in-Ok-clause-means c =
     let short : length c.append_message.new.out.items < 2 ^ 64 = search rules in
     payload_means c.args.schema (json_view c.args.value.now) c.append_message.new.out.items (returns-in-Ok-clause-ok c) short
 
-pub returns-clause-refused : goal.returns-clause-refused
-returns-clause-refused c n = no_payload c.args.schema (json_view c.args.value.now) (c.in-Err.ensures.appended (λ e. n ((c.error_on.ensures n).0 ∙ e)))
+pub returns-clause-rejected : goal.returns-clause-rejected
+returns-clause-rejected c n = no_payload c.args.schema (json_view c.args.value.now) (c.in-Err.ensures.appended (λ e. n ((c.error_on.ensures n).0 ∙ e)))

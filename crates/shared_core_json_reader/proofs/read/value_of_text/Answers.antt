@@ -6,8 +6,8 @@ use Rattle.shared_core_json_reader.proofs.FirstErrors.{not_json_at}
 use Rattle.shared_core_json_reader.proofs.Whole.{IsText, not_a_text, of_tokens}
 use Rattle.shared_core_json_reader.proofs.read.value_of_text.Goals as goal
 
-pub returns-in-Err-clause-refused : goal.returns-in-Err-clause-refused
-returns-in-Err-clause-refused c n = not_a_text c.args.text.now (not_utf8 c.args.text.now c.in-Err.ensures.cases.0)
+pub returns-in-Err-clause-rejected : goal.returns-in-Err-clause-rejected
+returns-in-Err-clause-rejected c n = not_a_text c.args.text.now (not_utf8 c.args.text.now c.in-Err.ensures.cases.0)
 
 pub returns-in-Ok-parse-clause-ok : goal.returns-in-Ok-parse-clause-ok
 returns-in-Ok-parse-clause-ok c =

@@ -7,8 +7,8 @@ use Rattle.shared_core_wire.specs.Value.{Nested}
 use Rattle.std.specs.Prelude.{[], ◌∷◌}
 use Rattle.shared_core_codec.specs.Table.{table, future}
 use Rattle.shared_core_codec.specs.Occurrences.{value_in}
-use Rattle.shared_core_codec.proofs.FieldElements.{element_appended, element_refused}
-use Rattle.shared_core_codec.proofs.MergingRecords.{computed_accepted, computed_merged, computed_refused, message_becomes, message_refused, no_message}
+use Rattle.shared_core_codec.proofs.FieldElements.{element_appended, element_rejected}
+use Rattle.shared_core_codec.proofs.MergingRecords.{computed_accepted, computed_merged, computed_rejected, message_becomes, message_rejected, no_message}
 use Rattle.shared_core_parts.specs.Futures.{future_parts}
 use Rattle.shared_core_parts.proofs.NestedFutures.{future_part, grown}
 use Rattle.shared_core_parts.proofs.future.+merge_future.Goals as goal
@@ -33,12 +33,12 @@ extend_futures-returns-clause-ok t c =
 
 pub extend_futures-returns-in_default-clause-malformed : goal.extend_futures-returns-in_default-clause-malformed
 extend_futures-returns-in_default-clause-malformed t c e =
-    element_refused (accepts_message table c.args.field.now.left) (Message future) (value_in c.args.field.now) refl (no_message c.args.field.now.left future (value_in c.args.field.now) c.in_default.ensures.none)
+    element_rejected (accepts_message table c.args.field.now.left) (Message future) (value_in c.args.field.now) refl (no_message c.args.field.now.left future (value_in c.args.field.now) c.in_default.ensures.none)
 
 pub extend_futures-returns-clause-malformed : goal.extend_futures-returns-clause-malformed
 extend_futures-returns-clause-malformed t c e =
     let below = c.in-Some.nested.left in
     let bytes = c.in-Some.nested.bytes.now in
-    let refused = computed_refused below future _ bytes (future_parts c.in-Ok.future.now) c.merge_future.result c.merge_future.ensures e in
-    element_refused (accepts_message table c.args.field.now.left) (Message future) (value_in c.args.field.now) refl
-    (rw c.in-Some.ensures.bytes (message_refused below c.args.field.now.left future bytes c.in-Some.ensures.left refused))
+    let rejected = computed_rejected below future _ bytes (future_parts c.in-Ok.future.now) c.merge_future.result c.merge_future.ensures e in
+    element_rejected (accepts_message table c.args.field.now.left) (Message future) (value_in c.args.field.now) refl
+    (rw c.in-Some.ensures.bytes (message_rejected below c.args.field.now.left future bytes c.in-Some.ensures.left rejected))

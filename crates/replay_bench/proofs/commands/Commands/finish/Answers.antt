@@ -3,7 +3,7 @@ use Rattle.std.specs.Prelude.{IfSome, is_none}
 use Rattle.std.proofs.lemmas.Result.{err_from_is_err_and}
 use Rattle.shared_core.specs.declared.encoding.raw_message.RawMessage.{RawMessage}
 use Rattle.stream_survey.specs.declared.totals.Survey.{Survey}
-use Rattle.replay_bench.proofs.Readings.{on_more, on_whole, read_counts, read_short, refuses_before}
+use Rattle.replay_bench.proofs.Readings.{on_more, on_whole, read_counts, read_short, rejects_before}
 use Rattle.replay_bench.proofs.commands.Commands.finish.Goals as goal
 
 falls : (found : Option RawMessage) (ended was : Bool) (held now taken sum : ℕ) → ended ≡ is_none found → was ≡ false → sum < 2 ^ 64
@@ -86,13 +86,13 @@ returns-clause-survey g c = λ is_strict first on.
     on_whole c.args.self.version is_strict first _ _ _ _ _ (rw c.loop-has_ended-test.false at (c.loop-has_ended.invariant.read is_strict first on))
     (c.with_rest.ensures ∙ ap (λ (n : ℕ). record c.loop-has_ended.self.survey { rest = n }) c.pending.ensures)
 
-pub returns-in_err-next_command-clause-refused : goal.returns-in_err-next_command-clause-refused
-returns-in_err-next_command-clause-refused g c =
+pub returns-in_err-next_command-clause-rejected : goal.returns-in_err-next_command-clause-rejected
+returns-in_err-next_command-clause-rejected g c =
     let inv = c.loop-has_ended.invariant in
     let from = err_from_is_err_and c.from_residual.result c.from_residual.ensures.1 in
-    let refused = rw inv.side at c.in_err-next_command.ensures.refused in
+    let rejected = rw inv.side at c.in_err-next_command.ensures.rejected in
     rw (from.1, from.2)
     (λ is_strict first on.
     let now = on_more c.args.self.version is_strict first _ _ _ _ (rw c.loop-has_ended-test.true at (inv.read is_strict first on)) in
-    refuses_before c.args.self.side g.S.Source.may_fail _ _ c.in_err-next_command.field-0.0
-    (read_counts c.args.self.version is_strict first _ _ _ _ now) refused)
+    rejects_before c.args.self.side g.S.Source.may_fail _ _ c.in_err-next_command.field-0.0
+    (read_counts c.args.self.version is_strict first _ _ _ _ now) rejected)

@@ -4,7 +4,7 @@ use Rattle.std.proofs.lemmas.Result.{err_from_is_err_and}
 use Rattle.replay_bench.specs.Taking.{TakesFirst}
 use Rattle.replay_bench.proofs.Fronts.{nothing_after, nothing_left, takes_after, takes_held, takes_chunk}
 use Rattle.replay_bench.proofs.Lengths.{keeps_on, chunk_counts}
-use Rattle.replay_bench.proofs.Readings.{read_held, read_chunk, refuses_chunk}
+use Rattle.replay_bench.proofs.Readings.{read_held, read_chunk, rejects_chunk}
 use Rattle.replay_bench.proofs.commands.Commands.next_command.Goals as goal
 
 pub returns-in-Some-clause-taken : goal.returns-in-Some-clause-taken
@@ -97,17 +97,17 @@ returns-in-Ok-None-clause-commands g c =
     let commands = rw c.in_default.is at c.in_ok-command.ensures.commands in
     omega (arith, commands, c.loop-command.invariant.commands)
 
-pub returns-in_err-command-clause-refused : goal.returns-in_err-command-clause-refused
-returns-in_err-command-clause-refused g c =
+pub returns-in_err-command-clause-rejected : goal.returns-in_err-command-clause-rejected
+returns-in_err-command-clause-rejected g c =
     let from = err_from_is_err_and c.from_residual.result c.from_residual.ensures.1 in
     rw (from.1, from.2) tt
 
-pub returns-in_err-self-clause-refused : goal.returns-in_err-self-clause-refused
-returns-in_err-self-clause-refused g c =
+pub returns-in_err-self-clause-rejected : goal.returns-in_err-self-clause-rejected
+returns-in_err-self-clause-rejected g c =
     let inv = c.loop-command.invariant in
     let old = g.S.Source.coming c.loop-command.self.source in
     let new = g.S.Source.coming c.next_chunk.new.self in
     let gives = rw c.in-Ok-Some.field-0-is at c.in-Ok-Some.ensures.chunk in
     let from = err_from_is_err_and c.from_residual-in_err-self.result c.from_residual-in_err-self.ensures.1 in
     rw (from.1, from.2)
-    (refuses_chunk c.args.self.now.side g.S.Source.may_fail c.in_err-self.field-0.0 _ _ c.in-Ok-Some.chunk old new inv.counted gives c.in_err-self.ensures.refused)
+    (rejects_chunk c.args.self.now.side g.S.Source.may_fail c.in_err-self.field-0.0 _ _ c.in-Ok-Some.chunk old new inv.counted gives c.in_err-self.ensures.rejected)

@@ -1,4 +1,4 @@
-use Rattle.shared_core_codec.proofs.MergingRecords.{computed_accepted, computed_merged, computed_refused, message_becomes, message_refused, no_message}
+use Rattle.shared_core_codec.proofs.MergingRecords.{computed_accepted, computed_merged, computed_rejected, message_becomes, message_rejected, no_message}
 use Rattle.shared_core_codec.specs.Occurrences.{value_in}
 use Rattle.shared_core_codec.proofs.message.AnyFieldKind.merge_value.Goals as goal
 
@@ -20,4 +20,4 @@ returns-clause-malformed g c e =
     let below = c.in-Some.nested.left in
     let bytes = c.in-Some.nested.bytes.now in
     let s = g.M.WireRecord.schema in
-    rw c.in-Some.ensures.bytes (message_refused below c.args.field.now.left s bytes c.in-Some.ensures.left (computed_refused below s _ bytes (g.M.WireRecord.parts c.args.self.now) c.merge_occurrences.result c.merge_occurrences.ensures e))
+    rw c.in-Some.ensures.bytes (message_rejected below c.args.field.now.left s bytes c.in-Some.ensures.left (computed_rejected below s _ bytes (g.M.WireRecord.parts c.args.self.now) c.merge_occurrences.result c.merge_occurrences.ensures e))

@@ -5,18 +5,18 @@ use Rattle.shared_core.proofs.Borrowed.{announces_at}
 use Rattle.shared_core.proofs.Items.{none_partial, takes_announced}
 use Rattle.shared_core.proofs.encoding.decoder.Decoder.take_item.Goals as goal
 
-pub returns-in_err-taken-in-Message-clause-refused : goal.returns-in_err-taken-in-Message-clause-refused
-returns-in_err-taken-in-Message-clause-refused c =
+pub returns-in_err-taken-in-Message-clause-rejected : goal.returns-in_err-taken-in-Message-clause-rejected
+returns-in_err-taken-in-Message-clause-rejected c =
     let from = err_from_is_err_and c.from_residual.result c.from_residual.ensures.1 in
-    let refused = c.in_err-taken-in-Message.ensures.refused in
+    let rejected = c.in_err-taken-in-Message.ensures.rejected in
     let says = announces_at _ _ _ _ _ c.self.view_is c.in-Message.ensures in
     rw from.1 (
-      rw (refused.1, refused.2) (c.hold_head.ensures.same ∙ ap (λ u. u.bytes) c.self.view_is),
+      rw (rejected.1, rejected.2) (c.hold_head.ensures.same ∙ ap (λ u. u.bytes) c.self.view_is),
       (
         _,
         _,
         takes_announced _ _ _ _ _ c.in-Some.ensures.held.1 (sym (ap (λ u. u.bytes) c.self.view_is) ∙ c.in-Some.ensures.held.2) c.from_be_bytes.ensures
-            (Message c.in-Message.header) _ _ says (rw c.message_length-length.ensures at refused.0) refl refl,
+            (Message c.in-Message.header) _ _ says (rw c.message_length-length.ensures at rejected.0) refl refl,
         tt,
       ),
     )
@@ -37,18 +37,18 @@ returns-in-Some-taken-clause-taken c =
     rw (c.new.ensures, taken.2) (takes_announced _ _ _ _ _ c.in-Some.ensures.held.1 (sym (ap (λ u. u.bytes) c.self.view_is) ∙ c.in-Some.ensures.held.2) c.from_be_bytes.ensures
     (Message c.in-Message.header) _ _ says taken.0 taken.1 taken.3)
 
-pub returns-in_err-skipped-in-Skipped-clause-refused : goal.returns-in_err-skipped-in-Skipped-clause-refused
-returns-in_err-skipped-in-Skipped-clause-refused c =
+pub returns-in_err-skipped-in-Skipped-clause-rejected : goal.returns-in_err-skipped-in-Skipped-clause-rejected
+returns-in_err-skipped-in-Skipped-clause-rejected c =
     let from = err_from_is_err_and c.from_residual-in_err-skipped-in-Skipped.result c.from_residual-in_err-skipped-in-Skipped.ensures.1 in
-    let refused = c.in_err-skipped-in-Skipped.ensures.refused in
+    let rejected = c.in_err-skipped-in-Skipped.ensures.rejected in
     let says = announces_at _ _ _ _ _ c.self.view_is c.in-Skipped.ensures in
     rw from.1 (
-      rw (refused.1, refused.2) (c.hold_head.ensures.same ∙ ap (λ u. u.bytes) c.self.view_is),
+      rw (rejected.1, rejected.2) (c.hold_head.ensures.same ∙ ap (λ u. u.bytes) c.self.view_is),
       (
         _,
         _,
         takes_announced _ _ _ _ _ c.in-Some.ensures.held.1 (sym (ap (λ u. u.bytes) c.self.view_is) ∙ c.in-Some.ensures.held.2) c.from_be_bytes.ensures
-            (Skipped c.in-Skipped.unknown c.in-Skipped.length) _ _ says refused.0 refl refl,
+            (Skipped c.in-Skipped.unknown c.in-Skipped.length) _ _ says rejected.0 refl refl,
         tt,
       ),
     )

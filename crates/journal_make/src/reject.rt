@@ -31,7 +31,7 @@ fn path_text(alloc: Global, member: &str, inside: &str) -> Result<String, AllocE
 }
 
 /// The error for a member, or for the line if the name is empty.
-pub fn refuse(alloc: Global, reason: LineReason, member: &str) -> LineError
+pub fn reject(alloc: Global, reason: LineReason, member: &str) -> LineError
     ensures { result.reason ≢ lack → result.reason ≡ reason }
 {
     match path_text(alloc, member, "") {
@@ -45,7 +45,7 @@ pub fn refuse(alloc: Global, reason: LineReason, member: &str) -> LineError
 }
 
 /// The error for a rejected value inside a member, or in the line if the name is empty.
-pub fn refuse_json(alloc: Global, error: &JsonReadError, member: &str) -> LineError
+pub fn reject_json(alloc: Global, error: &JsonReadError, member: &str) -> LineError
     ensures { result.reason ≢ lack → result.reason ≡ reason.Json error.now.reason }
 {
     match path_text(alloc, member, error.path.as_str()) {
