@@ -70,11 +70,11 @@ pub fn compare_readers<A: Read + Drop, B: Read + Drop>(
     compare_sources(alloc, version, recorded, replayed, ignore_payload_equality)
 }
 
-/// Compares two journals of any sources, as `compare_journals` does: one may be given in chunks and the
-/// other by a reader.
+/// Compares two journals of any sources, as `compare_journals` does: one may be given in chunks and the other by a
+/// reader.
 ///
-/// Chunks are taken from a source only as far as the result needs them. `Read` names a side only where its source may fail,
-/// which a slice does not.
+/// Chunks are taken from a source only as far as the result needs them. `Read` names a side only where its source may
+/// fail, which a slice does not.
 pub fn compare_sources<A: Source, B: Source>(
     alloc: Global,
     version: Version,

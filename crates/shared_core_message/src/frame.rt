@@ -87,7 +87,8 @@ pub fn encode_frame_into<P: FramePayload>(
         → vec_capacity out.old < vec_len out.old + (8 + size table P.payload_schema (P.payload_parts payload.now)) }
     ensures too_long { IsErrOf result PayloadTooLong
         → 2 ^ 32 ≤ size table P.payload_schema (P.payload_parts payload.now) }
-    ensures rejected { 2 ^ 32 ≤ size table P.payload_schema (P.payload_parts payload.now) → result ≡ Err PayloadTooLong }
+    ensures rejected { 2 ^ 32 ≤ size table P.payload_schema (P.payload_parts payload.now)
+        → result ≡ Err PayloadTooLong }
 {
     let header = header_of(payload, requested_ack)?;
     let start = out.len();
@@ -116,7 +117,8 @@ pub fn encode_frame_into_bytes<P: FramePayload>(
     ensures kept { OnErr result (out.old.spare ≤ out.new.spare) }
     ensures too_long { IsErrOf result PayloadTooLong
         → 2 ^ 32 ≤ size table P.payload_schema (P.payload_parts payload.now) }
-    ensures rejected { 2 ^ 32 ≤ size table P.payload_schema (P.payload_parts payload.now) → result ≡ Err PayloadTooLong }
+    ensures rejected { 2 ^ 32 ≤ size table P.payload_schema (P.payload_parts payload.now)
+        → result ≡ Err PayloadTooLong }
 {
     let header = header_of(payload, requested_ack)?;
     let start = out.len();
