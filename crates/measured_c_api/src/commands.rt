@@ -126,13 +126,13 @@ fn count_same<M: CommandMessageHeaderEq>(
     ensures { HoldsInRounds (AreSame M.schema ignore_payloads (M.parts first.now) (M.parts second.now)) rounds result }
 {
     // they take turns, so that no round repeats the one before it
-    let (mut asked, mut other) = (first, second);
+    let (mut current, mut other) = (first, second);
     let mut count = 0;
     for _round in 0..rounds {
-        if asked.header_eq(other, ignore_payloads) {
+        if current.header_eq(other, ignore_payloads) {
             count += 1;
         }
-        (asked, other) = (other, asked);
+        (current, other) = (other, current);
     }
     count
 }

@@ -91,16 +91,16 @@ suspension_decodes version suspension before fits =
     subst (λ (form : WireForm). wire_size form < 2 ^ 32 → FrameEncodes version Suspension form (DecodesTo Suspension tables.suspension_v6 flat)) (sym form)
     (λ small. form_decodes version Suspension (plain_form tables.suspension_v6 flat) tt small (flattened_fits suspension fits) low)
 
-asked : (requests : Bool) → Some (eqb (ack_bit (cond requests (Some true) None)) 1) ≡ Some requests
-asked true = refl
-asked false = refl
+flag_read : (requests : Bool) → Some (eqb (ack_bit (cond requests (Some true) None)) 1) ≡ Some requests
+flag_read true = refl
+flag_read false = refl
 
 -- the header of a proposal requests an acknowledgement from V7 on
 pub proposal_asks : (version : Version) (proposal : Parts) → wire_size (proposal_form proposal version) < 2 ^ 32
     → FrameEncodes version ProposeRunCompletion (proposal_form proposal version) (λ item. requested_ack_of item ≡ Some (requests_acknowledgement version))
 proposal_asks version proposal small =
     let form = proposal_form proposal version in
-    (frame_is_item version ProposeRunCompletion form (wire_frame ProposeRunCompletion form) tt small refl, asked (requests_acknowledgement version))
+    (frame_is_item version ProposeRunCompletion form (wire_frame ProposeRunCompletion form) tt small refl, flag_read (requests_acknowledgement version))
 
 no_flag : (ty : MessageType) → ty ≢ ProposeRunCompletion → allows_ack ty ≡ false
 no_flag ty = elim ty as (λ ty. ty ≢ ProposeRunCompletion → allows_ack ty ≡ false) [

@@ -25,7 +25,7 @@ pub fn header_eq_is_symmetric<M: CommandMessageHeaderEq>(
     b: &M,
     ignore_payload_equality: bool,
 ) -> (bool, bool)
-    ensures asked { IsTrue result.0 ↔ AreSame M.schema ignore_payload_equality (M.parts a.now) (M.parts b.now) }
+    ensures decides { IsTrue result.0 ↔ AreSame M.schema ignore_payload_equality (M.parts a.now) (M.parts b.now) }
     ensures law { result.0 ≡ result.1 }
 {
     (
@@ -70,7 +70,7 @@ pub fn unequal_commands_print_a_difference<M: CommandMessageHeaderEq + CommandMe
     a: &M,
     b: &M,
 ) -> bool
-    ensures asked { IsTrue result ↔ AreSame M.schema false (M.parts a.now) (M.parts b.now) }
+    ensures decides { IsTrue result ↔ AreSame M.schema false (M.parts a.now) (M.parts b.now) }
     ensures law { IsFalse result → (indentation : List ℕ)
         → name_part M.schema (M.parts a.now) ≡ name_part M.schema (M.parts b.now)
         → difference M.schema indentation (M.parts a.now) (M.parts b.now) ≡ [] → ⊥ }

@@ -16,7 +16,7 @@ use Rattle.stream_lines.specs.declared.report.Report.{Report}
 use Rattle.stream_lines.specs.declared.report.Trouble.{Trouble}
 use Rattle.stream_lines.specs.declared.error.PrintError.{PrintError}
 use Rattle.stream_lines.specs.declared.error.PrintError.TheVariants.{Input, Output, OutOfMemory, TooLong}
-use Rattle.stream_lines.specs.Printing.{item_size, items_size, lines, trouble_at, first_trouble, ArePrinted, IsReport, Begins, IsLack, IsLongIn, IsRead, StandsWritten}
+use Rattle.stream_lines.specs.Printing.{item_size, items_size, lines, trouble_at, first_trouble, ArePrinted, IsReport, Begins, IsLack, IsLongIn, IsRead, IsWrittenFor}
 
 pub lines_join : (line : ℕ → ℕ → Item → List ℕ) (at : ℕ) (bytes : List ℕ) (items others : List Item)
     → lines line at bytes items ++ lines line (at + items_size items) (drop (items_size items) bytes) others ≡ lines line at bytes (items ++ others)
@@ -179,19 +179,19 @@ module _ (line : ℕ → ℕ → Item → List ℕ) (last : ℕ → List ℕ →
       let (all, after, split) = split_of version stream in
       let (others, is) = split_begins version stream after all split items rest front in
       let longer = begins_longer written (lines line 0 stream items) (lines line (0 + items_size items) (drop (items_size items) stream) others) begun in
-      record { items = all; rest = after; split = split; stands = inl (subst (Begins written) (lines_join line 0 stream items others ∙ ap (lines line 0 stream) (sym is)) longer) }
+      record { items = all; rest = after; split = split; written_for = inl (subst (Begins written) (lines_join line 0 stream items others ∙ ap (lines line 0 stream) (sym is)) longer) }
 
   printed_lack : (error : PrintError) (stream rest : List ℕ) (items : List Item) (left : Option (List ℕ)) → IsLack (IsLongIn is_long version rest) error → IsItemsThen version stream items rest → ArePrinted line last is_long trouble version (Err error) stream (lines line 0 stream items) left
   printed_lack Input stream rest items left lack front = absurd lack
   printed_lack Output stream rest items left lack front = absurd lack
   printed_lack OutOfMemory stream rest items left lack front =
       let (all, after, split) = split_of version stream in
-      record { items = all; rest = after; split = split; stands = (items, split_begins version stream after all split items rest front, refl) }
+      record { items = all; rest = after; split = split; written_for = (items, split_begins version stream after all split items rest front, refl) }
   printed_lack TooLong stream rest items left (more, item, others, then_item, long) front =
       let (all, after, split) = split_of version stream in
       let until = items ++ (more ++ item ∷ []) in
       let then_long_one = then_join version stream rest others items (more ++ item ∷ []) front then_item in
-      record { items = all; rest = after; split = split; stands = (items, more, item, split_begins version stream after all split until others then_long_one, long, refl) }
+      record { items = all; rest = after; split = split; written_for = (items, more, item, split_begins version stream after all split until others then_long_one, long, refl) }
 
   pub starts : GoesOn line trouble version first start first start 0 [] None
   starts = record {
@@ -219,7 +219,7 @@ module _ (line : ℕ → ℕ → Item → List ℕ) (last : ℕ → List ℕ →
       written_so_far,
       so_far.came,
       so_far.wrote,
-      record { items = so_far.items; rest = pending; split = so_far.split; stands = refl },
+      record { items = so_far.items; rest = pending; split = so_far.split; written_for = refl },
     )
 
     module _ (now : Option (List ℕ)) (chunk : List ℕ) (taken : Consumes left now chunk) where
@@ -279,13 +279,13 @@ module _ (line : ℕ → ℕ → Item → List ℕ) (last : ℕ → List ℕ →
 
       -- the input has ended, and the last line is written, or cut short
       module _ (grown : Option (List ℕ)) (written : List ℕ) (none : length chunk ≡ 0) (end : IsAtEnd now) (wrote : Appends out grown written) where
-        then_last : (result : Result Report PrintError) → StandsWritten line last is_long trouble result so_far.read so_far.items pending (written_so_far ++ written) now → HasEnded line last is_long trouble version first start now grown result
-        then_last result stands = (
+        then_last : (result : Result Report PrintError) → IsWrittenFor line last is_long trouble result so_far.read so_far.items pending (written_so_far ++ written) now → HasEnded line last is_long trouble version first start now grown result
+        then_last result written_for = (
           so_far.read,
           written_so_far ++ written,
           consumes_none first left now so_far.read chunk so_far.came taken none,
           Appends-trans start out grown written_so_far written so_far.wrote wrote,
-          record { items = so_far.items; rest = pending; split = so_far.split; stands = stands },
+          record { items = so_far.items; rest = pending; split = so_far.split; written_for = written_for },
         )
 
         pub ended_whole : (report : Report) → IsReport trouble so_far.items pending report → written ≡ last (items_size so_far.items) pending → HasEnded line last is_long trouble version first start now grown (Ok report)
@@ -301,7 +301,7 @@ module _ (line : ℕ → ℕ → Item → List ℕ) (last : ℕ → List ℕ →
       written_so_far,
       Consumes-kept first left now so_far.read so_far.came kept,
       so_far.wrote,
-      record { items = so_far.items; rest = pending; split = so_far.split; stands = refl },
+      record { items = so_far.items; rest = pending; split = so_far.split; written_for = refl },
     )
     ended_read now Output is = absurd is
     ended_read now OutOfMemory (lost, taken) = ended_lack now lost taken OutOfMemory tt

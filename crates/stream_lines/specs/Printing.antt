@@ -70,15 +70,15 @@ IsLack is_long error = ⊥
 -- What is written for each result, for a stream of these items and these remaining bytes, and what the reader has left:
 -- all lines and the report, at the input's end; the lines of all items; a prefix of these or, at the input's end, of
 -- all lines; the lines of the first items; or those of the items before one that is too long.
-abbrev pub StandsWritten : (ℕ → ℕ → Item → List ℕ) → (ℕ → List ℕ → List ℕ) → (Item → Type 0) → (Item → Option Trouble) → Result Report PrintError → List ℕ → List Item → List ℕ → List ℕ → Option (List ℕ) → Type 0
-StandsWritten line last is_long trouble (Ok report) stream items rest written left =
+abbrev pub IsWrittenFor : (ℕ → ℕ → Item → List ℕ) → (ℕ → List ℕ → List ℕ) → (Item → Type 0) → (Item → Option Trouble) → Result Report PrintError → List ℕ → List Item → List ℕ → List ℕ → Option (List ℕ) → Type 0
+IsWrittenFor line last is_long trouble (Ok report) stream items rest written left =
     IsAtEnd left × (written ≡ all_lines line last stream items rest) × IsReport trouble items rest report
-StandsWritten line last is_long trouble (Err Input) stream items rest written left = written ≡ lines line 0 stream items
-StandsWritten line last is_long trouble (Err Output) stream items rest written left =
+IsWrittenFor line last is_long trouble (Err Input) stream items rest written left = written ≡ lines line 0 stream items
+IsWrittenFor line last is_long trouble (Err Output) stream items rest written left =
     Begins written (lines line 0 stream items) ⊎ (IsAtEnd left × Begins written (all_lines line last stream items rest))
-StandsWritten line last is_long trouble (Err OutOfMemory) stream items rest written left =
+IsWrittenFor line last is_long trouble (Err OutOfMemory) stream items rest written left =
     (done : List Item) × Begins done items × (written ≡ lines line 0 stream done)
-StandsWritten line last is_long trouble (Err TooLong) stream items rest written left =
+IsWrittenFor line last is_long trouble (Err TooLong) stream items rest written left =
     (done : List Item) × (front : List Item) × (item : Item) × Begins (done ++ (front ++ item ∷ [])) items × is_long item × (written ≡ lines line 0 stream done)
 
 -- The bytes that were read split into these items and these remaining bytes, as every stream does in one way, and what
@@ -87,7 +87,7 @@ pub record ArePrinted (line : ℕ → ℕ → Item → List ℕ) (last : ℕ →
   pub items : List Item
   pub rest : List ℕ
   pub split : SplitsInto version read items rest
-  pub stands : StandsWritten line last is_long trouble result read items rest written left
+  pub written_for : IsWrittenFor line last is_long trouble result read items rest written left
 
 -- What one read took of the reader's bytes, by its result: a chunk, which is empty only at the end; nothing if it
 -- failed; or bytes that could not be stored.

@@ -38,7 +38,7 @@ pub trait CommandVisitor: Sized + Drop {
 
     /// Visits the record of this type.
     fn visit<M: CommandMessage>(self) -> Self::Output
-        requires asked { may_visit self M.message_type }
+        requires allowed { may_visit self M.message_type }
         // its payloads have the record's schema
         requires own { message_schema M.message_type ≡ Some M.schema }
         ensures { results self M.message_type M.schema result };

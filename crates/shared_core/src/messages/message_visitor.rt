@@ -25,7 +25,7 @@ pub trait MessageVisitor: Sized + Drop {
 
     /// Visits the record of this type.
     fn visit<M: RestateEncodableMessage + Debug>(self) -> Self::Output
-        requires asked { may_visit self M.message_type }
+        requires allowed { may_visit self M.message_type }
         // its payloads have the record's schema
         requires own { message_schema M.message_type ≡ Some M.schema }
         // what the record is written as follows from the type

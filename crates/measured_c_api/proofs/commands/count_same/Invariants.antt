@@ -5,7 +5,7 @@ use Rattle.measured_c_api.proofs.commands.count_same.Given as goal
 
 abbrev pub invariant-loop-round : goal.invariant-loop-round
 invariant-loop-round g l =
-    (AreSame g.M.WireRecord.schema l.ignore_payloads (g.M.WireRecord.parts l.asked) (g.M.WireRecord.parts l.other)
+    (AreSame g.M.WireRecord.schema l.ignore_payloads (g.M.WireRecord.parts l.current) (g.M.WireRecord.parts l.other)
     ↔ AreSame g.M.WireRecord.schema l.ignore_payloads (g.M.WireRecord.parts l.first) (g.M.WireRecord.parts l.second))
     × (l.count ≤ l._round)
     × HoldsInRounds (AreSame g.M.WireRecord.schema l.ignore_payloads (g.M.WireRecord.parts l.first) (g.M.WireRecord.parts l.second)) l._round l.count

@@ -13,7 +13,7 @@ pub returns-in-Err : goal.returns-in-Err
 returns-in-Err g c =
     let pair = c.args.self in
     let s = g.M.WireRecord.schema in
-    let typed = are_typed pair.index pair.recorded.now pair.replayed.now g.M.RestateMessage.message_type s c.requires.asked c.requires.own in
+    let typed = are_typed pair.index pair.recorded.now pair.replayed.now g.M.RestateMessage.message_type s c.requires.allowed c.requires.own in
     rw c.bench_error.ensures
     (pair_recorded pair.ignore pair.index pair.recorded.now pair.replayed.now s typed c.in-Err.error (λ is. c.in-Err.ensures.malformed (ap Err is)))
 
@@ -21,7 +21,7 @@ pub returns-in-Err-decode_as : goal.returns-in-Err-decode_as
 returns-in-Err-decode_as g c =
     let pair = c.args.self in
     let s = g.M.WireRecord.schema in
-    let typed = are_typed pair.index pair.recorded.now pair.replayed.now g.M.RestateMessage.message_type s c.requires.asked c.requires.own in
+    let typed = are_typed pair.index pair.recorded.now pair.replayed.now g.M.RestateMessage.message_type s c.requires.allowed c.requires.own in
     rw c.bench_error-in-Err-decode_as.ensures
     (pair_replayed pair.ignore pair.index pair.recorded.now pair.replayed.now s typed (g.M.WireRecord.parts c.in-Ok.recorded) c.in-Err-decode_as.error c.in-Ok.ensures.ok (λ is. c.in-Err-decode_as.ensures.malformed (ap Err is)))
 
@@ -29,7 +29,7 @@ pub returns-then-header_eq : goal.returns-then-header_eq
 returns-then-header_eq g c =
     let pair = c.args.self in
     let s = g.M.WireRecord.schema in
-    let typed = are_typed pair.index pair.recorded.now pair.replayed.now g.M.RestateMessage.message_type s c.requires.asked c.requires.own in
+    let typed = are_typed pair.index pair.recorded.now pair.replayed.now g.M.RestateMessage.message_type s c.requires.allowed c.requires.own in
     pair_alike pair.ignore pair.index pair.recorded.now pair.replayed.now s typed (g.M.WireRecord.parts c.in-Ok.recorded) (g.M.WireRecord.parts c.in-Ok-decode_as.replayed) c.in-Ok.ensures.ok c.in-Ok-decode_as.ensures.ok
     (c.header_eq.ensures.0 c.if-header_eq.true)
 
@@ -46,7 +46,7 @@ returns g c =
     let recorded = g.M.WireRecord.parts c.in-Ok.recorded in
     let replayed = g.M.WireRecord.parts c.in-Ok-decode_as.replayed in
     let ty = g.M.RestateMessage.message_type in
-    let typed = are_typed pair.index pair.recorded.now pair.replayed.now ty s c.requires.asked c.requires.own in
+    let typed = are_typed pair.index pair.recorded.now pair.replayed.now ty s c.requires.allowed c.requires.own in
     let index = pair.index in
     let three = codes "   " in
     pair_differs pair.ignore index pair.recorded.now pair.replayed.now s typed recorded replayed c.in-Ok.ensures.ok c.in-Ok-decode_as.ensures.ok c.in_ok-text.text
@@ -54,6 +54,6 @@ returns g c =
     (
     c.in_ok-text.ensures.ok
     ∙ ap (λ (m : CommandMismatchError g.row.M.Denot). command_mismatch_text ty m.command_index (difference s three (g.M.WireRecord.parts m.actual) (g.M.WireRecord.parts m.expected))) c.new-mismatch.ensures
-    ∙ ap (λ n. command_mismatch_text ty n (difference s three recorded replayed)) (to_z_pos w64 index c.requires.asked.below)
-    ∙ ap (λ t. command_mismatch_text t (pos index) (difference s three recorded replayed)) (sym c.requires.asked.is)
+    ∙ ap (λ n. command_mismatch_text ty n (difference s three recorded replayed)) (to_z_pos w64 index c.requires.allowed.below)
+    ∙ ap (λ t. command_mismatch_text t (pos index) (difference s three recorded replayed)) (sym c.requires.allowed.is)
     )
