@@ -159,13 +159,8 @@ pub extern "C" fn measure_frame_shared(
 
 /// As `journal_is_well_formed`, but repeated `rounds` times (0 counts as 1).
 #[unsafe(no_mangle)]
-pub extern "C" fn measure_well_formed(
-    alloc: Global,
-    schema: u32,
-    payload: &[u8],
-    rounds: usize,
-) -> i64
+pub extern "C" fn measure_well_formed(schema: u32, payload: &[u8], rounds: usize) -> i64
     ensures { Returns result (ReturnsWellFormed schema payload.now) }
 {
-    outcome_of(payloads::is_well_formed(alloc, schema, payload, rounds))
+    outcome_of(payloads::is_well_formed(schema, payload, rounds))
 }

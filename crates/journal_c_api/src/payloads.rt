@@ -64,7 +64,7 @@ pub fn write_json(
 }
 
 /// 1 if a payload is well-formed for a schema, otherwise 0. Nothing is allocated.
-pub fn is_well_formed(_alloc: Global, schema: u32, payload: &[u8]) -> Result<usize, CallError>
+pub fn is_well_formed(schema: u32, payload: &[u8]) -> Result<usize, CallError>
     ensures { ReturnsWellFormed schema payload.now result }
 {
     if !check::is_schema(schema) {

@@ -12,10 +12,10 @@ use std::alloc::Global;
 /// Returns 1 if a payload is well-formed for a schema, by its number (its index in the table), otherwise 0. `Unknown`
 /// if no schema has the number.
 #[unsafe(no_mangle)]
-pub extern "C" fn journal_is_well_formed(alloc: Global, schema: u32, payload: &[u8]) -> i64
+pub extern "C" fn journal_is_well_formed(schema: u32, payload: &[u8]) -> i64
     ensures { Returns result (ReturnsWellFormed schema payload.now) }
 {
-    outcome_of(payloads::is_well_formed(alloc, schema, payload))
+    outcome_of(payloads::is_well_formed(schema, payload))
 }
 
 /// Writes the canonical payload of what a payload means for a schema. A payload that is canonical is copied, without

@@ -5,20 +5,14 @@ ghost use Rattle.journal_c_api.specs.Payloads.{ReturnsWellFormed};
 use crate::rounds::repeated;
 use journal_c_api::outcome::CallError;
 use journal_c_api::payloads;
-use std::alloc::Global;
 
 /// Checks this many times (0 counts as 1) whether a payload is well-formed for a schema, and returns 1, otherwise 0.
-pub fn is_well_formed(
-    alloc: Global,
-    schema: u32,
-    payload: &[u8],
-    rounds: usize,
-) -> Result<usize, CallError>
+pub fn is_well_formed(schema: u32, payload: &[u8], rounds: usize) -> Result<usize, CallError>
     ensures { ReturnsWellFormed schema payload.now result }
 {
     repeated(
         rounds,
         &mut [],
-        |_words| payloads::is_well_formed(alloc, schema, payload),
+        |_words| payloads::is_well_formed(schema, payload),
     )
 }
