@@ -263,7 +263,7 @@ module _ (nested : ℕ → Json → Option Parts) (bound : ℕ) (fit : (s : ℕ)
 -- ---- the rows of the schemas
 
 -- no plain field is a message
-plain_scalars : List Row → Bool
+unfoldable pub plain_scalars : List Row → Bool
 plain_scalars [] = true
 plain_scalars (schema.Plain n k ∷ rows) = is_scalar k && plain_scalars rows
 plain_scalars (schema.Optional n k ∷ rows) = plain_scalars rows
@@ -276,7 +276,7 @@ each_has [] h s = refl
 each_has (rows ∷ all) h zero = (and_split _ _ h).0
 each_has (rows ∷ all) h (suc s) = each_has all (and_split _ _ h).1 s
 
-have_scalars : (s : ℕ) → plain_scalars (table s) ≡ true
+pub have_scalars : (s : ℕ) → plain_scalars (table s) ≡ true
 unfolding plain_scalars
 have_scalars s = each_has schemas refl s
 

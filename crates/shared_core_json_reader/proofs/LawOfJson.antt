@@ -1,5 +1,5 @@
 -- The JSON of a value, as tokens, is read as the value's canonical payload.
-use Rattle.std.proofs.Common.{◌≡◌, ℕ, suc, ◌+◌, ◌*◌, ◌≤◌, max, List, [], ◌∷◌, ◌++◌, length, Bool, true, false, cond, ◌&&◌, Some, option_map, option_and_then, refl, sym, ap, subst, ◌∙◌, append-nil, arith}
+use Rattle.std.proofs.Common.{◌≡◌, ℕ, suc, ◌+◌, ◌*◌, ◌≤◌, max, List, [], ◌∷◌, ◌++◌, length, Bool, true, false, cond, ◌&&◌, Some, option_map, option_and_then, IsUtf8, refl, sym, ap, subst, ◌∙◌, append-nil, arith}
 use Rattle.std.proofs.lemmas.Bool.{eqb-true}
 use Rattle.std.proofs.lemmas.Str.{is_utf8-from_IsUtf8}
 use Rattle.std.proofs.lemmas.List.Concat.{flat_map-append}
@@ -9,6 +9,7 @@ use Rattle.base64.specs.GeneralPurpose.{encode_of, IsBytes}
 use Rattle.base64.specs.Engines.{standard}
 use Rattle.base64.proofs.EngineFacts.{front_bytes}
 use Rattle.json.specs.Json.{Json, Members, if_last, value, object, string, member, no_members}
+use Rattle.json.specs.Lex.{tokens}
 use Rattle.json.specs.Tree.{json_tokens, depth, items_depth, members_depth}
 use Rattle.json.proofs.Printed.Trees.{value-json_tokens}
 use Rattle.shared_core_wire.specs.Grammar.{RecordValue, Varint, Fixed64, Length, Group, Fixed32}
@@ -23,7 +24,7 @@ use Rattle.shared_core_codec.specs.Table.{table}
 use Rattle.shared_core_json.specs.Fields.{names_of, name_of}
 use Rattle.shared_core_json.specs.Form.{is_present, member_if, number_json, byte_string_json, bytes_json, part_json, items_json, members_json, json_with}
 use Rattle.shared_core_json_reader.specs.Laws.{JsonIsReadBack}
-use Rattle.shared_core_json_reader.specs.Reading.{only_value}
+use Rattle.shared_core_json_reader.specs.Reading.{only_value, text_payload}
 use Rattle.shared_core_json_reader.proofs.Agreeing.{out_of}
 use Rattle.shared_core_json_reader.proofs.TreeBack.{PartBytes, PartsBytes, message_back}
 use Rattle.shared_core_json_reader.proofs.Whole.{IsText, of_tokens, text_of_value}
@@ -39,7 +40,7 @@ number_depth Text n = refl
 number_depth ByteString n = refl
 number_depth (Message s) n = refl
 
-byte_string_depth : (texts : Bool) (b : List ℕ) → depth (byte_string_json texts b) ≤ 1
+pub byte_string_depth : (texts : Bool) (b : List ℕ) → depth (byte_string_json texts b) ≤ 1
 byte_string_depth texts b = by_test (texts && is_utf8 b)
   where
     by_test : (t : Bool) → depth (cond t (object (member (codes "text") (string b) no_members)) (string (encode_of standard b))) ≤ 1
@@ -121,7 +122,7 @@ mutual
 
 -- ---- the bytes of a value are those of its payload
 
-back_bytes : (a b : List ℕ) → IsBytes (a ++ b) → IsBytes b
+pub back_bytes : (a b : List ℕ) → IsBytes (a ++ b) → IsBytes b
 back_bytes [] b h = h
 back_bytes (x ∷ a) b h = back_bytes a b (λ i. h (suc i))
 
@@ -249,14 +250,23 @@ mutual
 
 -- ---- the law
 
-whole_value : (j : Json) → depth j ≤ 1000 → only_value (json_tokens j) ≡ Some j
+pub whole_value : (j : Json) → depth j ≤ 1000 → only_value (json_tokens j) ≡ Some j
 unfolding only_value
 whole_value j h = ap (option_and_then (λ p. if_last p.0 p.1)) (ap (value 1000) (sym (append-nil (json_tokens j))) ∙ value-json_tokens j 1000 [] h)
 
-pub json_back : (texts : Bool) (s : ℕ) → JsonIsReadBack texts s
-json_back texts s v bytes text encoding small low utf8 lexed =
-    let deep : depth (json_with texts s v) ≤ 1000 = omega (arith, members_low texts (names_of s) v (table s) encoding.fits) in
-    let held = message_bytes_of v (table s) encoding.fits (subst IsBytes encoding.canonical small) in
+pub value_low : (texts : Bool) (s : ℕ) (v : Parts) → Fits table v (table s) → depth (json_with texts s v) ≤ 2 * levels v + 3
+value_low texts s v fits = omega (arith, members_low texts (names_of s) v (table s) fits)
+
+-- a value whose bytes are bytes, whatever its encoding
+pub value_back : (texts : Bool) (s : ℕ) (v : Parts) (text : List ℕ) → Fits table v (table s) → levels v ≤ 100 → PartsBytes v → IsUtf8 text → tokens text ≡ json_tokens (json_with texts s v)
+    → text_payload s text ≡ Some (canonical_payload table s v)
+value_back texts s v text fits low held utf8 lexed =
+    let deep : depth (json_with texts s v) ≤ 1000 = omega (arith, value_low texts s v fits) in
     let is : IsText text (json_tokens (json_with texts s v)) = record { utf8 = is_utf8-from_IsUtf8 text utf8; lexed = sym lexed } in
     text_of_value s text (json_with texts s v) (of_tokens text (json_tokens (json_with texts s v)) (Some (json_with texts s v)) is (whole_value (json_with texts s v) deep))
-    ∙ ap (option_map (canonical_payload table s)) (message_back texts 100 s v encoding.fits low held) ∙ ap (λ (b : List ℕ). Some b) (sym encoding.canonical)
+    ∙ ap (option_map (canonical_payload table s)) (message_back texts 100 s v fits low held)
+
+pub json_back : (texts : Bool) (s : ℕ) → JsonIsReadBack texts s
+json_back texts s v bytes text encoding small low utf8 lexed =
+    let held = message_bytes_of v (table s) encoding.fits (subst IsBytes encoding.canonical small) in
+    value_back texts s v text encoding.fits low held utf8 lexed ∙ ap (λ (b : List ℕ). Some b) (sym encoding.canonical)

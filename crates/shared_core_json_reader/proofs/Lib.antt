@@ -8,3 +8,7 @@ pub mod Fitting
 pub mod ScalarsBack
 pub mod TreeBack
 pub mod LawOfJson
+pub mod ReadAgain
+pub mod Printed
+pub mod PrintedValues
+pub mod Meanings

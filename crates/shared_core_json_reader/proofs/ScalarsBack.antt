@@ -79,8 +79,11 @@ negative_whole n h =
 below_limit : (limit n : ℕ) → n < limit → unsigned_below limit (record { negative = false; magnitude = n }) ≡ Some n
 below_limit limit n h = ap (λ (b : Bool). cond b (Some n) None) (lt-ltb n limit h)
 
+pub number_back : (limit n : ℕ) → n < 2 ^ 64 → n < limit → unsigned_read limit (number (decimal n)) ≡ Some n
+number_back limit n h l = ap (option_and_then (unsigned_below limit)) (decimal_whole n h) ∙ below_limit limit n l
+
 pub u32_back : (n : ℕ) → n < 2 ^ 32 → unsigned_read 4294967296 (number (decimal n)) ≡ Some n
-u32_back n h = ap (option_and_then (unsigned_below 4294967296)) (decimal_whole n (omega arith)) ∙ below_limit 4294967296 n (omega arith)
+u32_back n h = number_back 4294967296 n (omega arith) (omega arith)
 
 pub u64_back : (n : ℕ) → n < 2 ^ 64 → unsigned_read 18446744073709551616 (string (decimal n)) ≡ Some n
 u64_back n h = ap (option_and_then (unsigned_below 18446744073709551616)) (decimal_whole n h) ∙ below_limit 18446744073709551616 n (omega arith)

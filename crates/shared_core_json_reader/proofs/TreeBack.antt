@@ -74,7 +74,7 @@ names_apart s n m h g =
     let one = one_of_all (λ n. list_all (λ m. same_test (names_key (name_of ns n) (name_of ns m)) (eqb n m)) all) all n (apart_at names schemas s all_apart) h in
     same_test-true (names_key (name_of ns n) (name_of ns m)) (eqb n m) (one_of_all (λ m. same_test (names_key (name_of ns n) (name_of ns m)) (eqb n m)) all m one g)
 
-same_bytes : (xs : List ℕ) → bytes_eq xs xs ≡ true
+pub same_bytes : (xs : List ℕ) → bytes_eq xs xs ≡ true
 same_bytes [] = refl
 same_bytes (x ∷ xs) = ap₂ (λ (a b : Bool). a && b) (eq-eqb x x refl) (same_bytes xs)
 

@@ -1,0 +1,138 @@
+-- The JSON of a value can be printed, and its text is read as the value's canonical payload.
+use Rattle.std.proofs.Common.{◌≡◌, ℕ, zero, suc, ◌-◌, ◌^◌, ◌<◌, ◌≤◌, List, [], ◌∷◌, Bool, true, false, cond, ◌&&◌, ltb, eqb, IsUtf8, refl, negsuc, arith}
+use Rattle.std.proofs.lemmas.Bool.{ltb-true, ltb-false}
+use Rattle.std.proofs.lemmas.Fmt.{IsAscii-decimal}
+use Rattle.std.proofs.lemmas.Str.{IsUtf8-nil, IsUtf8-from_ascii, IsUtf8-from_is_utf8}
+use Rattle.std.specs.Prelude.{codes, decimal}
+use Rattle.std.specs.Str.{is_utf8}
+use Rattle.base64.specs.GeneralPurpose.{encode_of}
+use Rattle.base64.specs.Engines.{standard}
+use Rattle.base64.proofs.EngineFacts.{IsAscii-encode_of}
+use Rattle.json.specs.Json.{Json, object, string, number, Members, member, no_members}
+use Rattle.json.proofs.Printed.Utf8.{are_ascii, IsUtf8-are_ascii}
+use Rattle.json.proofs.Printed.Decimals.{IsNumber-decimal, IsNumber-signed_decimal}
+use Rattle.shared_core_wire.specs.Schema.{Kind, Row, U32, U64, Boolean, Enumeration, Text, ByteString, Message}
+use Rattle.shared_core_wire.specs.Value.{Part, Parts, Absent, Number, Bytes, Nested, Elements, Member, nil, cons}
+use Rattle.shared_core_wire.specs.Canonical.{kind_of, number_of}
+use Rattle.shared_core_wire.specs.Fitting.{NumberFits, BytesFit, PartFits, ElementsFit, Fits}
+use Rattle.shared_core_wire.proofs.Runs.{and_split}
+use Rattle.shared_core_codec.specs.Table.{table}
+use Rattle.shared_core_json.specs.Names.{names}
+use Rattle.shared_core_json.specs.Fields.{names_at, names_of, name_of}
+use Rattle.shared_core_json.specs.Form.{is_present, member_if, enum_digits, number_json, byte_string_json, bytes_json, part_json, items_json, members_json, json_with}
+use Rattle.shared_core_json_reader.proofs.Printed.{visible_decimal, MayPrint, ItemsMay, MembersMay}
+
+-- ---- numbers and bytes
+
+utf8_decimal : (n : ℕ) → n < 2 ^ 64 → IsUtf8 (decimal n)
+utf8_decimal n h = IsUtf8-from_ascii (decimal n) (IsAscii-decimal n h)
+
+plain_number : (n : ℕ) → n < 2 ^ 64 → MayPrint (number (decimal n))
+plain_number n h = (IsNumber-decimal n h, visible_decimal n (omega arith))
+
+negative_number : (n : ℕ) → n < 2 ^ 63 → MayPrint (number (45 ∷ decimal (suc n)))
+negative_number n h =
+    (IsNumber-signed_decimal (negsuc n) (omega arith), visible_decimal (suc n) (omega arith))
+
+enum_may : (n : ℕ) → n < 2 ^ 32 → MayPrint (number (enum_digits n))
+enum_may n h = by_sign (ltb n (2 ^ 31)) refl
+  where
+    negative : (m : ℕ) → m ≡ 2 ^ 32 - n → 2 ^ 31 ≤ n → MayPrint (number (45 ∷ decimal m))
+    negative zero e g = absurd (omega (arith, e))
+    negative (suc m) e g = negative_number m (omega (arith, e))
+
+    by_sign : (b : Bool) → ltb n (2 ^ 31) ≡ b → MayPrint (number (cond b (decimal n) (45 ∷ decimal (2 ^ 32 - n))))
+    by_sign true e = plain_number n (omega (arith, ltb-true n (2 ^ 31) e))
+    by_sign false e = negative (2 ^ 32 - n) refl (ltb-false n (2 ^ 31) e)
+
+number_may : (k : Kind) (n : ℕ) → NumberFits k n → MayPrint (number_json k n)
+number_may U32 n h = plain_number n (omega arith)
+number_may U64 n h = utf8_decimal n h
+number_may Boolean n h = tt
+number_may Enumeration n h = enum_may n h
+number_may Text n h = absurd h
+number_may ByteString n h = absurd h
+number_may (Message s) n h = absurd h
+
+-- bytes in base64 or as a text
+pub byte_string_may : (texts : Bool) (b : List ℕ) → MayPrint (byte_string_json texts b)
+byte_string_may false b = IsUtf8-from_ascii (encode_of standard b) (IsAscii-encode_of standard b)
+byte_string_may true b = by_test (is_utf8 b) refl
+  where
+    by_test : (t : Bool) → is_utf8 b ≡ t → MayPrint (cond t (object (member (codes "text") (string b) no_members)) (string (encode_of standard b)))
+    by_test true e = (IsUtf8-are_ascii (codes "text") refl, IsUtf8-from_is_utf8 b e, tt)
+    by_test false e = IsUtf8-from_ascii (encode_of standard b) (IsAscii-encode_of standard b)
+
+bytes_may : (texts : Bool) (k : Kind) (b : List ℕ) → BytesFit k b → MayPrint (bytes_json texts k b)
+bytes_may texts Text b h = IsUtf8-from_is_utf8 b h
+bytes_may texts ByteString b h = byte_string_may texts b
+bytes_may texts U32 b h = absurd h
+bytes_may texts U64 b h = absurd h
+bytes_may texts Boolean b h = absurd h
+bytes_may texts Enumeration b h = absurd h
+bytes_may texts (Message s) b h = absurd h
+
+-- ---- names
+
+names_ascii : List (ℕ × List ℕ) → Bool
+names_ascii [] = true
+names_ascii (n ∷ ns) = are_ascii n.1 && names_ascii ns
+
+all_ascii : List (List (ℕ × List ℕ)) → Bool
+all_ascii [] = true
+all_ascii (ns ∷ nss) = names_ascii ns && all_ascii nss
+
+ascii_at : (nss : List (List (ℕ × List ℕ))) (s : ℕ) → all_ascii nss ≡ true → names_ascii (names_at nss s) ≡ true
+unfolding all_ascii names_ascii
+ascii_at [] s h = refl
+ascii_at (ns ∷ nss) zero h = (and_split _ _ h).0
+ascii_at (ns ∷ nss) (suc s) h = ascii_at nss s (and_split _ _ h).1
+
+are_all_ascii : all_ascii names ≡ true
+unfolding all_ascii names_ascii
+are_all_ascii = refl
+
+name_utf8 : (ns : List (ℕ × List ℕ)) (n : ℕ) → names_ascii ns ≡ true → IsUtf8 (name_of ns n)
+unfolding names_ascii
+name_utf8 [] n h = IsUtf8-nil
+name_utf8 (name ∷ ns) n h = let e = and_split (are_ascii name.1) (names_ascii ns) h in by_test (name_utf8 ns n e.1) e.0 (eqb n name.0)
+  where
+    by_test : IsUtf8 (name_of ns n) → are_ascii name.1 ≡ true → (b : Bool) → IsUtf8 (cond b name.1 (name_of ns n))
+    by_test later one true = IsUtf8-are_ascii name.1 one
+    by_test later one false = later
+
+-- ---- values
+
+member_may : (b : Bool) (name : List ℕ) (j : Json) (others : Members) → IsUtf8 name → MayPrint j → MembersMay others → MembersMay (member_if b name j others)
+member_may true name j others u h g = (u, h, g)
+member_may false name j others u h g = g
+
+mutual
+  unfolding PartFits part_json
+
+  part_may : (texts : Bool) (p : Part) (k : Kind) → PartFits table p k → MayPrint (part_json texts p k)
+  part_may texts Absent k f = tt
+  part_may texts (Number n) k f = number_may k n f
+  part_may texts (Bytes b) k f = bytes_may texts k b f
+  part_may texts (Nested ps) (Message t) f = members_may texts (names_of t) ps (table t) (ascii_at names t are_all_ascii) f
+  part_may texts (Nested ps) U32 f = absurd f
+  part_may texts (Nested ps) U64 f = absurd f
+  part_may texts (Nested ps) Boolean f = absurd f
+  part_may texts (Nested ps) Enumeration f = absurd f
+  part_may texts (Nested ps) Text f = absurd f
+  part_may texts (Nested ps) ByteString f = absurd f
+  part_may texts (Elements ps) k f = items_may texts ps k f
+  part_may texts (Member n p) k f = part_may texts p k f
+
+  items_may : (texts : Bool) (ps : Parts) (k : Kind) → ElementsFit table ps k → ItemsMay (items_json texts ps k)
+  items_may texts nil k f = tt
+  items_may texts (cons p ps) k f = (part_may texts p k f.1, items_may texts ps k f.2)
+
+  members_may : (texts : Bool) (ns : List (ℕ × List ℕ)) (v : Parts) (rows : List Row) → names_ascii ns ≡ true → Fits table v rows → MembersMay (members_json texts ns v rows)
+  members_may texts ns nil rows a f = tt
+  members_may texts ns (cons p ps) [] a f = absurd f
+  members_may texts ns (cons p ps) (row ∷ rows) a f =
+      member_may (is_present row p) (name_of ns (number_of row p)) (part_json texts p (kind_of row p)) (members_json texts ns ps rows) (name_utf8 ns (number_of row p) a) (part_may texts p (kind_of row p) f.1) (members_may texts ns ps rows a f.2)
+
+pub value_may : (texts : Bool) (s : ℕ) (v : Parts) → Fits table v (table s) → MayPrint (json_with texts s v)
+value_may texts s v f = members_may texts (names_of s) v (table s) (ascii_at names s are_all_ascii) f
