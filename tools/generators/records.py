@@ -441,17 +441,24 @@ def write_message(source, message):
     )
 
 
+def is_alike(oneof, other):
+    """Whether two oneofs have the same members at the same numbers, so that one enum can be both."""
+    def members(row):
+        return [(member.name, member.number, member.kind, member.message) for member in row.members]
+
+    return members(oneof) == members(other)
+
+
 def shared_oneofs(crate, table):
-    """The oneofs that messages of a crate share: the module, the enum's name, what it is, the oneof, and each message with its field."""
+    """The oneofs that messages of a crate share: the module, the enum's name, what it is, the oneof, and each message with its field. A message
+    whose oneof is not that of the first one keeps an enum of its own."""
     found = []
     for module, enum, about, names in SHARED.get(crate, []):
         oneof, users = None, []
         for name in names:
             for row in table[name].rows:
-                if isinstance(row, OneOf) and (oneof is None or [m.name for m in row.members] == [m.name for m in oneof.members]):
-                    if row.name == "signal_id":
-                        continue
-                    oneof = row
+                if isinstance(row, OneOf) and (oneof is None or is_alike(row, oneof)):
+                    oneof = oneof or row
                     users.append((name, row.name))
         found.append((module, enum, about, oneof, users))
     return found
