@@ -3,7 +3,7 @@ what of a command is compared and printed. And the list of types for the scripts
 """
 from . import laid_out
 from .commands import Entry, name_number
-from .proto import OneOf, earlier, fields_of, messages, refuse, schema_name, schemas, typed
+from .proto import TEMPLATE, OneOf, earlier, fields_of, messages, refuse, schema_name, schemas, typed
 from .records import KINDS, missing  # noqa: F401
 
 ABOUT = "The tables of schemas, of message types and of compared commands, for contracts."
@@ -18,6 +18,14 @@ TABLE = """\
 -- index in the table. Rows are in the order of their numbers, a oneof at its least number.
 use Rattle.std.specs.Prelude.{ℕ, List, [], ◌∷◌}
 use Rattle.shared_core_wire.specs.Schema.{Row, Table, U32, U64, Boolean, Enumeration, Text, ByteString, Message, Plain, Optional, Repeated, OneOf, table_of}
+"""
+
+TEMPLATE_PARTS = """\
+-- The parts of NotificationTemplate.
+use Rattle.shared_core_wire.specs.Value.{Part, Parts, nil, cons}
+
+-- The parts that its rows have, in the order of their numbers.
+abbrev pub template_parts : %sParts
 """
 
 FIELDS = """\
@@ -106,6 +114,16 @@ def part_fields():
     return "".join(parts)
 
 
+def template_parts():
+    """The parts of the template of notifications, each named after its row."""
+    template = next(message for message in schemas() if message.name == TEMPLATE)
+    names = [one.name for one in sorted(template.rows, key=least)]
+    parts = "nil"
+    for name in reversed(names):
+        parts = f"cons {name} {parts}" if parts == "nil" else f"cons {name} ({parts})"
+    return f"{TEMPLATE_PARTS % ('Part → ' * len(names))}template_parts {' '.join(sorted(names))} = {parts}\n"
+
+
 def variants(and_custom=True):
     """The names of the types as a list in braces."""
     return ", ".join([message.type_name() for message in typed()] + (["CustomEntry"] if and_custom else []))
@@ -156,6 +174,7 @@ def texts():
         "crates/shared_core_codec/specs/Table.antt": table(),
         "crates/shared_core_codec/specs/PartFields.antt": part_fields(),
         "crates/shared_core_message/specs/Messages.antt": message_schemas(),
+        "crates/shared_core/specs/TemplateParts.antt": template_parts(),
         "crates/shared_core_compare/specs/CommandTable.antt": commands(),
     }
 

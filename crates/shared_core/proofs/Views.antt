@@ -9,7 +9,7 @@ use Rattle.shared_core_base.specs.declared.header.MessageType.TheVariants.{Custo
 use Rattle.shared_core_base.specs.MessageType.{IsNamed, code_of}
 use Rattle.shared_core_wire.specs.Grammar.{FieldRecord}
 use Rattle.shared_core_wire.specs.Schema.{Kind, OneOf, U32, Text, Message, includes, numbers}
-use Rattle.shared_core_wire.specs.Value.{Part, Parts, Absent, cons, nil}
+use Rattle.shared_core_wire.specs.Value.{Part, Parts, Absent, Number, cons, nil}
 use Rattle.shared_core_wire.specs.Overlay.{NestedOverlay, message_overlay, oneof_over, own_records, payload_records}
 use Rattle.shared_core_wire.specs.Template.{is_within_template}
 use Rattle.shared_core_wire.proofs.TemplateView.{payload_views}
@@ -25,6 +25,7 @@ use Rattle.shared_core_parts.specs.contracts.notification_template.ResultOneOf.T
 use Rattle.shared_core.specs.declared.encoding.raw_message.RawMessage.{RawMessage}
 use Rattle.shared_core.specs.declared.encoding.error.DecodingError.{DecodingError}
 use Rattle.shared_core.specs.declared.encoding.error.DecodingError.TheVariants.{DecodeMessage, OutOfMemory}
+use Rattle.shared_core.specs.TemplateParts.{template_parts}
 use Rattle.shared_core.specs.Typed.{MeansParts, RejectsPayload}
 use Rattle.shared_core.specs.View.{IsOfNotification, AgreesWithType, ReturnsLacking, IsMissing, has_record, id_numbers, lacking_field, result_numbers}
 
@@ -80,30 +81,41 @@ oneof_holds members overlay_nested (r ∷ rs) = by_test (oneof_holds members ove
     by_test later true = refl
     by_test later false = later
 
-first_holds : Parts → Bool
-first_holds nil = false
-first_holds (cons p ps) = is_present p
+-- the part of the first row, and that of the second one
+first : Parts → Part
+first nil = Absent
+first (cons p ps) = p
 
-second_holds : Parts → Bool
-second_holds nil = false
-second_holds (cons p ps) = first_holds ps
+second : Parts → Part
+second nil = Absent
+second (cons p ps) = first ps
+
+-- the parts of a template by their names, whichever row is the first
+id_is_first : Bool
+id_is_first = is_present (first (template_parts (Number 0) Absent))
+
+id_of : Parts → Part
+id_of parts = cond id_is_first (first parts) (second parts)
+
+result_of : Parts → Part
+result_of parts = cond id_is_first (second parts) (first parts)
 
 -- what the template holds is what has a record
-records_held : (payload : List ℕ) (id result : Part) → MeansParts notification_template payload (cons id (cons result nil))
+records_held : (payload : List ℕ) (id result : Part) → MeansParts notification_template payload (template_parts id result)
     → (has_record id_numbers payload ≡ is_present id) × (has_record result_numbers payload ≡ is_present result)
-unfolding first_holds second_holds
+unfolding first second id_is_first id_of result_of
 records_held payload id result means =
     let rs = payload_records 100 payload in
     let nested = message_overlay table 100 in (
-      sym (ap first_holds means.1 ∙ oneof_holds ids.members-value.it nested rs),
-      sym (ap second_holds means.1 ∙ oneof_holds results.members-value.it nested rs),
+      sym (ap (λ (ps : Parts). is_present (id_of ps)) means.1 ∙ oneof_holds ids.members-value.it nested rs),
+      sym (ap (λ (ps : Parts). is_present (result_of ps)) means.1 ∙ oneof_holds results.members-value.it nested rs),
     )
 
 -- the field that is lacking where the template holds these
 held_field : Bool → Bool → Option (List ℕ)
 held_field id result = cond id (cond result None (Some (codes "result"))) (Some (codes "id"))
 
-returns_held : (message : RawMessage) (id result : Part) (returned : Result Notification DecodingError) → MeansParts notification_template message.payload (cons id (cons result nil))
+returns_held : (message : RawMessage) (id result : Part) (returned : Result Notification DecodingError) → MeansParts notification_template message.payload (template_parts id result)
     → ReturnsLacking message (held_field (is_present id) (is_present result)) returned → ReturnsLacking message (lacking_field message.payload) returned
 unfolding held_field
 returns_held message id result returned means returns =
@@ -111,18 +123,18 @@ returns_held message id result returned means returns =
     subst (λ (b : Bool). ReturnsLacking message (held_field b (has_record result_numbers message.payload)) returned) (sym held.0)
     (subst (λ (b : Bool). ReturnsLacking message (held_field (is_present id) b) returned) (sym held.1) returns)
 
-pub lacks_id : (message : RawMessage) (result : Part) (failure : DecodingError) → MeansParts notification_template message.payload (cons Absent (cons result nil)) → IsMissing message (codes "id") failure
+pub lacks_id : (message : RawMessage) (result : Part) (failure : DecodingError) → MeansParts notification_template message.payload (template_parts Absent result) → IsMissing message (codes "id") failure
     → ReturnsLacking message (lacking_field message.payload) (Err failure)
 unfolding held_field
 lacks_id message result failure means missing = returns_held message Absent result (Err failure) means (inl missing)
 
-pub lacks_result : (message : RawMessage) (id : Part) (failure : DecodingError) → MeansParts notification_template message.payload (cons id (cons Absent nil)) → is_present id ≡ true → IsMissing message (codes "result") failure
+pub lacks_result : (message : RawMessage) (id : Part) (failure : DecodingError) → MeansParts notification_template message.payload (template_parts id Absent) → is_present id ≡ true → IsMissing message (codes "result") failure
     → ReturnsLacking message (lacking_field message.payload) (Err failure)
 unfolding held_field
 lacks_result message id failure means there missing =
     returns_held message id Absent (Err failure) means (subst (λ (b : Bool). ReturnsLacking message (held_field b false) (Err failure)) (sym there) (inl missing))
 
-pub lacks_nothing : (message : RawMessage) (id result : Part) (found : Notification) → MeansParts notification_template message.payload (cons id (cons result nil)) → is_present id ≡ true → is_present result ≡ true
+pub lacks_nothing : (message : RawMessage) (id result : Part) (found : Notification) → MeansParts notification_template message.payload (template_parts id result) → is_present id ≡ true → is_present result ≡ true
     → ReturnsLacking message (lacking_field message.payload) (Ok found)
 unfolding held_field
 lacks_nothing message id result found means there here =

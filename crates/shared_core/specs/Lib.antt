@@ -6,6 +6,7 @@ pub mod Segments
 pub mod Errors
 pub mod Typed
 pub mod Written
+pub mod TemplateParts
 pub mod View
 pub mod Decoded
 pub mod Forms

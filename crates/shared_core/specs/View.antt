@@ -4,7 +4,7 @@ use Rattle.std.specs.List.{list_any}
 use Rattle.shared_core_wire.specs.Schema.{OneOf, includes, all_numbers, numbers}
 use Rattle.shared_core_wire.specs.Overlay.{payload_records}
 use Rattle.shared_core_wire.specs.Template.{are_apart, part_at}
-use Rattle.shared_core_wire.specs.Value.{Part, Parts, Absent, nil, cons}
+use Rattle.shared_core_wire.specs.Value.{Part, Parts, Absent}
 use Rattle.shared_core_codec.specs.Table.{table, notification_template}
 use Rattle.shared_core_codec.specs.Payloads.{IsAccepted, payload_meaning}
 use Rattle.shared_core_parts.specs.declared.notification.Notification.{Notification}
@@ -13,11 +13,12 @@ use Rattle.shared_core_parts.specs.contracts.notification_template.ResultOneOf.T
 use Rattle.shared_core.specs.declared.encoding.raw_message.RawMessage.{RawMessage}
 use Rattle.shared_core.specs.declared.encoding.error.DecodingError.{DecodingError}
 use Rattle.shared_core.specs.declared.encoding.error.DecodingError.TheVariants.{MissingField, OutOfMemory}
+use Rattle.shared_core.specs.TemplateParts.{template_parts}
 use Rattle.shared_core.specs.Typed.{MeansParts, RejectsPayload}
 
 -- The parts of the template that a notification is: its id and its result.
 abbrev pub notification_parts : Notification → Parts
-notification_parts found = cons (ids.part-value.it found.id) (cons (results.part-value.it found.result) nil)
+notification_parts found = template_parts (ids.part-value.it found.id) (results.part-value.it found.result)
 
 -- The error says that a field of the message is missing.
 abbrev pub IsMissing : RawMessage → List ℕ → DecodingError → Type 0
@@ -27,8 +28,8 @@ IsMissing message field error = ⊥
 -- The template lacks the field: an id, or a result beside an id.
 abbrev pub LacksField : List ℕ → Parts → Type 0
 LacksField field parts =
-    ((field ≡ codes "id") × (result : Part) × (parts ≡ cons Absent (cons result nil)))
-    ⊎ ((field ≡ codes "result") × (id : Part) × (id ≢ Absent) × (parts ≡ cons id (cons Absent nil)))
+    ((field ≡ codes "id") × (result : Part) × (parts ≡ template_parts Absent result))
+    ⊎ ((field ≡ codes "result") × (id : Part) × (id ≢ Absent) × (parts ≡ template_parts id Absent))
 
 -- When the view is rejected: the payload is, or it means a template that lacks a field, the id first.
 abbrev pub RejectsNotification : RawMessage → DecodingError → Type 0

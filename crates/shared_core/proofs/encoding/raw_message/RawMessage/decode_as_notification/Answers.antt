@@ -5,7 +5,8 @@ use Rattle.shared_core_parts.specs.contracts.notification_template.ResultOneOf.T
 use Rattle.shared_core_parts.specs.contracts.notification_template.ResultOneOf.TheImpl.Laws.{present-law as result_present}
 use Rattle.shared_core_codec.specs.FieldParts.{option_part}
 use Rattle.shared_core_codec.specs.Table.{notification_template}
-use Rattle.shared_core_wire.specs.Value.{Absent, cons, nil}
+use Rattle.shared_core_wire.specs.Value.{Absent}
+use Rattle.shared_core.specs.TemplateParts.{template_parts}
 use Rattle.shared_core.specs.Typed.{MeansParts}
 use Rattle.shared_core.specs.View.{notification_parts}
 use Rattle.shared_core.proofs.Views.{lacks_id, lacks_nothing, lacks_result, view_accepts, view_agrees}
@@ -16,12 +17,12 @@ returns-in_err-id-clause-accepts c s is accepted = view_accepts _ s _ c.requires
 
 pub returns-in_default-clause-lacking : goal.returns-in_default-clause-lacking
 returns-in_default-clause-lacking c accepted =
-    let means : MeansParts notification_template c.args.self.now.payload (cons Absent (cons (option_part results.part-value.it c.in_ok-id.result) nil)) = search rules in
+    let means : MeansParts notification_template c.args.self.now.payload (template_parts Absent (option_part results.part-value.it c.in_ok-id.result)) = search rules in
     lacks_id c.args.self.now _ _ means c.missing.ensures
 
 pub returns-in_default-result-clause-lacking : goal.returns-in_default-result-clause-lacking
 returns-in_default-result-clause-lacking c accepted =
-    let means : MeansParts notification_template c.args.self.now.payload (cons (ids.part-value.it c.in-Some.id) (cons Absent nil)) = search rules in
+    let means : MeansParts notification_template c.args.self.now.payload (template_parts (ids.part-value.it c.in-Some.id) Absent) = search rules in
     lacks_result c.args.self.now _ _ means (id_present c.in-Some.id) c.missing-in_default-result.ensures
 
 pub returns-clause-agrees : goal.returns-clause-agrees
