@@ -5,16 +5,10 @@ ghost use Rattle.std.specs.Prelude.{◌≤◌};
 ghost use Rattle.shared_core_base.specs.Version.{version_number};
 
 mod arguments;
-mod dump;
-mod lines;
-mod messages;
-mod options;
-mod scratch;
 
 use crate::arguments::parse_arguments;
-use crate::dump::dump;
-use crate::options::Options;
 use command_line::{Pipe, arguments, fail, open_file, report};
+use dump_lines::{Options, dump};
 use std::io;
 use std::io::Read;
 use std::process::ExitCode;
@@ -67,29 +61,29 @@ fn dump_input<R: Read>(rt: &HostRuntime, options: &Options<'_>, input: &mut R) -
 }
 
 fn main(rt: HostRuntime) -> ExitCode {
-    let words = match arguments(&rt) {
-        Ok(words) => words,
+    let arguments = match arguments(&rt) {
+        Ok(arguments) => arguments,
         Err(error) if error.kind() == io::ErrorKind::OutOfMemory => {
             return fail(&rt, PROGRAM, "out of memory", 1);
         }
         Err(_) => return fail(&rt, PROGRAM, "an argument is not UTF-8", 2),
     };
-    let asked = match parse_arguments(rt.alloc(), words.as_slice()) {
-        Ok(asked) => asked,
+    let parsed = match parse_arguments(rt.alloc(), arguments.as_slice()) {
+        Ok(parsed) => parsed,
         Err(error) => return report(&rt, PROGRAM, &error, 1),
     };
     let options = Options {
-        version: asked.version,
-        codes: asked.codes.as_slice(),
-        payloads: asked.payloads,
-        texts: asked.texts,
-        strict: asked.strict,
+        version: parsed.version,
+        codes: parsed.codes.as_slice(),
+        payloads: parsed.payloads,
+        texts: parsed.texts,
+        strict: parsed.strict,
     };
-    if asked.path == "-" {
+    if parsed.path == "-" {
         return dump_input(&rt, &options, &mut rt.stdin());
     }
-    match open_file(&rt, asked.path) {
+    match open_file(&rt, parsed.path) {
         Ok(mut file) => dump_input(&rt, &options, &mut file),
-        Err(error) => fail(&rt, PROGRAM, format_args!("{}: {error}", asked.path), 2),
+        Err(error) => fail(&rt, PROGRAM, format_args!("{}: {error}", parsed.path), 2),
     }
 }

@@ -12,7 +12,7 @@ use Rattle.shared_core_wire.specs.Acceptance.{accepts_payload}
 use Rattle.shared_core_codec.specs.Table.{table}
 use Rattle.shared_core_codec.specs.Payloads.{IsAccepted, payload_meaning}
 use Rattle.shared_core_json.specs.Form.{byte_string_json, json_with}
-use Rattle.journal_dump.specs.Lines.{ack_tokens, ack_members, header_json, header_members, header_tokens, payload_members}
+use Rattle.dump_lines.specs.Lines.{ack_tokens, ack_members, header_json, header_members, header_tokens, payload_members}
 
 pub then_tokens : (old new front rest : List Token) → new ≡ old ++ front → new ++ rest ≡ old ++ (front ++ rest)
 then_tokens old new front rest e = ap (λ (ts : List Token). ts ++ rest) e ∙ append_assoc old front rest

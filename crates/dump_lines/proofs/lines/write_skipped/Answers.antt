@@ -4,9 +4,9 @@ use Rattle.json.specs.Token.{key, number, boolean, end_object}
 use Rattle.json.specs.Json.{member, no_members}
 use Rattle.json.specs.Tree.{json_tokens}
 use Rattle.shared_core_json.specs.Form.{byte_string_json}
-use Rattle.journal_dump.specs.Lines.{header_tokens}
-use Rattle.journal_dump.proofs.Tokens.{length_with_header, then_tokens}
-use Rattle.journal_dump.proofs.lines.write_skipped.Goals as goal
+use Rattle.dump_lines.specs.Lines.{header_tokens}
+use Rattle.dump_lines.proofs.Tokens.{length_with_header, then_tokens}
+use Rattle.dump_lines.proofs.lines.write_skipped.Goals as goal
 
 pub returns-in_ok-write_bytes-clause-tokens : goal.returns-in_ok-write_bytes-clause-tokens
 returns-in_ok-write_bytes-clause-tokens c =

@@ -7,10 +7,10 @@ use Rattle.shared_core_codec.specs.Payloads.{payload_meaning}
 use Rattle.shared_core_json.specs.Form.{byte_string_json, json_with}
 use Rattle.shared_core_json.specs.Payloads.{IsEncoding, WritesJson}
 use Rattle.shared_core_json.specs.declared.error.JsonError.TheVariants.{Malformed}
-use Rattle.journal_dump.specs.Canonical.{ReturnsEncoding}
+use Rattle.dump_lines.specs.Canonical.{ReturnsEncoding}
 use Rattle.shared_core.specs.Visiting.{schema_at}
-use Rattle.journal_dump.proofs.Tokens.{then_tokens, shown_message, shown_malformed}
-use Rattle.journal_dump.proofs.lines.write_payload.Goals as goal
+use Rattle.dump_lines.proofs.Tokens.{then_tokens, shown_message, shown_malformed}
+use Rattle.dump_lines.proofs.lines.write_payload.Goals as goal
 
 pub returns-in_ok-write_message_with-in-Ok-Some-clause-tokens : goal.returns-in_ok-write_message_with-in-Ok-Some-clause-tokens
 returns-in_ok-write_message_with-in-Ok-Some-clause-tokens c =

@@ -6,9 +6,9 @@ use Rattle.json.specs.Tree.{members_tokens}
 use Rattle.shared_core_base.specs.MessageType.{code_of, debug_name_of}
 use Rattle.shared_core_base.specs.MessageHeader.{word_of}
 use Rattle.shared_core.specs.Visiting.{schema_at}
-use Rattle.journal_dump.specs.Lines.{ack_tokens, header_tokens, payload_members}
-use Rattle.journal_dump.proofs.Tokens.{head_with_header}
-use Rattle.journal_dump.proofs.lines.write_message_members.Goals as goal
+use Rattle.dump_lines.specs.Lines.{ack_tokens, header_tokens, payload_members}
+use Rattle.dump_lines.proofs.Tokens.{head_with_header}
+use Rattle.dump_lines.proofs.lines.write_message_members.Goals as goal
 
 pub returns-in_ok-write_payload-clause-tokens : goal.returns-in_ok-write_payload-clause-tokens
 returns-in_ok-write_payload-clause-tokens c =

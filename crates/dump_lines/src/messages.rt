@@ -6,7 +6,7 @@ ghost use Rattle.shared_core_codec.specs.Payloads.{IsAccepted, payload_meaning};
 ghost use Rattle.shared_core_json.specs.Payloads.{IsEncoding, IsTooLong};
 ghost use Rattle.shared_core_json.specs.declared.error.JsonError.TheVariants.{Malformed, TooLong};
 ghost use Rattle.shared_core.specs.Visiting.{schema_at};
-ghost use Rattle.journal_dump.specs.Canonical.{ReturnsEncoding};
+ghost use Rattle.dump_lines.specs.Canonical.{ReturnsEncoding};
 
 use bytes::Bytes;
 use shared_core::header::MessageType;

@@ -17,7 +17,7 @@ use Rattle.shared_core.specs.declared.encoding.item.Item.{Item}
 use Rattle.shared_core.specs.declared.encoding.item.Item.TheVariants.{Message, Unknown, Skipped}
 use Rattle.shared_core.specs.Visiting.{schema_at}
 use Rattle.shared_core_json.specs.Form.{byte_string_json, json_with}
-use Rattle.journal_dump.specs.declared.options.Options.{Options}
+use Rattle.dump_lines.specs.declared.options.Options.{Options}
 
 -- The bytes of a header, in base64.
 abbrev pub header_json : List ℕ → Json
@@ -102,8 +102,8 @@ item_code (Unknown code) = code
 item_code (Skipped code payload) = code
 
 -- Whether items of a code have lines: all do if none is selected.
-abbrev pub is_asked_for : List ℕ → ℕ → Bool
-is_asked_for wanted code = (length wanted == 0) || list_any (λ x. nat_eq x code) wanted
+abbrev pub is_selected : List ℕ → ℕ → Bool
+is_selected selected code = (length selected == 0) || list_any (λ x. nat_eq x code) selected
 
 -- The line of an object.
 abbrev pub json_line : Json → List ℕ
@@ -112,7 +112,7 @@ json_line json = print (json_tokens json) ++ codes "\n"
 -- The line of an item that begins at an offset, with this word as its header, if it is selected.
 abbrev pub line_of : Options → ℕ → ℕ → Item → List ℕ
 line_of options at word item =
-    if is_asked_for options.codes.now (item_code item) then json_line (item_json options at word item) else []
+    if is_selected options.codes.now (item_code item) then json_line (item_json options at word item) else []
 
 -- The member of the bytes that are in no item, if there are any and payloads are printed.
 abbrev pub rest_members : Options → List ℕ → Members

@@ -6,14 +6,14 @@ ghost use Rattle.json.specs.Token as token;
 ghost use Rattle.json.specs.Tree.{json_tokens, members_tokens};
 ghost use Rattle.shared_core.specs.declared.encoding.item.Item.TheVariants as variant;
 ghost use Rattle.shared_core_base.specs.MessageType.{debug_name_of};
-ghost use Rattle.journal_dump.specs.Canonical.{IsLongFor};
+ghost use Rattle.dump_lines.specs.Canonical.{IsLongFor};
 ghost use Rattle.stream_lines.specs.Printing.{IsLack};
-ghost use Rattle.journal_dump.specs.Dump.{HasLongPayload, is_well_formed_for, wrong_of};
+ghost use Rattle.dump_lines.specs.Dump.{HasLongPayload, is_well_formed_for, wrong_of};
 ghost use Rattle.shared_core.specs.Visiting.{schema_at};
 ghost use Rattle.shared_core_json.specs.Form.{byte_string_json};
-ghost use Rattle.journal_dump.specs.Lines.{payload_members, ack_tokens, header_tokens, item_members, item_json};
-ghost use Rattle.journal_dump.specs.Lines.{number_member, rest_members, skipped_members, unknown_members};
-ghost use Rattle.journal_dump.specs.Lines.{item_code as code_of_item, is_asked_for, line_of, rest_line};
+ghost use Rattle.dump_lines.specs.Lines.{payload_members, ack_tokens, header_tokens, item_members, item_json};
+ghost use Rattle.dump_lines.specs.Lines.{number_member, rest_members, skipped_members, unknown_members};
+ghost use Rattle.dump_lines.specs.Lines.{item_code as code_of_item, is_selected, line_of, rest_line};
 
 use crate::messages::canonical_of;
 use crate::options::Options;
@@ -34,7 +34,7 @@ const CODE_UNIT: u128 = 1 << 48;
 
 /// Prints the lines of items by these options.
 impl<'a> LinePrinter for Options<'a> {
-    ghost use Rattle.journal_dump.specs.Dump.{IsLong, trouble_of};
+    ghost use Rattle.dump_lines.specs.Dump.{IsLong, trouble_of};
 
     type Scratch = Scratch;
 
@@ -70,7 +70,7 @@ impl<'a> LinePrinter for Options<'a> {
         scratch: &mut Scratch,
         lines: Vec<u8>,
     ) -> Result<Vec<u8>, PrintError> {
-        if !is_asked_for(self.codes, item_code(&item)) {
+        if !is_selected(self.codes, item_code(&item)) {
             return Ok(lines);
         }
         let mut line = mem::replace(&mut scratch.line, Vec::new(alloc));
@@ -101,7 +101,7 @@ fn message_trouble(options: &Options<'_>, message: &RawMessage) -> Option<Troubl
     ensures { result ≡ wrong_of options.now (variant.Message message.now) }
 {
     let ty = message.ty();
-    if !is_asked_for(options.codes, u16::from(ty)) {
+    if !is_selected(options.codes, u16::from(ty)) {
         return None;
     }
     if is_well_formed_for(schema_at(options.version, ty), message.payload()) {
@@ -142,8 +142,8 @@ fn item_code(item: &Item) -> u16
 }
 
 /// Whether items of a code are selected.
-fn is_asked_for(codes: &[u16], code: u16) -> bool
-    ensures { result ≡ is_asked_for codes.now code }
+fn is_selected(codes: &[u16], code: u16) -> bool
+    ensures { result ≡ is_selected codes.now code }
 {
     codes.is_empty() || codes.contains(&code)
 }

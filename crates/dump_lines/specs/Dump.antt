@@ -11,9 +11,9 @@ use Rattle.stream_lines.specs.declared.report.Report.{Report}
 use Rattle.stream_lines.specs.declared.report.Trouble.{Trouble}
 use Rattle.stream_lines.specs.declared.report.Trouble.TheVariants.{UnknownCode, Malformed}
 use Rattle.stream_lines.specs.Printing.{ArePrinted}
-use Rattle.journal_dump.specs.declared.options.Options.{Options}
-use Rattle.journal_dump.specs.Canonical.{IsLongFor}
-use Rattle.journal_dump.specs.Lines.{is_asked_for, item_code, line_of, rest_line}
+use Rattle.dump_lines.specs.declared.options.Options.{Options}
+use Rattle.dump_lines.specs.Canonical.{IsLongFor}
+use Rattle.dump_lines.specs.Lines.{is_selected, item_code, line_of, rest_line}
 
 -- Payloads are printed, the item is a message, and the canonical payload of what its payload means is too long to be
 -- written.
@@ -23,7 +23,7 @@ HasLongPayload options item = ⊥
 
 -- The item is selected, and has such a payload.
 abbrev pub IsLong : Options → Item → Type 0
-IsLong options item = (is_asked_for options.codes.now (item_code item) ≡ true) × HasLongPayload options item
+IsLong options item = (is_selected options.codes.now (item_code item) ≡ true) × HasLongPayload options item
 
 -- Whether a payload is well-formed for a schema; without a schema every payload is.
 abbrev pub is_well_formed_for : Option ℕ → List ℕ → Bool
@@ -33,7 +33,7 @@ is_well_formed_for (Some s) payload = accepts_payload schema.table 100 s payload
 -- What is wrong with an item: a code that is no type's, or of a selected message a payload that is not well-formed.
 abbrev pub wrong_of : Options → Item → Option Trouble
 wrong_of options (Message message) =
-    if is_asked_for options.codes.now (code_of message.header.ty)
+    if is_selected options.codes.now (code_of message.header.ty)
     then (if is_well_formed_for (schema_at options.version message.header.ty) message.payload then None else Some (Malformed message.header.ty))
     else None
 wrong_of options (Unknown code) = Some (UnknownCode code)

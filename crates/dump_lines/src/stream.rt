@@ -1,9 +1,9 @@
-//! The program's engine: dumps a stream from any reader to any writer.
+//! Dumping a stream, from any reader to any writer.
 
 ghost use Rattle.std.specs.Prelude.{◌≤◌, ℕ, List};
 ghost use Rattle.std.specs.Io.KnownBytes.{Appends, Consumes};
 ghost use Rattle.shared_core_base.specs.Version.{version_number};
-ghost use Rattle.journal_dump.specs.Dump.{IsDumped};
+ghost use Rattle.dump_lines.specs.Dump.{IsDumped};
 
 use crate::options::Options;
 use std::alloc::Global;

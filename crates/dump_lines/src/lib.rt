@@ -1,0 +1,11 @@
+//! The lines of a dump: a stream as JSON, one object a line for each of its items, and last one for the bytes in none.
+#![tactic(auto)]
+
+mod lines;
+mod messages;
+mod options;
+mod scratch;
+mod stream;
+
+pub use crate::options::Options;
+pub use crate::stream::dump;
