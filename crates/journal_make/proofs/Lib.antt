@@ -3,3 +3,11 @@ pub mod Checked
 pub mod Taking
 pub mod Steps
 pub mod Progress
+pub mod HeaderWords
+pub mod LineMembers
+pub mod ItemsBack
+pub mod LineTexts
+pub mod LineSplits
+pub mod ItemLines
+pub mod WholeDumps
+pub mod KeptDumps

@@ -4,3 +4,4 @@ pub mod Members
 pub mod Lines
 pub mod Made
 pub mod Steps
+pub mod MadeAgain

@@ -3,6 +3,7 @@
 
 mod arguments;
 mod error;
+mod laws;
 mod line;
 mod make;
 mod members;

@@ -1,4 +1,4 @@
-use Rattle.std.proofs.Common.{◌≡◌, [], length}
+use Rattle.std.proofs.Common.{◌≡◌, []}
 use Rattle.journal_make.proofs.Progress.{GoesOn}
 use Rattle.journal_make.proofs.make.make.Given as goal
 

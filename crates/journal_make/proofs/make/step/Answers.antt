@@ -1,6 +1,5 @@
-use Rattle.std.proofs.Common.{◌≡◌, ℕ, List, ◌++◌, sym, ap, subst, ◌∙◌}
+use Rattle.std.proofs.Common.{◌≡◌, ℕ, List, ◌++◌, sym, ap, ◌∙◌}
 use Rattle.std.proofs.lemmas.Result.{err_from_is_err_and}
-use Rattle.stream_lines.specs.Printing.{Begins}
 use Rattle.journal_make.specs.Lines.{line_made}
 use Rattle.journal_make.proofs.Steps.{taken_lines}
 use Rattle.journal_make.proofs.make.step.Goals as goal
