@@ -5,7 +5,7 @@
 #       the listing of a stream, of examples/streams/replay without arguments
 #   scripts/run.sh [--proved] diff [--ignore-payloads] [--strict] [--json] [--protocol 5..9] RECORDED REPLAYED
 #       where two journals differ
-#   scripts/run.sh [--proved] dump [--protocol 5..9] [--type NAME].. [--no-payload] [--strict] [FILE]
+#   scripts/run.sh [--proved] dump [--protocol 5..9] [--type NAME].. [--no-payload] [--text] [--pretty] [--strict] [FILE]
 #       a stream as JSON, the standard input if none is given
 #   scripts/run.sh [--proved] make [--protocol 5..9] [FILE]
 #       a stream of JSON lines, of the standard input if none is given
@@ -195,7 +195,7 @@ case $command in
     exec "$program" "$@"
     ;;
   dump)
-    check_arguments ' --no-payload --protocol --strict --type ' 1 "$@"
+    check_arguments ' --no-payload --pretty --protocol --strict --text --type ' 1 "$@"
     build
     exec "$program" "$@"
     ;;

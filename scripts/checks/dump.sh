@@ -93,6 +93,49 @@ dump 0 '{"offset":13,"type":"CustomEntry(64513)","code":64513,"length":0,"bytes"
 {"offset":21,"rest":8,"bytes":"BAAAAP////8="}' 'journal_dump: offset 21: 8 bytes after the last whole item' \
   --text --type 'CustomEntry(64513)' cut_short
 
+# With --pretty each object is on several lines, as in the example of docs/PROGRAMS.md, and as jq prints it.
+sed -n '/--pretty --text .* prints$/,/^The status/s/^    //p' "$top/docs/PROGRAMS.md" > "$work/example"
+"$program" --pretty --text --type InputCommand replay > "$out" 2> "$err"
+status=$?
+ended 'the example of --pretty' 0 "$work/example"
+dump 0 '{
+  "offset": 13,
+  "type": "CustomEntry(64513)",
+  "code": 64513,
+  "length": 0
+}
+{
+  "offset": 21,
+  "rest": 8
+}' "$cut" --pretty --no-payload --type 'CustomEntry(64513)' cut_short
+dump 0 '{
+  "offset": 8,
+  "type": "End",
+  "code": 3,
+  "length": 0,
+  "message": {}
+}
+{
+  "offset": 16,
+  "rest": 0
+}' '' --pretty --type End unknown_type
+if command -v jq > /dev/null; then
+  for stream in *; do
+    case $stream in *.*) continue ;; esac
+    for words in --text '--protocol 9' '--protocol 5 --no-payload'; do
+      # shellcheck disable=SC2086 # the words are split
+      "$program" $words "$stream" 2> "$work/said" | jq . > "$work/wanted"
+      # shellcheck disable=SC2086
+      "$program" --pretty $words "$stream" > "$out" 2> "$err"
+      status=$?
+      [ "$status" -eq 0 ] && cmp -s "$work/wanted" "$out" && cmp -s "$work/said" "$err"
+      outcome "--pretty $words $stream, beside jq" $?
+    done
+  done
+else
+  without '--pretty beside jq' jq
+fi
+
 # Two custom entries, the second with the highest code that there is
 printf '\374\000\000\000\000\000\000\000\377\377\000\000\000\000\000\000' > "$work/custom"
 first='{"offset":0,"type":"CustomEntry(64512)","code":64512,"length":0,"bytes":""}'
@@ -220,30 +263,50 @@ shortened_outputs "$work/many" "$work/many.lines"
 
 little_memory replay "$work/three"
 
-# Each allocation fails in turn, in a stream that needs some: whole lines are written and one line says why, or all.
-if command -v cc > /dev/null && cc -O2 -shared -fPIC -o "$work/refuse.so" "$top/tests/c/refuse.c" -ldl; then
+# refusals WORD..: with these words each allocation fails in turn, in a stream that needs some: whole lines are written
+# and one line says why, or all
+refusals() {
+  "$program" "$@" < cut_short > "$work/all" 2> "$work/said"
   request=0
   requests=0
   wrong=0
   # at last none fails, since fewer are made
   while [ "$request" -le "$requests" ] && [ "$wrong" -lt 5 ]; do
     request=$((request + 1))
-    REFUSE=$request LD_PRELOAD=$work/refuse.so "$program" < cut_short > "$out" 2> "$err" 3> "$work/requests"
+    REFUSE=$request LD_PRELOAD=$work/refuse.so "$program" "$@" < cut_short > "$out" 2> "$err" 3> "$work/requests"
     status=$?
     read -r requests < "$work/requests"
     complaint=$(cat "$err")
     case $status:$complaint in
-      "0:$cut") "$program" < cut_short 2> "$work/said" | cmp -s - "$out" ;;
-      '1:journal_dump: out of memory') "$program" < cut_short 2> "$work/said" | head -n "$(wc -l < "$out")" | cmp -s - "$out" ;;
+      "0:$cut") cmp -s "$work/all" "$out" ;;
+      '1:journal_dump: out of memory') head -n "$(wc -l < "$out")" "$work/all" | cmp -s - "$out" ;;
       *) false ;;
     esac
     is_right=$?
     [ "$is_right" -eq 0 ] || wrong=$((wrong + 1))
-    outcome "request $request refused" "$is_right"
+    outcome "request $request refused: $*" "$is_right"
   done
+}
+if command -v cc > /dev/null && cc -O2 -shared -fPIC -o "$work/refuse.so" "$top/tests/c/refuse.c" -ldl; then
+  refusals
+  refusals --pretty
 else
   without 'allocations that fail' cc
 fi
+
+# pretty NAME STREAM WORD..: with --pretty each object of a stream is as Python prints it with an indent of two spaces
+pretty() {
+  name=$1
+  stream=$2
+  shift 2
+  "$program" "$@" < "$stream" 2> "$err" | PYTHONIOENCODING=utf-8 python3 -c 'import json, sys
+for line in sys.stdin:
+    print(json.dumps(json.loads(line), indent=2, ensure_ascii=False))' > "$work/wanted"
+  "$program" --pretty "$@" < "$stream" > "$out" 2> "$err"
+  status=$?
+  [ "$status" -eq 0 ] && cmp -s "$work/wanted" "$out"
+  outcome "--pretty of $name, beside Python" $?
+}
 
 # The stored run, and adversarial streams, of which others read each line.
 cd "$top" || exit 1
@@ -252,6 +315,11 @@ status=$?
 [ "$status" -eq 0 ] && cmp -s "$run/stdout" "$out" &&
   [ "$(cat "$err")" = 'journal_dump: offset 2851: 11 bytes after the last whole item' ]
 outcome 'the stored run' $?
+if command -v python3 > /dev/null; then
+  pretty 'the stored run' "$run/stdin"
+else
+  without '--pretty beside Python' python3
+fi
 # a payload of 17 MiB, which comes in many chunks
 content=17825792
 {
@@ -284,6 +352,7 @@ for kind in random mixed skipped; do
   if command -v python3 > /dev/null; then
     [ "$status" -eq 0 ] && python3 -c 'import json, sys; [json.loads(line) for line in open(sys.argv[1], newline="\n")]' "$out" 2> "$err"
     outcome "Python on a $kind stream" $?
+    pretty "a $kind stream" "$work/$kind" --text --protocol $version
   else
     without "Python on a $kind stream" python3
   fi

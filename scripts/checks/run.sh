@@ -33,7 +33,7 @@ refused() {
 
 listed='usage: run.sh [--proved] list [--protocol 5..9] [STREAM] [BYTES] [v9]'
 compared='usage: run.sh [--proved] diff [--ignore-payloads] [--strict] [--json] [--protocol 5..9] RECORDED REPLAYED'
-dumped='usage: run.sh [--proved] dump [--protocol 5..9] [--type NAME].. [--no-payload] [--strict] [FILE]'
+dumped='usage: run.sh [--proved] dump [--protocol 5..9] [--type NAME].. [--no-payload] [--text] [--pretty] [--strict] [FILE]'
 made='usage: run.sh [--proved] make [--protocol 5..9] [FILE]'
 for how in '' --proved; do
   refused 'run.sh: no such file: nothing' $how list nothing
@@ -94,8 +94,8 @@ cd "$top" || exit 1
 program_of journal_dump
 if [ -n "$program" ]; then
   cd "$work/a folder" || exit 1
-  "$program" --type InputCommand 'a stream' > "$work/wanted"
-  run_sh dump --type InputCommand 'a stream'
+  "$program" --text --pretty --type InputCommand 'a stream' > "$work/wanted"
+  run_sh dump --text --pretty --type InputCommand 'a stream'
   shown 'the proved dump of a stream'
   same 'what the proved dump prints' "$work/wanted" "$out"
 else

@@ -1,3 +1,4 @@
+pub mod Good
 pub mod Decimals
 pub mod Tokens
 pub mod Truths

@@ -1,3 +1,4 @@
 pub mod Lines
 pub mod Dump
 pub mod Canonical
+pub mod Spread

@@ -6,8 +6,6 @@ use Rattle.base64.specs.GeneralPurpose.{encode_of}
 use Rattle.base64.specs.Engines.{standard}
 use Rattle.json.specs.Token.{Token}
 use Rattle.json.specs.Json.{Json, boolean, number, string, object, Members, no_members, member}
-use Rattle.json.specs.Tree.{json_tokens}
-use Rattle.json.specs.Print.{print}
 use Rattle.shared_core_base.specs.MessageType.{code_of, debug_name_of}
 use Rattle.shared_core_base.specs.MessageHeader.{word_of}
 use Rattle.shared_core_wire.specs.Acceptance.{accepts_payload}
@@ -18,6 +16,7 @@ use Rattle.shared_core.specs.declared.encoding.item.Item.TheVariants.{Message, U
 use Rattle.shared_core.specs.Visiting.{schema_at}
 use Rattle.shared_core_json.specs.Form.{byte_string_json, json_with}
 use Rattle.dump_lines.specs.declared.options.Options.{Options}
+use Rattle.dump_lines.specs.Spread.{json_text}
 
 -- The bytes of a header, in base64.
 abbrev pub header_json : List ℕ → Json
@@ -105,14 +104,14 @@ item_code (Skipped code payload) = code
 abbrev pub is_selected : List ℕ → ℕ → Bool
 is_selected selected code = (length selected == 0) || list_any (λ x. nat_eq x code) selected
 
--- The line of an object.
-abbrev pub json_line : Json → List ℕ
-json_line json = print (json_tokens json) ++ codes "\n"
+-- The line of an object, or its lines.
+abbrev pub json_line : Bool → Json → List ℕ
+json_line is_pretty json = json_text is_pretty json ++ codes "\n"
 
 -- The line of an item that begins at an offset, with this word as its header, if it is selected.
 abbrev pub line_of : Options → ℕ → ℕ → Item → List ℕ
 line_of options at word item =
-    if is_selected options.codes.now (item_code item) then json_line (item_json options at word item) else []
+    if is_selected options.codes.now (item_code item) then json_line options.pretty (item_json options at word item) else []
 
 -- The member of the bytes that are in no item, if there are any and payloads are printed.
 abbrev pub rest_members : Options → List ℕ → Members
@@ -122,4 +121,4 @@ rest_members options rest =
 -- The last line: the offset of the bytes that are in no item, how many they are, and these bytes.
 abbrev pub rest_line : Options → ℕ → List ℕ → List ℕ
 rest_line options at rest =
-    json_line (object (number_member (codes "offset") at (number_member (codes "rest") (length rest) (rest_members options rest))))
+    json_line options.pretty (object (number_member (codes "offset") at (number_member (codes "rest") (length rest) (rest_members options rest))))

@@ -4,6 +4,7 @@
 mod lines;
 mod messages;
 mod options;
+mod pretty;
 mod scratch;
 mod stream;
 

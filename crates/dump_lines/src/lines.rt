@@ -1,6 +1,10 @@
 //! The lines of a dump.
 
 ghost use Rattle.std.specs.Prelude.{◌≡◌, ◌∷◌, ◌++◌, [], true, codes, decimal, length, OnOk, IfOk, IfErr};
+ghost use Rattle.std.specs.Str.{IsUtf8};
+ghost use Rattle.json.specs.Lex.{tokens};
+ghost use Rattle.json.specs.Print.{print};
+ghost use Rattle.dump_lines.specs.Spread.{AreGood, tokens_text};
 ghost use Rattle.json.specs.Token.{key, number, boolean, end_object};
 ghost use Rattle.json.specs.Token as token;
 ghost use Rattle.json.specs.Tree.{json_tokens, members_tokens};
@@ -17,6 +21,7 @@ ghost use Rattle.dump_lines.specs.Lines.{item_code as code_of_item, is_selected,
 
 use crate::messages::canonical_of;
 use crate::options::Options;
+use crate::pretty::pretty_text;
 use crate::scratch::Scratch;
 use bytes::Bytes;
 use json::Writer;
@@ -78,9 +83,10 @@ impl<'a> LinePrinter for Options<'a> {
         let mut out = Writer::new(line);
         write_item(alloc, self, offset, word, &item, scratch, &mut out)?;
         scratch.line = out.into_inner();
-        Ok(append_line(scratch.line.as_slice(), lines)?)
+        Ok(append_object(alloc, self.pretty, scratch.line.as_slice(), lines)?)
     }
 
+    #[tactic(auto, using(crate::proofs::Good::good_tokens))]
     fn print_rest(
         &self,
         alloc: Global,
@@ -92,7 +98,7 @@ impl<'a> LinePrinter for Options<'a> {
         out.begin_object()?;
         write_rest(self, offset, rest, &mut String::new(alloc), &mut out)?;
         out.end_object()?;
-        append_line(out.into_inner().as_slice(), lines)
+        append_object(alloc, self.pretty, out.into_inner().as_slice(), lines)
     }
 }
 
@@ -118,6 +124,25 @@ fn is_well_formed_for(schema: Option<u32>, payload: &Bytes) -> bool
         Some(schema) => is_well_formed(schema, payload.as_slice()),
         None => true,
     }
+}
+
+/// Appends an object, on one line or on several.
+fn append_object(
+    alloc: Global,
+    is_pretty: bool,
+    object: &[u8],
+    lines: Vec<u8>,
+) -> Result<Vec<u8>, AllocError>
+    requires utf8 { IsUtf8 object.now }
+    requires good { AreGood (tokens object.now) }
+    requires printed { object.now ≡ print (tokens object.now) }
+    ensures { IfOk result (λ now. now.items ≡ lines.items
+        ++ (tokens_text is_pretty (tokens object.now) ++ codes "\n")) }
+{
+    if is_pretty {
+        return append_line(pretty_text(alloc, object)?.as_slice(), lines);
+    }
+    append_line(object, lines)
 }
 
 /// Appends a line.

@@ -13,6 +13,8 @@ pub struct Options<'a> {
     pub payloads: bool,
     /// Whether bytes that are UTF-8 are printed as texts.
     pub texts: bool,
+    /// Whether an object is on several lines, and not on one.
+    pub pretty: bool,
     /// Whether the report has the first trouble of an item.
     pub strict: bool,
 }

@@ -22,6 +22,8 @@ pub struct Arguments<'a> {
     pub payloads: bool,
     /// Whether bytes that are UTF-8 are printed as texts.
     pub texts: bool,
+    /// Whether an object is printed on several lines.
+    pub pretty: bool,
     /// Whether an unknown code, a malformed payload or bytes in no item is a failure.
     pub strict: bool,
 }
@@ -94,6 +96,10 @@ fn command<'a>(alloc: Global) -> Result<Command<'a>, AllocError> {
         .long("no-payload")
         .action(ArgAction::SetTrue)
         .help("Leaves out what is in messages");
+    let pretty = Arg::new(alloc, "pretty")
+        .long("pretty")
+        .action(ArgAction::SetTrue)
+        .help("Prints each object on several lines, indented, for people to read");
     let strict = Arg::new(alloc, "strict")
         .long("strict")
         .action(ArgAction::SetTrue)
@@ -110,6 +116,7 @@ fn command<'a>(alloc: Global) -> Result<Command<'a>, AllocError> {
         .version("0.1.0")
         .about("Prints a stream of the protocol as JSON, one object a line for each of its items.")
         .arg(no_payload)?
+        .arg(pretty)?
         .arg(protocol)?
         .arg(strict)?
         .arg(text)?
@@ -143,6 +150,7 @@ pub fn parse_arguments<'a>(alloc: Global, arguments: &'a [String]) -> Result<Arg
         codes,
         payloads: !matches.get_flag("no-payload"),
         texts: matches.get_flag("text"),
+        pretty: matches.get_flag("pretty"),
         strict: matches.get_flag("strict"),
     })
 }

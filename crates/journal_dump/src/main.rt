@@ -77,6 +77,7 @@ fn main(rt: HostRuntime) -> ExitCode {
         codes: parsed.codes.as_slice(),
         payloads: parsed.payloads,
         texts: parsed.texts,
+        pretty: parsed.pretty,
         strict: parsed.strict,
     };
     if parsed.path == "-" {

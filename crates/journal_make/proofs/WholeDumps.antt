@@ -23,7 +23,7 @@ use Rattle.shared_core.specs.Visiting.{schema_at}
 use Rattle.dump_lines.specs.declared.options.Options.{Options}
 use Rattle.shared_core.specs.Items.{front_word, item_of, IsItem, AreItems}
 use Rattle.stream_lines.specs.Printing.{item_size, items_size, lines}
-use Rattle.dump_lines.specs.Lines.{item_json, item_code, is_selected, line_of, rest_members, rest_line}
+use Rattle.dump_lines.specs.Lines.{item_json, item_code, is_selected, json_line, line_of, rest_members, rest_line}
 use Rattle.journal_make.specs.Lines.{line_made}
 use Rattle.journal_make.specs.Made.{both}
 use Rattle.journal_make.specs.MadeAgain.{payload_again, with_payload, item_again, stream_again, IsWhole}
@@ -68,11 +68,14 @@ module _ (options : Options) (whole : IsWhole options) where
       (as_made options.version _ (Some body) (rest_texts options.texts at (length body) (Some body) early short)
       (rest_is options.version (decimal at) (decimal (length body)) (byte_string_json options.texts body) (byte_string_there options.texts body) ∙ byte_string_back options.texts body small))
 
+  one_line : (json : Json) → json_line options.pretty json ≡ line_text json
+  one_line json = ap (λ (b : Bool). json_line b json) whole.one_line
+
   rest_means : (at : ℕ) (rest : List ℕ) → at < 2 ^ 128 → length rest < 2 ^ 128 → IsBytes rest → Means (line_made options.version) (rest_line options at rest) (Some rest)
   rest_means at rest early short small =
       let json = object (member (codes "offset") (number (decimal at)) (member (codes "rest") (number (decimal (length rest))) (rest_members options rest))) in
       let m = made_then options.version json [] (Some rest) (Some []) (rest_line_made at rest early short small) (nothing_means (line_made options.version) (empty_line options.version)) in
-      subst (λ (text : List ℕ). Means (line_made options.version) text (Some rest)) (append-nil (line_text json)) (subst (λ (bs : List ℕ). Means (line_made options.version) (line_text json ++ []) (Some bs)) (append-nil rest) m)
+      subst (λ (text : List ℕ). Means (line_made options.version) text (Some rest)) (append-nil (line_text json) ∙ sym (one_line json)) (subst (λ (bs : List ℕ). Means (line_made options.version) (line_text json ++ []) (Some bs)) (append-nil rest) m)
 
   -- ---- items
 
@@ -80,7 +83,9 @@ module _ (options : Options) (whole : IsWhole options) where
   selected code = ap (λ (b : Bool). b || list_any (λ x. eqb x code) options.codes.now) (eq-eqb (length options.codes.now) 0 whole.all)
 
   shown_line : (at word : ℕ) (item : Item) → line_of options at word item ≡ line_text (item_json options at word item)
-  shown_line at word item = ap (λ (b : Bool). cond b (line_text (item_json options at word item)) []) (selected (item_code item))
+  shown_line at word item =
+      ap (λ (b : Bool). cond b (json_line options.pretty (item_json options at word item)) []) (selected (item_code item))
+      ∙ one_line (item_json options at word item)
 
 -- the size of an item is that of its bytes
 pub sized : (version : Version) (bytes : List ℕ) (item : Item) → IsItem version bytes item → item_size item ≡ length bytes

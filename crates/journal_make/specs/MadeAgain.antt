@@ -1,5 +1,5 @@
 -- What is made of the lines of a dump.
-use Rattle.std.specs.Prelude.{◌≡◌, ◌<◌, ◌^◌, ℕ, true, nat_lt, List, [], ◌∷◌, ◌++◌, length, take, drop, if◌then◌else◌, Option, Some, None, option_map, Ok}
+use Rattle.std.specs.Prelude.{◌≡◌, ◌<◌, ◌^◌, ℕ, true, false, nat_lt, List, [], ◌∷◌, ◌++◌, length, take, drop, if◌then◌else◌, Option, Some, None, option_map, Ok}
 use Rattle.std.specs.Int.{w32, to_be_bytes}
 use Rattle.base64.specs.GeneralPurpose.{IsBytes}
 use Rattle.json.specs.Tree.{json_tokens}
@@ -56,10 +56,11 @@ abbrev pub AreKept : Version → List Item → Type 0
 AreKept version [] = Unit {0}
 AreKept version (item ∷ items) = IsKept version item × AreKept version items
 
--- The dump has a line for each item, with its payload.
+-- The dump has a line for each item, one alone, with its payload.
 pub record IsWhole (options : Options) : Type 0 where
   pub all : length options.codes.now ≡ 0
   pub payloads : options.payloads ≡ true
+  pub one_line : options.pretty ≡ false
 
 -- The line of an item means the item, with its payload as it is made again. (A slice is of bytes.)
 abbrev pub ItemIsMadeAgain : Options → Type 0

@@ -7,13 +7,13 @@ ghost use Rattle.dump_lines.specs.declared.options.Options.{Options};
 ghost use Rattle.journal_make.specs.MadeAgain.{payload_again, ItemIsMadeAgain};
 ghost use Rattle.journal_make.specs.MadeAgain.{DumpIsMadeAgain, KeepsStreams, ThereAndBack};
 
-/// The line of an item, in a dump with payloads, means the item, with its header and its payload; a well-formed payload
-/// becomes the canonical one.
+/// The line of an item, in a dump with payloads and an object a line, means the item, with its header and its payload;
+/// a well-formed payload becomes the canonical one.
 pub fn items_are_made_again()
     ensures { (options : Options) → ItemIsMadeAgain options }
 {}
 
-/// What the lines of a dump with payloads mean is the stream, in which each well-formed payload is the canonical one.
+/// What the lines of such a dump mean is the stream, in which each well-formed payload is the canonical one.
 pub fn dumps_are_made_again()
     ensures { (options : Options) → DumpIsMadeAgain options }
 {}
