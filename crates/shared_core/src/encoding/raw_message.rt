@@ -131,7 +131,8 @@ impl RawMessage {
         ensures lacking { IsAccepted notification_template self.now.payload
             → ReturnsLacking self.now (lacking_field self.now.payload) result }
     {
-        let NotificationTemplate { id, result } = self.decode_payload(alloc)?;
+        let template: NotificationTemplate = self.decode_payload(alloc)?;
+        let NotificationTemplate { id, result } = template;
         let Some(id) = id else {
             return Err(self.missing("id"));
         };

@@ -12,12 +12,12 @@ use Rattle.shared_core.specs.View.{notification_parts}
 use Rattle.shared_core.proofs.Views.{lacks_id, lacks_nothing, lacks_result, view_accepts, view_agrees}
 use Rattle.shared_core.proofs.encoding.raw_message.RawMessage.decode_as_notification.Goals as goal
 
-pub returns-in_err-id-clause-accepts : goal.returns-in_err-id-clause-accepts
-returns-in_err-id-clause-accepts c s is accepted = view_accepts _ s _ c.requires.first is accepted
+pub returns-in_err-template-clause-accepts : goal.returns-in_err-template-clause-accepts
+returns-in_err-template-clause-accepts c s is accepted = view_accepts _ s _ c.requires.first is accepted
 
 pub returns-in_default-clause-lacking : goal.returns-in_default-clause-lacking
 returns-in_default-clause-lacking c accepted =
-    let means : MeansParts notification_template c.args.self.now.payload (template_parts Absent (option_part results.part-value.it c.in_ok-id.result)) = search rules in
+    let means : MeansParts notification_template c.args.self.now.payload (template_parts Absent (option_part results.part-value.it c.in_ok-template.template.result)) = search rules in
     lacks_id c.args.self.now _ _ means c.missing.ensures
 
 pub returns-in_default-result-clause-lacking : goal.returns-in_default-result-clause-lacking
