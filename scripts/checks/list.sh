@@ -120,8 +120,12 @@ fails 'journal_list: .: is a directory' .
 fails 'journal_list: examples: is a directory' examples 3 v9
 fails "error: invalid value '4' for '--protocol <VERSION>'" --protocol 4 $streams/replay
 fails "error: unexpected argument '--type' found" --type Start
+fails 'error: after FILE come BYTES, from 1 to 65536, and v9, or one of them, or neither' ./$streams/replay 0
+fails "error: unexpected argument 'more' found" $streams/replay 3 v9 more
 fails 'error: after FILE come BYTES, from 1 to 65536, and v9, or one of them, or neither' --protocol 9 $streams/replay 0
 fails 'error: the version is said by v9 or by --protocol, and not by both' --protocol 9 $streams/replay v9
+grep -q '^Usage: journal_list \[OPTIONS\] \[FILE\] \[BYTES\] \[v9\]$' "$err"
+outcome 'the usage of files and options' $?
 
 # Arguments that are not UTF-8, and inputs that fail
 no_text=$(printf '\377')

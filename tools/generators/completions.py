@@ -15,6 +15,9 @@ DECLARED = {
     "journal_make": "crates/journal_make/src/arguments.rt",
 }
 
+# Where the programs declare the option that they share, by the function of this name.
+SHARED = {"protocol_option": "crates/command_line/src/protocol.rt"}
+
 # Where the library says which versions it supports.
 VERSIONS = "crates/shared_core_base/src/version.rt"
 
@@ -23,6 +26,16 @@ WORDS = {"BYTES": "':bytes:'", "v9": "':version:(v9)'"}
 
 # What every program with options has.
 COMMON = {"help": "Print help", "version": "Print version"}
+
+
+def declarations(path):
+    """What a file declares: the code of each argument, for a shared one with its own help after the shared code."""
+    text = (ROOT / path).read_text(encoding="utf-8")
+    for name, declared in re.findall(r"(?:= |^ *)(Arg::new|\w+_option)\((.*?);\n", text, re.M | re.S):
+        if name in SHARED:
+            shared = (ROOT / SHARED[name]).read_text(encoding="utf-8")
+            declared = shared + re.sub(r'^\s*alloc,\s*"', '.help("', declared)
+        yield declared
 
 
 class Option:
@@ -39,10 +52,9 @@ class Option:
 
 def options(program):
     """The options of a program, and the names of its other arguments."""
-    text = (ROOT / DECLARED[program]).read_text(encoding="utf-8")
     numbers = re.search(r"fn supported_numbers.*?^    }$", (ROOT / VERSIONS).read_text(encoding="utf-8"), re.M | re.S)
     versions = re.findall(r'"(\d+)"', numbers[0])
-    declared = [Option(found) for found in re.findall(r"= Arg::new\((.*?);\n", text, re.S)]
+    declared = [Option(found) for found in declarations(DECLARED[program])]
     named = [option for option in declared if option.name]
     for option in named:
         option.values = versions if option.has_versions else [message.type_name() for message in typed()]

@@ -1,32 +1,23 @@
-//! What the programs share: reading their arguments, opening files, and reporting errors.
+//! What the programs share: their arguments, their inputs and output, and how they report errors.
 #![tactic(auto)]
 
+mod input;
 mod pipe;
+mod protocol;
+mod words;
 
 ghost use Rattle.std.specs.Prelude.{◌≡◌};
 ghost use Rattle.std.specs.Process.{exit_status};
 
+pub use crate::input::{Input, OpenError, open, open_file};
 pub use crate::pipe::Pipe;
+pub use crate::protocol::{protocol_of, protocol_option};
+pub use crate::words::{ArgumentsError, arguments, read_arguments};
 use clap::Error;
 use clap::error::ErrorKind;
 use std::fmt::Display;
-use std::fs::File;
+use std::io;
 use std::process::ExitCode;
-use std::{env, fs, io};
-
-/// The program's arguments, its own name first.
-pub fn arguments(rt: &HostRuntime) -> io::Result<Vec<String>> {
-    Ok(env::args(rt)?.collect(rt.alloc())?)
-}
-
-/// Opens a file for reading. A directory is an error already here, and not only when it is read.
-pub fn open_file(rt: &HostRuntime, path: &str) -> io::Result<File> {
-    let file = fs::open(rt, path)?;
-    if file.metadata().is_ok_and(|metadata| metadata.is_dir()) {
-        return Err(io::Error::from(io::ErrorKind::IsADirectory));
-    }
-    Ok(file)
-}
 
 /// Prints `PROGRAM: WHY` in a line on the standard error, and returns the status.
 pub fn fail<T: Display + Drop>(rt: &HostRuntime, program: &str, why: T, status: u8) -> ExitCode

@@ -1,10 +1,11 @@
 //! Parsing the command line.
 
-ghost use Rattle.std.specs.Prelude.{◌≤◌, IfOk, IfSome};
+ghost use Rattle.std.specs.Prelude.{◌≤◌, IfOk};
 ghost use Rattle.shared_core_base.specs.Version.{version_number};
 
 use clap::error::ErrorKind;
 use clap::{Arg, ArgAction, Command, Error};
+use command_line::{protocol_of, protocol_option};
 use shared_core::version::Version;
 use std::alloc::{AllocError, Global};
 
@@ -25,13 +26,6 @@ pub struct Arguments<'a> {
     pub is_json: bool,
 }
 
-/// The version of an argument, if it is a supported one.
-fn version_of(word: &str) -> Option<Version>
-    ensures { IfSome result (λ version. 5 ≤ version_number version) }
-{
-    Version::from_number(word.parse().ok()?)
-}
-
 /// The clap definition of the command line.
 fn command<'a>(alloc: Global) -> Result<Command<'a>, AllocError> {
     let recorded = Arg::new(alloc, "recorded")
@@ -42,12 +36,10 @@ fn command<'a>(alloc: Global) -> Result<Command<'a>, AllocError> {
         .value_name("REPLAYED")
         .required(true)
         .help("The journal that is replayed: a file, or - for the standard input");
-    let protocol = Arg::new(alloc, "protocol")
-        .long("protocol")
-        .value_name("VERSION")
-        .value_parser(Version::supported_numbers())
-        .default_value("8")
-        .help("The version of the protocol of both journals");
+    let protocol = protocol_option(
+        alloc,
+        "The version of the protocol of both journals",
+    ).default_value("8");
     let ignore_payloads = Arg::new(alloc, "ignore-payloads")
         .long("ignore-payloads")
         .action(ArgAction::SetTrue)
@@ -75,18 +67,16 @@ fn command<'a>(alloc: Global) -> Result<Command<'a>, AllocError> {
         .arg(replayed)
 }
 
-/// Parses the arguments after the program's name. The error is an invalid argument, or a request for the help or the
+/// Parses the arguments, the program's name first. The error is an invalid argument, or a request for the help or the
 /// version.
 pub fn parse_arguments<'a>(alloc: Global, arguments: &'a [String]) -> Result<Arguments<'a>, Error>
     ensures { IfOk result (λ parsed. 5 ≤ version_number parsed.version) }
 {
     let mut command = command(alloc)?;
     let matches = command.try_get_matches_from_mut(arguments)?;
-    let version = matches.get_str("protocol").and_then(version_of);
-    let (Some(recorded), Some(replayed), Some(version)) = (
+    let (Some(recorded), Some(replayed)) = (
         matches.get_str("recorded"),
         matches.get_str("replayed"),
-        version,
     ) else {
         return Err(command.error(
             ErrorKind::MissingRequiredArgument,
@@ -102,7 +92,7 @@ pub fn parse_arguments<'a>(alloc: Global, arguments: &'a [String]) -> Result<Arg
     Ok(Arguments {
         recorded,
         replayed,
-        version,
+        version: protocol_of(&matches),
         ignore_payloads: matches.get_flag("ignore-payloads"),
         is_strict: matches.get_flag("strict"),
         is_json: matches.get_flag("json"),

@@ -12,11 +12,11 @@ mod passed_over;
 
 use crate::arguments::{Arguments, parse_arguments};
 use crate::diff::{DiffError, Findings, diff};
-use crate::inputs::{Inputs, open};
+use crate::inputs::{Inputs, open_both};
 use crate::passed_over::{rest_note, unknown_note};
-use command_line::{Pipe, arguments, fail, report};
+use command_line::{Pipe, fail, read_arguments, report};
 use replay_bench::Side;
-use std::io;
+use std::io::Stdout;
 use std::process::ExitCode;
 
 const PROGRAM: &str = "journal_diff";
@@ -35,46 +35,47 @@ fn tell(rt: &HostRuntime, found: &Findings) {
     }
 }
 
-/// Compares the two inputs, prints the verdict and returns its status.
-fn compare(rt: &HostRuntime, asked: &Arguments<'_>, inputs: Inputs) -> ExitCode
-    requires { 5 ≤ version_number asked.now.version }
-{
-    let mut output = Pipe::new(rt.stdout());
-    let found = diff(
-        rt.alloc(),
-        asked.version,
-        inputs.recorded,
-        inputs.replayed,
-        asked.ignore_payloads,
-        asked.is_strict,
-        asked.is_json,
-        &mut output,
-    );
+/// Reports how the comparison ended, unless the reader of the output has closed it, and returns the status.
+fn end(rt: &HostRuntime, found: Result<Findings, DiffError>, output: &Pipe<Stdout>) -> ExitCode {
     match found {
         Ok(found) => {
             tell(rt, &found);
             ExitCode::from(if found.is_same { 0 } else { 1 })
         }
-        // the reader has closed the output, so nothing is reported
         Err(DiffError::Output) if output.is_broken() => ExitCode::from(2),
         Err(error) => fail(rt, PROGRAM, error, 2),
     }
 }
 
+/// Compares the two inputs, prints the verdict and returns its status.
+fn run_parsed(rt: &HostRuntime, parsed: &Arguments<'_>, inputs: Inputs) -> ExitCode
+    requires { 5 ≤ version_number parsed.now.version }
+{
+    let mut output = Pipe::new(rt.stdout());
+    let found = diff(
+        rt.alloc(),
+        parsed.version,
+        inputs.recorded,
+        inputs.replayed,
+        parsed.ignore_payloads,
+        parsed.is_strict,
+        parsed.is_json,
+        &mut output,
+    );
+    end(rt, found, &output)
+}
+
 fn main(rt: HostRuntime) -> ExitCode {
-    let words = match arguments(&rt) {
-        Ok(words) => words,
-        Err(error) if error.kind() == io::ErrorKind::OutOfMemory => {
-            return fail(&rt, PROGRAM, "out of memory", 2);
-        }
-        Err(_) => return fail(&rt, PROGRAM, "an argument is not UTF-8", 2),
+    let arguments = match read_arguments(&rt) {
+        Ok(arguments) => arguments,
+        Err(error) => return fail(&rt, PROGRAM, error, error.status(2)),
     };
-    let asked = match parse_arguments(rt.alloc(), words.as_slice()) {
-        Ok(asked) => asked,
+    let parsed = match parse_arguments(rt.alloc(), arguments.as_slice()) {
+        Ok(parsed) => parsed,
         Err(error) => return report(&rt, PROGRAM, &error, 2),
     };
-    match open(&rt, &asked) {
-        Ok(inputs) => compare(&rt, &asked, inputs),
+    match open_both(&rt, &parsed) {
+        Ok(inputs) => run_parsed(&rt, &parsed, inputs),
         Err(error) => fail(&rt, PROGRAM, error, 2),
     }
 }

@@ -1,9 +1,16 @@
 -- How a run of the program ends, and what it prints and returns then.
 use Rattle.std.specs.Prelude.{ℕ, List, [], codes, Result, Ok, Err, ⊤}
+use Rattle.command_line.specs.declared.words.ArgumentsError.{ArgumentsError}
+use Rattle.command_line.specs.declared.words.ArgumentsError.TheVariants as arguments_error
 use Rattle.journal_list.specs.declared.error.ListError.{ListError}
 use Rattle.journal_list.specs.declared.error.ListError.TheVariants.{Input, Output, OutOfMemory}
 use Rattle.journal_list.specs.declared.run.Outcome.{Outcome}
 use Rattle.journal_list.specs.declared.run.Outcome.TheVariants.{Rejected, Listed}
+
+-- How a run ends whose arguments cannot be read.
+abbrev pub error_of_arguments : ArgumentsError → ListError
+error_of_arguments arguments_error.NotText = Input
+error_of_arguments arguments_error.OutOfMemory = OutOfMemory
 
 -- The arguments were rejected.
 abbrev pub IsRejected : Outcome → Type 0

@@ -1,12 +1,12 @@
 //! Parsing a command line that names a file or has options.
 
-ghost use Rattle.std.specs.Prelude.{◌≤◌, IfOk, IfSome};
-ghost use Rattle.shared_core_base.specs.Version.{version_number};
+ghost use Rattle.std.specs.Prelude.{IfOk, IfSome};
 ghost use Rattle.journal_list.specs.Options.{IsAccepted};
 
 use crate::options::options;
 use clap::error::ErrorKind;
 use clap::{Arg, Command, Error};
+use command_line::{protocol_of, protocol_option};
 use shared_core::version::Version;
 use std::alloc::{AllocError, Global};
 
@@ -21,30 +21,31 @@ pub struct Arguments<'a> {
     pub chunk_size: usize,
 }
 
+/// Whether arguments after the program's name may be meant as a number of bytes and `v9`: none is an option, and the
+/// first does not look like the path of a file.
+pub fn are_bare(words: &[String]) -> bool {
+    let is_path = words
+        .first()
+        .is_some_and(|first| first.contains('/') || first.contains('.'));
+    !is_path && !words.iter().any(|word| is_option(word.as_str()))
+}
+
 /// Whether an argument is an option. `-` is the standard input.
-pub fn is_option(word: &str) -> bool {
+fn is_option(word: &str) -> bool {
     word.starts_with('-') && word != "-"
 }
 
 /// Whether an argument can name a file. A number cannot, since it is a number of bytes.
-fn is_path(word: &str) -> bool {
+fn can_be_path(word: &str) -> bool {
     !word.bytes().all(|byte| byte.is_ascii_digit())
-}
-
-/// The version of an argument, if it is a supported one.
-fn version_of(word: &str) -> Option<Version>
-    ensures { IfSome result (λ version. 5 ≤ version_number version) }
-{
-    Version::from_number(word.parse().ok()?)
 }
 
 /// The clap definition of the command line.
 fn command<'a>(alloc: Global) -> Result<Command<'a>, AllocError> {
-    let protocol = Arg::new(alloc, "protocol")
-        .long("protocol")
-        .value_name("VERSION")
-        .value_parser(Version::supported_numbers())
-        .help("The version of the protocol of the stream, which is 8 without it");
+    let protocol = protocol_option(
+        alloc,
+        "The version of the protocol of the stream, which is 8 without it",
+    );
     let path = Arg::new(alloc, "file").value_name("FILE").help(
         "The stream: a file, or - or nothing for the standard input",
     );
@@ -84,7 +85,7 @@ fn read_words(words: &[String]) -> Option<Words>
         });
     }
     let (path, rest) = words.split_first()?;
-    if !is_path(path.as_str()) {
+    if !can_be_path(path.as_str()) {
         return None;
     }
     let (version, chunk_size) = options(rest)?;
@@ -95,30 +96,10 @@ fn read_words(words: &[String]) -> Option<Words>
     })
 }
 
-/// Parses the arguments after the program's name, of which none is an option. `None` for invalid ones.
-pub fn parse_words<'a>(words: &'a [String]) -> Option<Arguments<'a>>
-    ensures { IfSome result (λ found. IsAccepted found.version found.chunk_size) }
-{
-    let Words {
-        has_path,
-        version,
-        chunk_size,
-    } = read_words(words)?;
-    let path = match words {
-        [path, ..] if has_path => path.as_str(),
-        _ => "-",
-    };
-    Some(Arguments {
-        path,
-        version,
-        chunk_size,
-    })
-}
-
-/// Parses the arguments, the program's name first, of which one is an option. The error is an invalid argument, or a
-/// request for the help or the version.
+/// Parses the arguments, the program's name first. The error is an invalid argument, or a request for the help or the
+/// version.
 pub fn parse_arguments<'a>(alloc: Global, arguments: &'a [String]) -> Result<Arguments<'a>, Error>
-    ensures { IfOk result (λ found. IsAccepted found.version found.chunk_size) }
+    ensures { IfOk result (λ parsed. IsAccepted parsed.version parsed.chunk_size) }
 {
     let mut command = command(alloc)?;
     let matches = command.try_get_matches_from_mut(arguments)?;
@@ -134,16 +115,16 @@ pub fn parse_arguments<'a>(alloc: Global, arguments: &'a [String]) -> Result<Arg
             "after FILE come BYTES, from 1 to 65536, and v9, or one of them, or neither",
         )?);
     };
-    let version = match matches.get_str("protocol") {
-        None => Some(found.version),
-        Some(_) if found.version == Version::V9 => None,
-        Some(word) => version_of(word),
-    };
-    let Some(version) = version else {
+    if found.version == Version::V9 && matches.contains_id("protocol") {
         return Err(command.error(
             ErrorKind::ArgumentConflict,
             "the version is said by v9 or by --protocol, and not by both",
         )?);
+    }
+    let version = if found.version == Version::V9 {
+        found.version
+    } else {
+        protocol_of(&matches)
     };
     let path = if found.has_path {
         matches.get_str("file")

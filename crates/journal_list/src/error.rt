@@ -1,5 +1,6 @@
 //! The error of `list_at`.
 
+use command_line::ArgumentsError;
 use std::error::Error;
 use std::fmt;
 
@@ -30,3 +31,18 @@ impl fmt::Display for ListError {
 }
 
 impl Error for ListError {}
+
+/// Arguments that cannot be read are an input that fails.
+impl From<ArgumentsError> for ListError {
+    ghost use Rattle.std.specs.Prelude.{◌≡◌};
+    ghost use Rattle.journal_list.specs.Run.{error_of_arguments};
+
+    ghost from_gives = { λ arguments error. error ≡ error_of_arguments arguments };
+
+    fn from(error: ArgumentsError) -> ListError {
+        match error {
+            ArgumentsError::NotText => ListError::Input,
+            ArgumentsError::OutOfMemory => ListError::OutOfMemory,
+        }
+    }
+}

@@ -9,94 +9,77 @@ mod list;
 mod options;
 mod run;
 
-use crate::arguments::{Arguments, is_option, parse_arguments, parse_words};
+use crate::arguments::{Arguments, are_bare, parse_arguments};
 use crate::error::ListError;
 use crate::list::list_at;
 use crate::options::options;
 use crate::run::{Outcome, exit_code, message, run};
-use command_line::{Pipe, arguments, fail, open_file, report};
-use std::io::{ErrorKind, Read};
+use clap::error::ErrorKind;
+use command_line::{Input, Pipe, fail, open, read_arguments, report};
+use std::io::Stdout;
 use std::process::ExitCode;
 
 const PROGRAM: &str = "journal_list";
 
-/// Reports how a run ended, and returns the status.
-fn end(rt: &HostRuntime, outcome: Outcome) -> ExitCode {
-    // there is nothing to do if the standard error fails too
-    let _ = eprint!(rt; "{}", message(&outcome));
+/// Reports how a run ended, unless the reader of the output has closed it, and returns the status.
+fn end(rt: &HostRuntime, outcome: Outcome, output: &Pipe<Stdout>) -> ExitCode {
+    if !output.is_broken() {
+        // there is nothing to do if the standard error fails too
+        let _ = eprint!(rt; "{}", message(&outcome));
+    }
     exit_code(&outcome)
 }
 
-/// Reports how a run ended that wrote to this output, unless its reader has closed it.
-fn end_writing<W>(rt: &HostRuntime, outcome: Outcome, output: &Pipe<W>) -> ExitCode {
-    if output.is_broken() {
-        return exit_code(&outcome);
-    }
-    end(rt, outcome)
+/// Lists the standard input by arguments without a file and options, and returns the status.
+fn run_words(rt: &HostRuntime, words: &[String]) -> ExitCode {
+    let mut output = Pipe::new(rt.stdout());
+    let outcome = run(rt.alloc(), words, &mut rt.stdin(), &mut output);
+    end(rt, outcome, &output)
 }
 
-/// Lists an input, and returns the status.
-fn list_input<R: Read>(rt: &HostRuntime, asked: &Arguments<'_>, input: &mut R) -> ExitCode
-    requires { IsAccepted asked.now.version asked.now.chunk_size }
+/// Lists the input, and returns the status.
+fn run_parsed(rt: &HostRuntime, parsed: &Arguments<'_>, mut input: Input) -> ExitCode
+    requires { IsAccepted parsed.now.version parsed.now.chunk_size }
 {
     let mut output = Pipe::new(rt.stdout());
     let listed = list_at(
         rt.alloc(),
-        asked.version,
-        input,
+        parsed.version,
+        &mut input,
         &mut output,
-        asked.chunk_size,
+        parsed.chunk_size,
     );
-    end_writing(rt, Outcome::Listed(listed), &output)
+    end(rt, Outcome::Listed(listed), &output)
 }
 
-/// Whether a text is more likely a path than a mistyped argument.
-fn looks_like_path(text: &str) -> bool {
-    text.contains('/') || text.contains('.')
-}
-
-/// Lists a file or the standard input, and returns the status.
-fn list_path(rt: &HostRuntime, asked: &Arguments<'_>) -> ExitCode
-    requires { IsAccepted asked.now.version asked.now.chunk_size }
-{
-    if asked.path == "-" {
-        return list_input(rt, asked, &mut rt.stdin());
-    }
-    match open_file(rt, asked.path) {
-        Ok(mut file) => list_input(rt, asked, &mut file),
-        Err(error) if error.kind() == ErrorKind::NotFound && !looks_like_path(asked.path) => {
-            end(rt, Outcome::Rejected)
-        }
-        Err(error) => fail(rt, PROGRAM, format_args!("{}: {error}", asked.path), 2),
-    }
+/// Reports that the run ended so before it began, and returns the status.
+fn end_early(rt: &HostRuntime, outcome: Outcome) -> ExitCode {
+    end(rt, outcome, &Pipe::new(rt.stdout()))
 }
 
 fn main(rt: HostRuntime) -> ExitCode {
-    let all = match arguments(&rt) {
-        Ok(all) => all,
-        Err(error) if error.kind() == ErrorKind::OutOfMemory => {
-            return end(&rt, Outcome::Listed(Err(ListError::OutOfMemory)));
+    let arguments = match read_arguments(&rt) {
+        Ok(arguments) => arguments,
+        Err(error) => {
+            return end_early(&rt, Outcome::Listed(Err(ListError::from(error))));
         }
-        // arguments that cannot be read are a failed input
-        Err(_) => return end(&rt, Outcome::Listed(Err(ListError::Input))),
     };
-    let words = match all.as_slice() {
-        [_, words @ ..] => words,
-        [] => &[],
-    };
+    let words = arguments.get(1..).unwrap_or(&[]);
     if options(words).is_some() {
-        let mut output = Pipe::new(rt.stdout());
-        let outcome = run(rt.alloc(), words, &mut rt.stdin(), &mut output);
-        return end_writing(&rt, outcome, &output);
+        return run_words(&rt, words);
     }
-    if words.iter().any(|word| is_option(word.as_str())) {
-        return match parse_arguments(rt.alloc(), all.as_slice()) {
-            Ok(asked) => list_path(&rt, &asked),
-            Err(error) => report(&rt, PROGRAM, &error, 1),
-        };
-    }
-    match parse_words(words) {
-        Some(asked) => list_path(&rt, &asked),
-        None => end(&rt, Outcome::Rejected),
+    let is_bare = are_bare(words);
+    let parsed = match parse_arguments(rt.alloc(), arguments.as_slice()) {
+        Ok(parsed) => parsed,
+        Err(error) if is_bare && error.kind() != ErrorKind::OutOfMemory => {
+            return end_early(&rt, Outcome::Rejected);
+        }
+        Err(error) => return report(&rt, PROGRAM, &error, 1),
+    };
+    match open(&rt, parsed.path) {
+        Ok(input) => run_parsed(&rt, &parsed, input),
+        // a name that no file has is more likely a mistyped argument
+        Err(error) if is_bare && error.is_missing() => end_early(&rt, Outcome::Rejected),
+        Err(error) => fail(&rt, PROGRAM, error, 2),
     }
 }

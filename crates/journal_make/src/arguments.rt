@@ -1,7 +1,7 @@
 //! Parsing the command line.
 
-use clap::error::ErrorKind;
 use clap::{Arg, Command, Error};
+use command_line::{protocol_of, protocol_option};
 use shared_core::version::Version;
 use std::alloc::{AllocError, Global};
 
@@ -14,19 +14,12 @@ pub struct Arguments<'a> {
     pub version: Version,
 }
 
-/// The version of an argument, if it is a supported one.
-fn version_of(word: &str) -> Option<Version> {
-    Version::from_number(word.parse().ok()?)
-}
-
 /// The clap definition of the command line.
 fn command<'a>(alloc: Global) -> Result<Command<'a>, AllocError> {
-    let protocol = Arg::new(alloc, "protocol")
-        .long("protocol")
-        .value_name("VERSION")
-        .value_parser(Version::supported_numbers())
-        .default_value("8")
-        .help("The version of the protocol of the stream");
+    let protocol = protocol_option(
+        alloc,
+        "The version of the protocol of the stream",
+    ).default_value("8");
     let path = Arg::new(alloc, "file")
         .value_name("FILE")
         .default_value("-")
@@ -38,16 +31,13 @@ fn command<'a>(alloc: Global) -> Result<Command<'a>, AllocError> {
         .arg(path)
 }
 
-/// Parses the arguments after the program's name. The error is an invalid argument, or a request for the help or the
+/// Parses the arguments, the program's name first. The error is an invalid argument, or a request for the help or the
 /// version.
 pub fn parse_arguments<'a>(alloc: Global, arguments: &'a [String]) -> Result<Arguments<'a>, Error> {
     let mut command = command(alloc)?;
     let matches = command.try_get_matches_from_mut(arguments)?;
-    let Some(version) = matches.get_str("protocol").and_then(version_of) else {
-        return Err(command.error(ErrorKind::InvalidValue, "a version is from 5 to 9")?);
-    };
     Ok(Arguments {
         path: matches.get_str("file").unwrap_or("-"),
-        version,
+        version: protocol_of(&matches),
     })
 }

@@ -1,0 +1,52 @@
+//! The input of a program: a file, or the standard input.
+
+use either::Either;
+use std::error::Error;
+use std::fs::File;
+use std::io::Stdin;
+use std::{fmt, fs, io};
+
+/// A file, or the standard input.
+pub type Input = Either<File, Stdin>;
+
+/// A file that cannot be opened: its path, and why.
+#[derive(Debug, Drop)]
+pub struct OpenError<'a> {
+    path: &'a str,
+    reason: io::Error,
+}
+
+impl<'a> OpenError<'a> {
+    /// Whether there is no such file.
+    pub fn is_missing(&self) -> bool {
+        self.reason.kind() == io::ErrorKind::NotFound
+    }
+}
+
+impl<'a> fmt::Display for OpenError<'a> {
+    fn fmt<W: fmt::Write>(&self, f: &mut fmt::Formatter<W>) -> fmt::Result {
+        write!(f, "{}: {}", self.path, self.reason)
+    }
+}
+
+impl<'a> Error for OpenError<'a> {}
+
+/// Opens a file for reading, or the standard input if the path is `-`.
+pub fn open<'a>(rt: &HostRuntime, path: &'a str) -> Result<Input, OpenError<'a>> {
+    if path == "-" {
+        return Ok(Either::Right(rt.stdin()));
+    }
+    match open_file(rt, path) {
+        Ok(file) => Ok(Either::Left(file)),
+        Err(reason) => Err(OpenError { path, reason }),
+    }
+}
+
+/// Opens a file for reading. A directory is an error already here, and not only when it is read.
+pub fn open_file(rt: &HostRuntime, path: &str) -> io::Result<File> {
+    let file = fs::open(rt, path)?;
+    if file.metadata().is_ok_and(|metadata| metadata.is_dir()) {
+        return Err(io::Error::from(io::ErrorKind::IsADirectory));
+    }
+    Ok(file)
+}
