@@ -3,7 +3,7 @@
 #
 #   scripts/run.sh [--proved] list [--protocol 5..9] [STREAM] [BYTES] [v9]
 #       the listing of a stream, of examples/streams/replay without arguments
-#   scripts/run.sh [--proved] diff [--ignore-payloads] [--strict] [--json] [--protocol 5..9] RECORDED REPLAYED
+#   scripts/run.sh [--proved] diff [--ignore-payloads] [--strict] [--json] [--color WHEN] [--protocol 5..9] RECORDED REPLAYED
 #       where two journals differ
 #   scripts/run.sh [--proved] dump [--protocol 5..9] [--type NAME].. [--no-payload] [--text] [--pretty] [--strict] [FILE]
 #       a stream as JSON, the standard input if none is given
@@ -93,6 +93,12 @@ check_value() {
         *) fail "--protocol is from 5 to 9, and not '$2'" ;;
       esac
       ;;
+    --color)
+      case $2 in
+        auto | always | never) ;;
+        *) fail "--color is auto, always or never, and not '$2'" ;;
+      esac
+      ;;
     --type) is_type "$2" || fail "--type: proto/types.txt has no '$2'" ;;
   esac
 }
@@ -148,11 +154,11 @@ check_arguments() {
         done
         return
         ;;
-      --protocol=* | --type=*)
+      --protocol=* | --type=* | --color=*)
         check_option "${1%%=*}"
         check_value "${1%%=*}" "${1#*=}"
         ;;
-      --protocol | --type)
+      --protocol | --type | --color)
         check_option "$1"
         [ $# -gt 1 ] || misused
         check_value "$1" "$2"
@@ -189,7 +195,7 @@ case $command in
     exec "$program" "$@"
     ;;
   diff)
-    check_arguments ' --ignore-payloads --strict --json --protocol ' 2 "$@"
+    check_arguments ' --ignore-payloads --strict --json --color --protocol ' 2 "$@"
     [ "$files" -eq 0 ] || misused
     build
     exec "$program" "$@"

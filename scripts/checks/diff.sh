@@ -110,11 +110,59 @@ journal_diff 1 "{\"verdict\":\"typeMismatch\",$places,\"text\":\"$head$is_other\
 told replayed '1 unknown header'
 passed_over 1 '{"verdict":"recordedEnded","index":0,"replayedAt":8}' --json /dev/null "$work/more"
 
+# colors: the recorded is red, the replayed green
+bold=$(printf '\033[1m')
+red=$(printf '\033[31m')
+green=$(printf '\033[32m')
+plain=$(printf '\033[0m')
+colored_payload="${bold}command 1$plain: $found
+- The mismatch happened while executing 'set state' (index '1')
+- Difference:
+   value: $red'1'$plain != $green'2'$plain"
+colored_type="${bold}command 1$plain: $found
+ - The previous execution ran and recorded the following: $red'set state' (index '1')$plain
+ - The current execution attempts to perform the following: $green'handler return'$plain"
+journal_diff 1 "$colored_payload" '' --color always recorded replayed_other_payload
+journal_diff 1 "$colored_type" '' --color=always recorded "$work/other"
+journal_diff 0 "${green}same, 4 commands$plain" '' recorded --color always recorded
+journal_diff 1 "${bold}replayed ends at command 0$plain" '' recorded /dev/null --color always
+journal_diff 1 "$other_payload" '' --color never recorded replayed_other_payload
+journal_diff 1 "$other_payload" '' --color auto recorded replayed_other_payload
+journal_diff 0 '{"verdict":"same","commands":4}' '' --color always --json recorded recorded
+
+# a value that has ' != ' itself: a state's key
+{ cat "$work/first"; printf '\004\004\000\000\000\000\000\010\012\006a != b'; } > "$work/unequal"
+{ cat "$work/first"; printf '\004\004\000\000\000\000\000\003\012\001c'; } > "$work/key"
+"$program" --color always "$work/unequal" "$work/key" > "$out" 2> "$err"
+status=$?
+printf '%s\n' "   key: 'a != b' != 'c'" > "$work/lines"
+tail -n 1 "$out" | cmp -s - "$work/lines"
+outcome 'no colors in a line of two values that cannot be told apart' $?
+
+# on_a_terminal LINES COMMAND: what is printed on a terminal
+on_a_terminal() {
+  printf '%s\n' "$1" > "$work/lines"
+  on_terminal "$2" && cmp -s "$out" "$work/lines"
+  outcome "on a terminal: $2" $?
+}
+if on_terminal true; then
+  on_a_terminal "$colored_payload" "'$program' recorded replayed_other_payload"
+  on_a_terminal "$other_payload" "'$program' --color never recorded replayed_other_payload"
+  on_a_terminal "$other_payload" "NO_COLOR=1 '$program' recorded replayed_other_payload"
+  on_a_terminal "$colored_payload" "NO_COLOR= '$program' recorded replayed_other_payload"
+  on_a_terminal "$other_payload" "TERM=dumb '$program' recorded replayed_other_payload"
+  on_a_terminal 'same, 4 commands' "TERM= '$program' recorded recorded"
+else
+  without 'colors on a terminal' script
+fi
+shows_progress 'journal_diff: read 0 MB' - recorded
+
 refused '<RECORDED>'
 refused '<REPLAYED>' recorded
 refused 'only one journal can come from the standard input' - -
 refused "invalid value '4' for '--protocol <VERSION>'" --protocol 4 recorded recorded
 refused "unexpected argument 'other'" recorded recorded other
+refused "invalid value 'red' for '--color <WHEN>'" --color red recorded recorded
 journal_diff 0 'journal_diff 0.1.0' '' --version
 journal_diff 2 '' 'journal_diff: nothing: No such file or directory (os error 2)' recorded nothing
 journal_diff 2 '' 'journal_diff: .: is a directory' . recorded

@@ -291,6 +291,39 @@ little_memory() {
   fi
 }
 
+# on_terminal SCRIPT: runs a script whose standard error is a terminal, and its standard output too unless it says
+# otherwise; $out is what it printed, without carriage returns at the ends of lines, and $status its status. Without the
+# command script of util-linux its status is 1.
+on_terminal() {
+  command -v script > /dev/null || return 1
+  printf '%s\n' "$1" > "$work/on_terminal"
+  TERM=xterm script -qec "sh $work/on_terminal" /dev/null < /dev/null > "$work/typescript" 2> "$err"
+  status=$?
+  sed 's/\r$//' "$work/typescript" > "$out"
+}
+
+# shows_progress LINE ARGUMENT..: with a standard input that takes more than a second, the program says how much is read
+# by this line on a terminal, and removes it; its output goes to a file
+shows_progress() {
+  line=$1
+  shift
+  slow="{ head -c 9 recorded; sleep 2; tail -c +10 recorded; } | '$program' $*"
+  if on_terminal "$slow > '$work/verdict'"; then
+    # it may be shown more than once
+    printf '\n\033[K\n%s\033[K\n' "$line" > "$work/lines"
+    printf '\033[K\n' > "$work/last"
+    { tr '\r' '\n' < "$work/typescript"; echo; } > "$work/shown"
+    LC_ALL=C sort -u "$work/shown" | cmp -s - "$work/lines" && tail -n 1 "$work/shown" | cmp -s - "$work/last"
+    outcome "progress on a terminal: $*" $?
+    sh -c "$slow" > "$work/slow" 2> "$err"
+    status=$?
+    [ ! -s "$err" ] && cmp -s "$work/slow" "$work/verdict"
+    outcome "no progress but on a terminal: $*" $?
+  else
+    without 'progress on a terminal' script
+  fi
+}
+
 # add COUNTS: adds 'N passed, M failed' to the tally; the status is 1 where that is not what it is
 add() {
   case $1 in

@@ -127,6 +127,10 @@ fails 'error: the version is said by v9 or by --protocol, and not by both' --pro
 grep -q '^Usage: journal_list \[OPTIONS\] \[FILE\] \[BYTES\] \[v9\]$' "$err"
 outcome 'the usage of files and options' $?
 
+cd $streams || exit 1
+shows_progress 'journal_list: read 0 MB' 3
+cd "$OLDPWD" || exit 1
+
 # Arguments that are not UTF-8, and inputs that fail
 no_text=$(printf '\377')
 "$program" "$no_text" < "$stream" > "$out" 2> "$err"

@@ -32,7 +32,8 @@ refused() {
 }
 
 listed='usage: run.sh [--proved] list [--protocol 5..9] [STREAM] [BYTES] [v9]'
-compared='usage: run.sh [--proved] diff [--ignore-payloads] [--strict] [--json] [--protocol 5..9] RECORDED REPLAYED'
+compared='usage: run.sh [--proved] diff [--ignore-payloads] [--strict] [--json] [--color WHEN]'
+compared="$compared [--protocol 5..9] RECORDED REPLAYED"
 dumped='usage: run.sh [--proved] dump [--protocol 5..9] [--type NAME].. [--no-payload] [--text] [--pretty] [--strict] [FILE]'
 made='usage: run.sh [--proved] make [--protocol 5..9] [FILE]'
 for how in '' --proved; do
@@ -53,6 +54,7 @@ for how in '' --proved; do
   refused 'run.sh: no such file: nothing' $how diff - nothing
   refused 'run.sh: no such file: --protocol' $how diff -- --protocol 8
   refused "run.sh: --protocol is from 5 to 9, and not '10'" $how diff --protocol=10 'a stream' 'a stream'
+  refused "run.sh: --color is auto, always or never, and not 'red'" $how diff --color red 'a stream' 'a stream'
   refused "$dumped" $how dump --ignore-payloads 'a stream'
   refused "$dumped" $how dump 'a stream' 'a stream'
   refused "$dumped" $how dump --type

@@ -15,8 +15,11 @@ DECLARED = {
     "journal_make": "crates/journal_make/src/arguments.rt",
 }
 
-# Where the programs declare the option that they share, by the function of this name.
-SHARED = {"protocol_option": "crates/command_line/src/protocol.rt"}
+# Where the programs declare the options that they share, by the functions of these names.
+SHARED = {
+    "protocol_option": "crates/command_line/src/protocol.rt",
+    "color_option": "crates/command_line/src/colors.rt",
+}
 
 # Where the library says which versions it supports.
 VERSIONS = "crates/shared_core_base/src/version.rt"
@@ -48,6 +51,8 @@ class Option:
         self.help = found["help"]
         self.is_repeated = "ArgAction::Append" in declared
         self.has_versions = "supported_numbers" in declared
+        named = re.search(r"\.value_parser\(&\[(.*?)\]", declared, re.S)
+        self.values = re.findall(r'"([^"]*)"', named[1]) if named else []
 
 
 def options(program):
@@ -57,7 +62,10 @@ def options(program):
     declared = [Option(found) for found in declarations(DECLARED[program])]
     named = [option for option in declared if option.name]
     for option in named:
-        option.values = versions if option.has_versions else [message.type_name() for message in typed()]
+        if option.has_versions:
+            option.values = versions
+        elif not option.values:
+            option.values = [message.type_name() for message in typed()]
     return named, [option.value for option in declared if not option.name]
 
 

@@ -9,7 +9,7 @@ ABOUT = "The man pages of the programs and of the library for C."
 SOURCE = "docs/PROGRAMS.md, docs/C.md and include/pendratsoa.h"
 
 # The day on which the text of the pages last changed.
-DATE = "2026-11-24"
+DATE = "2026-11-25"
 
 PROGRAMS = ("journal_list", "journal_diff", "journal_dump", "journal_make")
 

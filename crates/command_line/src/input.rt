@@ -50,3 +50,14 @@ pub fn open_file(rt: &HostRuntime, path: &str) -> io::Result<File> {
     }
     Ok(file)
 }
+
+/// The size of an input in bytes, if it is a file that has one.
+pub fn input_size(input: &Input) -> Option<u64> {
+    match input {
+        Either::Left(file) => {
+            let metadata = file.metadata().ok()?;
+            metadata.is_file().then_some(metadata.len())
+        }
+        Either::Right(_) => None,
+    }
+}

@@ -1,4 +1,4 @@
-use Rattle.std.proofs.Common.{◌≡◌, ℕ, Bool, List, Option, Some, None, Result, Ok, Err, sym, subst}
+use Rattle.std.proofs.Common.{◌≡◌, ℕ, Bool, false, List, Option, Some, None, Result, Ok, Err, sym, subst}
 use Rattle.shared_core_base.specs.declared.version.Version.{Version}
 use Rattle.replay_bench.specs.declared.verdicts.Comparison.{Comparison}
 use Rattle.replay_bench.specs.declared.verdicts.BenchError.TheVariants.{OutOfMemory}
@@ -8,7 +8,7 @@ use Rattle.journal_diff.specs.declared.diff.DiffError.{DiffError}
 use Rattle.journal_diff.specs.declared.diff.DiffError.TheVariants.{NoVerdict, Faulty, Output}
 use Rattle.journal_diff.specs.declared.diff.Findings.{Findings}
 use Rattle.journal_diff.specs.PassedOver.{strict_trouble}
-use Rattle.journal_diff.specs.Verdicts.{Reports, ReportsFound}
+use Rattle.journal_diff.specs.Verdicts.{Reports, ReportsFound, ReportsWithColors, WritesWithColors}
 
 -- an allocation may always fail
 out_of_memory : (version : Version) (ignore : Bool) (a b : Option (List ℕ)) → ComparesKnown version ignore a b (Err (Bench OutOfMemory))
@@ -25,3 +25,15 @@ reported version ignore is_strict is_json a b found (Err Output) written compare
 reported version ignore is_strict is_json a b found (Err (Faulty trouble)) written compared none reports = absurd reports
 reported version ignore is_strict is_json a b found (Err (NoVerdict why)) written compared none reports =
     (subst (λ w. ComparesKnown version ignore a b (Err w)) (sym reports.0) (out_of_memory version ignore a b), reports.1)
+
+-- what is reported in colors is what is reported without them
+pub reported_with_colors : (version : Version) (ignore is_strict : Bool) (a b : Option (List ℕ)) (findings : Findings) (text : List ℕ) (result : Result Findings DiffError) (written : List ℕ)
+    → Reports version ignore is_strict false a b (Ok findings) text → WritesWithColors findings text result written
+    → ReportsWithColors version ignore is_strict a b result written
+reported_with_colors version ignore is_strict a b findings text (Ok found) written reports painted =
+    (text, subst (λ f. Reports version ignore is_strict false a b (Ok f) text) (sym painted.0) reports, painted.1)
+reported_with_colors version ignore is_strict a b findings text (Err Output) written reports painted =
+    (findings, text, painted.0, reports, painted.1)
+reported_with_colors version ignore is_strict a b findings text (Err (Faulty trouble)) written reports painted = absurd painted
+reported_with_colors version ignore is_strict a b findings text (Err (NoVerdict why)) written reports painted =
+    (subst (λ w. ComparesKnown version ignore a b (Err w)) (sym painted.0) (out_of_memory version ignore a b), painted.1)

@@ -1,3 +1,4 @@
+pub mod Colors
 pub mod Json
 pub mod PassedOver
 pub mod Verdicts

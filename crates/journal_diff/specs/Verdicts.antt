@@ -13,6 +13,7 @@ use Rattle.journal_diff.specs.declared.diff.DiffError.{DiffError}
 use Rattle.journal_diff.specs.declared.diff.DiffError.TheVariants.{NoVerdict, Faulty, Output}
 use Rattle.journal_diff.specs.declared.diff.Findings.{Findings}
 use Rattle.journal_diff.specs.declared.passed_over.Trouble.{Trouble}
+use Rattle.command_line.specs.Painting.{IsPainted}
 use Rattle.journal_diff.specs.Json.{json_line}
 use Rattle.journal_diff.specs.PassedOver.{strict_trouble, trouble_text}
 
@@ -74,3 +75,24 @@ Reports version ignore is_strict is_json recorded replayed (Err (Faulty trouble)
     (found : Comparison) × HasFound version ignore is_strict recorded replayed found (Some trouble) × (written ≡ [])
 Reports version ignore is_strict is_json recorded replayed result written =
     (found : Comparison) × HasFound version ignore is_strict recorded replayed found None × ReportsFound is_json found result written
+
+-- What is written and returned for a text with colors: the text in parts with their colors, and the findings; nothing,
+-- if an allocation fails; or a prefix of these parts, if the output failed.
+abbrev pub WritesWithColors : Findings → List ℕ → Result Findings DiffError → List ℕ → Type 0
+WritesWithColors findings text (Ok found) written = (found ≡ findings) × IsPainted text written
+WritesWithColors findings text (Err (NoVerdict why)) written = (why ≡ Bench OutOfMemory) × (written ≡ [])
+WritesWithColors findings text (Err (Faulty trouble)) written = ⊥
+WritesWithColors findings text (Err Output) written = (rest : List ℕ) × IsPainted text (written ++ rest)
+
+-- What a comparison with colors writes and returns: what it would write without them, with colors, and what it would
+-- return.
+abbrev pub ReportsWithColors : Version → Bool → Bool → Option (List ℕ) → Option (List ℕ) → Result Findings DiffError → List ℕ → Type 0
+ReportsWithColors version ignore is_strict recorded replayed (Ok findings) written =
+    (text : List ℕ) × Reports version ignore is_strict false recorded replayed (Ok findings) text × IsPainted text written
+ReportsWithColors version ignore is_strict recorded replayed (Err Output) written =
+    (findings : Findings) × (text rest : List ℕ)
+    × Reports version ignore is_strict false recorded replayed (Ok findings) text × IsPainted text (written ++ rest)
+ReportsWithColors version ignore is_strict recorded replayed (Err (NoVerdict why)) written =
+    Reports version ignore is_strict false recorded replayed (Err (NoVerdict why)) written
+ReportsWithColors version ignore is_strict recorded replayed (Err (Faulty trouble)) written =
+    Reports version ignore is_strict false recorded replayed (Err (Faulty trouble)) written

@@ -5,7 +5,7 @@ ghost use Rattle.shared_core_base.specs.Version.{version_number};
 
 use clap::error::ErrorKind;
 use clap::{Arg, ArgAction, Command, Error};
-use command_line::{protocol_of, protocol_option};
+use command_line::{ColorChoice, color_of, color_option, protocol_of, protocol_option};
 use shared_core::version::Version;
 use std::alloc::{AllocError, Global};
 
@@ -24,6 +24,8 @@ pub struct Arguments<'a> {
     pub is_strict: bool,
     /// Whether the verdict is a line of JSON.
     pub is_json: bool,
+    /// When the verdict has colors.
+    pub color: ColorChoice,
 }
 
 /// The clap definition of the command line.
@@ -54,6 +56,7 @@ fn command<'a>(alloc: Global) -> Result<Command<'a>, AllocError> {
         .long("json")
         .action(ArgAction::SetTrue)
         .help("Prints the verdict as a line of JSON");
+    let color = color_option(alloc);
     Command::new(alloc, "journal_diff")
         .version("0.1.0")
         .about(
@@ -62,6 +65,7 @@ fn command<'a>(alloc: Global) -> Result<Command<'a>, AllocError> {
         .arg(ignore_payloads)?
         .arg(strict)?
         .arg(json)?
+        .arg(color)?
         .arg(protocol)?
         .arg(recorded)?
         .arg(replayed)
@@ -96,5 +100,6 @@ pub fn parse_arguments<'a>(alloc: Global, arguments: &'a [String]) -> Result<Arg
         ignore_payloads: matches.get_flag("ignore-payloads"),
         is_strict: matches.get_flag("strict"),
         is_json: matches.get_flag("json"),
+        color: color_of(&matches),
     })
 }

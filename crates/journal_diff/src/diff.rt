@@ -4,9 +4,10 @@ ghost use Rattle.std.specs.Prelude.{◌≡◌, ◌≤◌, ◌++◌, ℕ, List, I
 ghost use Rattle.std.specs.Io.KnownBytes.{Appends};
 ghost use Rattle.std.specs.String.{string_bytes};
 ghost use Rattle.shared_core_base.specs.Version.{version_number};
-ghost use Rattle.journal_diff.specs.Verdicts.{Reports, ReportsFound, IsWritten};
+ghost use Rattle.journal_diff.specs.Verdicts.{Reports, ReportsFound, ReportsWithColors, WritesWithColors, IsWritten};
 ghost use Rattle.journal_diff.specs.Verdicts.{commands_word, found_line, is_same, verdict_line};
 
+use crate::colors::with_colors;
 use crate::json_line::json_line;
 use crate::passed_over::{Trouble, strict_trouble};
 use replay_bench::{BenchError, Comparison, ReaderError, Verdict, survey_readers};
@@ -121,6 +122,60 @@ pub fn diff<A: Read + Drop, B: Read + Drop, W: Write>(
         return Err(DiffError::Faulty(trouble));
     }
     report(alloc, found, is_json, output)
+}
+
+/// The same with the verdict in colors, and never as JSON: its text is made whole, then painted, and then written.
+#[tactic(auto, using(crate::proofs::Reporting::reported_with_colors))]
+pub fn diff_with_colors<A: Read + Drop, B: Read + Drop, W: Write>(
+    alloc: Global,
+    version: Version,
+    recorded: A,
+    replayed: B,
+    ignore_payloads: bool,
+    is_strict: bool,
+    output: &mut W,
+) -> Result<Findings, DiffError>
+    requires { 5 ≤ version_number version }
+    ensures { (written : List ℕ)
+        × Appends (W.contents output.old) (W.contents output.new) written
+        × ReportsWithColors version ignore_payloads is_strict
+        (A.remaining recorded) (B.remaining replayed) result written }
+{
+    let mut text = Vec::new(alloc);
+    let compared = diff(
+        alloc,
+        version,
+        recorded,
+        replayed,
+        ignore_payloads,
+        is_strict,
+        false,
+        &mut text,
+    );
+    match compared {
+        Ok(findings) => write_with_colors(alloc, findings, text.as_slice(), output),
+        // a vector takes all, unless an allocation fails
+        Err(DiffError::Output) => {
+            Err(DiffError::NoVerdict(ReaderError::Bench(BenchError::OutOfMemory)))
+        }
+        Err(error) => Err(error),
+    }
+}
+
+/// Writes the text of a verdict with colors, and returns what was found.
+fn write_with_colors<W: Write>(
+    alloc: Global,
+    findings: Findings,
+    text: &[u8],
+    output: &mut W,
+) -> Result<Findings, DiffError>
+    ensures { (written : List ℕ)
+        × Appends (W.contents output.old) (W.contents output.new) written
+        × WritesWithColors findings text.now result written }
+{
+    let painted = with_colors(alloc, text)?;
+    write_text(output, painted.as_slice())?;
+    Ok(findings)
 }
 
 /// Writes the line of a comparison, and returns what was found.

@@ -5,16 +5,17 @@ ghost use Rattle.std.specs.Prelude.{◌≤◌};
 ghost use Rattle.shared_core_base.specs.Version.{version_number};
 
 mod arguments;
+mod colors;
 mod diff;
 mod inputs;
 mod json_line;
 mod passed_over;
 
 use crate::arguments::{Arguments, parse_arguments};
-use crate::diff::{DiffError, Findings, diff};
+use crate::diff::{DiffError, Findings, diff, diff_with_colors};
 use crate::inputs::{Inputs, open_both};
 use crate::passed_over::{rest_note, unknown_note};
-use command_line::{Pipe, fail, read_arguments, report};
+use command_line::{Pipe, Progress, Watched, fail, has_color, read_arguments, report};
 use replay_bench::Side;
 use std::io::Stdout;
 use std::process::ExitCode;
@@ -51,17 +52,33 @@ fn end(rt: &HostRuntime, found: Result<Findings, DiffError>, output: &Pipe<Stdou
 fn run_parsed(rt: &HostRuntime, parsed: &Arguments<'_>, inputs: Inputs) -> ExitCode
     requires { 5 ≤ version_number parsed.now.version }
 {
+    let progress = Progress::new(rt, PROGRAM, inputs.size());
+    let recorded = Watched::new(inputs.recorded, &progress);
+    let replayed = Watched::new(inputs.replayed, &progress);
     let mut output = Pipe::new(rt.stdout());
-    let found = diff(
-        rt.alloc(),
-        parsed.version,
-        inputs.recorded,
-        inputs.replayed,
-        parsed.ignore_payloads,
-        parsed.is_strict,
-        parsed.is_json,
-        &mut output,
-    );
+    let found = if !parsed.is_json && has_color(rt, parsed.color) {
+        diff_with_colors(
+            rt.alloc(),
+            parsed.version,
+            recorded,
+            replayed,
+            parsed.ignore_payloads,
+            parsed.is_strict,
+            &mut output,
+        )
+    } else {
+        diff(
+            rt.alloc(),
+            parsed.version,
+            recorded,
+            replayed,
+            parsed.ignore_payloads,
+            parsed.is_strict,
+            parsed.is_json,
+            &mut output,
+        )
+    };
+    progress.clear();
     end(rt, found, &output)
 }
 

@@ -15,7 +15,9 @@ use crate::list::list_at;
 use crate::options::options;
 use crate::run::{Outcome, exit_code, message, run};
 use clap::error::ErrorKind;
-use command_line::{Input, Pipe, fail, open, read_arguments, report};
+use command_line::{
+    Input, Pipe, Progress, Watched, fail, input_size, open, read_arguments, report,
+};
 use std::io::Stdout;
 use std::process::ExitCode;
 
@@ -32,15 +34,20 @@ fn end(rt: &HostRuntime, outcome: Outcome, output: &Pipe<Stdout>) -> ExitCode {
 
 /// Lists the standard input by arguments without a file and options, and returns the status.
 fn run_words(rt: &HostRuntime, words: &[String]) -> ExitCode {
+    let progress = Progress::beside_output(rt, PROGRAM, None);
+    let mut input = Watched::new(rt.stdin(), &progress);
     let mut output = Pipe::new(rt.stdout());
-    let outcome = run(rt.alloc(), words, &mut rt.stdin(), &mut output);
+    let outcome = run(rt.alloc(), words, &mut input, &mut output);
+    progress.clear();
     end(rt, outcome, &output)
 }
 
 /// Lists the input, and returns the status.
-fn run_parsed(rt: &HostRuntime, parsed: &Arguments<'_>, mut input: Input) -> ExitCode
+fn run_parsed(rt: &HostRuntime, parsed: &Arguments<'_>, input: Input) -> ExitCode
     requires { IsAccepted parsed.now.version parsed.now.chunk_size }
 {
+    let progress = Progress::beside_output(rt, PROGRAM, input_size(&input));
+    let mut input = Watched::new(input, &progress);
     let mut output = Pipe::new(rt.stdout());
     let listed = list_at(
         rt.alloc(),
@@ -49,6 +56,7 @@ fn run_parsed(rt: &HostRuntime, parsed: &Arguments<'_>, mut input: Input) -> Exi
         &mut output,
         parsed.chunk_size,
     );
+    progress.clear();
     end(rt, Outcome::Listed(listed), &output)
 }
 

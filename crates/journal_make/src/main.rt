@@ -12,7 +12,9 @@ mod reject;
 use crate::arguments::{Arguments, parse_arguments};
 use crate::error::MakeError;
 use crate::make::make;
-use command_line::{Input, Pipe, fail, open, read_arguments, report};
+use command_line::{
+    Input, Pipe, Progress, Watched, fail, input_size, open, read_arguments, report,
+};
 use std::io::Stdout;
 use std::process::ExitCode;
 
@@ -36,9 +38,12 @@ fn end(
 }
 
 /// Makes the stream of the input, and returns the status.
-fn run_parsed(rt: &HostRuntime, parsed: &Arguments<'_>, mut input: Input) -> ExitCode {
+fn run_parsed(rt: &HostRuntime, parsed: &Arguments<'_>, input: Input) -> ExitCode {
+    let progress = Progress::beside_output(rt, PROGRAM, input_size(&input));
+    let mut input = Watched::new(input, &progress);
     let mut output = Pipe::new(rt.stdout());
     let made = make(rt.alloc(), parsed.version, &mut input, &mut output);
+    progress.clear();
     end(rt, parsed.path, made, &output)
 }
 

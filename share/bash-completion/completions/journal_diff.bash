@@ -3,7 +3,8 @@ _journal_diff() {
     local word=${COMP_WORDS[COMP_CWORD]}
     case ${COMP_WORDS[COMP_CWORD - 1]} in
         --protocol) mapfile -t COMPREPLY < <(compgen -W '5 6 7 8 9' -- "$word") ;;
-        *) [[ $word != -* ]] || mapfile -t COMPREPLY < <(compgen -W '--protocol --ignore-payloads --strict --json --help --version' -- "$word") ;;
+        --color) mapfile -t COMPREPLY < <(compgen -W 'auto always never' -- "$word") ;;
+        *) [[ $word != -* ]] || mapfile -t COMPREPLY < <(compgen -W '--protocol --ignore-payloads --strict --json --color --help --version' -- "$word") ;;
     esac
 }
 complete -o default -F _journal_diff journal_diff
