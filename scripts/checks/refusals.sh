@@ -84,6 +84,11 @@ if [ -x "$journal_diff" ]; then
   verdict=$(cat crates/journal_diff/stdout)
   refuse_verdict 1 "$verdict" crates/journal_diff/data/recorded crates/journal_diff/data/replayed
   refuse_verdict 0 'same, 4 commands' --ignore-payloads --protocol 9 - examples/streams/replayed_other_payload
+  escape=$(printf '\033')
+  colored=$(printf '%s\n' "$verdict" | sed "
+    s/^command 1/$escape[1m&$escape[0m/
+    s/^\(   value: \)\(.*\) != \(.*\)/\1$escape[31m\2$escape[0m != $escape[32m\3$escape[0m/")
+  refuse_verdict 1 "$colored" --color always crates/journal_diff/data/recorded crates/journal_diff/data/replayed
 else
   without journal_diff "$journal_diff"
 fi

@@ -1,4 +1,4 @@
-use Rattle.std.proofs.Common.{◌≡◌, ℕ, Bool, false, List, Option, Some, None, Result, Ok, Err, sym, subst}
+use Rattle.std.proofs.Common.{◌≡◌, ℕ, Bool, false, List, [], ◌++◌, Option, Some, None, Result, Ok, Err, ap, sym, subst, ◌∙◌}
 use Rattle.shared_core_base.specs.declared.version.Version.{Version}
 use Rattle.replay_bench.specs.declared.verdicts.Comparison.{Comparison}
 use Rattle.replay_bench.specs.declared.verdicts.BenchError.TheVariants.{OutOfMemory}
@@ -11,7 +11,7 @@ use Rattle.journal_diff.specs.PassedOver.{strict_trouble}
 use Rattle.journal_diff.specs.Verdicts.{Reports, ReportsFound, ReportsWithColors, WritesWithColors}
 
 -- an allocation may always fail
-out_of_memory : (version : Version) (ignore : Bool) (a b : Option (List ℕ)) → ComparesKnown version ignore a b (Err (Bench OutOfMemory))
+pub out_of_memory : (version : Version) (ignore : Bool) (a b : Option (List ℕ)) → ComparesKnown version ignore a b (Err (Bench OutOfMemory))
 out_of_memory version ignore (Some a) (Some b) = tt
 out_of_memory version ignore (Some a) None = tt
 out_of_memory version ignore None b = tt
@@ -27,7 +27,7 @@ reported version ignore is_strict is_json a b found (Err (NoVerdict why)) writte
     (subst (λ w. ComparesKnown version ignore a b (Err w)) (sym reports.0) (out_of_memory version ignore a b), reports.1)
 
 -- what is reported in colors is what is reported without them
-pub reported_with_colors : (version : Version) (ignore is_strict : Bool) (a b : Option (List ℕ)) (findings : Findings) (text : List ℕ) (result : Result Findings DiffError) (written : List ℕ)
+reported_with_colors : (version : Version) (ignore is_strict : Bool) (a b : Option (List ℕ)) (findings : Findings) (text : List ℕ) (result : Result Findings DiffError) (written : List ℕ)
     → Reports version ignore is_strict false a b (Ok findings) text → WritesWithColors findings text result written
     → ReportsWithColors version ignore is_strict a b result written
 reported_with_colors version ignore is_strict a b findings text (Ok found) written reports painted =
@@ -37,3 +37,12 @@ reported_with_colors version ignore is_strict a b findings text (Err Output) wri
 reported_with_colors version ignore is_strict a b findings text (Err (Faulty trouble)) written reports painted = absurd painted
 reported_with_colors version ignore is_strict a b findings text (Err (NoVerdict why)) written reports painted =
     (subst (λ w. ComparesKnown version ignore a b (Err w)) (sym painted.0) (out_of_memory version ignore a b), painted.1)
+
+-- the same of a text that was written into an empty vector
+pub reported_text : (version : Version) (ignore is_strict : Bool) (a b : Option (List ℕ)) (findings : Findings) (start items slice text : List ℕ) (result : Result Findings DiffError) (written : List ℕ)
+    → start ≡ [] → items ≡ start ++ text → slice ≡ items
+    → Reports version ignore is_strict false a b (Ok findings) text → WritesWithColors findings slice result written
+    → ReportsWithColors version ignore is_strict a b result written
+reported_text version ignore is_strict a b findings start items slice text result written start_is items_is slice_is reports painted =
+    let is : slice ≡ text = slice_is ∙ items_is ∙ ap (λ (xs : List ℕ). xs ++ text) start_is in
+    reported_with_colors version ignore is_strict a b findings text result written reports (subst (λ (xs : List ℕ). WritesWithColors findings xs result written) is painted)

@@ -125,7 +125,7 @@ pub fn diff<A: Read + Drop, B: Read + Drop, W: Write>(
 }
 
 /// The same with the verdict in colors, and never as JSON: its text is made whole, then painted, and then written.
-#[tactic(auto, using(crate::proofs::Reporting::reported_with_colors))]
+#[tactic(auto, using(crate::proofs::Reporting::reported_text, crate::proofs::Reporting::out_of_memory))]
 pub fn diff_with_colors<A: Read + Drop, B: Read + Drop, W: Write>(
     alloc: Global,
     version: Version,
@@ -158,7 +158,8 @@ pub fn diff_with_colors<A: Read + Drop, B: Read + Drop, W: Write>(
         Err(DiffError::Output) => {
             Err(DiffError::NoVerdict(ReaderError::Bench(BenchError::OutOfMemory)))
         }
-        Err(error) => Err(error),
+        Err(DiffError::NoVerdict(why)) => Err(DiffError::NoVerdict(why)),
+        Err(DiffError::Faulty(trouble)) => Err(DiffError::Faulty(trouble)),
     }
 }
 
