@@ -4,7 +4,9 @@ use Rattle.journal_diff.proofs.diff.diff_with_colors.Goals as goal
 pub returns-in-Ok : goal.returns-in-Ok
 returns-in-Ok g c =
     let (text, items_is, reports) = c.in-Ok.ensures in
-    let (written, wrote, painted) = c.write_with_colors.ensures in
-    (written, wrote,
-    reported_text c.args.version c.args.ignore_payloads c.args.is_strict _ _ c.in-Ok.findings c.new-text.result.items _ c.as_slice.result.now text c.write_with_colors.result written
-    c.new-text.ensures.items items_is c.as_slice.ensures.value reports painted)
+    let (written, wrote, painted) = c.write_with_colors.ensures in (
+      written,
+      wrote,
+      reported_text c.args.version c.args.ignore_payloads c.args.is_strict _ _ c.in-Ok.findings c.new-text.result.items _ c.as_slice.result.now text c.write_with_colors.result written
+          c.new-text.ensures.items items_is c.as_slice.ensures.value reports painted,
+    )
