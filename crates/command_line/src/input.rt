@@ -43,7 +43,7 @@ pub fn open<'a>(rt: &HostRuntime, path: &'a str) -> Result<Input, OpenError<'a>>
 }
 
 /// Opens a file for reading. A directory is an error already here, and not only when it is read.
-pub fn open_file(rt: &HostRuntime, path: &str) -> io::Result<File> {
+fn open_file(rt: &HostRuntime, path: &str) -> io::Result<File> {
     let file = fs::open(rt, path)?;
     if file.metadata().is_ok_and(|metadata| metadata.is_dir()) {
         return Err(io::Error::from(io::ErrorKind::IsADirectory));

@@ -13,11 +13,11 @@ ghost use Rattle.std.specs.Prelude.{◌≡◌};
 ghost use Rattle.std.specs.Process.{exit_status};
 
 pub use crate::colors::{ColorChoice, Style, color_of, color_option, has_color, paint};
-pub use crate::input::{Input, OpenError, input_size, open, open_file};
+pub use crate::input::{Input, OpenError, input_size, open};
 pub use crate::pipe::Pipe;
 pub use crate::progress::{Progress, Watched};
 pub use crate::protocol::{protocol_of, protocol_option};
-pub use crate::words::{ArgumentsError, arguments, read_arguments};
+pub use crate::words::{ArgumentsError, read_arguments};
 use clap::Error;
 use clap::error::ErrorKind;
 use std::fmt::Display;

@@ -44,17 +44,17 @@ impl fmt::Display for ArgumentsError {
 impl Error for ArgumentsError {}
 
 /// The program's arguments, its own name first.
-pub fn arguments(rt: &HostRuntime) -> io::Result<Vec<String>> {
-    Ok(env::args(rt)?.collect(rt.alloc())?)
-}
-
-/// The program's arguments, its own name first.
 pub fn read_arguments(rt: &HostRuntime) -> Result<Vec<String>, ArgumentsError> {
-    match arguments(rt) {
+    match collect_arguments(rt) {
         Ok(arguments) => Ok(arguments),
         Err(error) if error.kind() == io::ErrorKind::OutOfMemory => {
             Err(ArgumentsError::OutOfMemory)
         }
         Err(_) => Err(ArgumentsError::NotText),
     }
+}
+
+/// Collects the arguments.
+fn collect_arguments(rt: &HostRuntime) -> io::Result<Vec<String>> {
+    Ok(env::args(rt)?.collect(rt.alloc())?)
 }

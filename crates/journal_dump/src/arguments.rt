@@ -1,10 +1,11 @@
 //! Parsing the command line.
 
-ghost use Rattle.std.specs.Prelude.{◌≤◌, IfOk, IfSome};
+ghost use Rattle.std.specs.Prelude.{◌≤◌, IfOk};
 ghost use Rattle.shared_core_base.specs.Version.{version_number};
 
 use clap::error::ErrorKind;
 use clap::{Arg, ArgAction, Command, Error};
+use command_line::{protocol_of, protocol_option};
 use shared_core::header::MessageType;
 use shared_core::version::Version;
 use std::alloc::{AllocError, Global};
@@ -26,13 +27,6 @@ pub struct Arguments<'a> {
     pub pretty: bool,
     /// Whether an unknown code, a malformed payload or bytes in no item is a failure.
     pub strict: bool,
-}
-
-/// The version of an argument, if it is a supported one.
-fn version_of(word: &str) -> Option<Version>
-    ensures { IfSome result (λ version. 5 ≤ version_number version) }
-{
-    Version::from_number(word.parse().ok()?)
 }
 
 /// The code of the type that has this name: a named type's in any case of letters, with or without `Message` at the
@@ -81,12 +75,10 @@ fn unknown_type(alloc: Global, name: &str) -> Result<String, AllocError> {
 
 /// The clap definition of the command line.
 fn command<'a>(alloc: Global) -> Result<Command<'a>, AllocError> {
-    let protocol = Arg::new(alloc, "protocol")
-        .long("protocol")
-        .value_name("VERSION")
-        .value_parser(Version::supported_numbers())
-        .default_value("8")
-        .help("The version of the protocol of the stream");
+    let protocol = protocol_option(
+        alloc,
+        "The version of the protocol of the stream",
+    ).default_value("8");
     let types = Arg::new(alloc, "type")
         .long("type")
         .value_name("NAME")
@@ -131,9 +123,6 @@ pub fn parse_arguments<'a>(alloc: Global, arguments: &'a [String]) -> Result<Arg
 {
     let mut command = command(alloc)?;
     let matches = command.try_get_matches_from_mut(arguments)?;
-    let Some(version) = matches.get_str("protocol").and_then(version_of) else {
-        return Err(command.error(ErrorKind::InvalidValue, "a version is from 5 to 9")?);
-    };
     let mut codes = Vec::new(alloc);
     if let Some(names) = matches.get_strs("type") {
         for name in names.iter().flat_map(|names| names.split(',')) {
@@ -146,7 +135,7 @@ pub fn parse_arguments<'a>(alloc: Global, arguments: &'a [String]) -> Result<Arg
     }
     Ok(Arguments {
         path: matches.get_str("file").unwrap_or("-"),
-        version,
+        version: protocol_of(&matches),
         codes,
         payloads: !matches.get_flag("no-payload"),
         texts: matches.get_flag("text"),

@@ -6,11 +6,11 @@ ghost use Rattle.shared_core_base.specs.Version.{version_number};
 
 mod arguments;
 
-use crate::arguments::parse_arguments;
-use command_line::{Pipe, arguments, fail, open_file, report};
+use crate::arguments::{Arguments, parse_arguments};
+use command_line::{
+    Input, Pipe, Progress, Watched, fail, input_size, open, read_arguments, report,
+};
 use dump_lines::{Options, dump};
-use std::io;
-use std::io::Read;
 use std::process::ExitCode;
 use stream_lines::{PrintError, Report, Trouble};
 
@@ -47,31 +47,10 @@ fn end(rt: &HostRuntime, options: &Options<'_>, found: &Report) -> ExitCode {
     ExitCode::SUCCESS
 }
 
-/// Dumps an input, and returns the status.
-fn dump_input<R: Read>(rt: &HostRuntime, options: &Options<'_>, input: &mut R) -> ExitCode
-    requires { 5 ≤ version_number options.now.version }
+/// Dumps the input, and returns the status.
+fn run_parsed(rt: &HostRuntime, parsed: &Arguments<'_>, input: Input) -> ExitCode
+    requires { 5 ≤ version_number parsed.now.version }
 {
-    let mut output = Pipe::new(rt.stdout());
-    match dump(rt.alloc(), options, input, &mut output) {
-        Ok(found) => end(rt, options, &found),
-        // the reader has closed the output, so nothing is reported
-        Err(PrintError::Output) if output.is_broken() => ExitCode::FAILURE,
-        Err(error) => fail(rt, PROGRAM, error, 1),
-    }
-}
-
-fn main(rt: HostRuntime) -> ExitCode {
-    let arguments = match arguments(&rt) {
-        Ok(arguments) => arguments,
-        Err(error) if error.kind() == io::ErrorKind::OutOfMemory => {
-            return fail(&rt, PROGRAM, "out of memory", 1);
-        }
-        Err(_) => return fail(&rt, PROGRAM, "an argument is not UTF-8", 2),
-    };
-    let parsed = match parse_arguments(rt.alloc(), arguments.as_slice()) {
-        Ok(parsed) => parsed,
-        Err(error) => return report(&rt, PROGRAM, &error, 1),
-    };
     let options = Options {
         version: parsed.version,
         codes: parsed.codes.as_slice(),
@@ -80,11 +59,30 @@ fn main(rt: HostRuntime) -> ExitCode {
         pretty: parsed.pretty,
         strict: parsed.strict,
     };
-    if parsed.path == "-" {
-        return dump_input(&rt, &options, &mut rt.stdin());
+    let progress = Progress::beside_output(rt, PROGRAM, input_size(&input));
+    let mut input = Watched::new(input, &progress);
+    let mut output = Pipe::new(rt.stdout());
+    let dumped = dump(rt.alloc(), &options, &mut input, &mut output);
+    progress.clear();
+    match dumped {
+        Ok(found) => end(rt, &options, &found),
+        // the reader has closed the output, so nothing is reported
+        Err(PrintError::Output) if output.is_broken() => ExitCode::FAILURE,
+        Err(error) => fail(rt, PROGRAM, error, 1),
     }
-    match open_file(&rt, parsed.path) {
-        Ok(mut file) => dump_input(&rt, &options, &mut file),
-        Err(error) => fail(&rt, PROGRAM, format_args!("{}: {error}", parsed.path), 2),
+}
+
+fn main(rt: HostRuntime) -> ExitCode {
+    let arguments = match read_arguments(&rt) {
+        Ok(arguments) => arguments,
+        Err(error) => return fail(&rt, PROGRAM, error, error.status(1)),
+    };
+    let parsed = match parse_arguments(rt.alloc(), arguments.as_slice()) {
+        Ok(parsed) => parsed,
+        Err(error) => return report(&rt, PROGRAM, &error, 1),
+    };
+    match open(&rt, parsed.path) {
+        Ok(input) => run_parsed(&rt, &parsed, input),
+        Err(error) => fail(&rt, PROGRAM, error, 2),
     }
 }
