@@ -229,6 +229,8 @@ refused "no type has the name 'Nothing'" --type Start,Nothing replay
 refused "a value is required for '--type <NAME>'" --type
 refused "unexpected argument 'other'" replay other
 refused "unexpected argument '--payload'" --payload
+
+shows_progress 'journal_dump: read 0 MB'
 dump 0 'journal_dump 0.1.0' '' --version
 dump 2 '' 'journal_dump: nothing: No such file or directory (os error 2)' nothing
 dump 2 '' 'journal_dump: .: is a directory' .
