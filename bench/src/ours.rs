@@ -247,7 +247,7 @@ pub fn frame_once(version: u32, code: u16, payload: &[u8]) -> Result<Vec<u8>, Re
 /// A call that returns a frame's length, and writes it where there is room for it.
 pub type FrameCall = fn(u32, u16, &[u8], usize, &mut [u8]) -> Result<usize, Refusal>;
 
-/// The same of the last of the rounds, by one of the two calls below.
+/// The same of the last of the rounds, by one of the four calls below.
 pub fn frame(
     call: FrameCall,
     version: u32,
@@ -266,17 +266,21 @@ pub fn frame(
     Ok(out)
 }
 
-/// A frame for which each round has a buffer of its own.
-pub fn frame_to(
+/// A call of measure.h for frames.
+type RoundsCall = unsafe extern "C" fn(u32, u16, *const u8, usize, usize, *mut u8, usize) -> i64;
+
+/// The frame that a call of measure.h writes.
+fn frame_by(
+    call: RoundsCall,
     version: u32,
     code: u16,
     payload: &[u8],
     rounds: usize,
     out: &mut [u8],
 ) -> Result<usize, Refusal> {
-    // SAFETY: the lengths are those of the slices, of which `out` alone is written
+    // SAFETY: these calls take slices so; the lengths are theirs, and `out` alone is written
     count(unsafe {
-        c::measure_frame(
+        call(
             version,
             code,
             payload.as_ptr(),
@@ -286,6 +290,17 @@ pub fn frame_to(
             out.len(),
         )
     })
+}
+
+/// A frame for which each round has a buffer of its own.
+pub fn frame_to(
+    version: u32,
+    code: u16,
+    payload: &[u8],
+    rounds: usize,
+    out: &mut [u8],
+) -> Result<usize, Refusal> {
+    frame_by(c::measure_frame, version, code, payload, rounds, out)
 }
 
 /// A frame for which all rounds have one buffer, which is cleared before each.
@@ -296,18 +311,7 @@ pub fn frame_into(
     rounds: usize,
     out: &mut [u8],
 ) -> Result<usize, Refusal> {
-    // SAFETY: the lengths are those of the slices, of which `out` alone is written
-    count(unsafe {
-        c::measure_frame_into(
-            version,
-            code,
-            payload.as_ptr(),
-            payload.len(),
-            rounds,
-            out.as_mut_ptr(),
-            out.len(),
-        )
-    })
+    frame_by(c::measure_frame_into, version, code, payload, rounds, out)
 }
 
 /// The same, with a buffer whose spare room is initialized.
@@ -318,18 +322,7 @@ pub fn frame_spare(
     rounds: usize,
     out: &mut [u8],
 ) -> Result<usize, Refusal> {
-    // SAFETY: the lengths are those of the slices, of which `out` alone is written
-    count(unsafe {
-        c::measure_frame_spare(
-            version,
-            code,
-            payload.as_ptr(),
-            payload.len(),
-            rounds,
-            out.as_mut_ptr(),
-            out.len(),
-        )
-    })
+    frame_by(c::measure_frame_spare, version, code, payload, rounds, out)
 }
 
 /// A frame for which the frames of all rounds share the blocks of one buffer; the last 1,024 are held.
@@ -340,16 +333,5 @@ pub fn frame_shared(
     rounds: usize,
     out: &mut [u8],
 ) -> Result<usize, Refusal> {
-    // SAFETY: the lengths are those of the slices, of which `out` alone is written
-    count(unsafe {
-        c::measure_frame_shared(
-            version,
-            code,
-            payload.as_ptr(),
-            payload.len(),
-            rounds,
-            out.as_mut_ptr(),
-            out.len(),
-        )
-    })
+    frame_by(c::measure_frame_shared, version, code, payload, rounds, out)
 }
