@@ -94,7 +94,7 @@ dump 0 '{"offset":13,"type":"CustomEntry(64513)","code":64513,"length":0,"bytes"
   --text --type 'CustomEntry(64513)' cut_short
 
 # With --pretty each object is on several lines, as in the example of docs/PROGRAMS.md, and as jq prints it.
-sed -n '/--pretty --text .* prints$/,/^The status/s/^    //p' "$top/docs/PROGRAMS.md" > "$work/example"
+sed -n '/`--pretty --text` .* prints$/,/^The status/s/^    //p' "$top/docs/PROGRAMS.md" > "$work/example"
 "$program" --pretty --text --type InputCommand replay > "$out" 2> "$err"
 status=$?
 ended 'the example of --pretty' 0 "$work/example"

@@ -131,15 +131,21 @@ def program_page(name):
     text, heading = section(read("docs/PROGRAMS.md"), name)
     synopsis, *rest = blocks(text)
     parts = {"DESCRIPTION": "", "OPTIONS": "", "EXIT STATUS": "", "EXAMPLES": ""}
+    part = "DESCRIPTION"
     for kind, block in rest:
         if kind == "item":
             parts["OPTIONS"] += item(block)
-        elif block.startswith("The status "):
-            parts["EXIT STATUS"] += ".PP\n" + filled(block)
+            continue
+        if kind == "code":
+            # it belongs to the paragraph before it
+            parts[part] += example(block)
+            continue
+        part = "DESCRIPTION"
+        if block.startswith("The status "):
+            part = "EXIT STATUS"
         elif block.startswith("For example, "):
-            parts["EXAMPLES"] += ".PP\n" + filled(block)
-        else:
-            parts["DESCRIPTION"] += ".PP\n" + filled(block)
+            part = "EXAMPLES"
+        parts[part] += ".PP\n" + filled(block)
     others = [f".BR {other} (1)" for other in PROGRAMS if other != name] + [".BR pendratsoa (3)"]
     return page(
         name,
