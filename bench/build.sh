@@ -35,6 +35,8 @@ library=target/pendratsoa/lib/libpendratsoa.a
 if [ ! -e $library ] || [ -n "$(find ../crates/journal_ffi/out/libjournal_ffi.a -newer $library)" ]; then
   quietly sh ../scripts/install.sh --library target/pendratsoa || exit 1
 fi
+# the programs take the static library, and rt ci takes no tree in which there are links
+rm -f target/pendratsoa/lib/libpendratsoa.so target/pendratsoa/lib/libpendratsoa.so.0
 PENDRATSOA_PREFIX=$PWD/target/pendratsoa
 PENDRATSOA_STATIC=1
 BENCH_FFI=$(folder ../crates/bench_ffi/out/libbench_ffi.a) || exit 1
