@@ -48,7 +48,7 @@ journal_diff 1 "$other_payload" '' recorded replayed_other_payload
 journal_diff 0 'same, 4 commands' '' recorded --ignore-payloads replayed_other_payload
 journal_diff 1 'replayed ends at command 0' '' recorded /dev/null
 
-# what is passed over is told for each journal, and is trouble where the comparison is strict
+# skipped items are reported for each journal, and are an error where the comparison is strict
 told() {
   printf 'journal_diff: the %s journal has %s\n' "$@" > "$work/told"
 }

@@ -1,7 +1,11 @@
 //! The option `--protocol`.
 
-ghost use Rattle.std.specs.Prelude.{◌≤◌, IfSome};
+ghost use Rattle.std.specs.Prelude.{◌≡◌, ◌≤◌, Some, None, IfSome, decimal};
+ghost use Rattle.clap.specs.Matches.{found_of};
 ghost use Rattle.shared_core_base.specs.Version.{version_number};
+ghost use Rattle.shared_core_base.specs.declared.version.Version.{Version as AnyVersion};
+ghost use Rattle.shared_core_base.specs.declared.version.Version.TheVariants.{V8};
+ghost use Rattle.command_line.specs.Protocol.{protocol_value};
 
 use clap::{Arg, ArgMatches};
 use shared_core_base::version::Version;
@@ -16,9 +20,12 @@ pub fn protocol_option<'a>(alloc: Global, help: &'a str) -> Arg<'a> {
         .help(help)
 }
 
-/// The version that the option names, or V8 without it.
+/// The version whose number is the value of the option, or V8 without it.
 pub fn protocol_of(matches: &ArgMatches<'_>) -> Version
-    ensures { 5 ≤ version_number result }
+    ensures supported { 5 ≤ version_number result }
+    ensures named { (version : AnyVersion) → 5 ≤ version_number version
+        → protocol_value (found_of matches.now) ≡ Some (decimal (version_number version)) → result ≡ version }
+    ensures absent { protocol_value (found_of matches.now) ≡ None → result ≡ V8 }
 {
     match matches.get_str("protocol").and_then(version_of) {
         Some(version) => version,
@@ -28,7 +35,9 @@ pub fn protocol_of(matches: &ArgMatches<'_>) -> Version
 
 /// The version that has this number, if it is a supported one.
 fn version_of(number: &str) -> Option<Version>
-    ensures { IfSome result (λ version. 5 ≤ version_number version) }
+    ensures supported { IfSome result (λ version. 5 ≤ version_number version) }
+    ensures named { (version : AnyVersion) → 5 ≤ version_number version
+        → number.now ≡ decimal (version_number version) → result ≡ Some version }
 {
     Version::from_number(number.parse().ok()?)
 }

@@ -18,7 +18,7 @@ visit_command-requires c = record {
   is = sym c.ty-recorded.ensures;
 }
 
--- what holds of the result for each schema holds of the result
+-- a property of the result for each schema is a property of the result
 visited_holds : {O : Type 0} (holds : O → Type 0) (schema : Option ℕ) (output : O) → IsVisited (λ s o. holds o) schema (Some output) → holds output
 visited_holds holds None output is = absurd is
 visited_holds holds (Some s) output is = is
