@@ -51,8 +51,22 @@ impl From<DecodeError> for Refusal {
     }
 }
 
-/// Compares two journals of a version, command by command: their types, and then their records, by the derived `==`.
-pub fn compare(version: u32, recorded: impl Read, replayed: impl Read) -> Result<Verdict, Refusal> {
+/// How the peer compares two commands of one type.
+#[derive(Clone, Copy, Debug, PartialEq, Eq)]
+pub enum Order {
+    /// Both are decoded, and the records compared by the derived `==`.
+    Records,
+    /// Their payloads are compared first. Of two equal ones only the first is decoded, to see that it is well-formed.
+    BytesFirst,
+}
+
+/// Compares two journals of a version, command by command: their types, and then the commands, in this order.
+pub fn compare(
+    version: u32,
+    order: Order,
+    recorded: impl Read,
+    replayed: impl Read,
+) -> Result<Verdict, Refusal> {
     let mut recorded = Commands(Reading::new(version, recorded));
     let mut replayed = Commands(Reading::new(version, replayed));
     let mut index = 0;
@@ -60,7 +74,7 @@ pub fn compare(version: u32, recorded: impl Read, replayed: impl Read) -> Result
         let same = match (recorded.next_command()?, replayed.next_command()?) {
             (None, None) => return Ok(Verdict::Same(index)),
             (Some((actual, payload)), Some((expected, other))) => {
-                actual.code == expected.code && are_same(actual.code, payload, other)?
+                actual.code == expected.code && are_same(order, actual.code, payload, other)?
             }
             _ => false,
         };
@@ -72,10 +86,14 @@ pub fn compare(version: u32, recorded: impl Read, replayed: impl Read) -> Result
 }
 
 /// Whether two payloads of a type mean the same.
-fn are_same(code: u16, actual: Bytes, expected: Bytes) -> Result<bool, DecodeError> {
+fn are_same(order: Order, code: u16, actual: Bytes, expected: Bytes) -> Result<bool, DecodeError> {
+    let equal_bytes = order == Order::BytesFirst && actual == expected;
     with_message!(
         code,
-        Record => Ok(Record::decode(actual)? == Record::decode(expected)?),
+        Record => {
+            let actual = Record::decode(actual)?;
+            Ok(equal_bytes || actual == Record::decode(expected)?)
+        },
         _ => Ok(true),
     )
 }

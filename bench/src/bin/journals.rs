@@ -2,17 +2,17 @@
 //! table in Markdown: journals PROGRAM FOLDER [LENGTH ..]
 //!
 //! PROGRAM is journal_diff, FOLDER is where the journals are written, and each LENGTH is how many bytes one has at
-//! least, of which there are three if none is said. Both sides run as programs of their own, in turn. `journals --peer
-//! RECORDED REPLAYED` is the peer's.
+//! least, of which there are three if none is said. All sides run as programs of their own, in turn. `journals --peer
+//! RECORDED REPLAYED` is the peer's, and `journals --bytes-first RECORDED REPLAYED` the peer's that compares the bytes
+//! of two payloads before it decodes the second.
 
 use std::env;
 use std::fs::File;
 use std::io::{self, BufWriter, Write};
 use std::path::{Path, PathBuf};
 use std::process::{Command, ExitCode, Stdio};
-use std::time::Duration;
 
-use pendratsoa_bench::journals::{self, Verdict};
+use pendratsoa_bench::journals::{self, Order, Verdict};
 use pendratsoa_bench::runs::{self, Cost};
 
 /// The version of the protocol, as journal_diff has it if none is said.
@@ -56,47 +56,61 @@ fn row(program: &str, folder: &Path, length: usize) -> io::Result<()> {
     }
     let mut ours = Command::new(program);
     ours.args(&paths);
-    let mut peer = Command::new(env::current_exe()?);
-    peer.arg("--peer").args(&paths);
-    let (mut best, mut best_peer) = (run(&mut ours)?, run(&mut peer)?);
-    if best.line != best_peer.line {
+    let mut sides = vec![ours];
+    for order in ["--peer", "--bytes-first"] {
+        let mut peer = Command::new(env::current_exe()?);
+        peer.arg(order).args(&paths);
+        sides.push(peer);
+    }
+    let mut best: Vec<Run> = sides.iter_mut().map(run).collect::<io::Result<_>>()?;
+    if best.iter().any(|side| side.line != best[0].line) {
+        let lines: String = best.iter().map(|side| side.line.as_str()).collect();
         return Err(io::Error::new(
             io::ErrorKind::Other,
-            format!("two verdicts: {}{}", best.line, best_peer.line),
+            format!("different verdicts: {lines}"),
         ));
     }
     for _ in 1..MEASUREMENTS {
-        best.cost.time = best.cost.time.min(run(&mut ours)?.cost.time);
-        best_peer.cost.time = best_peer.cost.time.min(run(&mut peer)?.cost.time);
+        for (side, best) in sides.iter_mut().zip(&mut best) {
+            best.cost.time = best.cost.time.min(run(side)?.cost.time);
+        }
     }
-    let rate = |time: Duration| 2.0 * bytes as f64 / 1e6 / time.as_secs_f64();
+    let rate = |side: &Run| 2.0 * bytes as f64 / 1e6 / side.cost.time.as_secs_f64();
+    let [ours, peer, bytes_first] = &best[..] else {
+        unreachable!("there are three sides");
+    };
     println!(
-        "| {:.1} MB | {} | {:.0} MB | {:.0} MB | {:.2} | {} KiB | {} KiB |",
+        "| {:.1} MB | {} | {:.0} MB | {:.0} MB | {:.2} | {:.0} MB | {:.2} | {} KiB | {} KiB |",
         bytes as f64 / 1e6,
-        best.line.trim().trim_start_matches("same, "),
-        rate(best.cost.time),
-        rate(best_peer.cost.time),
-        best_peer.cost.time.as_secs_f64() / best.cost.time.as_secs_f64(),
-        best.cost.resident,
-        best_peer.cost.resident,
+        ours.line.trim().trim_start_matches("same, "),
+        rate(ours),
+        rate(peer),
+        rate(ours) / rate(peer),
+        rate(bytes_first),
+        rate(ours) / rate(bytes_first),
+        ours.cost.resident,
+        peer.cost.resident,
     );
     Ok(())
 }
 
 fn measure(program: &str, folder: &Path, lengths: &[usize]) -> io::Result<()> {
-    println!("| each journal | commands | ours a second | peer a second | ours / peer | most resident, ours | peer |");
-    println!("|---|---|---|---|---|---|---|");
+    println!(
+        "| each journal | commands | ours a second | peer a second | ours / peer | peer, bytes first | ours / that \
+         | most resident, ours | peer |"
+    );
+    println!("|---|---|---|---|---|---|---|---|---|");
     lengths
         .iter()
         .try_for_each(|&length| row(program, folder, length))
 }
 
 /// The peer's comparison of two files, whose line is that of journal_diff.
-fn peer(recorded: &str, replayed: &str) -> ExitCode {
+fn peer(order: Order, recorded: &str, replayed: &str) -> ExitCode {
     let compared = File::open(recorded)
         .and_then(|recorded| Ok((recorded, File::open(replayed)?)))
         .map_err(journals::Refusal::from)
-        .and_then(|(recorded, replayed)| journals::compare(VERSION, recorded, replayed));
+        .and_then(|(recorded, replayed)| journals::compare(VERSION, order, recorded, replayed));
     match compared {
         Ok(Verdict::Same(count)) => println!("same, {count} commands"),
         other => {
@@ -110,8 +124,10 @@ fn peer(recorded: &str, replayed: &str) -> ExitCode {
 fn main() -> ExitCode {
     let words: Vec<String> = env::args().skip(1).collect();
     let words: Vec<&str> = words.iter().map(String::as_str).collect();
-    if let ["--peer", recorded, replayed] = words[..] {
-        return peer(recorded, replayed);
+    match words[..] {
+        ["--peer", recorded, replayed] => return peer(Order::Records, recorded, replayed),
+        ["--bytes-first", recorded, replayed] => return peer(Order::BytesFirst, recorded, replayed),
+        _ => {}
     }
     let lengths: Option<Vec<usize>> = words.iter().skip(2).map(|word| word.parse().ok()).collect();
     let (&[program, folder, ..], Some(mut lengths)) = (&words[..], lengths) else {
