@@ -1,33 +1,39 @@
 -- The lists of what is awaited, as they are measured and written off the tree.
-use Rattle.std.proofs.Common.{◌≡◌, ℕ, zero, suc, ◌+◌, ◌-◌, ◌<◌, ◌≤◌, ◌^◌, List, [], ◌∷◌, ◌++◌, Option, Some, None, refl, ap, sym, ◌∙◌, length, length-append, get_or, drop, drop-cons, add-one, append_assoc, append-nil, subst, arith, true}
+use Rattle.std.proofs.Common.{◌≡◌, ℕ, zero, suc, ◌+◌, ◌-◌, ◌<◌, ◌≤◌, ◌^◌, List, [], ◌∷◌, ◌++◌, Option, Some, None, refl, ap, sym, ◌∙◌, length, length-append, get_or, drop, drop-cons, add-one, append_assoc, append-nil, subst, arith}
 use Rattle.std.proofs.lemmas.List.{drop_all, nil_from_length}
 use Rattle.std.proofs.lemmas.List.Concat.{flat_map-append}
-use Rattle.std.specs.Prelude.{flat_map, map, MatchOption, String, ◌≢◌}
-use Rattle.std.proofs.lemmas.Bool.{cases_lt}
+use Rattle.std.specs.Prelude.{flat_map, map}
+use Rattle.std.proofs.lemmas.Bool.{cases_lt, false≢true}
+use mathlib.Core.Bool.{Bool-set}
+use Rattle.std.specs.Coded.{le_prop}
 use Rattle.std.proofs.Common.{inl, inr}
 use Rattle.shared_core_wire.proofs.Runs.{parts_append_assoc}
 use Rattle.shared_core_wire.proofs.Shortest.{shortest_large, shortest_small}
 use Rattle.shared_core_wire.specs.Canonical.{canonical_payload, element_values, number_bytes, packed_values, part_values}
 use Rattle.shared_core_wire.specs.Encoding.{key_bytes, record_list_bytes, shortest_varint}
 use Rattle.shared_core_wire.specs.Grammar.{RecordValue}
-use Rattle.shared_core_wire.specs.Fitting.{ElementsFit, PartFits}
+use Rattle.shared_core_wire.specs.Fitting.{BytesFit, ElementsFit, Fits, NumberFits, PartFits}
 use Rattle.shared_core_wire.specs.Schema.{Kind, Repeated, Text, U32}
-use Rattle.shared_core_wire.specs.Value.{Part, Parts, Number, Elements, cons, nil, ◌+++◌}
-use Rattle.shared_core_codec.proofs.Backwards.{record_before, record_size}
-use Rattle.shared_core_codec.proofs.Measuring.{measured_bytes, size_is}
-use Rattle.shared_core_codec.proofs.RowBytes.{each_bytes, each_cons, each_nil, elements_bytes, no_packed}
+use Rattle.shared_core_wire.specs.Value.{Part, Parts, Absent, Number, Bytes, Nested, Elements, Member, cons, nil, ◌+++◌}
+use Rattle.shared_core_codec.proofs.Backwards.{record_size}
+use Rattle.shared_core_codec.proofs.Measuring.{measured_bytes}
+use Rattle.shared_core_codec.proofs.RowBytes.{each_bytes, each_cons, each_nil, elements_bytes, payload_size, written_before}
 use Rattle.shared_core_codec.specs.FieldParts.{enum_number, enum_part, elements_part, message_part, option_part, parts_of, text_part}
-use Rattle.shared_core_codec.specs.RowEncoding.{before_row, before_rows, capped, length_record, measured_message, measured_row, measured_rows, row_bytes, row_size, rows_size, value_bytes, varints_of}
-use Rattle.shared_core_codec.specs.RowFitting.{FieldFits, FieldsFit, RowFits}
+use Rattle.shared_core_codec.specs.RowEncoding.{capped, length_record, measured_message, row_bytes, value_bytes, varints_of}
+use Rattle.shared_core_codec.specs.RowFitting.{FieldFits, RowFits}
 use Rattle.shared_core_codec.specs.Table.{suspension_v6, table}
 use Rattle.shared_core_parts.specs.Futures.{future_elements, future_layer, future_parts, futures_part}
 use Rattle.shared_core_parts.specs.declared.future.Future.{Future}
 use Rattle.shared_core_parts.specs.declared.future.Future.TheViews.{out-Future}
 use Rattle.shared_core_parts.specs.declared.future.Future.TheFolds.{fold_out-Future}
-use Rattle.shared_core_runtime.specs.AwaitedLists.{HoldsNumbers, ShowsElements, awaited_list, kind_in, list_bytes, own_list, place_of, run_bytes}
-use Rattle.shared_core_runtime.specs.Flattening.{awaited_lists, elements_in, flattened, joined_lists, messages_in, messages_of_part, part_at, preorder}
-use Rattle.shared_core_runtime.specs.declared.flat_suspension.AwaitedList.{AwaitedList}
-use Rattle.shared_core_runtime.specs.declared.flat_suspension.AwaitedList.TheVariants.{Completions, Signals, NamedSignals}
+use Rattle.shared_core_runtime.specs.AwaitedLists.{AwaitedList, Completions, Signals, NamedSignals, awaited_list, kind_in, list_bytes, list_row, list_row_size, own_list, place_of, run_bytes}
+use Rattle.shared_core_runtime.specs.Flattening.{awaited_lists, elements_in, joined_lists, messages_in, messages_of_part, part_at, preorder}
+
+-- what is so of each of the three lists
+pub by_list : (P : AwaitedList → Type 0) → P Completions → P Signals → P NamedSignals → (list : AwaitedList) → P list
+by_list P a b c Completions = a
+by_list P a b c Signals = b
+by_list P a b c NamedSignals = c
 
 -- ---- the bytes of joined lists
 
@@ -59,22 +65,6 @@ unfolding element_values
 list_nil Completions = refl
 list_nil Signals = refl
 list_nil NamedSignals = elements_bytes 3 Text nil refl ∙ each_nil 3 Text
-
-shown_join : (ps qs : Parts) → length (element_values table ps U32) ≤ length (run_bytes ps) → length (element_values table qs U32) ≤ length (run_bytes qs)
-    → length (element_values table (ps +++ qs) U32) ≤ length (run_bytes (ps +++ qs))
-shown_join ps qs f g =
-    omega (arith, f, g, ap length (values_join ps qs), ap length (run_join ps qs), length-append (element_values table ps U32) (element_values table qs U32), length-append (run_bytes ps) (run_bytes qs))
-
-pub shows_join : (list : AwaitedList) (ps qs : Parts) → ShowsElements list ps → ShowsElements list qs → ShowsElements list (ps +++ qs)
-shows_join Completions ps qs f g = shown_join ps qs f g
-shows_join Signals ps qs f g = shown_join ps qs f g
-shows_join NamedSignals ps qs f g = tt
-
-pub shows_nil : (list : AwaitedList) → ShowsElements list nil
-unfolding element_values
-shows_nil Completions = omega arith
-shows_nil Signals = omega arith
-shows_nil NamedSignals = tt
 
 pub elements_join : (list : AwaitedList) (ps qs : Parts) → ElementsFit table ps (kind_in list) → ElementsFit table qs (kind_in list) → ElementsFit table (ps +++ qs) (kind_in list)
 unfolding ElementsFit
@@ -125,10 +115,16 @@ run_of (n ∷ ns) = ap (λ (t : List ℕ). shortest_varint n ++ t) (run_of ns)
 varint_some : (n : ℕ) → 1 ≤ length (shortest_varint n)
 varint_some n = elim (cases_lt n 128) [ inl h ↦ rw (shortest_small n h) (omega arith) | inr h ↦ rw (shortest_large n h) (omega arith) ]
 
-pub run_shows : (ns : List ℕ) → length (element_values table (parts_of Number ns) U32) ≤ length (run_bytes (parts_of Number ns))
-unfolding element_values part_values
-run_shows [] = omega arith
-run_shows (n ∷ ns) = omega (arith, run_shows ns, varint_some n, length-append (shortest_varint n) (run_bytes (parts_of Number ns)))
+-- each number takes a byte at least
+run_shows : (ps : Parts) → ElementsFit table ps U32 → length (element_values table ps U32) ≤ length (run_bytes ps)
+unfolding ElementsFit PartFits element_values part_values
+run_shows nil f = omega arith
+run_shows (cons (Number n) ps) f = omega (arith, run_shows ps f.2, varint_some n, length-append (shortest_varint n) (run_bytes ps))
+run_shows (cons (Bytes bytes) ps) f = absurd f.1
+run_shows (cons (Nested qs) ps) f = absurd f.1
+run_shows (cons Absent ps) f = absurd (false≢true f.0)
+run_shows (cons (Elements qs) ps) f = absurd (false≢true f.0)
+run_shows (cons (Member n p) ps) f = absurd (false≢true f.0)
 
 pub own_completions : (f : Future) → own_list Completions (future_parts f) ≡ parts_of Number (out-Future f).waiting_completions.items
 own_completions f = ap (λ (v : Parts). own_list Completions v) (is_value f)
@@ -147,12 +143,6 @@ signals_bytes f = ap run_bytes (own_signals f) ∙ run_of (out-Future f).waiting
 
 pub names_bytes : (f : Future) → list_bytes NamedSignals (own_list NamedSignals (future_parts f)) ≡ row_bytes (Repeated 3 Text) (elements_part text_part (out-Future f).waiting_named_signals.items)
 names_bytes f = ap (λ (ps : Parts). row_bytes (Repeated 3 Text) (Elements ps)) (own_names f)
-
-pub completions_show : (f : Future) → ShowsElements Completions (own_list Completions (future_parts f))
-completions_show f = subst (ShowsElements Completions) (sym (own_completions f)) (run_shows (out-Future f).waiting_completions.items)
-
-pub signals_show : (f : Future) → ShowsElements Signals (own_list Signals (future_parts f))
-signals_show f = subst (ShowsElements Signals) (sym (own_signals f)) (run_shows (out-Future f).waiting_signals.items)
 
 elements_of : (at : ℕ) (k : Kind) (ps : Parts) → FieldFits (Repeated at k) (Elements ps) → ElementsFit table ps k
 unfolding RowFits PartFits
@@ -187,9 +177,6 @@ future_measured list f old middle new a b =
 pub future_fits : (list : AwaitedList) (f : Future) → ElementsFit table (own_list list (future_parts f)) (kind_in list) → ElementsFit table (awaited_list list (nested_in f)) (kind_in list)
     → ElementsFit table (awaited_list list (preorder (future_parts f))) (kind_in list)
 future_fits list f a b = subst (λ (ps : Parts). ElementsFit table ps (kind_in list)) (sym (future_list list f)) (elements_join list _ _ a b)
-
-pub future_shows : (list : AwaitedList) (f : Future) → ShowsElements list (own_list list (future_parts f)) → ShowsElements list (awaited_list list (nested_in f)) → ShowsElements list (awaited_list list (preorder (future_parts f)))
-future_shows list f a b = subst (ShowsElements list) (sym (future_list list f)) (shows_join list _ _ a b)
 
 -- ---- the futures from an index on
 
@@ -232,17 +219,18 @@ IsMeasured list fs first i now =
     (capped (now + length (from_bytes list fs i)) ≡ capped (first + length (from_bytes list fs 0)))
     × (now ≤ 2 ^ 32)
     × (ElementsFit table (awaited_list list (futures_from fs i)) (kind_in list) → ElementsFit table (awaited_list list (futures_from fs 0)) (kind_in list))
-    × (ShowsElements list (awaited_list list (futures_from fs i)) → ShowsElements list (awaited_list list (futures_from fs 0)))
 
 pub measured_next : (list : AwaitedList) (fs : List Future) (i : ℕ) (f : Future) (first old now : ℕ) → i < length fs → f ≡ get_or fs i f
     → now ≡ capped (old + length (list_bytes list (awaited_list list (preorder (future_parts f))))) → ElementsFit table (awaited_list list (preorder (future_parts f))) (kind_in list)
-    → ShowsElements list (awaited_list list (preorder (future_parts f))) → IsMeasured list fs first i old → IsMeasured list fs first (i + 1) now
-measured_next list fs i f first old now h e s fit shown w = (
+    → IsMeasured list fs first i old → IsMeasured list fs first (i + 1) now
+measured_next list fs i f first old now h e s fit w = (
   omega (arith, s, w.0, ap length (next_bytes list fs i f h e), length-append (list_bytes list (awaited_list list (preorder (future_parts f)))) (from_bytes list fs (i + 1))),
   omega (arith, s),
-  (λ g. w.2 (subst (λ (ps : Parts). ElementsFit table ps (kind_in list)) (sym (next_list list fs i f h e)) (elements_join list _ _ fit g))),
-  λ g. w.3 (subst (ShowsElements list) (sym (next_list list fs i f h e)) (shows_join list _ _ shown g)),
+  λ g. w.2 (subst (λ (ps : Parts). ElementsFit table ps (kind_in list)) (sym (next_list list fs i f h e)) (elements_join list _ _ fit g)),
 )
+
+pub measured_none : (list : AwaitedList) (fs : List Future) (first : ℕ) → first ≤ 2 ^ 32 → IsMeasured list fs first 0 first
+measured_none list fs first l = (refl, l, (λ g. g))
 
 pub measured_all : (list : AwaitedList) (fs : List Future) (i first now : ℕ) → length fs ≤ i → IsMeasured list fs first i now → now ≡ capped (first + length (list_bytes list (awaited_list list (messages_in (future_elements fs)))))
 measured_all list fs i first now h w = omega (arith, w.0, w.1, ap length (no_bytes list fs i h))
@@ -250,36 +238,28 @@ measured_all list fs i first now h w = omega (arith, w.0, w.1, ap length (no_byt
 pub all_fit : (list : AwaitedList) (fs : List Future) (i first now : ℕ) → length fs ≤ i → IsMeasured list fs first i now → ElementsFit table (awaited_list list (messages_in (future_elements fs))) (kind_in list)
 all_fit list fs i first now h w = w.2 (subst (λ (ps : Parts). ElementsFit table ps (kind_in list)) (sym (no_list list fs i h)) (elements_nil list))
 
-pub all_shown : (list : AwaitedList) (fs : List Future) (i first now : ℕ) → length fs ≤ i → IsMeasured list fs first i now → ShowsElements list (awaited_list list (messages_in (future_elements fs)))
-all_shown list fs i first now h w = w.3 (subst (ShowsElements list) (sym (no_list list fs i h)) (shows_nil list))
-
 -- ---- written, the last one first
 
 pub record IsWritten (list : AwaitedList) (fs : List Future) (i end start : ℕ) (after now : List ℕ) : Type 0 where
   pub begins : start + length (from_bytes list fs i) ≡ end
   pub written : now ≡ from_bytes list fs i ++ after
-  pub shown : ShowsElements list (awaited_list list (futures_from fs i))
 
 pub written_none : (list : AwaitedList) (fs : List Future) (i end : ℕ) (after : List ℕ) → length fs ≤ i → IsWritten list fs i end end after after
 written_none list fs i end after h = record {
   begins = rw (no_bytes list fs i h) (omega arith);
   written = rw (no_bytes list fs i h) refl;
-  shown = subst (ShowsElements list) (sym (no_list list fs i h)) (shows_nil list);
 }
 
 pub written_next : (list : AwaitedList) (fs : List Future) (i : ℕ) (f : Future) (end old start : ℕ) (after mid now : List ℕ) → 0 < i → i ≤ length fs → f ≡ get_or fs (i - 1) f
     → start + length (list_bytes list (awaited_list list (preorder (future_parts f)))) ≡ old → now ≡ list_bytes list (awaited_list list (preorder (future_parts f))) ++ mid
-    → ShowsElements list (awaited_list list (preorder (future_parts f)))
     → IsWritten list fs i end old after mid → IsWritten list fs (i - 1) end start after now
-written_next list fs i f end old start after mid now z h e l w s b =
+written_next list fs i f end old start after mid now z h e l w b =
     let n : i - 1 + 1 ≡ i = omega arith in
     let bytes : from_bytes list fs (i - 1) ≡ list_bytes list (awaited_list list (preorder (future_parts f))) ++ from_bytes list fs i = rw n at (next_bytes list fs (i - 1) f (omega arith) e) in
-    let same : awaited_list list (futures_from fs (i - 1)) ≡ awaited_list list (preorder (future_parts f)) +++ awaited_list list (futures_from fs i) = rw n at (next_list list fs (i - 1) f (omega arith) e) in
     record {
       begins = omega (arith, l, b.begins, ap length bytes, length-append (list_bytes list (awaited_list list (preorder (future_parts f)))) (from_bytes list fs i));
       written = w ∙ ap (λ (t : List ℕ). list_bytes list (awaited_list list (preorder (future_parts f))) ++ t) b.written
           ∙ sym (append_assoc (list_bytes list (awaited_list list (preorder (future_parts f)))) (from_bytes list fs i) after) ∙ ap (λ (t : List ℕ). t ++ after) (sym bytes);
-      shown = subst (ShowsElements list) (sym same) (shows_join list _ _ s b.shown);
     }
 
 from_shorter : (list : AwaitedList) (fs : List Future) (i : ℕ) → length (from_bytes list fs i) ≤ length (from_bytes list fs 0)
@@ -324,7 +304,7 @@ packed_bytes : (at : ℕ) (ws : List RecordValue) → 0 < length (flat_map numbe
 packed_bytes at [] h = absurd (omega arith)
 packed_bytes at (w ∷ ws) h = append-nil _
 
-pub some_row : (at : ℕ) (ps : Parts) → 0 < length (run_bytes ps) → row_bytes (Repeated at U32) (Elements ps) ≡ length_record at (run_bytes ps)
+some_row : (at : ℕ) (ps : Parts) → 0 < length (run_bytes ps) → row_bytes (Repeated at U32) (Elements ps) ≡ length_record at (run_bytes ps)
 unfolding row_bytes part_values
 some_row at ps h = packed_bytes at (element_values table ps U32) h
 
@@ -332,69 +312,60 @@ no_values : (at : ℕ) (ws : List RecordValue) → length ws ≤ 0 → record_li
 no_values at [] h = refl
 no_values at (w ∷ ws) h = absurd (omega arith)
 
-pub no_row : (at : ℕ) (ps : Parts) → length (element_values table ps U32) ≤ length (run_bytes ps) → length (run_bytes ps) ≡ 0 → row_bytes (Repeated at U32) (Elements ps) ≡ []
+no_row : (at : ℕ) (ps : Parts) → length (element_values table ps U32) ≤ length (run_bytes ps) → length (run_bytes ps) ≡ 0 → row_bytes (Repeated at U32) (Elements ps) ≡ []
 unfolding row_bytes part_values
 no_row at ps f h = no_values at (element_values table ps U32) (omega (arith, f, h))
 
-run_shown : (list : AwaitedList) (ps : Parts) → HoldsNumbers list → ShowsElements list ps → length (element_values table ps U32) ≤ length (run_bytes ps)
-run_shown Completions ps n f = f
-run_shown Signals ps n f = f
-run_shown NamedSignals ps n f = absurd n
+-- what a run adds to a size
+run_measured : (at : ℕ) (ps : Parts) (old run new : ℕ) → ElementsFit table ps U32 → old ≤ 2 ^ 32 → run ≡ capped (length (run_bytes ps)) → (run ≡ 0 → new ≡ old)
+    → (0 < run → new ≡ measured_message at run old) → new ≡ capped (old + length (row_bytes (Repeated at U32) (Elements ps)))
+run_measured at ps old run new f l e none some =
+    elim (cases_lt 0 run) [
+      | inl h ↦ some h ∙ measured_bytes at old run (run_bytes ps) e ∙ ap (λ (t : List ℕ). capped (old + length t)) (sym (some_row at ps (omega (arith, e, h))))
+      | inr h ↦
+          let z : length (run_bytes ps) ≡ 0 = omega (arith, e, h) in
+          let n : new ≡ old = none (omega (arith, h)) in
+          omega (arith, n, l, ap length (no_row at ps (run_shows ps f) z))
+    ]
 
-pub run_is : (list : AwaitedList) (ps : Parts) → HoldsNumbers list → list_bytes list ps ≡ run_bytes ps
-run_is Completions ps n = refl
-run_is Signals ps n = refl
-run_is NamedSignals ps n = absurd n
+run_room : (at : ℕ) (ps : Parts) → length (run_bytes ps) ≤ length (row_bytes (Repeated at U32) (Elements ps))
+run_room at ps = elim (cases_lt 0 (length (run_bytes ps))) [ inl h ↦ omega (arith, ap length (some_row at ps h), record_size at (run_bytes ps)) | inr h ↦ omega (arith, h) ]
 
-pub run_fits : (list : AwaitedList) (ps : Parts) → HoldsNumbers list → ElementsFit table ps (kind_in list) → ElementsFit table ps U32
-run_fits Completions ps n f = f
-run_fits Signals ps n f = f
-run_fits NamedSignals ps n f = absurd n
+pub elements_room : (list : AwaitedList) (ms : List Parts) → length (list_bytes list (awaited_list list ms)) ≤ list_row_size list ms
+elements_room Completions ms = run_room 1 (awaited_list Completions ms)
+elements_room Signals ms = run_room 2 (awaited_list Signals ms)
+elements_room NamedSignals ms = omega arith
 
-pub run_measured : (list : AwaitedList) (at : ℕ) (ps : Parts) (old run new : ℕ) → HoldsNumbers list → run ≡ capped (length (list_bytes list ps)) → 0 < run → new ≡ measured_message at run old
-    → new ≡ measured_row (Repeated at U32) (Elements ps) old
-run_measured list at ps old run new n e h w =
-    w ∙ measured_bytes at old run (run_bytes ps) (rw (run_is list ps n) at e) ∙ ap (λ (t : List ℕ). capped (old + length t)) (sym (some_row at ps (omega (arith, e, h, ap length (run_is list ps n)))))
+-- nothing is after the elements in their slice
+pub at_end : (old mid elements : List ℕ) → mid ≡ elements ++ drop (length old) old → mid ≡ elements ++ []
+at_end old mid elements e = e ∙ ap (λ (t : List ℕ). elements ++ t) (drop_all (length old) old (omega arith))
 
-pub none_measured : (list : AwaitedList) (at : ℕ) (ps : Parts) (old run : ℕ) → HoldsNumbers list → ShowsElements list ps → run ≡ capped (length (list_bytes list ps)) → run ≤ 0 → old ≤ 2 ^ 32
-    → old ≡ measured_row (Repeated at U32) (Elements ps) old
-none_measured list at ps old run n f e h l =
-    omega (arith, l, ap length (no_row at ps (run_shown list ps n f) (omega (arith, e, h, ap length (run_is list ps n)))))
+pub names_written : (start : ℕ) (old now row : List ℕ) → start + length row ≡ length old → length old ≡ length row → drop start now ≡ row ++ drop (length old) old → now ≡ row
+names_written start old now row w l e =
+    let z : start ≡ 0 = omega (arith, w, l) in
+    let d : drop 0 now ≡ row ++ drop (length old) old = rw z at e in
+    at_end old now row d ∙ append-nil row
 
-pub run_room : (list : AwaitedList) (at : ℕ) (ps : Parts) (end : ℕ) → HoldsNumbers list → row_size (Repeated at U32) (Elements ps) ≤ end → length (list_bytes list ps) ≤ end
-run_room list at ps end n r =
-    elim (cases_lt 0 (length (run_bytes ps))) [ inl h ↦ omega (arith, r, ap length (run_is list ps n), ap length (some_row at ps h), record_size at (run_bytes ps)) | inr h ↦ omega (arith, r, ap length (run_is list ps n), h) ]
+-- the head of a run goes before it
+pub head_room : (at : ℕ) (ps : Parts) (len start : ℕ) → ElementsFit table ps U32 → len ≡ length (row_bytes (Repeated at U32) (Elements ps)) → start + length (run_bytes ps) ≡ len → start < len
+    → length (key_bytes at 2) + length (shortest_varint (len - start)) ≡ start
+head_room at ps len start f r w h =
+    let n : length (run_bytes ps) ≡ len - start = omega (arith, w) in
+    omega (arith, r, w, n, ap length (some_row at ps (omega (arith, w, h))), record_size at (run_bytes ps), ap (λ (k : ℕ). length (shortest_varint k)) n)
 
-pub run_head_room : (list : AwaitedList) (at : ℕ) (ps : Parts) (end start : ℕ) → HoldsNumbers list → row_size (Repeated at U32) (Elements ps) ≤ end → start + length (list_bytes list ps) ≡ end → start ≢ end
-    → length (key_bytes at 2) + length (shortest_varint (end - start)) ≤ start
-run_head_room list at ps end start n r w d =
-    let l : length (run_bytes ps) ≡ end - start = omega (arith, w, ap length (run_is list ps n)) in
-    let h : 0 < length (run_bytes ps) = omega (arith, w, ap length (run_is list ps n), d) in
-    omega (arith, r, w, l, ap length (some_row at ps h), record_size at (run_bytes ps), ap (λ (k : ℕ). length (shortest_varint k)) l)
-
-pub run_start : (list : AwaitedList) (at : ℕ) (ps : Parts) (end mid start : ℕ) → HoldsNumbers list → mid + length (list_bytes list ps) ≡ end → mid ≢ end
-    → start + (length (key_bytes at 2) + length (shortest_varint (end - mid))) ≡ mid → start + row_size (Repeated at U32) (Elements ps) ≡ end
-run_start list at ps end mid start n w d s =
-    let l : length (run_bytes ps) ≡ end - mid = omega (arith, w, ap length (run_is list ps n)) in
-    let h : 0 < length (run_bytes ps) = omega (arith, w, ap length (run_is list ps n), d) in
-    omega (arith, w, s, l, ap length (some_row at ps h), record_size at (run_bytes ps), ap (λ (k : ℕ). length (shortest_varint k)) l)
-
-pub run_written : (list : AwaitedList) (at : ℕ) (ps : Parts) (end mid_start : ℕ) (after mid now : List ℕ) → HoldsNumbers list → mid_start + length (list_bytes list ps) ≡ end → mid_start ≢ end
-    → mid ≡ list_bytes list ps ++ after → now ≡ key_bytes at 2 ++ (shortest_varint (end - mid_start) ++ mid) → now ≡ before_row (Repeated at U32) (Elements ps) after
-run_written list at ps end mid_start after mid now n w d m e =
-    let l : end - mid_start ≡ length (run_bytes ps) = omega (arith, w, ap length (run_is list ps n)) in
-    let h : 0 < length (run_bytes ps) = omega (arith, w, ap length (run_is list ps n), d) in
-    rw (some_row at ps h) (record_before at (run_bytes ps) after mid now (rw l at e) (rw (run_is list ps n) at m))
-
-pub none_start : (list : AwaitedList) (at : ℕ) (ps : Parts) (end start : ℕ) → HoldsNumbers list → ShowsElements list ps → start + length (list_bytes list ps) ≡ end → start ≡ end
-    → end + row_size (Repeated at U32) (Elements ps) ≡ end
-none_start list at ps end start n f w e = omega (arith, ap length (no_row at ps (run_shown list ps n f) (omega (arith, w, e, ap length (run_is list ps n)))))
-
-pub none_written : (list : AwaitedList) (at : ℕ) (ps : Parts) (end start : ℕ) (after out : List ℕ) → HoldsNumbers list → ShowsElements list ps → start + length (list_bytes list ps) ≡ end → start ≡ end
-    → drop start out ≡ list_bytes list ps ++ after → drop end out ≡ before_row (Repeated at U32) (Elements ps) after
-none_written list at ps end start after out n f w e m =
-    let z : length (run_bytes ps) ≡ 0 = omega (arith, w, e, ap length (run_is list ps n)) in
-    rw (no_row at ps (run_shown list ps n f) z) (ap (λ (k : ℕ). drop k out) (sym e) ∙ m ∙ rw (run_is list ps n, nil_from_length (run_bytes ps) z) refl)
+pub head_written : (at : ℕ) (ps : Parts) (start : ℕ) (old now : List ℕ) → ElementsFit table ps U32 → length old ≡ length (row_bytes (Repeated at U32) (Elements ps)) → start + length (run_bytes ps) ≡ length old
+    → drop start old ≡ run_bytes ps ++ [] → (length old ≤ start → now ≡ old) → (start < length old → now ≡ key_bytes at 2 ++ (shortest_varint (length old - start) ++ drop start old))
+    → now ≡ row_bytes (Repeated at U32) (Elements ps)
+head_written at ps start old now f r w d none some =
+    elim (cases_lt start (length old)) [
+      | inl h ↦
+          let n : length old - start ≡ length (run_bytes ps) = omega (arith, w) in
+          some h ∙ rw (n, d, append-nil (run_bytes ps)) (sym (some_row at ps (omega (arith, w, h))))
+      | inr h ↦
+          let z : length (run_bytes ps) ≡ 0 = omega (arith, w, h) in
+          let e : row_bytes (Repeated at U32) (Elements ps) ≡ [] = no_row at ps (run_shows ps f) z in
+          none h ∙ nil_from_length old (omega (arith, r, ap length e)) ∙ sym e
+    ]
 
 -- ---- a whole suspension
 
@@ -402,77 +373,82 @@ none_written list at ps end start after out n f w e m =
 abbrev pub suspension_of : Option Future → Parts
 suspension_of awaited = cons (option_part (message_part future_parts) awaited) nil
 
-pub nothing_awaited : (awaited : Option Future) → awaited ≡ None → flattened (suspension_of awaited) ≡ awaited_lists []
+pub nothing_awaited : (awaited : Option Future) → awaited ≡ None → messages_in (suspension_of awaited) ≡ []
 unfolding messages_in
 nothing_awaited awaited h = rw h refl
 
-pub something_awaited : (awaited : Option Future) (f : Future) → awaited ≡ Some f → flattened (suspension_of awaited) ≡ awaited_lists (preorder (future_parts f))
+pub something_awaited : (awaited : Option Future) (f : Future) → awaited ≡ Some f → messages_in (suspension_of awaited) ≡ preorder (future_parts f)
 unfolding messages_in
-something_awaited awaited f h = rw h (ap awaited_lists (append-nil (preorder (future_parts f))))
+something_awaited awaited f h = rw h (append-nil (preorder (future_parts f)))
 
-no_names : row_bytes (Repeated 3 Text) (Elements nil) ≡ []
-no_names = elements_bytes 3 Text nil refl ∙ each_nil 3 Text
-
-none_counted : (n : ℕ) → n ≤ 2 ^ 32 → n ≡ measured_rows (table suspension_v6) (awaited_lists []) n
+pub nothing_sums : (list : AwaitedList) (ms : List Parts) → ms ≡ [] → length (list_bytes list (awaited_list list ms)) ≡ 0
 unfolding joined_lists
-none_counted n l = omega (arith, l, ap length (no_packed 1 [] refl), ap length (no_packed 2 [] refl), ap length no_names)
+nothing_sums list ms h = rw h (ap length (list_nil list))
 
-pub nothing_measured : (awaited : Option Future) (n : ℕ) → awaited ≡ None → n ≤ 2 ^ 32 → n ≡ measured_rows (table suspension_v6) (flattened (suspension_of awaited)) n
-nothing_measured awaited n h l = subst (λ (v : Parts). n ≡ measured_rows (table suspension_v6) v n) (sym (nothing_awaited awaited h)) (none_counted n l)
-
-rows_fit : (ms : List Parts) → ElementsFit table (joined_lists 0 ms) U32 → ElementsFit table (joined_lists 1 ms) U32 → ElementsFit table (joined_lists 2 ms) Text → FieldsFit (table suspension_v6) (awaited_lists ms)
-unfolding RowFits PartFits
-rows_fit ms a b c = ((refl, a), ((refl, b), ((refl, c), tt)))
-
-pub nothing_fits : (awaited : Option Future) → awaited ≡ None → FieldsFit (table suspension_v6) (flattened (suspension_of awaited))
+pub nothing_fits : (list : AwaitedList) (ms : List Parts) → ms ≡ [] → ElementsFit table (awaited_list list ms) (kind_in list)
 unfolding joined_lists ElementsFit
-nothing_fits awaited h = subst (λ (v : Parts). FieldsFit (table suspension_v6) v) (sym (nothing_awaited awaited h)) (rows_fit [] tt tt tt)
+nothing_fits list ms h = rw h tt
 
-pub suspension_measured : (awaited : Option Future) (f : Future) (old first second new : ℕ) → awaited ≡ Some f
-    → first ≡ measured_row (Repeated 1 U32) (Elements (awaited_list Completions (preorder (future_parts f)))) old
-    → second ≡ measured_row (Repeated 2 U32) (Elements (awaited_list Signals (preorder (future_parts f)))) first
-    → new ≡ capped (second + length (list_bytes NamedSignals (awaited_list NamedSignals (preorder (future_parts f)))))
-    → new ≡ measured_rows (table suspension_v6) (flattened (suspension_of awaited)) old
-suspension_measured awaited f old first second new h a b n =
-    subst (λ (v : Parts). new ≡ measured_rows (table suspension_v6) v old) (sym (something_awaited awaited f h))
-    (n ∙ ap (λ (t : ℕ). measured_row (Repeated 3 Text) (Elements (awaited_list NamedSignals (preorder (future_parts f)))) t)
-    (b ∙ ap (λ (t : ℕ). measured_row (Repeated 2 U32) (Elements (awaited_list Signals (preorder (future_parts f)))) t) a))
+-- the rows of a flattened suspension are its payload
+lists_whole : (ms : List Parts) → canonical_payload table suspension_v6 (awaited_lists ms) ≡ list_row Completions ms ++ (list_row Signals ms ++ (list_row NamedSignals ms ++ []))
+lists_whole ms = sym (written_before suspension_v6 (awaited_lists ms) [] ∙ append-nil _)
 
-pub suspension_fits : (awaited : Option Future) (f : Future) → awaited ≡ Some f → ElementsFit table (awaited_list Completions (preorder (future_parts f))) U32
-    → ElementsFit table (awaited_list Signals (preorder (future_parts f))) U32 → ElementsFit table (awaited_list NamedSignals (preorder (future_parts f))) Text
-    → FieldsFit (table suspension_v6) (flattened (suspension_of awaited))
-suspension_fits awaited f h a b c = subst (λ (v : Parts). FieldsFit (table suspension_v6) v) (sym (something_awaited awaited f h)) (rows_fit _ a b c)
+pub sizes_whole : (ms : List Parts) → length (canonical_payload table suspension_v6 (awaited_lists ms)) ≡ list_row_size Completions ms + (list_row_size Signals ms + list_row_size NamedSignals ms)
+sizes_whole ms = omega (arith, payload_size suspension_v6 (awaited_lists ms))
 
-none_sized : rows_size (table suspension_v6) (awaited_lists []) ≡ 0
-unfolding joined_lists
-none_sized = omega (arith, ap length (no_packed 1 [] refl), ap length (no_packed 2 [] refl), ap length no_names)
+-- the rows of the two runs, measured one after the other
+pub runs_measured : (ms : List Parts) (begin first second completions signals : ℕ) → ((list : AwaitedList) → ElementsFit table (awaited_list list ms) (kind_in list)) → begin ≡ 0
+    → completions ≡ capped (length (list_bytes Completions (awaited_list Completions ms))) → signals ≡ capped (length (list_bytes Signals (awaited_list Signals ms)))
+    → (completions ≡ 0 → first ≡ begin) → (0 < completions → first ≡ measured_message 1 completions begin) → (signals ≡ 0 → second ≡ first) → (0 < signals → second ≡ measured_message 2 signals first)
+    → (first ≡ capped (list_row_size Completions ms)) × (second ≡ capped (list_row_size Completions ms + list_row_size Signals ms))
+runs_measured ms begin first second completions signals fit z a b no_first some_first no_second some_second =
+    let p : first ≡ capped (begin + list_row_size Completions ms) = run_measured 1 (awaited_list Completions ms) begin completions first (fit Completions) (omega (arith, z)) a no_first some_first in
+    let q : second ≡ capped (first + list_row_size Signals ms) = run_measured 2 (awaited_list Signals ms) first signals second (fit Signals) (omega (arith, p)) b no_second some_second in
+    (omega (arith, p, z), omega (arith, p, q, z))
 
-pub nothing_sized : (awaited : Option Future) (end : ℕ) → awaited ≡ None → end + rows_size (table suspension_v6) (flattened (suspension_of awaited)) ≡ end
-nothing_sized awaited end h = omega (arith, ap (rows_size (table suspension_v6)) (nothing_awaited awaited h), none_sized)
+pub lists_written : (ms ns : List Parts) (completions signals names : List ℕ) → ms ≡ ns → completions ≡ list_row Completions ns → signals ≡ list_row Signals ns → names ≡ list_row NamedSignals ns
+    → (completions ++ signals) ++ names ≡ canonical_payload table suspension_v6 (awaited_lists ms)
+lists_written ms ns completions signals names h a b c =
+    rw (h, a, b, c)
+    (append_assoc (list_row Completions ns) (list_row Signals ns) (list_row NamedSignals ns) ∙ ap (λ (t : List ℕ). list_row Completions ns ++ (list_row Signals ns ++ t)) (sym (append-nil (list_row NamedSignals ns))) ∙ sym (lists_whole ns))
 
-none_written_after : (after : List ℕ) → after ≡ before_rows (table suspension_v6) (awaited_lists []) after
-unfolding joined_lists
-none_written_after after = rw (no_packed 1 [] refl, no_packed 2 [] refl, no_names) refl
+no_rows : list_row_size Completions [] + (list_row_size Signals [] + list_row_size NamedSignals []) ≡ 0
+unfolding joined_lists ElementsFit element_values
+no_rows = omega (arith, ap length (no_row 1 nil (run_shows nil tt) refl), ap length (no_row 2 nil (run_shows nil tt) refl), ap length (list_nil NamedSignals))
 
-pub nothing_written : (awaited : Option Future) (after : List ℕ) → awaited ≡ None → after ≡ before_rows (table suspension_v6) (flattened (suspension_of awaited)) after
-nothing_written awaited after h = subst (λ (v : Parts). after ≡ before_rows (table suspension_v6) v after) (sym (nothing_awaited awaited h)) (none_written_after after)
+pub nothing_written : (ms : List Parts) (out : List ℕ) → ms ≡ [] → length out ≡ length (canonical_payload table suspension_v6 (awaited_lists ms)) → out ≡ canonical_payload table suspension_v6 (awaited_lists ms)
+nothing_written ms out h l =
+    let z : length (canonical_payload table suspension_v6 (awaited_lists ms)) ≡ 0 = rw h (sizes_whole [] ∙ no_rows) in
+    nil_from_length out (omega (arith, l, z)) ∙ sym (nil_from_length (canonical_payload table suspension_v6 (awaited_lists ms)) z)
 
-pub suspension_size : (awaited : Option Future) (f : Future) → awaited ≡ Some f → rows_size (table suspension_v6) (flattened (suspension_of awaited))
-    ≡ row_size (Repeated 1 U32) (Elements (awaited_list Completions (preorder (future_parts f)))) + (row_size (Repeated 2 U32) (Elements (awaited_list Signals (preorder (future_parts f))))
-    + (length (list_bytes NamedSignals (awaited_list NamedSignals (preorder (future_parts f)))) + 0))
-suspension_size awaited f h = ap (rows_size (table suspension_v6)) (something_awaited awaited f h)
+pub lists_fit : (ms : List Parts) → ((list : AwaitedList) → ElementsFit table (awaited_list list ms) (kind_in list)) → Fits table (awaited_lists ms) (table suspension_v6)
+unfolding Fits
+lists_fit ms f = (refl, f Completions, (refl, f Signals, (refl, f NamedSignals, tt)))
 
-pub suspension_written : (awaited : Option Future) (f : Future) (after names signals now : List ℕ) → awaited ≡ Some f
-    → names ≡ list_bytes NamedSignals (awaited_list NamedSignals (preorder (future_parts f))) ++ after
-    → signals ≡ before_row (Repeated 2 U32) (Elements (awaited_list Signals (preorder (future_parts f)))) names
-    → now ≡ before_row (Repeated 1 U32) (Elements (awaited_list Completions (preorder (future_parts f)))) signals
-    → now ≡ before_rows (table suspension_v6) (flattened (suspension_of awaited)) after
-suspension_written awaited f after names signals now h n s c =
-    subst (λ (v : Parts). now ≡ before_rows (table suspension_v6) v after) (sym (something_awaited awaited f h))
-    (c ∙ ap (λ (t : List ℕ). before_row (Repeated 1 U32) (Elements (awaited_list Completions (preorder (future_parts f)))) t)
-    (s ∙ ap (λ (t : List ℕ). before_row (Repeated 2 U32) (Elements (awaited_list Signals (preorder (future_parts f)))) t) n))
+pub list_fits : (list : AwaitedList) (ms : List Parts) → Fits table (awaited_lists ms) (table suspension_v6) → ElementsFit table (awaited_list list ms) (kind_in list)
+unfolding Fits
+list_fits Completions ms f = f.1
+list_fits Signals ms f = f.2.1
+list_fits NamedSignals ms f = f.2.2.1
 
-pub length_is : (s : ℕ) (ps : Parts) (total : ℕ) (result : Option ℕ) → total ≡ measured_rows (table s) ps 0 → MatchOption result (2 ^ 32 ≤ total) (λ len. (len ≡ total) × (len < 2 ^ 32))
-    → MatchOption result (2 ^ 32 ≤ length (canonical_payload table s ps)) (λ n. n ≡ length (canonical_payload table s ps))
-length_is s ps total None e h = omega (arith, e, size_is s ps, h)
-length_is s ps total (Some n) e h = omega (arith, e, size_is s ps, h.0, h.1)
+-- ---- each way to fit is the same
+
+elements_prop : (k : Kind) → ((n : ℕ) → IsProp (NumberFits k n)) → ((bytes : List ℕ) → IsProp (BytesFit k bytes)) → ((qs : Parts) → PartFits table (Nested qs) k → ⊥) → (ps : Parts) → IsProp (ElementsFit table ps k)
+unfolding ElementsFit PartFits
+elements_prop k ns bs ms nil = hlevel le_prop
+elements_prop k ns bs ms (cons (Number n) ps) = hlevel (Bool-set, ns n, elements_prop k ns bs ms ps)
+elements_prop k ns bs ms (cons (Bytes bytes) ps) = hlevel (Bool-set, bs bytes, elements_prop k ns bs ms ps)
+elements_prop k ns bs ms (cons (Nested qs) ps) = λ x y. absurd (ms qs x.1)
+elements_prop k ns bs ms (cons Absent ps) = λ x y. absurd (false≢true x.0)
+elements_prop k ns bs ms (cons (Elements qs) ps) = λ x y. absurd (false≢true x.0)
+elements_prop k ns bs ms (cons (Member n p) ps) = λ x y. absurd (false≢true x.0)
+
+pub list_prop : (list : AwaitedList) (ps : Parts) → IsProp (ElementsFit table ps (kind_in list))
+unfolding PartFits
+list_prop Completions ps = elements_prop U32 (λ n. hlevel le_prop) (λ bytes. hlevel le_prop) (λ qs f. f) ps
+list_prop Signals ps = elements_prop U32 (λ n. hlevel le_prop) (λ bytes. hlevel le_prop) (λ qs f. f) ps
+list_prop NamedSignals ps = elements_prop Text (λ n. hlevel le_prop) (λ bytes. hlevel Bool-set) (λ qs f. f) ps
+
+pub flat_prop : (ms : List Parts) → IsProp (Fits table (awaited_lists ms) (table suspension_v6))
+unfolding Fits
+flat_prop ms = hlevel (Bool-set, list_prop Completions (awaited_list Completions ms), list_prop Signals (awaited_list Signals ms), list_prop NamedSignals (awaited_list NamedSignals ms))

@@ -1,13 +1,33 @@
 -- The lists of what is awaited, one by one, as bytes.
-use Rattle.std.specs.Prelude.{◌≤◌, ℕ, List, flat_map, length}
-use Rattle.shared_core_wire.specs.Schema.{Kind, U32, Text, Repeated}
+use Rattle.std.specs.Prelude.{ℕ, List, flat_map, length}
+use Rattle.shared_core_wire.specs.Schema.{Kind, U32, Text, Row, Repeated}
 use Rattle.shared_core_wire.specs.Value.{Parts, Elements}
 use Rattle.shared_core_wire.specs.Canonical.{element_values, number_bytes}
 use Rattle.shared_core_codec.specs.Table.{table}
 use Rattle.shared_core_codec.specs.RowEncoding.{row_bytes}
-use Rattle.shared_core_runtime.specs.declared.flat_suspension.AwaitedList.{AwaitedList}
-use Rattle.shared_core_runtime.specs.declared.flat_suspension.AwaitedList.TheVariants.{Completions, Signals, NamedSignals}
+use Rattle.shared_core_runtime.specs.declared.flat_suspension.ListEnds.{ListEnds}
+use Rattle.shared_core_runtime.specs.declared.flat_suspension.ListSizes.{ListSizes}
 use Rattle.shared_core_runtime.specs.Flattening.{elements_in, joined_lists, part_at}
+
+-- One of the three lists.
+pub data AwaitedList : Type 0 where
+  Completions : AwaitedList
+  Signals : AwaitedList
+  NamedSignals : AwaitedList
+
+-- What the list has of three.
+abbrev pub of_list : {A : Type 0} → AwaitedList → A → A → A → A
+of_list Completions a b c = a
+of_list Signals a b c = b
+of_list NamedSignals a b c = c
+
+-- The size of a list.
+abbrev pub size_in : AwaitedList → ListSizes → ℕ
+size_in list sizes = of_list list sizes.completions sizes.signals sizes.named_signals
+
+-- Where the written elements of a list begin.
+abbrev pub end_in : AwaitedList → ListEnds → ℕ
+end_in list ends = of_list list ends.completions ends.signals ends.named_signals
 
 -- The index of a list in a future, counted from 0.
 abbrev pub place_of : AwaitedList → ℕ
@@ -21,11 +41,11 @@ kind_in Completions = U32
 kind_in Signals = U32
 kind_in NamedSignals = Text
 
--- The list is one of numbers.
-abbrev pub HoldsNumbers : AwaitedList → Type 0
-HoldsNumbers Completions = Unit {0}
-HoldsNumbers Signals = Unit {0}
-HoldsNumbers NamedSignals = ⊥
+-- The row of a list in the schema of the flattened suspension.
+abbrev pub row_in : AwaitedList → Row
+row_in Completions = Repeated 1 U32
+row_in Signals = Repeated 2 U32
+row_in NamedSignals = Repeated 3 Text
 
 -- A list of a future's value.
 abbrev pub own_list : AwaitedList → Parts → Parts
@@ -45,8 +65,10 @@ list_bytes Completions elements = run_bytes elements
 list_bytes Signals elements = run_bytes elements
 list_bytes NamedSignals elements = row_bytes (Repeated 3 Text) (Elements elements)
 
--- Each number takes a byte at least.
-abbrev pub ShowsElements : AwaitedList → Parts → Type 0
-ShowsElements Completions elements = length (element_values table elements U32) ≤ length (run_bytes elements)
-ShowsElements Signals elements = length (element_values table elements U32) ≤ length (run_bytes elements)
-ShowsElements NamedSignals elements = Unit {0}
+-- The bytes of a list of some futures in the payload: a packed run with its key and its length, or the names.
+abbrev pub list_row : AwaitedList → List Parts → List ℕ
+list_row list futures = row_bytes (row_in list) (Elements (awaited_list list futures))
+
+-- The number of these bytes.
+abbrev pub list_row_size : AwaitedList → List Parts → ℕ
+list_row_size list futures = length (list_row list futures)

@@ -1,20 +1,19 @@
-//! A suspension as it is written before V7: all that it awaits, in three lists, which are measured and written off its
-//! tree of futures. No list is made, and no text is copied.
+//! A suspension as it is written before V7: all that it awaits, in three lists. One walk over its tree of futures
+//! measures them, and one writes them. No list is made, and no text is copied.
 
-ghost use Rattle.std.specs.Prelude.{◌≡◌, ◌+◌, ◌≤◌, ◌++◌, length, drop};
+ghost use Rattle.std.specs.Prelude.{◌≡◌, ◌+◌, ◌-◌, ◌^◌, ◌<◌, ◌≤◌, ◌++◌, length, drop, MatchOption};
 ghost use Rattle.shared_core_base.specs.declared.header.MessageType.TheVariants as types;
-ghost use Rattle.shared_core_wire.specs.Schema.{Repeated, U32};
-ghost use Rattle.shared_core_wire.specs.Value.{Elements};
-ghost use Rattle.shared_core_wire.specs.Fitting.{ElementsFit};
+ghost use Rattle.shared_core_wire.specs.Canonical.{size};
+ghost use Rattle.shared_core_wire.specs.Encoding.{shortest_varint, key_bytes};
+ghost use Rattle.shared_core_wire.specs.Fitting.{ElementsFit, Fits};
 ghost use Rattle.shared_core_codec.specs.Table.{table};
 ghost use Rattle.shared_core_codec.specs.Table as tables;
-ghost use Rattle.shared_core_codec.specs.RowEncoding.{capped, measured_row, measured_rows};
-ghost use Rattle.shared_core_codec.specs.RowEncoding.{before_row, before_rows, row_size, rows_size};
-ghost use Rattle.shared_core_codec.specs.RowFitting.{FieldsFit};
+ghost use Rattle.shared_core_codec.specs.RowEncoding.{capped, measured_message};
 ghost use Rattle.shared_core_parts.specs.Futures.{future_parts, future_elements};
 ghost use Rattle.shared_core_runtime.specs.Flattening.{flattened, messages_in, preorder};
-ghost use Rattle.shared_core_runtime.specs.AwaitedLists.{awaited_list, own_list, kind_in};
-ghost use Rattle.shared_core_runtime.specs.AwaitedLists.{list_bytes, HoldsNumbers, ShowsElements};
+ghost use Rattle.shared_core_runtime.specs.AwaitedLists.{AwaitedList, Completions, Signals, awaited_list, own_list};
+ghost use Rattle.shared_core_runtime.specs.AwaitedLists.{kind_in, list_bytes, list_row, list_row_size, of_list};
+ghost use Rattle.shared_core_runtime.specs.AwaitedLists.{size_in, end_in};
 
 use crate::suspension_message::SuspensionMessage;
 use shared_core_base::header::MessageType;
@@ -25,19 +24,49 @@ use shared_core_codec::{packed, repeated};
 use shared_core_message::frame::FramePayload;
 use shared_core_parts::future::Future;
 
-/// A suspension that is written as a `SuspensionMessageV6`.
+/// A suspension that is written as a `SuspensionMessageV6`, with the sizes of its lists, which are measured once.
 #[derive(Drop)]
 pub struct FlatSuspension<'a> {
     /// The suspension.
     pub suspension: &'a SuspensionMessage,
+    completions_end: usize,
+    signals_end: usize,
+    len: u32,
+    ghost completions: { completions_end
+        ≡ list_row_size Completions (messages_in (⟦<SuspensionMessage as WireRecord>⟧.parts suspension.now)) },
+    ghost signals: { signals_end ≡ completions_end
+        + list_row_size Signals (messages_in (⟦<SuspensionMessage as WireRecord>⟧.parts suspension.now)) },
+    ghost whole: { len
+        ≡ size table tables.suspension_v6 (flattened (⟦<SuspensionMessage as WireRecord>⟧.parts suspension.now)) },
+    ghost fits: { ∥ Fits table (flattened (⟦<SuspensionMessage as WireRecord>⟧.parts suspension.now))
+        (table tables.suspension_v6) ∥₁ },
 }
 
-/// One of the three lists.
-#[derive(Clone, Copy, Debug, PartialEq, Eq)]
-enum AwaitedList {
-    Completions,
-    Signals,
-    NamedSignals,
+impl<'a> FlatSuspension<'a> {
+    /// Measures the lists of a suspension. None if their payload has more than 4,294,967,295 bytes.
+    pub fn new(suspension: &'a SuspensionMessage) -> Option<FlatSuspension<'a>>
+        ensures { MatchOption result
+            (2 ^ 32 ≤ size table tables.suspension_v6
+            (flattened (⟦<SuspensionMessage as WireRecord>⟧.parts suspension.now)))
+            (λ flat. flat.suspension.now ≡ suspension.now) }
+    {
+        let sizes = measure_lists(suspension);
+        let mut runs = Size::new();
+        add_run(&mut runs, 1, &sizes.completions);
+        let completions_end = runs.total() as usize;
+        add_run(&mut runs, 2, &sizes.signals);
+        let signals_end = runs.total() as usize;
+        let len = runs.total() + sizes.named_signals.total();
+        if len >= Size::LIMIT {
+            return None;
+        }
+        Some(FlatSuspension {
+            suspension,
+            completions_end,
+            signals_end,
+            len: len as u32,
+        })
+    }
 }
 
 impl<'a> FramePayload for FlatSuspension<'a> {
@@ -53,171 +82,229 @@ impl<'a> FramePayload for FlatSuspension<'a> {
         MessageType::Suspension
     }
 
-    #[tactic(auto, using(shared_core_codec::proofs::FittingRows::fits_rows))]
     fn payload_len(&self) -> Option<u32> {
-        let mut size = Size::new();
-        measure_flat(self.suspension, &mut size);
-        size.payload_len()
+        Some(self.len)
     }
 
     fn fill(&self, out: &mut [u8]) {
-        let end = out.len();
-        encode_flat(self.suspension, out, end);
+        let Some(future) = &self.suspension.awaiting_on else {
+            return;
+        };
+        let (runs, named_signals) = out.split_at_mut(self.signals_end);
+        let (completions, signals) = runs.split_at_mut(self.completions_end);
+        write_lists(future, completions, signals, named_signals);
     }
 }
 
-/// Adds the sizes of the three lists, in their order.
-fn measure_flat(suspension: &SuspensionMessage, size: &mut Size)
-    ensures sum { size.new ≡ measured_rows (table tables.suspension_v6)
-        (flattened (⟦<SuspensionMessage as WireRecord>⟧.parts suspension.now)) size.old }
-    ensures fit { FieldsFit (table tables.suspension_v6)
-        (flattened (⟦<SuspensionMessage as WireRecord>⟧.parts suspension.now)) }
-{
-    let _ = size.total();
-    let Some(future) = &suspension.awaiting_on else {
-        return;
-    };
-    measure_run(AwaitedList::Completions, 1, future, size);
-    measure_run(AwaitedList::Signals, 2, future, size);
-    measure_list(AwaitedList::NamedSignals, future, size);
+/// The sizes of the elements of the three lists.
+#[derive(Drop)]
+struct ListSizes {
+    completions: Size,
+    signals: Size,
+    named_signals: Size,
 }
 
-/// Writes the three lists before `end`, the last one first, and returns where the first begins.
-fn encode_flat(suspension: &SuspensionMessage, out: &mut [u8], end: usize) -> usize
-    requires within { end ≤ length out.old }
-    requires room { rows_size (table tables.suspension_v6)
-        (flattened (⟦<SuspensionMessage as WireRecord>⟧.parts suspension.now)) ≤ end }
-    ensures start { result + rows_size (table tables.suspension_v6)
-        (flattened (⟦<SuspensionMessage as WireRecord>⟧.parts suspension.now)) ≡ end }
-    ensures written { drop result out.new ≡ before_rows (table tables.suspension_v6)
-        (flattened (⟦<SuspensionMessage as WireRecord>⟧.parts suspension.now)) (drop end out.old) }
-{
-    let Some(future) = &suspension.awaiting_on else {
-        return end;
-    };
-    let end = write_list(AwaitedList::NamedSignals, future, out, end);
-    let end = write_run(AwaitedList::Signals, 2, future, out, end);
-    write_run(AwaitedList::Completions, 1, future, out, end)
+/// Where the elements of the three lists begin that are written already, each in a slice of its own.
+#[derive(Drop)]
+struct ListEnds {
+    completions: usize,
+    signals: usize,
+    named_signals: usize,
 }
 
-/// Adds the size of a list of numbers, if there is one.
-fn measure_run(list: AwaitedList, number: u32, future: &Future, size: &mut Size)
-    requires numbers { HoldsNumbers list }
-    ensures sum { size.new ≡ measured_row (Repeated number U32)
-        (Elements (awaited_list list (preorder (future_parts future.now)))) size.old }
-    ensures fit { ElementsFit table (awaited_list list (preorder (future_parts future.now))) U32 }
+/// The sizes of the lists of a suspension, which are empty if it awaits nothing.
+fn measure_lists(suspension: &SuspensionMessage) -> ListSizes
+    ensures sum { (list : AwaitedList) → size_in list result ≡ capped (length (list_bytes list
+        (awaited_list list (messages_in (⟦<SuspensionMessage as WireRecord>⟧.parts suspension.now))))) }
+    ensures fit { (list : AwaitedList) → ElementsFit table
+        (awaited_list list (messages_in (⟦<SuspensionMessage as WireRecord>⟧.parts suspension.now))) (kind_in list) }
+{
+    let mut sizes = ListSizes {
+        completions: Size::new(),
+        signals: Size::new(),
+        named_signals: Size::new(),
+    };
+    let Some(future) = &suspension.awaiting_on else {
+        return sizes;
+    };
+    measure_future(future, &mut sizes);
+    sizes
+}
+
+/// Adds the size of a packed run of this size, which is not written if it is empty.
+fn add_run(size: &mut Size, number: u32, run: &Size)
+    ensures none { run.now ≡ 0 → size.new ≡ size.old }
+    ensures some { 0 < run.now → size.new ≡ measured_message number run.now size.old }
+    ensures bound { size.new ≤ 2 ^ 32 }
 {
     let _ = size.total();
-    let mut run = Size::new();
-    measure_list(list, future, &mut run);
     if run.total() > 0 {
-        size.add_sized(number, &run);
+        size.add_sized(number, run);
     }
-}
-
-/// Adds the sizes of the elements of a list, in a future and those nested in it.
-#[cycle(measure_list)]
-fn measure_list(list: AwaitedList, future: &Future, size: &mut Size)
-    ensures sum { size.new ≡ capped (size.old
-        + length (list_bytes list (awaited_list list (preorder (future_parts future.now))))) }
-    ensures fit { ElementsFit table (awaited_list list (preorder (future_parts future.now))) (kind_in list) }
-    // no number is written as nothing
-    ensures shown { ShowsElements list (awaited_list list (preorder (future_parts future.now))) }
-{
-    measure_own(list, future, size);
-    measure_lists(list, &future.nested_futures, size);
-}
-
-#[cycle(measure_list)]
-fn measure_lists(list: AwaitedList, futures: &Vec<Future>, size: &mut Size)
-    ensures sum { size.new ≡ capped (size.old
-        + length (list_bytes list (awaited_list list (messages_in (future_elements futures.now.items))))) }
-    ensures fit { ElementsFit table (awaited_list list (messages_in (future_elements futures.now.items)))
-        (kind_in list) }
-    ensures shown { ShowsElements list (awaited_list list (messages_in (future_elements futures.now.items))) }
-{
     let _ = size.total();
+}
+
+/// Adds the sizes of the elements of the three lists, in a future and those nested in it.
+#[cycle(measure_future)]
+fn measure_future(future: &Future, sizes: &mut ListSizes)
+    ensures sum { (list : AwaitedList) → size_in list sizes.new ≡ capped (size_in list sizes.old
+        + length (list_bytes list (awaited_list list (preorder (future_parts future.now))))) }
+    ensures fit { (list : AwaitedList) → ElementsFit table (awaited_list list (preorder (future_parts future.now)))
+        (kind_in list) }
+{
+    measure_own(future, sizes);
+    measure_futures(&future.nested_futures, sizes);
+}
+
+#[cycle(measure_future)]
+fn measure_futures(futures: &Vec<Future>, sizes: &mut ListSizes)
+    ensures sum { (list : AwaitedList) → size_in list sizes.new ≡ capped (size_in list sizes.old
+        + length (list_bytes list (awaited_list list (messages_in (future_elements futures.now.items))))) }
+    ensures fit { (list : AwaitedList) → ElementsFit table
+        (awaited_list list (messages_in (future_elements futures.now.items))) (kind_in list) }
+{
+    let _ = sizes.completions.total();
+    let _ = sizes.signals.total();
+    let _ = sizes.named_signals.total();
     for future in futures {
-        measure_list(list, future, size);
+        measure_future(future, sizes);
     }
 }
 
-/// Adds the sizes of the elements of a future's own list.
-fn measure_own(list: AwaitedList, future: &Future, size: &mut Size)
-    ensures sum { size.new ≡ capped (size.old + length (list_bytes list (own_list list (future_parts future.now)))) }
-    ensures fit { ElementsFit table (own_list list (future_parts future.now)) (kind_in list) }
-    ensures shown { ShowsElements list (own_list list (future_parts future.now)) }
+/// Adds the sizes of the elements of a future's own lists.
+#[inline(always)]
+fn measure_own(future: &Future, sizes: &mut ListSizes)
+    ensures sum { (list : AwaitedList) → size_in list sizes.new ≡ capped (size_in list sizes.old
+        + length (list_bytes list (own_list list (future_parts future.now)))) }
+    ensures fit { (list : AwaitedList) → ElementsFit table (own_list list (future_parts future.now)) (kind_in list) }
 {
-    match list {
-        AwaitedList::Completions => packed::measure_run(size, &future.waiting_completions),
-        AwaitedList::Signals => packed::measure_run(size, &future.waiting_signals),
-        AwaitedList::NamedSignals => repeated::measure(size, 3, &future.waiting_named_signals),
+    packed::measure_run(&mut sizes.completions, &future.waiting_completions);
+    packed::measure_run(&mut sizes.signals, &future.waiting_signals);
+    repeated::measure(&mut sizes.named_signals, 3, &future.waiting_named_signals);
+}
+
+/// Writes the three lists, each into a slice of exactly its length: the numbers as packed runs, and the names.
+fn write_lists(
+    future: &Future,
+    completions: &mut [u8],
+    signals: &mut [u8],
+    named_signals: &mut [u8],
+)
+    requires len { (list : AwaitedList) →
+        length (of_list list completions.old signals.old named_signals.old)
+        ≡ list_row_size list (preorder (future_parts future.now)) }
+    requires fit { (list : AwaitedList) → ElementsFit table (awaited_list list (preorder (future_parts future.now)))
+        (kind_in list) }
+    ensures { (list : AwaitedList) → of_list list completions.new signals.new named_signals.new
+        ≡ list_row list (preorder (future_parts future.now)) }
+{
+    let mut ends = ListEnds {
+        completions: completions.len(),
+        signals: signals.len(),
+        named_signals: named_signals.len(),
+    };
+    write_future(future, completions, signals, named_signals, &mut ends);
+    write_head(completions, ends.completions, 1);
+    write_head(signals, ends.signals, 2);
+}
+
+/// Writes the key and the length of the packed run that is in the slice from `start` on, if it is not empty.
+fn write_head(out: &mut [u8], start: usize, number: u32)
+    requires room { start < length out.old
+        → length (key_bytes number 2) + length (shortest_varint (length out.old - start)) ≡ start }
+    ensures none { length out.old ≤ start → out.new ≡ out.old }
+    ensures some { start < length out.old → out.new
+        ≡ key_bytes number 2 ++ (shortest_varint (length out.old - start) ++ drop start out.old) }
+{
+    if start < out.len() {
+        let _ = write_length(out, start, number, out.len() - start);
     }
 }
 
-/// Writes a list of numbers before `end`, if there is one, and returns where it begins.
-fn write_run(list: AwaitedList, number: u32, future: &Future, out: &mut [u8], end: usize) -> usize
-    requires numbers { HoldsNumbers list }
-    requires within { end ≤ length out.old }
-    requires room { row_size (Repeated number U32)
-        (Elements (awaited_list list (preorder (future_parts future.now)))) ≤ end }
-    ensures start { result + row_size (Repeated number U32)
-        (Elements (awaited_list list (preorder (future_parts future.now)))) ≡ end }
-    ensures written { drop result out.new ≡ before_row (Repeated number U32)
-        (Elements (awaited_list list (preorder (future_parts future.now)))) (drop end out.old) }
+/// Writes the elements of the three lists, of a future and those nested in it, before `ends`.
+#[cycle(write_future)]
+fn write_future(
+    future: &Future,
+    completions: &mut [u8],
+    signals: &mut [u8],
+    named_signals: &mut [u8],
+    ends: &mut ListEnds,
+)
+    requires within { (list : AwaitedList) → end_in list ends.old
+        ≤ length (of_list list completions.old signals.old named_signals.old) }
+    requires room { (list : AwaitedList) → length (list_bytes list
+        (awaited_list list (preorder (future_parts future.now)))) ≤ end_in list ends.old }
+    ensures starts { (list : AwaitedList) → end_in list ends.new + length (list_bytes list
+        (awaited_list list (preorder (future_parts future.now)))) ≡ end_in list ends.old }
+    ensures written { (list : AwaitedList) →
+        drop (end_in list ends.new) (of_list list completions.new signals.new named_signals.new)
+        ≡ list_bytes list (awaited_list list (preorder (future_parts future.now)))
+        ++ drop (end_in list ends.old) (of_list list completions.old signals.old named_signals.old) }
 {
-    let start = write_list(list, future, out, end);
-    if start == end {
-        return end;
-    }
-    write_length(out, start, number, end - start)
+    write_futures(
+        &future.nested_futures,
+        completions,
+        signals,
+        named_signals,
+        ends,
+    );
+    write_own(future, completions, signals, named_signals, ends);
 }
 
-/// Writes the elements of a list, of a future and those nested in it, before `end`, and returns where they begin.
-#[cycle(write_list)]
-fn write_list(list: AwaitedList, future: &Future, out: &mut [u8], end: usize) -> usize
-    requires within { end ≤ length out.old }
-    requires room { length (list_bytes list (awaited_list list (preorder (future_parts future.now)))) ≤ end }
-    ensures start { result + length (list_bytes list (awaited_list list (preorder (future_parts future.now)))) ≡ end }
-    ensures written { drop result out.new ≡ list_bytes list (awaited_list list (preorder (future_parts future.now)))
-        ++ drop end out.old }
-    // no number is written as nothing
-    ensures shown { ShowsElements list (awaited_list list (preorder (future_parts future.now))) }
+#[cycle(write_future)]
+fn write_futures(
+    futures: &Vec<Future>,
+    completions: &mut [u8],
+    signals: &mut [u8],
+    named_signals: &mut [u8],
+    ends: &mut ListEnds,
+)
+    requires within { (list : AwaitedList) → end_in list ends.old
+        ≤ length (of_list list completions.old signals.old named_signals.old) }
+    requires room { (list : AwaitedList) → length (list_bytes list
+        (awaited_list list (messages_in (future_elements futures.now.items)))) ≤ end_in list ends.old }
+    ensures starts { (list : AwaitedList) → end_in list ends.new + length (list_bytes list
+        (awaited_list list (messages_in (future_elements futures.now.items)))) ≡ end_in list ends.old }
+    ensures written { (list : AwaitedList) →
+        drop (end_in list ends.new) (of_list list completions.new signals.new named_signals.new)
+        ≡ list_bytes list (awaited_list list (messages_in (future_elements futures.now.items)))
+        ++ drop (end_in list ends.old) (of_list list completions.old signals.old named_signals.old) }
 {
-    let start = write_lists(list, &future.nested_futures, out, end);
-    write_own(list, future, out, start)
-}
-
-#[cycle(write_list)]
-fn write_lists(list: AwaitedList, futures: &Vec<Future>, out: &mut [u8], end: usize) -> usize
-    requires within { end ≤ length out.old }
-    requires room { length (list_bytes list (awaited_list list (messages_in (future_elements futures.now.items)))) ≤
-        end }
-    ensures start { result + length (list_bytes list
-        (awaited_list list (messages_in (future_elements futures.now.items)))) ≡ end }
-    ensures written { drop result out.new ≡ list_bytes list
-        (awaited_list list (messages_in (future_elements futures.now.items))) ++ drop end out.old }
-    ensures shown { ShowsElements list (awaited_list list (messages_in (future_elements futures.now.items))) }
-{
-    let mut start = end;
     for i in (0..futures.len()).rev() {
-        start = write_list(list, &futures[i], out, start);
+        write_future(&futures[i], completions, signals, named_signals, ends);
     }
-    start
 }
 
-/// Writes the elements of a future's own list before `end`, and returns where they begin.
-fn write_own(list: AwaitedList, future: &Future, out: &mut [u8], end: usize) -> usize
-    requires within { end ≤ length out.old }
-    requires room { length (list_bytes list (own_list list (future_parts future.now))) ≤ end }
-    ensures start { result + length (list_bytes list (own_list list (future_parts future.now))) ≡ end }
-    ensures written { drop result out.new ≡ list_bytes list (own_list list (future_parts future.now))
-        ++ drop end out.old }
-    ensures shown { ShowsElements list (own_list list (future_parts future.now)) }
+/// Writes the elements of a future's own lists before `ends`.
+#[inline(always)]
+fn write_own(
+    future: &Future,
+    completions: &mut [u8],
+    signals: &mut [u8],
+    named_signals: &mut [u8],
+    ends: &mut ListEnds,
+)
+    requires within { (list : AwaitedList) → end_in list ends.old
+        ≤ length (of_list list completions.old signals.old named_signals.old) }
+    requires room { (list : AwaitedList) → length (list_bytes list (own_list list (future_parts future.now)))
+        ≤ end_in list ends.old }
+    ensures starts { (list : AwaitedList) → end_in list ends.new
+        + length (list_bytes list (own_list list (future_parts future.now))) ≡ end_in list ends.old }
+    ensures written { (list : AwaitedList) →
+        drop (end_in list ends.new) (of_list list completions.new signals.new named_signals.new)
+        ≡ list_bytes list (own_list list (future_parts future.now))
+        ++ drop (end_in list ends.old) (of_list list completions.old signals.old named_signals.old) }
 {
-    match list {
-        AwaitedList::Completions => packed::write_run(out, end, &future.waiting_completions),
-        AwaitedList::Signals => packed::write_run(out, end, &future.waiting_signals),
-        AwaitedList::NamedSignals => repeated::write(out, end, 3, &future.waiting_named_signals),
-    }
+    ends.completions = packed::write_run(
+        completions,
+        ends.completions,
+        &future.waiting_completions,
+    );
+    ends.signals = packed::write_run(signals, ends.signals, &future.waiting_signals);
+    ends.named_signals = repeated::write(
+        named_signals,
+        ends.named_signals,
+        3,
+        &future.waiting_named_signals,
+    );
 }

@@ -40,14 +40,20 @@ impl RestateEncodableMessage for SuspensionMessage {
 
     fn encode_into(&self, version: Version, out: &mut Vec<u8>) -> Result<(), EncodingError> {
         if version.has_flat_suspensions() {
-            return encode_frame_into(&FlatSuspension { suspension: self }, None, out);
+            let Some(flat) = FlatSuspension::new(self) else {
+                return Err(EncodingError::PayloadTooLong);
+            };
+            return encode_frame_into(&flat, None, out);
         }
         encode_frame_into(self, None, out)
     }
 
     fn encode_into_bytes(&self, version: Version, out: &mut BytesMut) -> Result<(), EncodingError> {
         if version.has_flat_suspensions() {
-            return encode_frame_into_bytes(&FlatSuspension { suspension: self }, None, out);
+            let Some(flat) = FlatSuspension::new(self) else {
+                return Err(EncodingError::PayloadTooLong);
+            };
+            return encode_frame_into_bytes(&flat, None, out);
         }
         encode_frame_into_bytes(self, None, out)
     }

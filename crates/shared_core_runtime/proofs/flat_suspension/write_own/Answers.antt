@@ -1,27 +1,39 @@
-use Rattle.std.proofs.Common.{ℕ, List, ◌++◌, ◌∙◌, ap, sym, length, drop, arith}
-use Rattle.shared_core_runtime.proofs.AwaitedLists.{completions_bytes, completions_show, signals_bytes, signals_show}
+use Rattle.std.proofs.Common.{◌≡◌, ℕ, ◌+◌, List, ◌++◌, ◌∙◌, ap, sym, length, drop, arith}
+use Rattle.shared_core_parts.specs.Futures.{future_parts}
+use Rattle.shared_core_runtime.specs.AwaitedLists.{Completions, NamedSignals, Signals, end_in, list_bytes, of_list, own_list}
+use Rattle.shared_core_runtime.proofs.AwaitedLists.{by_list, completions_bytes, names_bytes, signals_bytes}
 use Rattle.shared_core_runtime.proofs.flat_suspension.write_own.Goals as goal
 
-pub write_run-requires-clause-room : goal.write_run-requires-clause-room
-write_run-requires-clause-room c = let r = rw c.in-Completions.is at c.requires.room in omega (arith, r, ap length (completions_bytes c.args.future.now))
+pub write_run-ends-requires-clause-within : goal.write_run-ends-requires-clause-within
+write_run-ends-requires-clause-within c = c.requires.within Completions
 
-pub write_run-requires-in-Signals-clause-room : goal.write_run-requires-in-Signals-clause-room
-write_run-requires-in-Signals-clause-room c = let r = rw c.in-Signals.is at c.requires.room in omega (arith, r, ap length (signals_bytes c.args.future.now))
+pub write_run-ends-requires-clause-room : goal.write_run-ends-requires-clause-room
+write_run-ends-requires-clause-room c = omega (arith, c.requires.room Completions, ap length (completions_bytes c.args.future.now))
 
-pub returns-in-Completions-clause-start : goal.returns-in-Completions-clause-start
-returns-in-Completions-clause-start c = rw c.in-Completions.is (omega (arith, c.write_run.ensures.start, ap length (completions_bytes c.args.future.now)))
+pub write_run-ends-requires-2-clause-within : goal.write_run-ends-requires-2-clause-within
+write_run-ends-requires-2-clause-within c = c.requires.within Signals
 
-pub returns-in-Completions-clause-written : goal.returns-in-Completions-clause-written
-returns-in-Completions-clause-written c = rw c.in-Completions.is (c.write_run.ensures.written ∙ ap (λ (t : List ℕ). t ++ drop c.args.end c.args.out.now) (sym (completions_bytes c.args.future.now)))
+pub write_run-ends-requires-2-clause-room : goal.write_run-ends-requires-2-clause-room
+write_run-ends-requires-2-clause-room c = omega (arith, c.requires.room Signals, ap length (signals_bytes c.args.future.now))
 
-pub returns-in-Completions-clause-shown : goal.returns-in-Completions-clause-shown
-returns-in-Completions-clause-shown c = rw c.in-Completions.is (completions_show c.args.future.now)
+pub write-ends-requires-clause-within : goal.write-ends-requires-clause-within
+write-ends-requires-clause-within c = c.requires.within NamedSignals
 
-pub returns-in-Signals-clause-start : goal.returns-in-Signals-clause-start
-returns-in-Signals-clause-start c = rw c.in-Signals.is (omega (arith, c.write_run-in-Signals.ensures.start, ap length (signals_bytes c.args.future.now)))
+pub write-ends-requires-clause-room : goal.write-ends-requires-clause-room
+write-ends-requires-clause-room c = omega (arith, c.requires.room NamedSignals, ap length (names_bytes c.args.future.now))
 
-pub returns-in-Signals-clause-written : goal.returns-in-Signals-clause-written
-returns-in-Signals-clause-written c = rw c.in-Signals.is (c.write_run-in-Signals.ensures.written ∙ ap (λ (t : List ℕ). t ++ drop c.args.end c.args.out.now) (sym (signals_bytes c.args.future.now)))
+pub returns-clause-starts : goal.returns-clause-starts
+returns-clause-starts c =
+    by_list (λ list. of_list list c.write_run-ends.result c.write_run-ends-2.result c.write-ends.result + length (list_bytes list (own_list list (future_parts c.args.future.now))) ≡ end_in list c.args.ends.now)
+    (omega (arith, c.write_run-ends.ensures.start, ap length (completions_bytes c.args.future.now))) (omega (arith, c.write_run-ends-2.ensures.start, ap length (signals_bytes c.args.future.now)))
+    (omega (arith, c.write-ends.ensures.start, ap length (names_bytes c.args.future.now)))
 
-pub returns-in-Signals-clause-shown : goal.returns-in-Signals-clause-shown
-returns-in-Signals-clause-shown c = rw c.in-Signals.is (signals_show c.args.future.now)
+pub returns-clause-written : goal.returns-clause-written
+returns-clause-written c =
+    by_list
+    (λ list.
+    drop (of_list list c.write_run-ends.result c.write_run-ends-2.result c.write-ends.result) (of_list list c.write_run-ends.new.out c.write_run-ends-2.new.out c.write-ends.new.out)
+    ≡ list_bytes list (own_list list (future_parts c.args.future.now)) ++ drop (end_in list c.args.ends.now) (of_list list c.args.completions.now c.args.signals.now c.args.named_signals.now))
+    (c.write_run-ends.ensures.written ∙ ap (λ (t : List ℕ). t ++ drop c.args.ends.now.completions c.args.completions.now) (sym (completions_bytes c.args.future.now)))
+    (c.write_run-ends-2.ensures.written ∙ ap (λ (t : List ℕ). t ++ drop c.args.ends.now.signals c.args.signals.now) (sym (signals_bytes c.args.future.now)))
+    (c.write-ends.ensures.written ∙ ap (λ (t : List ℕ). t ++ drop c.args.ends.now.named_signals c.args.named_signals.now) (sym (names_bytes c.args.future.now)))
