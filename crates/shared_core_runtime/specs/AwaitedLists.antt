@@ -23,11 +23,11 @@ of_list NamedSignals a b c = c
 
 -- The size of a list.
 abbrev pub size_in : AwaitedList → ListSizes → ℕ
-size_in list sizes = of_list list sizes.completions sizes.signals sizes.named_signals
+size_in list sizes = of_list list sizes.completions sizes.signals sizes.names
 
 -- Where the written elements of a list begin.
 abbrev pub end_in : AwaitedList → ListEnds → ℕ
-end_in list ends = of_list list ends.completions ends.signals ends.named_signals
+end_in list ends = of_list list ends.completions ends.signals ends.names
 
 -- The index of a list in a future, counted from 0.
 abbrev pub place_of : AwaitedList → ℕ

@@ -56,7 +56,7 @@ impl<'a> FlatSuspension<'a> {
         let completions_end = runs.total() as usize;
         add_run(&mut runs, 2, &sizes.signals);
         let signals_end = runs.total() as usize;
-        let len = runs.total() + sizes.named_signals.total();
+        let len = runs.total() + sizes.names.total();
         if len >= Size::LIMIT {
             return None;
         }
@@ -90,9 +90,9 @@ impl<'a> FramePayload for FlatSuspension<'a> {
         let Some(future) = &self.suspension.awaiting_on else {
             return;
         };
-        let (runs, named_signals) = out.split_at_mut(self.signals_end);
+        let (runs, names) = out.split_at_mut(self.signals_end);
         let (completions, signals) = runs.split_at_mut(self.completions_end);
-        write_lists(future, completions, signals, named_signals);
+        write_lists(future, completions, signals, names);
     }
 }
 
@@ -101,7 +101,7 @@ impl<'a> FramePayload for FlatSuspension<'a> {
 struct ListSizes {
     completions: Size,
     signals: Size,
-    named_signals: Size,
+    names: Size,
 }
 
 /// Where the elements of the three lists begin that are written already, each in a slice of its own.
@@ -109,7 +109,7 @@ struct ListSizes {
 struct ListEnds {
     completions: usize,
     signals: usize,
-    named_signals: usize,
+    names: usize,
 }
 
 /// The sizes of the lists of a suspension, which are empty if it awaits nothing.
@@ -122,7 +122,7 @@ fn measure_lists(suspension: &SuspensionMessage) -> ListSizes
     let mut sizes = ListSizes {
         completions: Size::new(),
         signals: Size::new(),
-        named_signals: Size::new(),
+        names: Size::new(),
     };
     let Some(future) = &suspension.awaiting_on else {
         return sizes;
@@ -165,7 +165,7 @@ fn measure_futures(futures: &Vec<Future>, sizes: &mut ListSizes)
 {
     let _ = sizes.completions.total();
     let _ = sizes.signals.total();
-    let _ = sizes.named_signals.total();
+    let _ = sizes.names.total();
     for future in futures {
         measure_future(future, sizes);
     }
@@ -180,30 +180,25 @@ fn measure_own(future: &Future, sizes: &mut ListSizes)
 {
     packed::measure_run(&mut sizes.completions, &future.waiting_completions);
     packed::measure_run(&mut sizes.signals, &future.waiting_signals);
-    repeated::measure(&mut sizes.named_signals, 3, &future.waiting_named_signals);
+    repeated::measure(&mut sizes.names, 3, &future.waiting_named_signals);
 }
 
 /// Writes the three lists, each into a slice of exactly its length: the numbers as packed runs, and the names.
-fn write_lists(
-    future: &Future,
-    completions: &mut [u8],
-    signals: &mut [u8],
-    named_signals: &mut [u8],
-)
+fn write_lists(future: &Future, completions: &mut [u8], signals: &mut [u8], names: &mut [u8])
     requires len { (list : AwaitedList) →
-        length (of_list list completions.old signals.old named_signals.old)
+        length (of_list list completions.old signals.old names.old)
         ≡ list_row_size list (preorder (future_parts future.now)) }
     requires fit { (list : AwaitedList) → ElementsFit table (awaited_list list (preorder (future_parts future.now)))
         (kind_in list) }
-    ensures { (list : AwaitedList) → of_list list completions.new signals.new named_signals.new
+    ensures { (list : AwaitedList) → of_list list completions.new signals.new names.new
         ≡ list_row list (preorder (future_parts future.now)) }
 {
     let mut ends = ListEnds {
         completions: completions.len(),
         signals: signals.len(),
-        named_signals: named_signals.len(),
+        names: names.len(),
     };
-    write_future(future, completions, signals, named_signals, &mut ends);
+    write_future(future, completions, signals, names, &mut ends);
     write_head(completions, ends.completions, 1);
     write_head(signals, ends.signals, 2);
 }
@@ -227,28 +222,22 @@ fn write_future(
     future: &Future,
     completions: &mut [u8],
     signals: &mut [u8],
-    named_signals: &mut [u8],
+    names: &mut [u8],
     ends: &mut ListEnds,
 )
     requires within { (list : AwaitedList) → end_in list ends.old
-        ≤ length (of_list list completions.old signals.old named_signals.old) }
+        ≤ length (of_list list completions.old signals.old names.old) }
     requires room { (list : AwaitedList) → length (list_bytes list
         (awaited_list list (preorder (future_parts future.now)))) ≤ end_in list ends.old }
     ensures starts { (list : AwaitedList) → end_in list ends.new + length (list_bytes list
         (awaited_list list (preorder (future_parts future.now)))) ≡ end_in list ends.old }
     ensures written { (list : AwaitedList) →
-        drop (end_in list ends.new) (of_list list completions.new signals.new named_signals.new)
+        drop (end_in list ends.new) (of_list list completions.new signals.new names.new)
         ≡ list_bytes list (awaited_list list (preorder (future_parts future.now)))
-        ++ drop (end_in list ends.old) (of_list list completions.old signals.old named_signals.old) }
+        ++ drop (end_in list ends.old) (of_list list completions.old signals.old names.old) }
 {
-    write_futures(
-        &future.nested_futures,
-        completions,
-        signals,
-        named_signals,
-        ends,
-    );
-    write_own(future, completions, signals, named_signals, ends);
+    write_futures(&future.nested_futures, completions, signals, names, ends);
+    write_own(future, completions, signals, names, ends);
 }
 
 #[cycle(write_future)]
@@ -256,22 +245,22 @@ fn write_futures(
     futures: &Vec<Future>,
     completions: &mut [u8],
     signals: &mut [u8],
-    named_signals: &mut [u8],
+    names: &mut [u8],
     ends: &mut ListEnds,
 )
     requires within { (list : AwaitedList) → end_in list ends.old
-        ≤ length (of_list list completions.old signals.old named_signals.old) }
+        ≤ length (of_list list completions.old signals.old names.old) }
     requires room { (list : AwaitedList) → length (list_bytes list
         (awaited_list list (messages_in (future_elements futures.now.items)))) ≤ end_in list ends.old }
     ensures starts { (list : AwaitedList) → end_in list ends.new + length (list_bytes list
         (awaited_list list (messages_in (future_elements futures.now.items)))) ≡ end_in list ends.old }
     ensures written { (list : AwaitedList) →
-        drop (end_in list ends.new) (of_list list completions.new signals.new named_signals.new)
+        drop (end_in list ends.new) (of_list list completions.new signals.new names.new)
         ≡ list_bytes list (awaited_list list (messages_in (future_elements futures.now.items)))
-        ++ drop (end_in list ends.old) (of_list list completions.old signals.old named_signals.old) }
+        ++ drop (end_in list ends.old) (of_list list completions.old signals.old names.old) }
 {
     for i in (0..futures.len()).rev() {
-        write_future(&futures[i], completions, signals, named_signals, ends);
+        write_future(&futures[i], completions, signals, names, ends);
     }
 }
 
@@ -281,19 +270,19 @@ fn write_own(
     future: &Future,
     completions: &mut [u8],
     signals: &mut [u8],
-    named_signals: &mut [u8],
+    names: &mut [u8],
     ends: &mut ListEnds,
 )
     requires within { (list : AwaitedList) → end_in list ends.old
-        ≤ length (of_list list completions.old signals.old named_signals.old) }
+        ≤ length (of_list list completions.old signals.old names.old) }
     requires room { (list : AwaitedList) → length (list_bytes list (own_list list (future_parts future.now)))
         ≤ end_in list ends.old }
     ensures starts { (list : AwaitedList) → end_in list ends.new
         + length (list_bytes list (own_list list (future_parts future.now))) ≡ end_in list ends.old }
     ensures written { (list : AwaitedList) →
-        drop (end_in list ends.new) (of_list list completions.new signals.new named_signals.new)
+        drop (end_in list ends.new) (of_list list completions.new signals.new names.new)
         ≡ list_bytes list (own_list list (future_parts future.now))
-        ++ drop (end_in list ends.old) (of_list list completions.old signals.old named_signals.old) }
+        ++ drop (end_in list ends.old) (of_list list completions.old signals.old names.old) }
 {
     ends.completions = packed::write_run(
         completions,
@@ -301,10 +290,5 @@ fn write_own(
         &future.waiting_completions,
     );
     ends.signals = packed::write_run(signals, ends.signals, &future.waiting_signals);
-    ends.named_signals = repeated::write(
-        named_signals,
-        ends.named_signals,
-        3,
-        &future.waiting_named_signals,
-    );
+    ends.names = repeated::write(names, ends.names, 3, &future.waiting_named_signals);
 }

@@ -19,13 +19,13 @@ write_future-returns-clause-written t c = λ list. future_written list c.args.fu
 
 pub write_futures-loop-i-init : goal.write_futures-loop-i-init
 write_futures-loop-i-init t c =
-    λ list. written_none list c.args.futures.now.items c.len-i.result (end_in list c.args.ends.now) (drop (end_in list c.args.ends.now) (of_list list c.args.completions.now c.args.signals.now c.args.named_signals.now)) (omega arith)
+    λ list. written_none list c.args.futures.now.items c.len-i.result (end_in list c.args.ends.now) (drop (end_in list c.args.ends.now) (of_list list c.args.completions.now c.args.signals.now c.args.names.now)) (omega arith)
 
 pub write_futures-write_future-requires : goal.write_futures-write_future-requires
 write_futures-write_future-requires t c = (
   search (rules, the_lemmas),
   (
-    by_list (λ list. end_in list c.loop-i.ends ≤ length (of_list list c.loop-i.completions c.loop-i.signals c.loop-i.named_signals)) (omega (arith, (c.loop-i.invariant Completions).begins, c.requires.within Completions))
+    by_list (λ list. end_in list c.loop-i.ends ≤ length (of_list list c.loop-i.completions c.loop-i.signals c.loop-i.names)) (omega (arith, (c.loop-i.invariant Completions).begins, c.requires.within Completions))
         (omega (arith, (c.loop-i.invariant Signals).begins, c.requires.within Signals)) (omega (arith, (c.loop-i.invariant NamedSignals).begins, c.requires.within NamedSignals)),
     λ list. written_room list c.args.futures.now.items c.loop-i.i c.index.result.now (end_in list c.args.ends.now) (end_in list c.loop-i.ends) (omega arith) (omega arith) c.index.ensures (c.loop-i.invariant list).begins (c.requires.room list),
   ),
@@ -34,8 +34,8 @@ write_futures-write_future-requires t c = (
 pub write_futures-loop-i-preserved : goal.write_futures-loop-i-preserved
 write_futures-loop-i-preserved t c =
     λ list. written_next list c.args.futures.now.items c.loop-i.i c.index.result.now (end_in list c.args.ends.now) (end_in list c.loop-i.ends) (end_in list c.write_future.new.ends)
-    (drop (end_in list c.args.ends.now) (of_list list c.args.completions.now c.args.signals.now c.args.named_signals.now)) (drop (end_in list c.loop-i.ends) (of_list list c.loop-i.completions c.loop-i.signals c.loop-i.named_signals))
-    (drop (end_in list c.write_future.new.ends) (of_list list c.write_future.new.completions c.write_future.new.signals c.write_future.new.named_signals)) (omega arith) (omega arith) c.index.ensures (c.write_future.ensures.starts list)
+    (drop (end_in list c.args.ends.now) (of_list list c.args.completions.now c.args.signals.now c.args.names.now)) (drop (end_in list c.loop-i.ends) (of_list list c.loop-i.completions c.loop-i.signals c.loop-i.names))
+    (drop (end_in list c.write_future.new.ends) (of_list list c.write_future.new.completions c.write_future.new.signals c.write_future.new.names)) (omega arith) (omega arith) c.index.ensures (c.write_future.ensures.starts list)
     (c.write_future.ensures.written list) (c.loop-i.invariant list)
 
 pub write_futures-returns : goal.write_futures-returns
@@ -44,6 +44,6 @@ write_futures-returns t c =
     let b = subst
     (λ (i : ℕ).
     (list : AwaitedList)
-    → IsWritten list c.args.futures.now.items i (end_in list c.args.ends.now) (end_in list c.loop-i.ends) (drop (end_in list c.args.ends.now) (of_list list c.args.completions.now c.args.signals.now c.args.named_signals.now)) (drop (end_in list c.loop-i.ends) (of_list list c.loop-i.completions c.loop-i.signals c.loop-i.named_signals)))
+    → IsWritten list c.args.futures.now.items i (end_in list c.args.ends.now) (end_in list c.loop-i.ends) (drop (end_in list c.args.ends.now) (of_list list c.args.completions.now c.args.signals.now c.args.names.now)) (drop (end_in list c.loop-i.ends) (of_list list c.loop-i.completions c.loop-i.signals c.loop-i.names)))
     z c.loop-i.invariant in
     record { starts = λ list. (b list).begins; written = λ list. (b list).written }

@@ -12,7 +12,7 @@ returns-clause-sum c =
     by_list (λ list. of_list list c.measure_run.new.size c.measure_run-2.new.size c.measure.new.size ≡ capped (size_in list c.args.sizes.now + length (list_bytes list (own_list list (future_parts c.args.future.now)))))
     (c.measure_run.ensures.sum ∙ ap (λ (t : List ℕ). capped (c.args.sizes.now.completions + length t)) (sym (completions_bytes c.args.future.now)))
     (c.measure_run-2.ensures.sum ∙ ap (λ (t : List ℕ). capped (c.args.sizes.now.signals + length t)) (sym (signals_bytes c.args.future.now)))
-    (c.measure.ensures.sum ∙ ap (λ (t : List ℕ). capped (c.args.sizes.now.named_signals + length t)) (sym (names_bytes c.args.future.now)))
+    (c.measure.ensures.sum ∙ ap (λ (t : List ℕ). capped (c.args.sizes.now.names + length t)) (sym (names_bytes c.args.future.now)))
 
 pub returns-clause-fit : goal.returns-clause-fit
 returns-clause-fit c =

@@ -8,7 +8,7 @@ use Rattle.shared_core_runtime.proofs.flat_suspension.write_lists.Goals as goal
 pub write_future-requires-clause-room : goal.write_future-requires-clause-room
 write_future-requires-clause-room c =
     let ms = preorder (future_parts c.args.future.now) in
-    by_list (λ list. length (list_bytes list (awaited_list list ms)) ≤ of_list list (length c.args.completions.now) (length c.args.signals.now) (length c.args.named_signals.now)) (omega (arith, c.requires.len Completions, elements_room Completions ms))
+    by_list (λ list. length (list_bytes list (awaited_list list ms)) ≤ of_list list (length c.args.completions.now) (length c.args.signals.now) (length c.args.names.now)) (omega (arith, c.requires.len Completions, elements_room Completions ms))
     (omega (arith, c.requires.len Signals, elements_room Signals ms)) (omega (arith, c.requires.len NamedSignals, elements_room NamedSignals ms))
 
 pub write_head-requires : goal.write_head-requires
@@ -26,10 +26,10 @@ write_head-requires-2 c = record {
 pub returns : goal.returns
 returns c =
     let ms = preorder (future_parts c.args.future.now) in
-    by_list (λ list. of_list list c.write_head.new.out c.write_head-2.new.out c.write_future.new.named_signals ≡ list_row list ms)
+    by_list (λ list. of_list list c.write_head.new.out c.write_head-2.new.out c.write_future.new.names ≡ list_row list ms)
     (head_written 1 (awaited_list Completions ms) c.write_future.new.ends.completions c.write_future.new.completions c.write_head.new.out (c.requires.fit Completions) (omega (arith, c.requires.len Completions))
     (omega (arith, c.write_future.ensures.starts Completions)) (at_end c.args.completions.now _ _ (c.write_future.ensures.written Completions)) c.write_head.ensures.none c.write_head.ensures.some)
     (head_written 2 (awaited_list Signals ms) c.write_future.new.ends.signals c.write_future.new.signals c.write_head-2.new.out (c.requires.fit Signals) (omega (arith, c.requires.len Signals))
     (omega (arith, c.write_future.ensures.starts Signals)) (at_end c.args.signals.now _ _ (c.write_future.ensures.written Signals)) c.write_head-2.ensures.none c.write_head-2.ensures.some)
-    (names_written c.write_future.new.ends.named_signals c.args.named_signals.now c.write_future.new.named_signals (list_row NamedSignals ms) (c.write_future.ensures.starts NamedSignals) (c.requires.len NamedSignals)
+    (names_written c.write_future.new.ends.names c.args.names.now c.write_future.new.names (list_row NamedSignals ms) (c.write_future.ensures.starts NamedSignals) (c.requires.len NamedSignals)
     (c.write_future.ensures.written NamedSignals))

@@ -33,7 +33,7 @@ returns-clause-written c =
     by_list
     (λ list.
     drop (of_list list c.write_run-ends.result c.write_run-ends-2.result c.write-ends.result) (of_list list c.write_run-ends.new.out c.write_run-ends-2.new.out c.write-ends.new.out)
-    ≡ list_bytes list (own_list list (future_parts c.args.future.now)) ++ drop (end_in list c.args.ends.now) (of_list list c.args.completions.now c.args.signals.now c.args.named_signals.now))
+    ≡ list_bytes list (own_list list (future_parts c.args.future.now)) ++ drop (end_in list c.args.ends.now) (of_list list c.args.completions.now c.args.signals.now c.args.names.now))
     (c.write_run-ends.ensures.written ∙ ap (λ (t : List ℕ). t ++ drop c.args.ends.now.completions c.args.completions.now) (sym (completions_bytes c.args.future.now)))
     (c.write_run-ends-2.ensures.written ∙ ap (λ (t : List ℕ). t ++ drop c.args.ends.now.signals c.args.signals.now) (sym (signals_bytes c.args.future.now)))
-    (c.write-ends.ensures.written ∙ ap (λ (t : List ℕ). t ++ drop c.args.ends.now.named_signals c.args.named_signals.now) (sym (names_bytes c.args.future.now)))
+    (c.write-ends.ensures.written ∙ ap (λ (t : List ℕ). t ++ drop c.args.ends.now.names c.args.names.now) (sym (names_bytes c.args.future.now)))

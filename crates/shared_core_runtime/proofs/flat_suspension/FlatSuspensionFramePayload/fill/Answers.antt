@@ -38,5 +38,5 @@ write_lists-requires-clause-fit c =
 pub returns : goal.returns
 returns c =
     let flat = c.args.self.now in
-    lists_written (messages_in (suspension_of flat.suspension.now.awaiting_on)) (preorder (future_parts c.in-Some.future)) c.write_lists.new.completions c.write_lists.new.signals c.write_lists.new.named_signals
+    lists_written (messages_in (suspension_of flat.suspension.now.awaiting_on)) (preorder (future_parts c.in-Some.future)) c.write_lists.new.completions c.write_lists.new.signals c.write_lists.new.names
     (something_awaited flat.suspension.now.awaiting_on c.in-Some.future c.in-Some.is) (c.write_lists.ensures Completions) (c.write_lists.ensures Signals) (c.write_lists.ensures NamedSignals)
