@@ -14,17 +14,17 @@ use Rattle.measured_c_api.specs.Streams.{Decodes, count_with}
 use Rattle.measured_c_api.proofs.Counting.{count_more}
 
 -- what a compared item says of the items that end with it
-pub item_compared : (rounds : ℕ) (item : Item) (held : ℕ) → ComparesItem rounds item (Ok held)
-    → Decodes command_schema item × (held ≡ rounds * count_with command_schema (item ∷ []))
-item_compared rounds (Message message) held (accepted, is) = (accepted, is ∙ ap (λ n. rounds * n) (sym (add-zero _)))
-item_compared rounds (Unknown code) held is = (tt, is ∙ sym (mul-zero rounds))
-item_compared rounds (Skipped code payload) held is = (tt, is ∙ sym (mul-zero rounds))
+pub item_compared : (rounds : ℕ) (item : Item) (equal : ℕ) → ComparesItem rounds item (Ok equal)
+    → Decodes command_schema item × (equal ≡ rounds * count_with command_schema (item ∷ []))
+item_compared rounds (Message message) equal (accepted, is) = (accepted, is ∙ ap (λ n. rounds * n) (sym (add-zero _)))
+item_compared rounds (Unknown code) equal is = (tt, is ∙ sym (mul-zero rounds))
+item_compared rounds (Skipped code payload) equal is = (tt, is ∙ sym (mul-zero rounds))
 
 -- the comparisons that hold among some items and one more
-pub comparisons_more : (rounds : ℕ) (items : List Item) (item : Item) (count held : ℕ)
-    → count ≡ rounds * count_with command_schema items → held ≡ rounds * count_with command_schema (item ∷ [])
-    → count + held ≡ rounds * count_with command_schema (items ++ item ∷ [])
-comparisons_more rounds items item count held before one =
+pub comparisons_more : (rounds : ℕ) (items : List Item) (item : Item) (count equal : ℕ)
+    → count ≡ rounds * count_with command_schema items → equal ≡ rounds * count_with command_schema (item ∷ [])
+    → count + equal ≡ rounds * count_with command_schema (items ++ item ∷ [])
+comparisons_more rounds items item count equal before one =
     let each = mul-add rounds (count_with command_schema items) (count_with command_schema (item ∷ [])) in
     let all = ap (λ n. rounds * n) (count_more command_schema items item) in
     omega (arith, before, one, each, all)

@@ -37,18 +37,18 @@ pub fn compare(
 fn compare_all(
     alloc: Global,
     version: Version,
-    whole: Bytes,
+    stream: Bytes,
     ignore_payloads: bool,
     rounds: usize,
 ) -> Result<usize, CallError>
     requires { 5 ≤ version_number version }
-    ensures { ComparesAll rounds version whole result }
+    ensures { ComparesAll rounds version stream result }
 {
-    let mut stream = ChunkedStream::new(alloc, version, whole, 0);
+    let mut chunked = ChunkedStream::new(alloc, version, stream, 0);
     let mut count: usize = 0;
-    while let Some(item) = stream.next_item()? {
-        let held = compare_item(alloc, item, ignore_payloads, rounds)?;
-        let Some(sum) = count.checked_add(held) else {
+    while let Some(item) = chunked.next_item()? {
+        let equal = compare_item(alloc, item, ignore_payloads, rounds)?;
+        let Some(sum) = count.checked_add(equal) else {
             return Err(CallError::TooLong);
         };
         count = sum;

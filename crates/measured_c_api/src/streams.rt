@@ -53,16 +53,16 @@ pub fn messages(
 fn write_words(
     alloc: Global,
     version: Version,
-    whole: &Bytes,
+    stream: &Bytes,
     chunk_size: usize,
     words: &mut [u64],
 ) -> Result<usize, CallError>
     requires { 5 ≤ version_number version }
-    ensures { WritesWords version whole.now words.new result }
+    ensures { WritesWords version stream.now words.new result }
 {
-    let mut stream = ChunkedStream::new(alloc, version, whole.clone()?, chunk_size);
+    let mut chunked = ChunkedStream::new(alloc, version, stream.clone()?, chunk_size);
     let mut count = 0;
-    while let Some(item) = stream.next_item()? {
+    while let Some(item) = chunked.next_item()? {
         if count == words.len() {
             return Err(CallError::NoRoom);
         }
@@ -88,15 +88,15 @@ fn word_of(item: Item) -> u64
 fn decode_all(
     alloc: Global,
     version: Version,
-    whole: &Bytes,
+    stream: &Bytes,
     chunk_size: usize,
 ) -> Result<usize, CallError>
     requires { 5 ≤ version_number version }
-    ensures { DecodesAll version whole.now result }
+    ensures { DecodesAll version stream.now result }
 {
-    let mut stream = ChunkedStream::new(alloc, version, whole.clone()?, chunk_size);
+    let mut chunked = ChunkedStream::new(alloc, version, stream.clone()?, chunk_size);
     let mut count = 0;
-    while let Some(item) = stream.next_item()? {
+    while let Some(item) = chunked.next_item()? {
         count += decode_item(alloc, item)?;
     }
     Ok(count)

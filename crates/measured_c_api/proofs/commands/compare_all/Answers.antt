@@ -8,42 +8,42 @@ use Rattle.measured_c_api.proofs.Counting.{all_decode_more}
 use Rattle.measured_c_api.proofs.Chunks.{none_of_all, one_taken, same_version, taken_of_all}
 use Rattle.measured_c_api.proofs.commands.compare_all.Goals as goal
 
-pub returns-in_err-held : goal.returns-in_err-held
-returns-in_err-held c =
-    let (version, items, front, counted, all) = c.loop-stream.invariant in
+pub returns-in_err-equal : goal.returns-in_err-equal
+returns-in_err-equal c =
+    let (version, items, front, counted, all) = c.loop-chunked.invariant in
     let step = rw c.in-Some.is at c.in_ok-item.ensures in
     let taken = taken_of_all c.args.version _ _ c.in-Some.item version step in
-    let from = err_from_is_err_and c.from_residual-in_err-held.result c.from_residual-in_err-held.ensures.1 in
-    rw (from.1, from.2) (item_rejected c.args.rounds c.args.version _ _ _ items c.in-Some.item c.in_err-held.field-0.0 front taken c.in_err-held.ensures)
+    let from = err_from_is_err_and c.from_residual-in_err-equal.result c.from_residual-in_err-equal.ensures.1 in
+    rw (from.1, from.2) (item_rejected c.args.rounds c.args.version _ _ _ items c.in-Some.item c.in_err-equal.field-0.0 front taken c.in_err-equal.ensures)
 
 pub returns-in_default-checked_add : goal.returns-in_default-checked_add
 returns-in_default-checked_add c =
-    let (version, items, front, counted, all) = c.loop-stream.invariant in
+    let (version, items, front, counted, all) = c.loop-chunked.invariant in
     let step = rw c.in-Some.is at c.in_ok-item.ensures in
     let item = c.in-Some.item in
     let taken = taken_of_all c.args.version _ _ item version step in
-    let (decodes, held) = item_compared c.args.rounds item c.in_ok-held.held c.in_ok-held.ensures in
-    (items ++ item ∷ [], _, then_takes c.args.version _ _ _ items item front taken, omega (arith, c.in_default-checked_add.ensures, comparisons_more c.args.rounds items item _ _ counted held))
+    let (decodes, equal) = item_compared c.args.rounds item c.in_ok-equal.equal c.in_ok-equal.ensures in
+    (items ++ item ∷ [], _, then_takes c.args.version _ _ _ items item front taken, omega (arith, c.in_default-checked_add.ensures, comparisons_more c.args.rounds items item _ _ counted equal))
 
-pub loop-stream-preserved : goal.loop-stream-preserved
-loop-stream-preserved c =
-    let (version, items, front, counted, all) = c.loop-stream.invariant in
+pub loop-chunked-preserved : goal.loop-chunked-preserved
+loop-chunked-preserved c =
+    let (version, items, front, counted, all) = c.loop-chunked.invariant in
     let step = rw c.in-Some.is at c.in_ok-item.ensures in
     let item = c.in-Some.item in
     let taken = taken_of_all c.args.version _ _ item version step in
-    let (decodes, held) = item_compared c.args.rounds item c.in_ok-held.held c.in_ok-held.ensures in (
+    let (decodes, equal) = item_compared c.args.rounds item c.in_ok-equal.equal c.in_ok-equal.ensures in (
       same_version _ _ item step ∙ version,
       items ++ item ∷ [],
       then_takes c.args.version _ _ _ items item front taken,
-      omega (arith, c.in-Some-checked_add.ensures, comparisons_more c.args.rounds items item _ _ counted held),
+      omega (arith, c.in-Some-checked_add.ensures, comparisons_more c.args.rounds items item _ _ counted equal),
       all_decode_more command_schema items item all decodes,
     )
 
-pub loop-stream-smaller : goal.loop-stream-smaller
-loop-stream-smaller c = one_taken c.args.version _ _ c.in-Some.item c.loop-stream.invariant.0 (rw c.in-Some.is at c.in_ok-item.ensures)
+pub loop-chunked-smaller : goal.loop-chunked-smaller
+loop-chunked-smaller c = one_taken c.args.version _ _ c.in-Some.item c.loop-chunked.invariant.0 (rw c.in-Some.is at c.in_ok-item.ensures)
 
 pub returns : goal.returns
 returns c =
-    let (version, items, front, counted, all) = c.loop-stream.invariant in
-    let none = none_of_all c.args.version c.loop-stream.stream _ version (rw c.in_default.is at c.in_ok-item.ensures) in
-    (items, untaken c.loop-stream.stream, record { items_then = front; no_more = none }, counted, all)
+    let (version, items, front, counted, all) = c.loop-chunked.invariant in
+    let none = none_of_all c.args.version c.loop-chunked.chunked _ version (rw c.in_default.is at c.in_ok-item.ensures) in
+    (items, untaken c.loop-chunked.chunked, record { items_then = front; no_more = none }, counted, all)

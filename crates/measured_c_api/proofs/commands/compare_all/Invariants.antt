@@ -6,11 +6,11 @@ use Rattle.measured_c_api.specs.Chunks.{untaken}
 use Rattle.measured_c_api.specs.Streams.{AllDecode, count_with}
 use Rattle.measured_c_api.proofs.commands.compare_all.Given as goal
 
-abbrev pub invariant-loop-stream : goal.invariant-loop-stream
-invariant-loop-stream l =
-    (l.stream.version ≡ l.fn.version)
-    × (items : List Item) × IsItemsThen l.fn.version l.fn.whole items (untaken l.stream)
+abbrev pub invariant-loop-chunked : goal.invariant-loop-chunked
+invariant-loop-chunked l =
+    (l.chunked.version ≡ l.fn.version)
+    × (items : List Item) × IsItemsThen l.fn.version l.fn.stream items (untaken l.chunked)
     × (l.count ≡ l.rounds * count_with command_schema items) × AllDecode command_schema items
 
-abbrev pub decreases-loop-stream : goal.decreases-loop-stream
-decreases-loop-stream l = length (untaken l.stream)
+abbrev pub decreases-loop-chunked : goal.decreases-loop-chunked
+decreases-loop-chunked l = length (untaken l.chunked)

@@ -9,15 +9,15 @@ use Rattle.measured_c_api.proofs.streams.decode_all.Goals as goal
 
 pub returns-in_err-count : goal.returns-in_err-count
 returns-in_err-count c =
-    let (version, room, items, front, counted, all) = c.loop-stream.invariant in
+    let (version, room, items, front, counted, all) = c.loop-chunked.invariant in
     let step = rw c.in-Some.is at c.in_ok-item.ensures in
     let taken = taken_of_all c.args.version _ _ c.in-Some.item version step in
     let from = err_from_is_err_and c.from_residual-in_err-count.result c.from_residual-in_err-count.ensures.1 in
     rw (from.1, from.2) (item_rejected c.args.version _ _ _ items c.in-Some.item c.in_err-count.field-0.0 front taken c.in_err-count.ensures)
 
-pub loop-stream-preserved : goal.loop-stream-preserved
-loop-stream-preserved c =
-    let (version, room, items, front, counted, all) = c.loop-stream.invariant in
+pub loop-chunked-preserved : goal.loop-chunked-preserved
+loop-chunked-preserved c =
+    let (version, room, items, front, counted, all) = c.loop-chunked.invariant in
     let step = rw c.in-Some.is at c.in_ok-item.ensures in
     let taken = taken_of_all c.args.version _ _ c.in-Some.item version step in
     let item = c.in-Some.item in
@@ -30,11 +30,11 @@ loop-stream-preserved c =
       all_decode_more message_schema items item all decodes,
     )
 
-pub loop-stream-smaller : goal.loop-stream-smaller
-loop-stream-smaller c = one_taken c.args.version _ _ c.in-Some.item c.loop-stream.invariant.0 (rw c.in-Some.is at c.in_ok-item.ensures)
+pub loop-chunked-smaller : goal.loop-chunked-smaller
+loop-chunked-smaller c = one_taken c.args.version _ _ c.in-Some.item c.loop-chunked.invariant.0 (rw c.in-Some.is at c.in_ok-item.ensures)
 
 pub returns : goal.returns
 returns c =
-    let (version, room, items, front, counted, all) = c.loop-stream.invariant in
-    let none = none_of_all c.args.version c.loop-stream.stream _ version (rw c.in_default.is at c.in_ok-item.ensures) in
-    (items, untaken c.loop-stream.stream, record { items_then = front; no_more = none }, counted, all)
+    let (version, room, items, front, counted, all) = c.loop-chunked.invariant in
+    let none = none_of_all c.args.version c.loop-chunked.chunked _ version (rw c.in_default.is at c.in_ok-item.ensures) in
+    (items, untaken c.loop-chunked.chunked, record { items_then = front; no_more = none }, counted, all)

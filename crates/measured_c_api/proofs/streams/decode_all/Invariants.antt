@@ -6,11 +6,11 @@ use Rattle.measured_c_api.specs.Chunks.{untaken}
 use Rattle.measured_c_api.specs.Streams.{AllDecode, count_with}
 use Rattle.measured_c_api.proofs.streams.decode_all.Given as goal
 
-abbrev pub invariant-loop-stream : goal.invariant-loop-stream
-invariant-loop-stream l =
-    (l.stream.version ≡ l.fn.version) × (l.count + length (untaken l.stream) ≤ length l.whole)
-    × (items : List Item) × IsItemsThen l.fn.version l.whole items (untaken l.stream)
+abbrev pub invariant-loop-chunked : goal.invariant-loop-chunked
+invariant-loop-chunked l =
+    (l.chunked.version ≡ l.fn.version) × (l.count + length (untaken l.chunked) ≤ length l.stream)
+    × (items : List Item) × IsItemsThen l.fn.version l.stream items (untaken l.chunked)
     × (l.count ≡ count_with message_schema items) × AllDecode message_schema items
 
-abbrev pub decreases-loop-stream : goal.decreases-loop-stream
-decreases-loop-stream l = length (untaken l.stream)
+abbrev pub decreases-loop-chunked : goal.decreases-loop-chunked
+decreases-loop-chunked l = length (untaken l.chunked)

@@ -7,7 +7,7 @@ use Rattle.measured_c_api.proofs.streams.write_words.Goals as goal
 
 pub returns-then-count-words : goal.returns-then-count-words
 returns-then-count-words c =
-    let (version, items, front, counted, fits, written) = c.loop-stream.invariant in
+    let (version, items, front, counted, fits, written) = c.loop-chunked.invariant in
     let step = rw c.in-Some.is at c.in_ok-item.ensures in
     let taken = taken_of_all c.args.version _ _ c.in-Some.item version step in
     (items ++ c.in-Some.item ∷ [], _, then_takes c.args.version _ _ _ items _ front taken, omega (arith, length_more items c.in-Some.item, counted, c.if-count-words.true))
@@ -16,28 +16,28 @@ pub word_of-requires : goal.word_of-requires
 word_of-requires c =
     let step = rw c.in-Some.is at c.in_ok-item.ensures in
     let item = c.in-Some.item in
-    taken_has_word c.args.version _ _ item (taken_of_all c.args.version _ _ item c.loop-stream.invariant.0 step)
+    taken_has_word c.args.version _ _ item (taken_of_all c.args.version _ _ item c.loop-chunked.invariant.0 step)
 
-pub loop-stream-preserved : goal.loop-stream-preserved
-loop-stream-preserved c =
-    let (version, items, front, counted, fits, written) = c.loop-stream.invariant in
+pub loop-chunked-preserved : goal.loop-chunked-preserved
+loop-chunked-preserved c =
+    let (version, items, front, counted, fits, written) = c.loop-chunked.invariant in
     let step = rw c.in-Some.is at c.in_ok-item.ensures in
     let taken = taken_of_all c.args.version _ _ c.in-Some.item version step in
     let item = c.in-Some.item in
-    let room : c.loop-stream.count < length c.loop-stream.words = omega (arith, fits, c.if-count-words.false) in (
+    let room : c.loop-chunked.count < length c.loop-chunked.words = omega (arith, fits, c.if-count-words.false) in (
       same_version _ _ item step ∙ version,
       items ++ item ∷ [],
       then_takes c.args.version _ _ _ items item front taken,
       omega (arith, length_more items item, counted),
-      omega (arith, room, length-set c.loop-stream.words c.loop-stream.count c.word_of.result),
-      rw c.word_of.ensures (word_written c.loop-stream.words c.loop-stream.count items item room written),
+      omega (arith, room, length-set c.loop-chunked.words c.loop-chunked.count c.word_of.result),
+      rw c.word_of.ensures (word_written c.loop-chunked.words c.loop-chunked.count items item room written),
     )
 
-pub loop-stream-smaller : goal.loop-stream-smaller
-loop-stream-smaller c = one_taken c.args.version _ _ c.in-Some.item c.loop-stream.invariant.0 (rw c.in-Some.is at c.in_ok-item.ensures)
+pub loop-chunked-smaller : goal.loop-chunked-smaller
+loop-chunked-smaller c = one_taken c.args.version _ _ c.in-Some.item c.loop-chunked.invariant.0 (rw c.in-Some.is at c.in_ok-item.ensures)
 
 pub returns : goal.returns
 returns c =
-    let (version, items, front, counted, fits, written) = c.loop-stream.invariant in
-    let none = none_of_all c.args.version c.loop-stream.stream _ version (rw c.in_default.is at c.in_ok-item.ensures) in
-    (items, untaken c.loop-stream.stream, record { items_then = front; no_more = none }, counted, written)
+    let (version, items, front, counted, fits, written) = c.loop-chunked.invariant in
+    let none = none_of_all c.args.version c.loop-chunked.chunked _ version (rw c.in_default.is at c.in_ok-item.ensures) in
+    (items, untaken c.loop-chunked.chunked, record { items_then = front; no_more = none }, counted, written)
