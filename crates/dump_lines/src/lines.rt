@@ -1,6 +1,6 @@
 //! The lines of a dump.
 
-ghost use Rattle.std.specs.Prelude.{◌≡◌, ◌∷◌, ◌++◌, [], true, codes, decimal, length, OnOk, IfOk, IfErr};
+ghost use Rattle.std.specs.Prelude.{◌≡◌, ◌∷◌, ◌++◌, [], true, codes, decimal, length, OnOk, IfErr};
 ghost use Rattle.std.specs.Str.{IsUtf8};
 ghost use Rattle.json.specs.Lex.{tokens};
 ghost use Rattle.json.specs.Print.{print};
@@ -73,10 +73,10 @@ impl<'a> LinePrinter for Options<'a> {
         word: u64,
         item: Item,
         scratch: &mut Scratch,
-        lines: Vec<u8>,
-    ) -> Result<Vec<u8>, PrintError> {
+        lines: &mut Vec<u8>,
+    ) -> Result<(), PrintError> {
         if !is_selected(self.codes, item_code(&item)) {
-            return Ok(lines);
+            return Ok(());
         }
         let mut line = mem::replace(&mut scratch.line, Vec::new(alloc));
         line.clear();
@@ -92,8 +92,8 @@ impl<'a> LinePrinter for Options<'a> {
         alloc: Global,
         offset: u128,
         rest: &Decoder,
-        lines: Vec<u8>,
-    ) -> Result<Vec<u8>, AllocError> {
+        lines: &mut Vec<u8>,
+    ) -> Result<(), AllocError> {
         let mut out = Writer::new(Vec::new(alloc));
         out.begin_object()?;
         write_rest(self, offset, rest, &mut String::new(alloc), &mut out)?;
@@ -131,12 +131,12 @@ fn append_object(
     alloc: Global,
     is_pretty: bool,
     object: &[u8],
-    lines: Vec<u8>,
-) -> Result<Vec<u8>, AllocError>
+    lines: &mut Vec<u8>,
+) -> Result<(), AllocError>
     requires utf8 { IsUtf8 object.now }
     requires good { AreGood (tokens object.now) }
     requires printed { object.now ≡ print (tokens object.now) }
-    ensures { IfOk result (λ now. now.items ≡ lines.items
+    ensures { OnOk result (lines.new.items ≡ lines.old.items
         ++ (tokens_text is_pretty (tokens object.now) ++ codes "\n")) }
 {
     if is_pretty {
@@ -146,13 +146,11 @@ fn append_object(
 }
 
 /// Appends a line.
-fn append_line(line: &[u8], lines: Vec<u8>) -> Result<Vec<u8>, AllocError>
-    ensures line { IfOk result (λ now. now.items ≡ lines.items ++ (line.now ++ codes "\n")) }
+fn append_line(line: &[u8], lines: &mut Vec<u8>) -> Result<(), AllocError>
+    ensures line { OnOk result (lines.new.items ≡ lines.old.items ++ (line.now ++ codes "\n")) }
 {
-    let mut lines = lines;
     lines.extend_from_slice(line)?;
-    lines.extend_from_slice(b"\n")?;
-    Ok(lines)
+    lines.extend_from_slice(b"\n")
 }
 
 /// The code of an item.

@@ -93,13 +93,12 @@ impl LinePrinter for Listing {
         _word: u64,
         item: Item,
         line: &mut String,
-        lines: Vec<u8>,
-    ) -> Result<Vec<u8>, PrintError> {
+        lines: &mut Vec<u8>,
+    ) -> Result<(), PrintError> {
         line.clear();
         write_item(line, item)?;
-        let mut lines = lines;
         lines.extend_from_slice(line.as_bytes())?;
-        Ok(lines)
+        Ok(())
     }
 
     fn print_rest(
@@ -107,14 +106,12 @@ impl LinePrinter for Listing {
         alloc: Global,
         _offset: u128,
         rest: &Decoder,
-        lines: Vec<u8>,
-    ) -> Result<Vec<u8>, AllocError> {
+        lines: &mut Vec<u8>,
+    ) -> Result<(), AllocError> {
         let count = rest.pending();
         let mut line = String::new(alloc);
         writeln!(line, "rest {count}")?;
-        let mut lines = lines;
-        lines.extend_from_slice(line.as_bytes())?;
-        Ok(lines)
+        lines.extend_from_slice(line.as_bytes())
     }
 }
 

@@ -1,6 +1,6 @@
 //! The trait of printers, which make the lines of items.
 
-ghost use Rattle.std.specs.Prelude.{◌≡◌, ◌++◌, ℕ, List, Option, IfErr, IfOk};
+ghost use Rattle.std.specs.Prelude.{◌≡◌, ◌++◌, ℕ, List, Option, IfErr, OnOk};
 ghost use Rattle.shared_core.specs.declared.encoding.item.Item.{Item as AnyItem};
 ghost use Rattle.stream_lines.specs.Printing.{IsLack};
 ghost use Rattle.stream_lines.specs.declared.report.Trouble.{Trouble as AnyTrouble};
@@ -44,9 +44,9 @@ pub trait LinePrinter {
         word: u64,
         item: Item,
         scratch: &mut Self::Scratch,
-        lines: Vec<u8>,
-    ) -> Result<Vec<u8>, PrintError>
-        ensures line { IfOk result (λ now. now.items ≡ lines.items ++ item_line self.now offset word item) }
+        lines: &mut Vec<u8>,
+    ) -> Result<(), PrintError>
+        ensures line { OnOk result (lines.new.items ≡ lines.old.items ++ item_line self.now offset word item) }
         ensures lack { IfErr result (IsLack (is_long self.now item)) };
 
     /// Appends the last line. The bytes that are in no item are those that the decoder has pending.
@@ -55,7 +55,7 @@ pub trait LinePrinter {
         alloc: Global,
         offset: u128,
         rest: &Decoder,
-        lines: Vec<u8>,
-    ) -> Result<Vec<u8>, AllocError>
-        ensures line { IfOk result (λ now. now.items ≡ lines.items ++ rest_line self.now offset rest.now.bytes) };
+        lines: &mut Vec<u8>,
+    ) -> Result<(), AllocError>
+        ensures line { OnOk result (lines.new.items ≡ lines.old.items ++ rest_line self.now offset rest.now.bytes) };
 }

@@ -60,20 +60,20 @@ pub fn print_lines<P: LinePrinter, R: Read, W: Write>(
             text.clear();
             let rest = decoder.pending();
             let end = total - rest as u128;
-            let text = printer.print_rest(alloc, end, &decoder, text)?;
+            printer.print_rest(alloc, end, &decoder, &mut text)?;
             write_whole(output, text.as_slice())?;
             return Ok(Report { trouble, end, rest });
         }
         total += bytes.len() as u128;
         feed(&mut decoder, bytes)?;
-        text = print_items(
+        print_items(
             alloc,
             printer,
             &mut decoder,
             total,
             &mut scratch,
             &mut trouble,
-            text,
+            &mut text,
         )?;
         write_whole(output, text.as_slice())?;
     }
@@ -141,8 +141,8 @@ fn first<P: LinePrinter>(
     }
 }
 
-/// Makes a text of the lines of the decoder's whole items, after `total` bytes of the stream have come, and records the
-/// first trouble.
+/// Overwrites the text with the lines of the decoder's whole items, after `total` bytes of the stream have come, and
+/// records the first trouble.
 fn print_items<P: LinePrinter>(
     alloc: Global,
     printer: &P,
@@ -150,25 +150,24 @@ fn print_items<P: LinePrinter>(
     total: u128,
     scratch: &mut P::Scratch,
     trouble: &mut Option<(u128, Trouble)>,
-    text: Vec<u8>,
-) -> Result<Vec<u8>, PrintError>
+    text: &mut Vec<u8>,
+) -> Result<(), PrintError>
     requires came { length decoder.old.bytes ≤ total }
-    ensures printed { IfOk result (λ now. (items : List AnyItem)
+    ensures printed { OnOk result ((items : List AnyItem)
         × SplitsInto decoder.old.version decoder.old.bytes items decoder.new.bytes
-        × (now.items ≡ lines (P.item_line printer.now) (total - length decoder.old.bytes) decoder.old.bytes items)
+        × (text.new.items ≡ lines (P.item_line printer.now) (total - length decoder.old.bytes) decoder.old.bytes items)
         × (trouble.new ≡ option_or trouble.old (first_trouble (P.item_trouble printer.now)
         (total - length decoder.old.bytes) items))) }
     ensures version { decoder.new.version ≡ decoder.old.version }
-    ensures short { IfOk result (λ now. length decoder.new.bytes ≤ most_pending) }
+    ensures short { OnOk result (length decoder.new.bytes ≤ most_pending) }
     ensures lack { IfErr result (IsLack (IsLongIn (P.is_long printer.now) decoder.old.version decoder.old.bytes)) }
 {
-    let mut text = text;
     text.clear();
     let mut offset = total - decoder.pending() as u128;
     while let Some((word, item)) = next_item(decoder)? {
         *trouble = first(printer, offset, &item, *trouble);
-        text = printer.print_item(alloc, offset, word, item, scratch, text)?;
+        printer.print_item(alloc, offset, word, item, scratch, text)?;
         offset = total - decoder.pending() as u128;
     }
-    Ok(text)
+    Ok(())
 }

@@ -5,8 +5,8 @@ use Rattle.std.specs.Option.{option_or}
 use Rattle.stream_lines.specs.Printing.{first_trouble, lines}
 use Rattle.stream_lines.proofs.print.print_items.Given as goal
 
-abbrev pub invariant-loop-text : goal.invariant-loop-text
-invariant-loop-text g l =
+abbrev pub invariant-loop-word : goal.invariant-loop-word
+invariant-loop-word g l =
     (l.decoder.version ≡ l.fn.decoder.version)
     × (length l.decoder.bytes ≤ l.total)
     × (l.offset ≡ l.total - length l.decoder.bytes)
@@ -14,5 +14,5 @@ invariant-loop-text g l =
     × (l.text.items ≡ lines (g.P.LinePrinter.item_line l.printer) (l.total - length l.fn.decoder.bytes) l.fn.decoder.bytes items)
     × (l.trouble ≡ option_or l.fn.trouble (first_trouble (g.P.LinePrinter.item_trouble l.printer) (l.total - length l.fn.decoder.bytes) items))
 
-abbrev pub decreases-loop-text : goal.decreases-loop-text
-decreases-loop-text g l = length l.decoder.bytes
+abbrev pub decreases-loop-word : goal.decreases-loop-word
+decreases-loop-word g l = length l.decoder.bytes

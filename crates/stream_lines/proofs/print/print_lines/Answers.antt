@@ -22,9 +22,9 @@ returns-in_err-bytes g c =
     let from = err_from_is_err_and c.from_residual-in_err-bytes.result c.from_residual-in_err-bytes.ensures.1 in
     rw (from.1, from.2) (ended_read (g.P.LinePrinter.item_line c.args.printer.now) (g.P.LinePrinter.rest_line c.args.printer.now) (g.P.LinePrinter.is_long c.args.printer.now) (g.P.LinePrinter.item_trouble c.args.printer.now) c.args.version _ _ _ _ _ _ _ c.loop.invariant.so_far _ _ c.in_err-bytes.ensures.taken)
 
-pub returns-in_err-text : goal.returns-in_err-text
-returns-in_err-text g c =
-    let from = err_from_is_err_and c.from_residual-in_err-text.result c.from_residual-in_err-text.ensures.1 in
+pub returns-in_err-print_rest : goal.returns-in_err-print_rest
+returns-in_err-print_rest g c =
+    let from = err_from_is_err_and c.from_residual-in_err-print_rest.result c.from_residual-in_err-print_rest.ensures.1 in
     rw (from.1, from.2) (ended_lack (g.P.LinePrinter.item_line c.args.printer.now) (g.P.LinePrinter.rest_line c.args.printer.now) (g.P.LinePrinter.is_long c.args.printer.now) (g.P.LinePrinter.item_trouble c.args.printer.now) c.args.version _ _ _ _ _ _ _ c.loop.invariant.so_far _ _ c.in_ok-bytes.ensures.taken.0 OutOfMemory tt)
 
 pub returns-in_err-write_whole : goal.returns-in_err-write_whole
@@ -36,7 +36,7 @@ returns-in_err-write_whole g c =
     let so_far = c.loop.invariant.so_far in
     let at = begins_at (items_size so_far.items) c.loop.total (length c.loop.decoder.bytes) (place (g.P.LinePrinter.item_line c.args.printer.now) (g.P.LinePrinter.rest_line c.args.printer.now) (g.P.LinePrinter.is_long c.args.printer.now) (g.P.LinePrinter.item_trouble c.args.printer.now) c.args.version _ _ _ _ _ _ _ so_far) in
     let text : c.as_slice.result.now ≡ g.P.LinePrinter.rest_line c.args.printer.now (items_size so_far.items) c.loop.decoder.bytes =
-    c.as_slice.ensures.value ∙ c.in_ok-text.ensures.line ∙ ap (λ (l : List ℕ). l ++ g.P.LinePrinter.rest_line c.args.printer.now (c.loop.total - c.pending-rest.result) c.loop.decoder.bytes) c.clear.ensures.items
+    c.as_slice.ensures.value ∙ c.in_ok-print_rest.ensures.line ∙ ap (λ (l : List ℕ). l ++ g.P.LinePrinter.rest_line c.args.printer.now (c.loop.total - c.pending-rest.result) c.loop.decoder.bytes) c.clear.ensures.items
     ∙ ap (λ (n : ℕ). g.P.LinePrinter.rest_line c.args.printer.now (c.loop.total - n) c.loop.decoder.bytes) c.pending-rest.ensures ∙ ap (λ (n : ℕ). g.P.LinePrinter.rest_line c.args.printer.now n c.loop.decoder.bytes) at in
     rw (from.1, from.2) (ended_cut (g.P.LinePrinter.item_line c.args.printer.now) (g.P.LinePrinter.rest_line c.args.printer.now) (g.P.LinePrinter.is_long c.args.printer.now) (g.P.LinePrinter.item_trouble c.args.printer.now) c.args.version _ _ _ _ _ _ _ so_far _ _ taken _ written none (end none) wrote (subst (Begins written) text is))
 
@@ -48,7 +48,7 @@ returns-then-is_empty g c =
     let so_far = c.loop.invariant.so_far in
     let at = begins_at (items_size so_far.items) c.loop.total (length c.loop.decoder.bytes) (place (g.P.LinePrinter.item_line c.args.printer.now) (g.P.LinePrinter.rest_line c.args.printer.now) (g.P.LinePrinter.is_long c.args.printer.now) (g.P.LinePrinter.item_trouble c.args.printer.now) c.args.version _ _ _ _ _ _ _ so_far) in
     let text : c.as_slice.result.now ≡ g.P.LinePrinter.rest_line c.args.printer.now (items_size so_far.items) c.loop.decoder.bytes =
-    c.as_slice.ensures.value ∙ c.in_ok-text.ensures.line ∙ ap (λ (l : List ℕ). l ++ g.P.LinePrinter.rest_line c.args.printer.now (c.loop.total - c.pending-rest.result) c.loop.decoder.bytes) c.clear.ensures.items
+    c.as_slice.ensures.value ∙ c.in_ok-print_rest.ensures.line ∙ ap (λ (l : List ℕ). l ++ g.P.LinePrinter.rest_line c.args.printer.now (c.loop.total - c.pending-rest.result) c.loop.decoder.bytes) c.clear.ensures.items
     ∙ ap (λ (n : ℕ). g.P.LinePrinter.rest_line c.args.printer.now (c.loop.total - n) c.loop.decoder.bytes) c.pending-rest.ensures ∙ ap (λ (n : ℕ). g.P.LinePrinter.rest_line c.args.printer.now n c.loop.decoder.bytes) at in
     ended_whole (g.P.LinePrinter.item_line c.args.printer.now) (g.P.LinePrinter.rest_line c.args.printer.now) (g.P.LinePrinter.is_long c.args.printer.now) (g.P.LinePrinter.item_trouble c.args.printer.now) c.args.version _ _ _ _ _ _ _ so_far _ _ taken _ written none (end none) wrote _
     (record { first = so_far.noted; end = ap (λ (n : ℕ). c.loop.total - n) c.pending-rest.ensures ∙ at; count = c.pending-rest.ensures }) (is ∙ text)
@@ -58,10 +58,10 @@ returns-in_err-feed g c =
     let from = err_from_is_err_and c.from_residual-in_err-feed.result c.from_residual-in_err-feed.ensures.1 in
     rw (from.1, from.2) (ended_lack (g.P.LinePrinter.item_line c.args.printer.now) (g.P.LinePrinter.rest_line c.args.printer.now) (g.P.LinePrinter.is_long c.args.printer.now) (g.P.LinePrinter.item_trouble c.args.printer.now) c.args.version _ _ _ _ _ _ _ c.loop.invariant.so_far _ _ c.in_ok-bytes.ensures.taken.0 OutOfMemory tt)
 
-pub returns-in_err-text-2 : goal.returns-in_err-text-2
-returns-in_err-text-2 g c =
-    let from = err_from_is_err_and c.from_residual-in_err-text-2.result c.from_residual-in_err-text-2.ensures.1 in
-    rw (from.1, from.2) (ended_lack (g.P.LinePrinter.item_line c.args.printer.now) (g.P.LinePrinter.rest_line c.args.printer.now) (g.P.LinePrinter.is_long c.args.printer.now) (g.P.LinePrinter.item_trouble c.args.printer.now) c.args.version _ _ _ _ _ _ _ c.loop.invariant.so_far _ _ c.in_ok-bytes.ensures.taken.0 _ (rw (c.in_ok-feed.ensures.fed, c.loop.invariant.version) at c.in_err-text-2.ensures.lack))
+pub returns-in_err-print_items : goal.returns-in_err-print_items
+returns-in_err-print_items g c =
+    let from = err_from_is_err_and c.from_residual-in_err-print_items.result c.from_residual-in_err-print_items.ensures.1 in
+    rw (from.1, from.2) (ended_lack (g.P.LinePrinter.item_line c.args.printer.now) (g.P.LinePrinter.rest_line c.args.printer.now) (g.P.LinePrinter.is_long c.args.printer.now) (g.P.LinePrinter.item_trouble c.args.printer.now) c.args.version _ _ _ _ _ _ _ c.loop.invariant.so_far _ _ c.in_ok-bytes.ensures.taken.0 _ (rw (c.in_ok-feed.ensures.fed, c.loop.invariant.version) at c.in_err-print_items.ensures.lack))
 
 pub returns-in_err-write_whole-2 : goal.returns-in_err-write_whole-2
 returns-in_err-write_whole-2 g c =
@@ -70,7 +70,7 @@ returns-in_err-write_whole-2 g c =
     let fed = c.in_ok-feed.ensures.fed in
     let so_far = c.loop.invariant.so_far in
     let line = g.P.LinePrinter.item_line c.args.printer.now in
-    let (more, split, printed, wrong) = rw (fed, c.loop.invariant.version) at c.in_ok-text-2.ensures.printed in
+    let (more, split, printed, wrong) = rw (fed, c.loop.invariant.version) at c.in_ok-print_items.ensures.printed in
     let at = still_there (items_size so_far.items) c.loop.total c.loop.decoder.bytes bytes (place (g.P.LinePrinter.item_line c.args.printer.now) (g.P.LinePrinter.rest_line c.args.printer.now) (g.P.LinePrinter.is_long c.args.printer.now) (g.P.LinePrinter.item_trouble c.args.printer.now) c.args.version _ _ _ _ _ _ _ so_far) in
     let (written, wrote, is) = c.in_err-write_whole-2.ensures in
     let whole = c.loop.decoder.bytes ++ bytes in
@@ -87,7 +87,7 @@ loop-preserved g c =
     let fed = c.in_ok-feed.ensures.fed in
     let so_far = c.loop.invariant.so_far in
     let line = g.P.LinePrinter.item_line c.args.printer.now in
-    let (more, split, printed, wrong) = rw (fed, c.loop.invariant.version) at c.in_ok-text-2.ensures.printed in
+    let (more, split, printed, wrong) = rw (fed, c.loop.invariant.version) at c.in_ok-print_items.ensures.printed in
     let at = still_there (items_size so_far.items) c.loop.total c.loop.decoder.bytes bytes (place (g.P.LinePrinter.item_line c.args.printer.now) (g.P.LinePrinter.rest_line c.args.printer.now) (g.P.LinePrinter.is_long c.args.printer.now) (g.P.LinePrinter.item_trouble c.args.printer.now) c.args.version _ _ _ _ _ _ _ so_far) in
     let (written, wrote, is) = c.in_ok-write_whole-2.ensures in
     let whole = c.loop.decoder.bytes ++ bytes in
@@ -98,8 +98,8 @@ loop-preserved g c =
     wrong ∙ ap (λ (n : ℕ). option_or c.loop.trouble (first_trouble (g.P.LinePrinter.item_trouble c.args.printer.now) ((c.loop.total + n) - length whole) more)) c.len.ensures.value
     ∙ ap (λ (n : ℕ). option_or c.loop.trouble (first_trouble (g.P.LinePrinter.item_trouble c.args.printer.now) n more)) at in
     record {
-      version = c.in_ok-text-2.ensures.version ∙ ap (λ d. d.version) fed ∙ c.loop.invariant.version;
-      short = c.in_ok-text-2.ensures.short;
+      version = c.in_ok-print_items.ensures.version ∙ ap (λ d. d.version) fed ∙ c.loop.invariant.version;
+      short = c.in_ok-print_items.ensures.short;
       counted = omega (arith, c.loop.invariant.counted, c.len.ensures.value, fits);
       so_far = goes_on (g.P.LinePrinter.item_line c.args.printer.now) (g.P.LinePrinter.rest_line c.args.printer.now) (g.P.LinePrinter.is_long c.args.printer.now) (g.P.LinePrinter.item_trouble c.args.printer.now) c.args.version _ _ _ _ _ _ _ so_far _ _ c.in_ok-bytes.ensures.taken.0 _ more split _ c.len.result _ c.len.ensures.value (subst (Appends _ _) (is ∙ text) wrote) noted;
     }
