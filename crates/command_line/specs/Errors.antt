@@ -1,7 +1,7 @@
 -- What is said, and with which status a program ends, if its arguments cannot be read.
 use Rattle.std.specs.Prelude.{ℕ, List, codes}
-use Rattle.command_line.specs.declared.words.ArgumentsError.{ArgumentsError}
-use Rattle.command_line.specs.declared.words.ArgumentsError.TheVariants.{NotText, OutOfMemory}
+use Rattle.command_line.specs.declared.arguments.ArgumentsError.{ArgumentsError}
+use Rattle.command_line.specs.declared.arguments.ArgumentsError.TheVariants.{NotText, OutOfMemory}
 
 -- The text of the error.
 abbrev pub arguments_text : ArgumentsError → List ℕ

@@ -1,23 +1,23 @@
 //! What the programs share: their arguments, their inputs and output, and how they report errors.
 #![tactic(auto)]
 
+mod arguments;
 mod colors;
 mod input;
 mod pipe;
 mod progress;
 mod protocol;
 mod terminal;
-mod words;
 
 ghost use Rattle.std.specs.Prelude.{◌≡◌};
 ghost use Rattle.std.specs.Process.{exit_status};
 
+pub use crate::arguments::{ArgumentsError, read_arguments};
 pub use crate::colors::{ColorChoice, Style, color_of, color_option, has_color, paint};
 pub use crate::input::{Input, OpenError, input_size, open};
 pub use crate::pipe::Pipe;
 pub use crate::progress::{Progress, Watched};
 pub use crate::protocol::{protocol_of, protocol_option};
-pub use crate::words::{ArgumentsError, read_arguments};
 use clap::Error;
 use clap::error::ErrorKind;
 use std::fmt::Display;

@@ -1,7 +1,7 @@
 -- How a run of the program ends, and what it prints and returns then.
 use Rattle.std.specs.Prelude.{ℕ, List, [], codes, Result, Ok, Err, ⊤}
-use Rattle.command_line.specs.declared.words.ArgumentsError.{ArgumentsError}
-use Rattle.command_line.specs.declared.words.ArgumentsError.TheVariants as arguments_error
+use Rattle.command_line.specs.declared.arguments.ArgumentsError.{ArgumentsError}
+use Rattle.command_line.specs.declared.arguments.ArgumentsError.TheVariants as arguments_error
 use Rattle.journal_list.specs.declared.error.ListError.{ListError}
 use Rattle.journal_list.specs.declared.error.ListError.TheVariants.{Input, Output, OutOfMemory}
 use Rattle.journal_list.specs.declared.run.Outcome.{Outcome}
