@@ -1,8 +1,8 @@
 //! The lines of a dump: a stream as JSON, one object a line for each of its items, and last one for the bytes in none.
 #![tactic(auto)]
 
+mod canonical;
 mod lines;
-mod messages;
 mod options;
 mod pretty;
 mod scratch;

@@ -19,7 +19,7 @@ ghost use Rattle.dump_lines.specs.Lines.{payload_members, ack_tokens, header_tok
 ghost use Rattle.dump_lines.specs.Lines.{number_member, rest_members, skipped_members, unknown_members};
 ghost use Rattle.dump_lines.specs.Lines.{item_code as code_of_item, is_selected, line_of, rest_line};
 
-use crate::messages::canonical_of;
+use crate::canonical::canonical_of;
 use crate::options::Options;
 use crate::pretty::pretty_text;
 use crate::scratch::Scratch;
