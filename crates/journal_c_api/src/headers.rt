@@ -1,9 +1,8 @@
 //! Headers of messages.
 
-ghost use Rattle.std.specs.Prelude.{◌≡◌, ◌-◌, ℕ, List, Ok, length, take};
+ghost use Rattle.std.specs.Prelude.{◌≡◌};
 ghost use Rattle.journal_c_api.specs.Outcomes.{Writes};
 ghost use Rattle.journal_c_api.specs.Headers.{ReturnsHeader, flag_at};
-ghost use Rattle.journal_c_api.specs.Payloads.{ReturnsFrame};
 
 use crate::outcome::{CallError, version_of, write_over};
 use shared_core::header::{MessageHeader, MessageType};
@@ -40,11 +39,3 @@ fn requested_ack(version: Version, ty: MessageType) -> Option<bool>
         None
     }
 }
-
-/// Each frame of `journal_frame` begins with the header that `journal_header` writes for its version, its type and the
-/// length of its payload.
-#[tactic(auto, using(crate::proofs::FrameHeaders::begins_frame))]
-pub fn headers_begin_frames()
-    ensures { (version code : ℕ) (payload frame : List ℕ) → ReturnsFrame version code payload (Ok frame)
-        → ReturnsHeader version code (length frame - 8) (Ok (take 8 frame)) }
-{}

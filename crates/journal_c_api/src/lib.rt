@@ -7,6 +7,7 @@ pub mod headers;
 pub mod items;
 pub mod journals;
 pub mod json_payloads;
+pub mod laws;
 pub mod names;
 pub mod notifications;
 pub mod outcome;
