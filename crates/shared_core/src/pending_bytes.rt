@@ -5,6 +5,7 @@ ghost use Rattle.std.specs.List.{concat};
 ghost use Rattle.shared_core.specs.Segments.{AreSegments};
 
 use bytes::{Buf, Bytes};
+use shared_core_base::header::MessageHeader;
 use std::alloc::{AllocError, AllocFailed, Global};
 use std::collections::VecDeque;
 use std::marker::Model;
@@ -92,7 +93,7 @@ impl PendingBytes {
         Ok(())
     }
 
-    /// Takes the first eight bytes.
+    /// Takes the first eight bytes, a header's.
     pub fn take_head(&mut self) -> [u8; 8]
         requires { 8 ≤ length self.old }
         ensures head { result ≡ take 8 self.old }
@@ -101,8 +102,8 @@ impl PendingBytes {
         // nearly always the front segment has them all
         if let Some(head) = self.front.as_slice().first_chunk::<8>() {
             let head = *head;
-            self.front.advance(8);
-            self.len -= 8;
+            self.front.advance(MessageHeader::SIZE);
+            self.len -= MessageHeader::SIZE;
             drop_used_up(&mut self.front, &mut self.after);
             return head;
         }

@@ -8,6 +8,7 @@ use crate::encoding::item::Taken;
 use crate::encoding::{DecodingError, Item, Items, PushError, RawMessage};
 use crate::pending_bytes::PendingBytes;
 use bytes::Bytes;
+use shared_core_base::header::MessageHeader;
 use shared_core_base::version::Version;
 use std::alloc::{AllocError, Global};
 use std::marker::Model;
@@ -47,7 +48,7 @@ fn hold_head(head: &mut Option<[u8; 8]>, pending: &mut PendingBytes) -> Option<[
     if let Some(bytes) = *head {
         return Some(bytes);
     }
-    if pending.len() < 8 {
+    if pending.len() < MessageHeader::SIZE {
         return None;
     }
     let bytes = pending.take_head();
@@ -101,7 +102,11 @@ impl Decoder {
     pub fn pending(&self) -> u64
         ensures { result ≡ length self.now.bytes }
     {
-        let held = if self.head.is_some() { 8 } else { 0 };
+        let held = if self.head.is_some() {
+            MessageHeader::SIZE as u64
+        } else {
+            0
+        };
         held + self.pending.len() as u64
     }
 
