@@ -24,13 +24,16 @@ use shared_core_codec::{packed, repeated};
 use shared_core_message::frame::FramePayload;
 use shared_core_parts::future::Future;
 
-/// A suspension that is written as a `SuspensionMessageV6`, with the sizes of its lists, which are measured once.
+/// A suspension that is written as a `SuspensionMessageV6`, with the places of its lists, which are measured once.
 #[derive(Drop)]
 pub struct FlatSuspension<'a> {
     /// The suspension.
     pub suspension: &'a SuspensionMessage,
+    /// Where the packed run of the completions ends in the payload, which begins with it.
     completions_end: usize,
+    /// Where that of the signals ends, and the names begin.
     signals_end: usize,
+    /// The number of bytes of the payload.
     len: u32,
     ghost completions: { completions_end
         ≡ list_row_size Completions (messages_in (⟦<SuspensionMessage as WireRecord>⟧.parts suspension.now)) },
@@ -43,7 +46,7 @@ pub struct FlatSuspension<'a> {
 }
 
 impl<'a> FlatSuspension<'a> {
-    /// Measures the lists of a suspension. None if their payload has more than 4,294,967,295 bytes.
+    /// Measures the lists of a suspension. None if the payload has more than 4,294,967,295 bytes. Does not allocate.
     pub fn new(suspension: &'a SuspensionMessage) -> Option<FlatSuspension<'a>>
         ensures { MatchOption result
             (2 ^ 32 ≤ size table tables.suspension_v6
@@ -104,7 +107,7 @@ struct ListSizes {
     names: Size,
 }
 
-/// Where the elements of the three lists begin that are written already, each in a slice of its own.
+/// Where what is written of each of the three lists begins, in a slice of its own.
 #[derive(Drop)]
 struct ListEnds {
     completions: usize,
@@ -131,7 +134,7 @@ fn measure_lists(suspension: &SuspensionMessage) -> ListSizes
     sizes
 }
 
-/// Adds the size of a packed run of this size, which is not written if it is empty.
+/// Adds a packed run whose numbers have this size, or nothing if there are none.
 fn add_run(size: &mut Size, number: u32, run: &Size)
     ensures none { run.now ≡ 0 → size.new ≡ size.old }
     ensures some { 0 < run.now → size.new ≡ measured_message number run.now size.old }
