@@ -169,9 +169,15 @@ fn measure_futures(futures: &Vec<Future>, sizes: &mut ListSizes)
     let _ = sizes.completions.total();
     let _ = sizes.signals.total();
     let _ = sizes.names.total();
-    for future in futures {
-        measure_future(future, sizes);
+    if futures.is_empty() {
+        return;
     }
+    let last = futures.len() - 1;
+    for i in 0..last {
+        measure_future(&futures[i], sizes);
+    }
+    // in the last place, so that the compiler makes a loop of a chain of futures
+    measure_future(&futures[last], sizes);
 }
 
 /// Adds the sizes of the elements of a future's own lists.
