@@ -15,6 +15,7 @@ COMMAND = "Rattle.shared_core_base.specs.declared.command_type.CommandType"
 
 HEADER = """\
 //! The types of messages, and the header before each message.
+
 ghost use Rattle.std.specs.Prelude.{◌≡◌};
 ghost use Rattle.shared_core_base.specs.TypeTable.{named_types, variant_name_of};
 
@@ -107,7 +108,7 @@ def command_type():
     found = "".join(f"            MessageType::{message.type_name()} => Ok(CommandType::{message.command.name}),\n" for message in converting())
     others = ", ".join(f"`{command.name}` as `{message.type_name()}`" for command, message in types if not plainly(command, message))
     return (
-        "//! The types of commands, with human-readable texts.\n"
+        "//! The types of commands, with human-readable texts.\n\n"
         "ghost use Rattle.std.specs.Prelude.{◌≡◌, Some};\n"
         "ghost use Rattle.shared_core_base.specs.CommandTable.{command_text_of, message_type_of};\n"
         "ghost use Rattle.shared_core_base.specs.CommandType.{ConvertsToCommand};\n\n"

@@ -1,4 +1,5 @@
 //! The listing of a stream, from any reader to any writer.
+
 ghost use Rattle.std.specs.Prelude.{◌≡◌, ◌≤◌, ◌++◌, ℕ, List, None, length, OnOk};
 ghost use Rattle.std.specs.Io.KnownBytes.{Appends, Consumes};
 ghost use Rattle.std.specs.String.{string_bytes};

@@ -1,4 +1,5 @@
 //! Command lines without a file and options: a chunk size and `v9`.
+
 ghost use Rattle.std.specs.Prelude.{◌≡◌, ◌≤◌, ◌↔◌, ℕ, codes, map, IfSome, IsNone, IsTrue, string_bytes};
 ghost use Rattle.shared_core_base.specs.Version.{version_number};
 ghost use Rattle.shared_core_base.specs.declared.version.Version.{Version as AnyVersion};

@@ -1,4 +1,5 @@
 //! A run of the program over any reader and writer, with its message and its status.
+
 ghost use Rattle.std.specs.Prelude.{◌≡◌, ℕ, List, map, string_bytes};
 ghost use Rattle.std.specs.Io.KnownBytes.{Appends, Consumes};
 ghost use Rattle.std.specs.Process.{exit_status};

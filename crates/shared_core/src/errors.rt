@@ -1,4 +1,5 @@
 //! Typed and constant errors, which convert to the error of an invocation.
+
 ghost use Rattle.std.specs.Prelude.{◌≡◌, IfOk, Some, codes};
 ghost use Rattle.shared_core_base.specs.Error.{IsErrorOf};
 ghost use Rattle.shared_core_compare.specs.Differences.{difference};

@@ -1,4 +1,5 @@
 //! How differences and errors are printed.
+
 ghost use Rattle.std.specs.Prelude.{Some, codes};
 ghost use Rattle.shared_core_compare.specs.Differences.{difference};
 

@@ -1,5 +1,6 @@
 //! Laws of streams, whatever decodes them, and of equality. Each law is the contract of a function that does nothing,
 //! or that only compares its arguments.
+
 ghost use Rattle.std.specs.Prelude.{◌≡◌, ◌≢◌, ◌≤◌, ◌<◌, ◌^◌, ◌↔◌, ℕ, []};
 ghost use Rattle.std.specs.Prelude.{◌∷◌, ◌++◌, IsTrue, List, None, Some, false, true};
 ghost use Rattle.shared_core_base.specs.declared.version.Version.{Version};

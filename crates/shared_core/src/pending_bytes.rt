@@ -1,4 +1,5 @@
 //! The bytes that have come and that no item has taken.
+
 ghost use Rattle.std.specs.Prelude.{◌≡◌, ◌+◌, ◌^◌, ◌<◌, ◌≤◌, ◌++◌, [], length};
 ghost use Rattle.std.specs.Prelude.{take, drop, All, IfOk, IfErr, IsOk, OnOk, OnErr};
 ghost use Rattle.std.specs.List.{concat};

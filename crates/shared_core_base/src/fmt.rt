@@ -1,4 +1,5 @@
 //! The lines that a difference of two messages prints.
+
 ghost use Rattle.std.specs.Prelude.{◌≡◌, ℕ, List, Some, MatchOption, true, false};
 ghost use Rattle.std.specs.Str.{is_utf8};
 ghost use Rattle.std.specs.Fmt.{WritesOnOk, DisplaysOnOk, decimal, comma_space};

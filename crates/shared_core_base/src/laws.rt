@@ -1,5 +1,6 @@
 //! Laws of the definitions of this crate, and of the traits that its types derive. Each is the contract of a function
 //! that does nothing, or that makes only the calls that it is about.
+
 ghost use Rattle.std.specs.Prelude.{◌≡◌, ◌↔◌, ◌==◌, ◌≢◌, ℕ, IsTrue, false, Ok, Some, None, find, bit_and};
 ghost use Rattle.std.specs.Option.{ok_or};
 ghost use Rattle.std.specs.Ordering.{nat_cmp};

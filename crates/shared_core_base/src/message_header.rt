@@ -1,4 +1,5 @@
 //! The eight bytes before each payload.
+
 ghost use Rattle.std.specs.Prelude.{◌≡◌, Some, None};
 ghost use Rattle.std.specs.Int.{w64, to_be_bytes};
 ghost use Rattle.shared_core_base.specs.MessageHeader.{word_of};

@@ -1,4 +1,5 @@
 //! Copies of texts.
+
 ghost use Rattle.std.specs.Prelude.{◌≡◌, [], IfOk, IsOk};
 ghost use Rattle.std.specs.String.{string_bytes};
 

@@ -1,4 +1,5 @@
 //! The kinds of message types, and how types and unknown codes print.
+
 ghost use Rattle.std.specs.Prelude.{◌≡◌, ◌≤◌, ◌<◌, IsTrue, Some, ◌↔◌};
 ghost use Rattle.shared_core_base.specs.declared.header.MessageType.{MessageType as AnyType};
 ghost use Rattle.shared_core_base.specs.MessageType.{IsNamed, allows_ack, code_of};

@@ -1,4 +1,5 @@
 //! The values that the SDK state machine takes and gives.
+
 ghost use Rattle.std.specs.Prelude.{◌≡◌, true, false};
 ghost use Rattle.shared_core_base.specs.Values.{variant_name_of, value_of_non_empty};
 

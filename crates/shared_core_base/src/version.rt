@@ -1,4 +1,5 @@
 //! The versions of the protocol, and the content types that name them.
+
 ghost use Rattle.std.specs.Prelude.{◌≡◌, ◌↔◌, ◌≤◌, IfOk, Some, decimal, map};
 ghost use Rattle.shared_core_base.specs.Version.{
   version_number,

@@ -1,4 +1,5 @@
 //! The round trip of any message: what the contracts of encoding, pushing, consuming and decoding say together.
+
 ghost use Rattle.std.specs.Prelude.{◌≡◌, ◌≤◌, ◌^◌, IfOk};
 ghost use Rattle.std.specs.Result.{IsErrOf};
 ghost use Rattle.shared_core.specs.Version.{version_number};

@@ -1,4 +1,5 @@
 //! The error of a call on a closed state machine, and the formatters that print it.
+
 ghost use Rattle.std.specs.Prelude.{◌≡◌, IfOk, Some};
 ghost use Rattle.std.specs.String.{string_bytes};
 ghost use Rattle.shared_core_base.specs.Error.{IsErrorOf};

@@ -1,4 +1,5 @@
 //! The error of a command whose type is not the one that the code expects.
+
 ghost use Rattle.std.specs.Prelude.{◌≡◌, IfOk, Some};
 ghost use Rattle.shared_core_base.specs.Error.{IsErrorOf};
 ghost use Rattle.shared_core_errors.specs.Mismatch.{command_type_mismatch_text};

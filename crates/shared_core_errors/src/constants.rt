@@ -1,4 +1,5 @@
 //! The constant errors: each has a code and a message, and is retried.
+
 ghost use Rattle.std.specs.Prelude.{◌≡◌, codes};
 ghost use Rattle.shared_core_base.specs.Error.{error_parts, plain_error};
 

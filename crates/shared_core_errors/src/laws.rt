@@ -1,4 +1,5 @@
 //! Laws of the definitions of this crate, whatever the code does, and of the traits that its types derive.
+
 ghost use Rattle.std.specs.Prelude.{◌≡◌, List, Ok, map};
 ghost use Rattle.std.specs.HashMap.{get};
 ghost use Rattle.std.specs.HashSet.{IsSameSet};

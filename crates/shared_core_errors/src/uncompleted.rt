@@ -1,4 +1,5 @@
 //! The error of an await that the journal cannot replay.
+
 ghost use Rattle.std.specs.Prelude.{◌≡◌, [], IfOk, IsOk, Some};
 ghost use Rattle.std.specs.Cmp.Lexicographic.{slice_cmp};
 ghost use Rattle.std.specs.Fmt.{WritesOnOk};

@@ -1,5 +1,6 @@
 //! Writing all bytes, or a prefix of them if the output fails. (The contract of the standard library's `write_all` does
 //! not say what is written after an error.)
+
 ghost use Rattle.std.specs.Prelude.{ℕ, List};
 ghost use Rattle.std.specs.Io.KnownBytes.{Appends};
 ghost use Rattle.stream_lines.specs.Written.{IsWritten};

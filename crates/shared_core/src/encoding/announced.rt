@@ -1,4 +1,5 @@
 //! Reading the first eight bytes of an item. Only this module knows what they announce at a version.
+
 ghost use Rattle.std.specs.Prelude.{◌≡◌};
 ghost use Rattle.shared_core.specs.Borrowed.{Announces, announced_length, kind_announced};
 

@@ -1,4 +1,5 @@
 //! The decoder of a stream that comes in chunks.
+
 ghost use Rattle.std.specs.Prelude.{◌≡◌, ◌+◌, ◌<◌, ◌≤◌, ◌++◌, length, drop, take, IfOk, IfSome, IfNone, OnErr};
 ghost use Rattle.std.specs.Prelude.{MatchOption, Some, None};
 ghost use Rattle.shared_core.specs.Unread.{held_bytes, held_length};

@@ -1,4 +1,5 @@
 //! The type of the items that a decoder returns.
+
 ghost use Rattle.std.specs.Prelude.{◌≡◌};
 ghost use Rattle.shared_core.specs.Items.{item_taken};
 

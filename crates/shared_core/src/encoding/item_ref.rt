@@ -1,4 +1,5 @@
 //! An item that is borrowed from the bytes of a stream.
+
 ghost use Rattle.std.specs.Prelude.{◌≡◌, ◌+◌, ◌∷◌, length, IfOk, IfErr};
 ghost use Rattle.std.specs.Int.{w64, to_be_bytes};
 ghost use Rattle.shared_core.specs.Borrowed.{IsAtFront, IsMissing};

@@ -1,4 +1,5 @@
 //! Iterating over the items of a slice.
+
 ghost use Rattle.std.specs.Prelude.{◌≡◌};
 
 use crate::encoding::ItemRef;

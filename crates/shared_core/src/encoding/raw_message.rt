@@ -1,4 +1,5 @@
 //! A message as it is in the stream, and as a record of its type.
+
 ghost use Rattle.std.specs.Prelude.{◌≡◌, ◌≢◌, ◌≤◌, ◌<◌, ℕ, IfOk, IfErr, MatchResult, Err, Some};
 ghost use Rattle.std.specs.Result.{IsErrOf};
 ghost use Rattle.shared_core_codec.specs.Payloads.{IsAccepted};
