@@ -253,16 +253,19 @@ def write_oneof(source, module, name, oneof, about, derived=()):
             source.kinds.add(KINDS[member.kind])
             kind = KINDS[member.kind]
             held = TYPES[member.kind]
-        new = f"*oneof = Some({name}::{variant}(FieldKind::read_value(field)?)),\n"
         if member.kind in ("message", "text"):
             merge = (
-                f"            {number} => match oneof {{\n"
-                f"                Some({name}::{variant}({member.name})) => {member.name}.merge_value(field)?,\n"
-                f"                _ => {new}"
-                "            },\n"
+                f"            {number} => {{\n"
+                f"                if !matches!(oneof, Some({name}::{variant}(_))) {{\n"
+                f"                    *oneof = Some({name}::{variant}(FieldKind::empty_value(field.alloc)));\n"
+                "                }\n"
+                f"                if let Some({name}::{variant}({member.name})) = oneof {{\n"
+                f"                    {member.name}.merge_value(field)?;\n"
+                "                }\n"
+                "            }\n"
             )
         else:
-            merge = f"            {number} => {new}"
+            merge = f"            {number} => *oneof = Some({name}::{variant}(FieldKind::read_value(field)?)),\n"
         declared += comment(member.comment, "    ") + f"    {variant}({held}),\n"
         members.append(f"({number}, {kind})")
         parts.append(f"      | {variants}.{variant} x ↦ Member {number} ({source.part(member.kind, member.message, 'x')})\n")

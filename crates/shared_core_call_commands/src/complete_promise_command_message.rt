@@ -52,17 +52,24 @@ impl OneOf for Completion {
         field: &Occurrence<'_>,
     ) -> Result<(), WireError> {
         match field.number {
-            2 => match oneof {
-                Some(Completion::CompletionValue(completion_value)) => completion_value.merge_value(
-                    field,
-                )?,
-                _ => *oneof = Some(Completion::CompletionValue(FieldKind::read_value(field)?)),
-            },
-            3 => match oneof {
-                Some(Completion::CompletionFailure(completion_failure)) =>
-                    completion_failure.merge_value(field)?,
-                _ => *oneof = Some(Completion::CompletionFailure(FieldKind::read_value(field)?)),
-            },
+            2 => {
+                if !matches!(oneof, Some(Completion::CompletionValue(_))) {
+                    *oneof = Some(Completion::CompletionValue(FieldKind::empty_value(field.alloc)));
+                }
+                if let Some(Completion::CompletionValue(completion_value)) = oneof {
+                    completion_value.merge_value(field)?;
+                }
+            }
+            3 => {
+                if !matches!(oneof, Some(Completion::CompletionFailure(_))) {
+                    *oneof = Some(Completion::CompletionFailure(FieldKind::empty_value(
+                        field.alloc,
+                    )));
+                }
+                if let Some(Completion::CompletionFailure(completion_failure)) = oneof {
+                    completion_failure.merge_value(field)?;
+                }
+            }
             _ => unreachable!(),
         }
         Ok(())

@@ -46,24 +46,39 @@ impl OneOf for InvocationTarget {
         field: &Occurrence<'_>,
     ) -> Result<(), WireError> {
         match field.number {
-            1 => match oneof {
-                Some(InvocationTarget::InvocationId(invocation_id)) => invocation_id.merge_value(
-                    field,
-                )?,
-                _ => *oneof = Some(InvocationTarget::InvocationId(FieldKind::read_value(field)?)),
-            },
-            3 => match oneof {
-                Some(InvocationTarget::IdempotentRequestTarget(idempotent_request_target)) =>
-                    idempotent_request_target.merge_value(field)?,
-                _ => *oneof = Some(InvocationTarget::IdempotentRequestTarget(FieldKind::read_value(
-                    field,
-                )?)),
-            },
-            4 => match oneof {
-                Some(InvocationTarget::WorkflowTarget(workflow_target)) =>
-                    workflow_target.merge_value(field)?,
-                _ => *oneof = Some(InvocationTarget::WorkflowTarget(FieldKind::read_value(field)?)),
-            },
+            1 => {
+                if !matches!(oneof, Some(InvocationTarget::InvocationId(_))) {
+                    *oneof = Some(InvocationTarget::InvocationId(FieldKind::empty_value(
+                        field.alloc,
+                    )));
+                }
+                if let Some(InvocationTarget::InvocationId(invocation_id)) = oneof {
+                    invocation_id.merge_value(field)?;
+                }
+            }
+            3 => {
+                if !matches!(oneof, Some(InvocationTarget::IdempotentRequestTarget(_))) {
+                    *oneof = Some(InvocationTarget::IdempotentRequestTarget(FieldKind::empty_value(
+                        field.alloc,
+                    )));
+                }
+                if let Some(
+                    InvocationTarget::IdempotentRequestTarget(idempotent_request_target),
+                ) = oneof
+                {
+                    idempotent_request_target.merge_value(field)?;
+                }
+            }
+            4 => {
+                if !matches!(oneof, Some(InvocationTarget::WorkflowTarget(_))) {
+                    *oneof = Some(InvocationTarget::WorkflowTarget(FieldKind::empty_value(
+                        field.alloc,
+                    )));
+                }
+                if let Some(InvocationTarget::WorkflowTarget(workflow_target)) = oneof {
+                    workflow_target.merge_value(field)?;
+                }
+            }
             _ => unreachable!(),
         }
         Ok(())

@@ -55,10 +55,14 @@ impl OneOf for SignalId {
     ) -> result::Result<(), WireError> {
         match field.number {
             2 => *oneof = Some(SignalId::Idx(FieldKind::read_value(field)?)),
-            3 => match oneof {
-                Some(SignalId::Name(name)) => name.merge_value(field)?,
-                _ => *oneof = Some(SignalId::Name(FieldKind::read_value(field)?)),
-            },
+            3 => {
+                if !matches!(oneof, Some(SignalId::Name(_))) {
+                    *oneof = Some(SignalId::Name(FieldKind::empty_value(field.alloc)));
+                }
+                if let Some(SignalId::Name(name)) = oneof {
+                    name.merge_value(field)?;
+                }
+            }
             _ => unreachable!(),
         }
         Ok(())
@@ -119,18 +123,30 @@ impl OneOf for Result {
         field: &Occurrence<'_>,
     ) -> result::Result<(), WireError> {
         match field.number {
-            4 => match oneof {
-                Some(Result::Void(void)) => void.merge_value(field)?,
-                _ => *oneof = Some(Result::Void(FieldKind::read_value(field)?)),
-            },
-            5 => match oneof {
-                Some(Result::Value(value)) => value.merge_value(field)?,
-                _ => *oneof = Some(Result::Value(FieldKind::read_value(field)?)),
-            },
-            6 => match oneof {
-                Some(Result::Failure(failure)) => failure.merge_value(field)?,
-                _ => *oneof = Some(Result::Failure(FieldKind::read_value(field)?)),
-            },
+            4 => {
+                if !matches!(oneof, Some(Result::Void(_))) {
+                    *oneof = Some(Result::Void(FieldKind::empty_value(field.alloc)));
+                }
+                if let Some(Result::Void(void)) = oneof {
+                    void.merge_value(field)?;
+                }
+            }
+            5 => {
+                if !matches!(oneof, Some(Result::Value(_))) {
+                    *oneof = Some(Result::Value(FieldKind::empty_value(field.alloc)));
+                }
+                if let Some(Result::Value(value)) = oneof {
+                    value.merge_value(field)?;
+                }
+            }
+            6 => {
+                if !matches!(oneof, Some(Result::Failure(_))) {
+                    *oneof = Some(Result::Failure(FieldKind::empty_value(field.alloc)));
+                }
+                if let Some(Result::Failure(failure)) = oneof {
+                    failure.merge_value(field)?;
+                }
+            }
             _ => unreachable!(),
         }
         Ok(())

@@ -23,10 +23,7 @@ pub fn merge<V: FieldKind>(field: &mut Option<V>, found: &Occurrence<'_>) -> Res
 {
     match field {
         Some(value) => value.merge_value(found),
-        None => {
-            *field = Some(V::read_value(found)?);
-            Ok(())
-        }
+        None => field.insert(V::empty_value(found.alloc)).merge_value(found),
     }
 }
 

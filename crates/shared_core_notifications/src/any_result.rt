@@ -45,18 +45,30 @@ impl OneOf for AnyResult {
         field: &Occurrence<'_>,
     ) -> Result<(), WireError> {
         match field.number {
-            4 => match oneof {
-                Some(AnyResult::Void(void)) => void.merge_value(field)?,
-                _ => *oneof = Some(AnyResult::Void(FieldKind::read_value(field)?)),
-            },
-            5 => match oneof {
-                Some(AnyResult::Value(value)) => value.merge_value(field)?,
-                _ => *oneof = Some(AnyResult::Value(FieldKind::read_value(field)?)),
-            },
-            6 => match oneof {
-                Some(AnyResult::Failure(failure)) => failure.merge_value(field)?,
-                _ => *oneof = Some(AnyResult::Failure(FieldKind::read_value(field)?)),
-            },
+            4 => {
+                if !matches!(oneof, Some(AnyResult::Void(_))) {
+                    *oneof = Some(AnyResult::Void(FieldKind::empty_value(field.alloc)));
+                }
+                if let Some(AnyResult::Void(void)) = oneof {
+                    void.merge_value(field)?;
+                }
+            }
+            5 => {
+                if !matches!(oneof, Some(AnyResult::Value(_))) {
+                    *oneof = Some(AnyResult::Value(FieldKind::empty_value(field.alloc)));
+                }
+                if let Some(AnyResult::Value(value)) = oneof {
+                    value.merge_value(field)?;
+                }
+            }
+            6 => {
+                if !matches!(oneof, Some(AnyResult::Failure(_))) {
+                    *oneof = Some(AnyResult::Failure(FieldKind::empty_value(field.alloc)));
+                }
+                if let Some(AnyResult::Failure(failure)) = oneof {
+                    failure.merge_value(field)?;
+                }
+            }
             _ => unreachable!(),
         }
         Ok(())

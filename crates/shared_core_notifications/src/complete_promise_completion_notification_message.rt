@@ -53,14 +53,22 @@ impl OneOf for Result {
         field: &Occurrence<'_>,
     ) -> result::Result<(), WireError> {
         match field.number {
-            4 => match oneof {
-                Some(Result::Void(void)) => void.merge_value(field)?,
-                _ => *oneof = Some(Result::Void(FieldKind::read_value(field)?)),
-            },
-            6 => match oneof {
-                Some(Result::Failure(failure)) => failure.merge_value(field)?,
-                _ => *oneof = Some(Result::Failure(FieldKind::read_value(field)?)),
-            },
+            4 => {
+                if !matches!(oneof, Some(Result::Void(_))) {
+                    *oneof = Some(Result::Void(FieldKind::empty_value(field.alloc)));
+                }
+                if let Some(Result::Void(void)) = oneof {
+                    void.merge_value(field)?;
+                }
+            }
+            6 => {
+                if !matches!(oneof, Some(Result::Failure(_))) {
+                    *oneof = Some(Result::Failure(FieldKind::empty_value(field.alloc)));
+                }
+                if let Some(Result::Failure(failure)) = oneof {
+                    failure.merge_value(field)?;
+                }
+            }
             _ => unreachable!(),
         }
         Ok(())

@@ -53,10 +53,14 @@ impl OneOf for SignalId {
     ) -> result::Result<(), WireError> {
         match field.number {
             2 => *oneof = Some(SignalId::Idx(FieldKind::read_value(field)?)),
-            3 => match oneof {
-                Some(SignalId::Name(name)) => name.merge_value(field)?,
-                _ => *oneof = Some(SignalId::Name(FieldKind::read_value(field)?)),
-            },
+            3 => {
+                if !matches!(oneof, Some(SignalId::Name(_))) {
+                    *oneof = Some(SignalId::Name(FieldKind::empty_value(field.alloc)));
+                }
+                if let Some(SignalId::Name(name)) = oneof {
+                    name.merge_value(field)?;
+                }
+            }
             _ => unreachable!(),
         }
         Ok(())

@@ -41,14 +41,22 @@ impl OneOf for ValueOrFailure {
         field: &Occurrence<'_>,
     ) -> Result<(), WireError> {
         match field.number {
-            5 => match oneof {
-                Some(ValueOrFailure::Value(value)) => value.merge_value(field)?,
-                _ => *oneof = Some(ValueOrFailure::Value(FieldKind::read_value(field)?)),
-            },
-            6 => match oneof {
-                Some(ValueOrFailure::Failure(failure)) => failure.merge_value(field)?,
-                _ => *oneof = Some(ValueOrFailure::Failure(FieldKind::read_value(field)?)),
-            },
+            5 => {
+                if !matches!(oneof, Some(ValueOrFailure::Value(_))) {
+                    *oneof = Some(ValueOrFailure::Value(FieldKind::empty_value(field.alloc)));
+                }
+                if let Some(ValueOrFailure::Value(value)) = oneof {
+                    value.merge_value(field)?;
+                }
+            }
+            6 => {
+                if !matches!(oneof, Some(ValueOrFailure::Failure(_))) {
+                    *oneof = Some(ValueOrFailure::Failure(FieldKind::empty_value(field.alloc)));
+                }
+                if let Some(ValueOrFailure::Failure(failure)) = oneof {
+                    failure.merge_value(field)?;
+                }
+            }
             _ => unreachable!(),
         }
         Ok(())

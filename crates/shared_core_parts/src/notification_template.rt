@@ -51,10 +51,14 @@ impl OneOf for Id {
         match field.number {
             1 => *oneof = Some(Id::CompletionId(FieldKind::read_value(field)?)),
             2 => *oneof = Some(Id::SignalId(FieldKind::read_value(field)?)),
-            3 => match oneof {
-                Some(Id::SignalName(signal_name)) => signal_name.merge_value(field)?,
-                _ => *oneof = Some(Id::SignalName(FieldKind::read_value(field)?)),
-            },
+            3 => {
+                if !matches!(oneof, Some(Id::SignalName(_))) {
+                    *oneof = Some(Id::SignalName(FieldKind::empty_value(field.alloc)));
+                }
+                if let Some(Id::SignalName(signal_name)) = oneof {
+                    signal_name.merge_value(field)?;
+                }
+            }
             _ => unreachable!(),
         }
         Ok(())
@@ -125,26 +129,46 @@ impl OneOf for Result {
         field: &Occurrence<'_>,
     ) -> result::Result<(), WireError> {
         match field.number {
-            4 => match oneof {
-                Some(Result::Void(void)) => void.merge_value(field)?,
-                _ => *oneof = Some(Result::Void(FieldKind::read_value(field)?)),
-            },
-            5 => match oneof {
-                Some(Result::Value(value)) => value.merge_value(field)?,
-                _ => *oneof = Some(Result::Value(FieldKind::read_value(field)?)),
-            },
-            6 => match oneof {
-                Some(Result::Failure(failure)) => failure.merge_value(field)?,
-                _ => *oneof = Some(Result::Failure(FieldKind::read_value(field)?)),
-            },
-            16 => match oneof {
-                Some(Result::InvocationId(invocation_id)) => invocation_id.merge_value(field)?,
-                _ => *oneof = Some(Result::InvocationId(FieldKind::read_value(field)?)),
-            },
-            17 => match oneof {
-                Some(Result::StateKeys(state_keys)) => state_keys.merge_value(field)?,
-                _ => *oneof = Some(Result::StateKeys(FieldKind::read_value(field)?)),
-            },
+            4 => {
+                if !matches!(oneof, Some(Result::Void(_))) {
+                    *oneof = Some(Result::Void(FieldKind::empty_value(field.alloc)));
+                }
+                if let Some(Result::Void(void)) = oneof {
+                    void.merge_value(field)?;
+                }
+            }
+            5 => {
+                if !matches!(oneof, Some(Result::Value(_))) {
+                    *oneof = Some(Result::Value(FieldKind::empty_value(field.alloc)));
+                }
+                if let Some(Result::Value(value)) = oneof {
+                    value.merge_value(field)?;
+                }
+            }
+            6 => {
+                if !matches!(oneof, Some(Result::Failure(_))) {
+                    *oneof = Some(Result::Failure(FieldKind::empty_value(field.alloc)));
+                }
+                if let Some(Result::Failure(failure)) = oneof {
+                    failure.merge_value(field)?;
+                }
+            }
+            16 => {
+                if !matches!(oneof, Some(Result::InvocationId(_))) {
+                    *oneof = Some(Result::InvocationId(FieldKind::empty_value(field.alloc)));
+                }
+                if let Some(Result::InvocationId(invocation_id)) = oneof {
+                    invocation_id.merge_value(field)?;
+                }
+            }
+            17 => {
+                if !matches!(oneof, Some(Result::StateKeys(_))) {
+                    *oneof = Some(Result::StateKeys(FieldKind::empty_value(field.alloc)));
+                }
+                if let Some(Result::StateKeys(state_keys)) = oneof {
+                    state_keys.merge_value(field)?;
+                }
+            }
             _ => unreachable!(),
         }
         Ok(())

@@ -49,10 +49,14 @@ impl OneOf for Result {
     ) -> result::Result<(), WireError> {
         match field.number {
             14 => *oneof = Some(Result::Value(FieldKind::read_value(field)?)),
-            15 => match oneof {
-                Some(Result::Failure(failure)) => failure.merge_value(field)?,
-                _ => *oneof = Some(Result::Failure(FieldKind::read_value(field)?)),
-            },
+            15 => {
+                if !matches!(oneof, Some(Result::Failure(_))) {
+                    *oneof = Some(Result::Failure(FieldKind::empty_value(field.alloc)));
+                }
+                if let Some(Result::Failure(failure)) = oneof {
+                    failure.merge_value(field)?;
+                }
+            }
             _ => unreachable!(),
         }
         Ok(())

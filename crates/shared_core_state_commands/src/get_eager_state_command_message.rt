@@ -53,14 +53,22 @@ impl OneOf for Result {
         field: &Occurrence<'_>,
     ) -> result::Result<(), WireError> {
         match field.number {
-            13 => match oneof {
-                Some(Result::Void(void)) => void.merge_value(field)?,
-                _ => *oneof = Some(Result::Void(FieldKind::read_value(field)?)),
-            },
-            14 => match oneof {
-                Some(Result::Value(value)) => value.merge_value(field)?,
-                _ => *oneof = Some(Result::Value(FieldKind::read_value(field)?)),
-            },
+            13 => {
+                if !matches!(oneof, Some(Result::Void(_))) {
+                    *oneof = Some(Result::Void(FieldKind::empty_value(field.alloc)));
+                }
+                if let Some(Result::Void(void)) = oneof {
+                    void.merge_value(field)?;
+                }
+            }
+            14 => {
+                if !matches!(oneof, Some(Result::Value(_))) {
+                    *oneof = Some(Result::Value(FieldKind::empty_value(field.alloc)));
+                }
+                if let Some(Result::Value(value)) = oneof {
+                    value.merge_value(field)?;
+                }
+            }
             _ => unreachable!(),
         }
         Ok(())

@@ -53,14 +53,22 @@ impl OneOf for Result {
         field: &Occurrence<'_>,
     ) -> result::Result<(), WireError> {
         match field.number {
-            14 => match oneof {
-                Some(Result::Value(value)) => value.merge_value(field)?,
-                _ => *oneof = Some(Result::Value(FieldKind::read_value(field)?)),
-            },
-            15 => match oneof {
-                Some(Result::Failure(failure)) => failure.merge_value(field)?,
-                _ => *oneof = Some(Result::Failure(FieldKind::read_value(field)?)),
-            },
+            14 => {
+                if !matches!(oneof, Some(Result::Value(_))) {
+                    *oneof = Some(Result::Value(FieldKind::empty_value(field.alloc)));
+                }
+                if let Some(Result::Value(value)) = oneof {
+                    value.merge_value(field)?;
+                }
+            }
+            15 => {
+                if !matches!(oneof, Some(Result::Failure(_))) {
+                    *oneof = Some(Result::Failure(FieldKind::empty_value(field.alloc)));
+                }
+                if let Some(Result::Failure(failure)) = oneof {
+                    failure.merge_value(field)?;
+                }
+            }
             _ => unreachable!(),
         }
         Ok(())
