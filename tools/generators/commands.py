@@ -1,7 +1,7 @@
 """How the commands of proto/journal.proto are compared, and how their differences are printed.
 
-One file a command, one for each oneof that several commands share, the root file of the crate, and for a command with two or more printed
-lines the proof that they follow each other.
+One file a command, one for each oneof that several commands share, the root file of the crate, and for a command with printed fields
+the proof that they follow each other.
 """
 import collections
 
@@ -20,7 +20,7 @@ HEADING = "Commands compared: their names, whether two are the same but for what
 # name.
 BY_HAND = {"difference": True, "equality": True, "laws": True, "name": True, "printed": False}
 
-# The function that writes the line of a field, by its presence and its kind.
+# The function that writes a field in which two commands differ, by its presence and its kind.
 WRITERS = {
     ("plain", "u32"): "write_number",
     ("plain", "text"): "write_text",
@@ -231,7 +231,7 @@ def write_printed_oneof(source, path, oneof):
 
 
 def writer(command, row):
-    """The function that writes the line of a field."""
+    """The function that writes a field in which two commands differ."""
     if isinstance(row, OneOf):
         return "write_oneof"
     if (row.presence, row.message) == ("repeated", "Header"):
@@ -242,21 +242,21 @@ def writer(command, row):
 
 
 def write_difference(source, command):
-    """The impl that prints how two commands differ."""
+    """The impl that writes the fields in which two commands differ."""
     trait = source.use("crate::difference", "CommandMessageHeaderDiff")
+    form = source.use("crate::difference", "DifferenceForm")
     source.use("std", "fmt")
-    source.use("std::fmt", "Formatter")
     source.ghost("std.specs.Prelude", "refl")
     calls = []
     for row in command.printed():
         by = "" if writer(command, row) == "write_number" else "&"
         function = source.use("crate::difference", writer(command, row))
-        calls.append(f'{function}(f, indentation, "{row.name}", {by}self.{row.name}, {by}expected.{row.name})')
+        calls.append(f'{function}(form, out, "{row.name}", {by}self.{row.name}, {by}expected.{row.name})')
     unused = "" if calls else "_"
     lines = "".join(f"        {call}?;\n" for call in calls[:-1]) + f"        {calls[-1] if calls else 'Ok(())'}\n"
     source.body.append(
         f"impl {trait} for {command.message.name} {{\n"
-        f"    fn write_lines<W: fmt::Write>(&self, {unused}expected: &Self, {unused}f: &mut Formatter<W>, {unused}indentation: &str)"
+        f"    fn write_fields<T, F: {form}<T>>(&self, {unused}expected: &Self, {unused}form: &F, {unused}out: &mut T)"
         f" -> fmt::Result {{\n{lines}    }}\n\n"
         "    ghost printed_whole = { refl };\n}\n"
     )
@@ -283,11 +283,11 @@ def write_command(command, shared):
     return source.text()
 
 
-def chained_lines(command):
-    """The proof that a command's lines follow each other."""
-    path = f"Rattle.{CRATE}.proofs.{command.module}.{command.message.name}CommandMessageHeaderDiff.write_lines.Goals"
+def chained_fields(command):
+    """The proof that a command's fields follow each other."""
+    path = f"Rattle.{CRATE}.proofs.{command.module}.{command.message.name}CommandMessageHeaderDiff.write_fields.Goals"
     counts = {}
-    steps, plain = "", "plain"
+    steps = ""
     rows = command.printed()
     for at, row in enumerate(rows, 1):
         call = writer(command, row)
@@ -295,18 +295,16 @@ def chained_lines(command):
         if counts[call] > 1:
             call += f"-{counts[call]}"
         last = at == len(rows)
-        steps += f"    let w{at} = c.{call if last else f'in_ok-{call}'}.ensures {plain} {'ok' if last else 'refl'} in\n"
-        plain = f"w{at}.plain"
-    chain = f"nothing_written g.W.Write.write_str_gives _ {plain}"
+        steps += f"    let w{at} = c.{call if last else f'in_ok-{call}'}.ensures {'ok' if last else '(refl {a = true})'} in\n"
+    chain = "nothing_written writes _"
     for at in range(len(rows), 0, -1):
         chain = f"append _ _ _ _ _ w{at} ({chain})"
     return (
-        "use Rattle.std.proofs.Common.{refl}\n"
-        "use Rattle.std.proofs.Output.{has_written_append}\n"
-        f"use Rattle.{CRATE}.proofs.Lines.{{nothing_written}}\n"
+        ("use Rattle.std.proofs.Common.{refl, true}\n" if len(rows) > 1 else "")
+        + f"use Rattle.{CRATE}.proofs.Fields.{{fields_append, nothing_written}}\n"
         f"use {path} as goal\n\n"
-        f"pub returns : goal.returns\nreturns g c plain ok =\n{steps}"
-        f"    let append = has_written_append g.W.Write.write_str_gives in\n    {chain}\n"
+        f"pub returns : goal.returns\nreturns g c ok =\n    let writes = g.F.DifferenceForm.writes c.args.form.now in\n{steps}"
+        f"    let append = fields_append writes in\n    {chain}\n"
     )
 
 
@@ -331,9 +329,9 @@ def texts():
             if row.name in shared:
                 crate, module, enum, oneof = shared[row.name]
                 printed[module] = (f"{crate}::{module}", enum), oneof
-        if len(command.printed()) > 1:
-            proofs = f"crates/{CRATE}/proofs/{command.module}/{command.message.name}CommandMessageHeaderDiff/write_lines"
-            found[f"{proofs}/Answers.antt"] = chained_lines(command)
+        if command.printed():
+            proofs = f"crates/{CRATE}/proofs/{command.module}/{command.message.name}CommandMessageHeaderDiff/write_fields"
+            found[f"{proofs}/Answers.antt"] = chained_fields(command)
     for module, (path, oneof) in printed.items():
         source = Source(f"`{path[1]}` printed.")
         write_printed_oneof(source, path, oneof)

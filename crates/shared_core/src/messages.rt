@@ -11,7 +11,7 @@ mod schemas;
 
 pub use shared_core_base::error::ErrorBehavior;
 pub use shared_core_codec::error::EncodingError;
-pub use shared_core_compare::difference::CommandMessageHeaderDiff;
+pub use shared_core_compare::difference::{CommandMessageHeaderDiff, DifferenceForm};
 pub use shared_core_compare::equality::CommandMessageHeaderEq;
 pub use shared_core_compare::name::NamedCommandMessage;
 pub use shared_core_message::restate_message::{RestateEncodableMessage, RestateMessage};

@@ -1,7 +1,8 @@
 -- The printed difference of two commands: what values print, and the lines.
-use Rattle.std.specs.Prelude.{ℕ, Bool, true, ◌&&◌, ◌||◌, not, List, [], ◌∷◌, map, flat_map, filter, nat_eq, codes, if◌then◌else◌}
+use Rattle.std.specs.Prelude.{ℕ, Bool, true, ◌&&◌, ◌||◌, not, List, [], ◌∷◌, map, flat_map, filter, nat_eq, codes, if◌then◌else◌, IsOk, Result}
 use Rattle.std.specs.Fmt.{decimal, comma_space}
-use Rattle.std.specs.List.{join_by, list_any}
+use Rattle.std.specs.List.{FoldsTo, join_by, list_any}
+use Rattle.std.specs.declared.fmt.Error.{Error}
 use Rattle.shared_core_base.specs.Differences.{bytes_text, diff_line}
 use Rattle.shared_core_wire.specs.Schema.{Kind, Row, Text, ByteString, Message, Plain, Optional, Repeated, OneOf, numbers, includes, member_kind}
 use Rattle.shared_core_wire.specs.Value.{Part, Parts, Number, Bytes, Nested, Elements, Member, nil, cons}
@@ -77,24 +78,50 @@ row_text (Optional n k) = present_text (kind_text k)
 row_text (Repeated n k) = elements_text (kind_text k)
 row_text (OneOf members) = present_text (member_text members)
 
--- ---- lines
+-- ---- the fields in which two commands differ, and their lines
 
--- The line of a field, at an indentation, with what prints it: none if the two are equal.
-unfoldable pub field_line : List ℕ → List ℕ → (Part → List ℕ) → Part → Part → List ℕ
-field_line indentation field text actual expected =
-    if part_equal actual expected then [] else diff_line indentation field (text actual) (text expected)
+-- A printed field in which two commands differ: its name, and what it prints in each.
+pub record FieldTexts : Type 0 where
+  pub name : List ℕ
+  pub actual : List ℕ
+  pub expected : List ℕ
 
--- The line of the field with this number and name.
-abbrev pub numbered_line : List ℕ → ℕ × List ℕ → List Row → Parts → Parts → List ℕ
-numbered_line indentation field [] actual expected = []
-numbered_line indentation field (row ∷ rows) actual expected =
-    if includes (numbers row) field.0 then field_line indentation field.1 (row_text row) (first_part actual) (first_part expected)
-    else numbered_line indentation field rows (rest_parts actual) (rest_parts expected)
+-- The field of this name, with what it prints in each of two commands.
+abbrev pub field_texts : List ℕ → List ℕ → List ℕ → FieldTexts
+field_texts name actual expected = record { name = name; actual = actual; expected = expected }
+
+-- The field of this name, with what prints it, if the two differ in it.
+unfoldable pub field_difference : List ℕ → (Part → List ℕ) → Part → Part → List FieldTexts
+field_difference name text actual expected =
+    if part_equal actual expected then [] else (field_texts name (text actual) (text expected) ∷ [])
+
+-- The field with this number and name, if the two differ in it.
+abbrev pub numbered_difference : ℕ × List ℕ → List Row → Parts → Parts → List FieldTexts
+numbered_difference field [] actual expected = []
+numbered_difference field (row ∷ rows) actual expected =
+    if includes (numbers row) field.0 then field_difference field.1 (row_text row) (first_part actual) (first_part expected)
+    else numbered_difference field rows (rest_parts actual) (rest_parts expected)
+
+-- The printed fields in which two commands of a schema differ, in their order.
+abbrev pub differing_fields : ℕ → Parts → Parts → List FieldTexts
+differing_fields s actual expected =
+    flat_map (λ field. numbered_difference field (table s) actual expected) (command_fields s).printed
+
+-- The line of a field, at an indentation.
+abbrev pub field_line : List ℕ → FieldTexts → List ℕ
+field_line indentation field = diff_line indentation field.name field.actual field.expected
 
 -- The difference of two commands of a schema: a line for each printed field in which they differ, in their order.
 abbrev pub difference : ℕ → List ℕ → Parts → Parts → List ℕ
-difference s indentation actual expected =
-    flat_map (λ field. numbered_line indentation field (table s) actual expected) (command_fields s).printed
+difference s indentation actual expected = flat_map (field_line indentation) (differing_fields s actual expected)
+
+-- Some fields are written one after the other, each as this relation says.
+pub record HasWrittenFields {T : Type 0} (writes : T → FieldTexts → T → Type 0) (old : T) (fields : List FieldTexts) (new : T) : Type 0 where
+  pub folds : FoldsTo writes old fields new
+
+-- The same, if the result is `Ok`.
+abbrev pub WritesFields : {T : Type 0} → (T → FieldTexts → T → Type 0) → T → Result (Unit {0}) Error → List FieldTexts → T → Type 0
+WritesFields writes old result fields new = IsOk result → HasWrittenFields writes old fields new
 
 -- ---- what a difference leaves out
 

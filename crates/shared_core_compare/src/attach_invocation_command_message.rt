@@ -3,12 +3,11 @@
 
 ghost use Rattle.std.specs.Prelude.{refl};
 
-use crate::difference::{CommandMessageHeaderDiff, write_number, write_oneof};
+use crate::difference::{CommandMessageHeaderDiff, DifferenceForm, write_number, write_oneof};
 use crate::equality::{CommandMessageHeaderEq, same_record};
 use crate::name::NamedCommandMessage;
 use shared_core_call_commands::AttachInvocationCommandMessage;
 use std::fmt;
-use std::fmt::Formatter;
 
 impl NamedCommandMessage for AttachInvocationCommandMessage {
     fn command_name(&self) -> &str {
@@ -23,20 +22,20 @@ impl CommandMessageHeaderEq for AttachInvocationCommandMessage {
 }
 
 impl CommandMessageHeaderDiff for AttachInvocationCommandMessage {
-    fn write_lines<W: fmt::Write>(
+    fn write_fields<T, F: DifferenceForm<T>>(
         &self,
         expected: &Self,
-        f: &mut Formatter<W>,
-        indentation: &str,
+        form: &F,
+        out: &mut T,
     ) -> fmt::Result {
         write_number(
-            f,
-            indentation,
+            form,
+            out,
             "result_completion_id",
             self.result_completion_id,
             expected.result_completion_id,
         )?;
-        write_oneof(f, indentation, "target", &self.target, &expected.target)
+        write_oneof(form, out, "target", &self.target, &expected.target)
     }
 
     ghost printed_whole = { refl };

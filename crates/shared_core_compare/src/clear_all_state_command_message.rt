@@ -3,12 +3,11 @@
 
 ghost use Rattle.std.specs.Prelude.{refl};
 
-use crate::difference::CommandMessageHeaderDiff;
+use crate::difference::{CommandMessageHeaderDiff, DifferenceForm};
 use crate::equality::{CommandMessageHeaderEq, same_record};
 use crate::name::NamedCommandMessage;
 use shared_core_state_commands::ClearAllStateCommandMessage;
 use std::fmt;
-use std::fmt::Formatter;
 
 impl NamedCommandMessage for ClearAllStateCommandMessage {
     fn command_name(&self) -> &str {
@@ -23,11 +22,11 @@ impl CommandMessageHeaderEq for ClearAllStateCommandMessage {
 }
 
 impl CommandMessageHeaderDiff for ClearAllStateCommandMessage {
-    fn write_lines<W: fmt::Write>(
+    fn write_fields<T, F: DifferenceForm<T>>(
         &self,
         _expected: &Self,
-        _f: &mut Formatter<W>,
-        _indentation: &str,
+        _form: &F,
+        _out: &mut T,
     ) -> fmt::Result {
         Ok(())
     }

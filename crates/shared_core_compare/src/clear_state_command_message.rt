@@ -3,12 +3,11 @@
 
 ghost use Rattle.std.specs.Prelude.{refl};
 
-use crate::difference::{CommandMessageHeaderDiff, write_bytes};
+use crate::difference::{CommandMessageHeaderDiff, DifferenceForm, write_bytes};
 use crate::equality::{CommandMessageHeaderEq, same_record};
 use crate::name::NamedCommandMessage;
 use shared_core_state_commands::ClearStateCommandMessage;
 use std::fmt;
-use std::fmt::Formatter;
 
 impl NamedCommandMessage for ClearStateCommandMessage {
     fn command_name(&self) -> &str {
@@ -23,13 +22,13 @@ impl CommandMessageHeaderEq for ClearStateCommandMessage {
 }
 
 impl CommandMessageHeaderDiff for ClearStateCommandMessage {
-    fn write_lines<W: fmt::Write>(
+    fn write_fields<T, F: DifferenceForm<T>>(
         &self,
         expected: &Self,
-        f: &mut Formatter<W>,
-        indentation: &str,
+        form: &F,
+        out: &mut T,
     ) -> fmt::Result {
-        write_bytes(f, indentation, "key", &self.key, &expected.key)
+        write_bytes(form, out, "key", &self.key, &expected.key)
     }
 
     ghost printed_whole = { refl };

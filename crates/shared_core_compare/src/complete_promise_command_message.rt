@@ -6,7 +6,9 @@ ghost use Rattle.shared_core_codec.specs.FieldParts.{option_part};
 ghost use Rattle.shared_core_compare.specs.Erasure.{without_payloads};
 ghost use Rattle.shared_core_wire.specs.Schema as row;
 
-use crate::difference::{CommandMessageHeaderDiff, write_number, write_oneof, write_text};
+use crate::difference::{
+    CommandMessageHeaderDiff, DifferenceForm, write_number, write_oneof, write_text,
+};
 use crate::equality::{CommandMessageHeaderEq, same_oneof};
 use crate::name::NamedCommandMessage;
 use crate::printed::{PrintedMessage, PrintedOneOf};
@@ -60,23 +62,23 @@ impl PrintedOneOf for Completion {
 }
 
 impl CommandMessageHeaderDiff for CompletePromiseCommandMessage {
-    fn write_lines<W: fmt::Write>(
+    fn write_fields<T, F: DifferenceForm<T>>(
         &self,
         expected: &Self,
-        f: &mut Formatter<W>,
-        indentation: &str,
+        form: &F,
+        out: &mut T,
     ) -> fmt::Result {
-        write_text(f, indentation, "key", &self.key, &expected.key)?;
+        write_text(form, out, "key", &self.key, &expected.key)?;
         write_number(
-            f,
-            indentation,
+            form,
+            out,
             "result_completion_id",
             self.result_completion_id,
             expected.result_completion_id,
         )?;
         write_oneof(
-            f,
-            indentation,
+            form,
+            out,
             "completion",
             &self.completion,
             &expected.completion,

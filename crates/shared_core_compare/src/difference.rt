@@ -1,15 +1,16 @@
 //! Human-readable differences of two commands, and the helpers that write their lines.
 
-ghost use Rattle.std.specs.Prelude.{◌≡◌, true, IsSome, Some, [], unwrap_or, if◌then◌else◌};
-ghost use Rattle.std.specs.Fmt.{WritesOnOk};
-ghost use Rattle.shared_core_base.specs.Differences.{diff_line};
+ghost use Rattle.std.specs.Prelude.{◌≡◌, true, IsOk, IsSome, Some, [], ◌∷◌, unwrap_or, if◌then◌else◌};
+ghost use Rattle.std.specs.Fmt.{HasWritten, IsPlainFormatter, WritesOnOk};
 ghost use Rattle.shared_core_wire.specs.Schema.{ByteString, Message, Text, U32};
 ghost use Rattle.shared_core_wire.specs.Value.{Bytes as Content, Number};
 ghost use Rattle.shared_core_codec.specs.Equality.{part_equal};
 ghost use Rattle.shared_core_codec.specs.FieldParts.{elements_part, message_part, option_part, text_part};
 ghost use Rattle.shared_core_codec.specs.Table as schema;
-ghost use Rattle.shared_core_compare.specs.Differences.{difference, elements_text, field_line, is_printed_whole};
-ghost use Rattle.shared_core_compare.specs.Differences.{kind_text, member_text, message_text, present_text};
+ghost use Rattle.shared_core_compare.specs.Differences.{FieldTexts, WritesFields};
+ghost use Rattle.shared_core_compare.specs.Differences.{differing_fields, difference, field_difference, field_line};
+ghost use Rattle.shared_core_compare.specs.Differences.{elements_text, field_texts, is_printed_whole, kind_text};
+ghost use Rattle.shared_core_compare.specs.Differences.{member_text, message_text, present_text};
 
 use crate::equality::{same_message, same_messages, same_oneof};
 use crate::printed::{PrintedMessage, PrintedOneOf};
@@ -22,22 +23,75 @@ use shared_core_parts::texts::HeadersText;
 use std::fmt;
 use std::fmt::{Display, Formatter};
 
+/// A form of differences: how the printed fields in which two commands differ are written to a `T`.
+pub trait DifferenceForm<T> {
+    /// How a field is written: what there was before, the field, and what there is then.
+    ghost writes: { Self → T → FieldTexts → T → Type 0 };
+
+    /// Writes the field of this name, with what it prints in the actual command and in the expected one.
+    fn write_field<A: Display + Drop, E: Display + Drop>(
+        &self,
+        out: &mut T,
+        field: &'static str,
+        actual: A,
+        expected: E,
+    ) -> fmt::Result
+        requires actual { IsSome (A.output actual) }
+        requires expected { IsSome (E.output expected) }
+        ensures { IsOk result → writes self.now out.old
+            (field_texts field.now (unwrap_or (A.output actual) []) (unwrap_or (E.output expected) [])) out.new };
+}
+
+/// The form of lines: a line feed, this indentation and `field: actual != expected`.
+#[derive(Clone, Copy)]
+struct Lines<'a>(&'a str);
+
+impl<'a, W: fmt::Write> DifferenceForm<Formatter<W>> for Lines<'a> {
+    ghost writes = { λ lines old field new. IsPlainFormatter old
+        → HasWritten W.write_str_gives old (field_line lines.0.now field) new };
+
+    fn write_field<A: Display + Drop, E: Display + Drop>(
+        &self,
+        f: &mut Formatter<W>,
+        field: &'static str,
+        actual: A,
+        expected: E,
+    ) -> fmt::Result {
+        let indentation = self.0;
+        write!(f, "\n{indentation}{field}: {actual} != {expected}")
+    }
+}
+
 /// Commands whose difference can be printed: a line for each printed field in which the two differ. The fields, their
 /// order and their names are this project's own table, as in the Rust crate (`commands`); it does not know about
 /// ignored payloads.
 pub trait CommandMessageHeaderDiff: WireRecord {
-    /// Writes the lines, each after the indentation. Fails if the writer fails. (For the code of commands.)
-    fn write_lines<W: fmt::Write>(
+    /// Writes each printed field in which this command, the actual one, differs from the expected one, in order. Fails
+    /// if the form fails.
+    fn write_fields<T, F: DifferenceForm<T>>(
+        &self,
+        expected: &Self,
+        form: &F,
+        out: &mut T,
+    ) -> fmt::Result
+        ensures { WritesFields (F.writes form.now) out.old result
+            (differing_fields Self.schema (Self.parts self.now) (Self.parts expected.now)) out.new };
+
+    /// Each compared field is printed, or is the name.
+    ghost printed_whole: { is_printed_whole Self.schema ≡ true };
+
+    /// Writes the fields as lines, each after the indentation. Fails if the writer fails.
+    final fn write_lines<W: fmt::Write>(
         &self,
         expected: &Self,
         f: &mut Formatter<W>,
         indentation: &str,
     ) -> fmt::Result
         ensures { WritesOnOk W.write_str_gives f.old result
-            (difference Self.schema indentation.now (Self.parts self.now) (Self.parts expected.now)) f.new };
-
-    /// Each compared field is printed, or is the name.
-    ghost printed_whole: { is_printed_whole Self.schema ≡ true };
+            (difference Self.schema indentation.now (Self.parts self.now) (Self.parts expected.now)) f.new }
+    {
+        self.write_fields(expected, &Lines(indentation), f)
+    }
 
     /// Writes a line for each printed field in which this command, the actual one, differs from the expected one: a
     /// line feed, the formatter's indentation and `field: actual != expected`. Fails only if the writer fails, which
@@ -56,74 +110,74 @@ pub trait CommandMessageHeaderDiff: WireRecord {
     }
 }
 
-/// Writes the line of a field, unless the two are equal.
-fn write_unless<W: fmt::Write, A: Display + Drop, E: Display + Drop>(
-    f: &mut Formatter<W>,
-    indentation: &str,
+/// Writes a field, unless the two are equal.
+fn write_unless<T, F: DifferenceForm<T>, A: Display + Drop, E: Display + Drop>(
+    form: &F,
+    out: &mut T,
     same: bool,
-    field: &str,
+    field: &'static str,
     actual: A,
     expected: E,
 ) -> fmt::Result
     requires actual { IsSome (A.output actual) }
     requires expected { IsSome (E.output expected) }
-    ensures { WritesOnOk W.write_str_gives f.old result
-        (if same then [] else diff_line indentation.now field.now (unwrap_or (A.output actual) [])
-        (unwrap_or (E.output expected) [])) f.new }
+    ensures { WritesFields (F.writes form.now) out.old result
+        (if same then [] else (field_texts field.now (unwrap_or (A.output actual) [])
+        (unwrap_or (E.output expected) []) ∷ [])) out.new }
 {
     if same {
         Ok(())
     } else {
-        write!(f, "\n{indentation}{field}: {actual} != {expected}")
+        form.write_field(out, field, actual, expected)
     }
 }
 
-/// Writes the line of a number, unless the two are equal.
-#[tactic(auto, unfolding(crate::specs::Differences::field_line))]
-pub(crate) fn write_number<W: fmt::Write>(
-    f: &mut Formatter<W>,
-    indentation: &str,
-    field: &str,
+/// Writes a number, unless the two are equal.
+#[tactic(auto, unfolding(crate::specs::Differences::field_difference))]
+pub(crate) fn write_number<T, F: DifferenceForm<T>>(
+    form: &F,
+    out: &mut T,
+    field: &'static str,
     actual: u32,
     expected: u32,
 ) -> fmt::Result
-    ensures { WritesOnOk W.write_str_gives f.old result
-        (field_line indentation.now field.now (kind_text U32) (Number actual) (Number expected)) f.new }
+    ensures { WritesFields (F.writes form.now) out.old result
+        (field_difference field.now (kind_text U32) (Number actual) (Number expected)) out.new }
 {
-    write_unless(f, indentation, actual == expected, field, actual, expected)
+    write_unless(form, out, actual == expected, field, actual, expected)
 }
 
-/// Writes the line of a text, unless the two are equal.
-#[tactic(auto, unfolding(crate::specs::Differences::field_line))]
-pub(crate) fn write_text<W: fmt::Write>(
-    f: &mut Formatter<W>,
-    indentation: &str,
-    field: &str,
+/// Writes a text, unless the two are equal.
+#[tactic(auto, unfolding(crate::specs::Differences::field_difference))]
+pub(crate) fn write_text<T, F: DifferenceForm<T>>(
+    form: &F,
+    out: &mut T,
+    field: &'static str,
     actual: &String,
     expected: &String,
 ) -> fmt::Result
-    ensures { WritesOnOk W.write_str_gives f.old result
-        (field_line indentation.now field.now (kind_text Text) (text_part actual.now) (text_part expected.now)) f.new }
+    ensures { WritesFields (F.writes form.now) out.old result
+        (field_difference field.now (kind_text Text) (text_part actual.now) (text_part expected.now)) out.new }
 {
-    write_unless(f, indentation, actual == expected, field, actual, expected)
+    write_unless(form, out, actual == expected, field, actual, expected)
 }
 
-/// Writes the line of bytes, unless the two are equal.
-#[tactic(auto, unfolding(crate::specs::Differences::field_line))]
-pub(crate) fn write_bytes<W: fmt::Write>(
-    f: &mut Formatter<W>,
-    indentation: &str,
-    field: &str,
+/// Writes bytes, unless the two are equal.
+#[tactic(auto, unfolding(crate::specs::Differences::field_difference))]
+pub(crate) fn write_bytes<T, F: DifferenceForm<T>>(
+    form: &F,
+    out: &mut T,
+    field: &'static str,
     actual: &Bytes,
     expected: &Bytes,
 ) -> fmt::Result
-    ensures { WritesOnOk W.write_str_gives f.old result
-        (field_line indentation.now field.now (kind_text ByteString) (Content actual.now) (Content expected.now))
-        f.new }
+    ensures { WritesFields (F.writes form.now) out.old result
+        (field_difference field.now (kind_text ByteString) (Content actual.now) (Content expected.now))
+        out.new }
 {
     write_unless(
-        f,
-        indentation,
+        form,
+        out,
         actual == expected,
         field,
         BytesText(actual),
@@ -177,22 +231,22 @@ impl<'a, T: PrintedOneOf> Display for OptionalOneOf<'a, T> {
     }
 }
 
-/// Writes the line of an optional text, unless the two are equal.
-#[tactic(auto, unfolding(crate::specs::Differences::field_line))]
-pub(crate) fn write_optional_text<W: fmt::Write>(
-    f: &mut Formatter<W>,
-    indentation: &str,
-    field: &str,
+/// Writes an optional text, unless the two are equal.
+#[tactic(auto, unfolding(crate::specs::Differences::field_difference))]
+pub(crate) fn write_optional_text<T, F: DifferenceForm<T>>(
+    form: &F,
+    out: &mut T,
+    field: &'static str,
     actual: &Option<String>,
     expected: &Option<String>,
 ) -> fmt::Result
-    ensures { WritesOnOk W.write_str_gives f.old result
-        (field_line indentation.now field.now (present_text (kind_text Text)) (option_part text_part actual.now)
-        (option_part text_part expected.now)) f.new }
+    ensures { WritesFields (F.writes form.now) out.old result
+        (field_difference field.now (present_text (kind_text Text)) (option_part text_part actual.now)
+        (option_part text_part expected.now)) out.new }
 {
     write_unless(
-        f,
-        indentation,
+        form,
+        out,
         actual == expected,
         field,
         OptionalText(actual),
@@ -200,22 +254,22 @@ pub(crate) fn write_optional_text<W: fmt::Write>(
     )
 }
 
-/// Writes the line of a message, unless the two are equal.
-#[tactic(auto, unfolding(crate::specs::Differences::field_line))]
-pub(crate) fn write_message<W: fmt::Write, M: PrintedMessage>(
-    f: &mut Formatter<W>,
-    indentation: &str,
-    field: &str,
+/// Writes a message, unless the two are equal.
+#[tactic(auto, unfolding(crate::specs::Differences::field_difference))]
+pub(crate) fn write_message<T, F: DifferenceForm<T>, M: PrintedMessage>(
+    form: &F,
+    out: &mut T,
+    field: &'static str,
     actual: &Option<M>,
     expected: &Option<M>,
 ) -> fmt::Result
-    ensures { WritesOnOk W.write_str_gives f.old result
-        (field_line indentation.now field.now (present_text (kind_text (Message M.schema)))
-        (option_part (message_part M.parts) actual.now) (option_part (message_part M.parts) expected.now)) f.new }
+    ensures { WritesFields (F.writes form.now) out.old result
+        (field_difference field.now (present_text (kind_text (Message M.schema)))
+        (option_part (message_part M.parts) actual.now) (option_part (message_part M.parts) expected.now)) out.new }
 {
     write_unless(
-        f,
-        indentation,
+        form,
+        out,
         same_message(actual, expected),
         field,
         OptionalMessage(actual),
@@ -223,22 +277,22 @@ pub(crate) fn write_message<W: fmt::Write, M: PrintedMessage>(
     )
 }
 
-/// Writes the line of a oneof, unless the two are equal.
-#[tactic(auto, unfolding(crate::specs::Differences::field_line))]
-pub(crate) fn write_oneof<W: fmt::Write, T: PrintedOneOf>(
-    f: &mut Formatter<W>,
-    indentation: &str,
-    field: &str,
-    actual: &Option<T>,
-    expected: &Option<T>,
+/// Writes a oneof, unless the two are equal.
+#[tactic(auto, unfolding(crate::specs::Differences::field_difference))]
+pub(crate) fn write_oneof<T, F: DifferenceForm<T>, O: PrintedOneOf>(
+    form: &F,
+    out: &mut T,
+    field: &'static str,
+    actual: &Option<O>,
+    expected: &Option<O>,
 ) -> fmt::Result
-    ensures { WritesOnOk W.write_str_gives f.old result
-        (field_line indentation.now field.now (present_text (member_text T.members)) (option_part T.part actual.now)
-        (option_part T.part expected.now)) f.new }
+    ensures { WritesFields (F.writes form.now) out.old result
+        (field_difference field.now (present_text (member_text O.members)) (option_part O.part actual.now)
+        (option_part O.part expected.now)) out.new }
 {
     write_unless(
-        f,
-        indentation,
+        form,
+        out,
         same_oneof(actual, expected),
         field,
         OptionalOneOf(actual),
@@ -246,23 +300,23 @@ pub(crate) fn write_oneof<W: fmt::Write, T: PrintedOneOf>(
     )
 }
 
-/// Writes the line of headers, unless the two are equal.
-#[tactic(auto, unfolding(crate::specs::Differences::field_line))]
-pub(crate) fn write_headers<W: fmt::Write>(
-    f: &mut Formatter<W>,
-    indentation: &str,
-    field: &str,
+/// Writes headers, unless the two are equal.
+#[tactic(auto, unfolding(crate::specs::Differences::field_difference))]
+pub(crate) fn write_headers<T, F: DifferenceForm<T>>(
+    form: &F,
+    out: &mut T,
+    field: &'static str,
     actual: &Vec<Header>,
     expected: &Vec<Header>,
 ) -> fmt::Result
-    ensures { WritesOnOk W.write_str_gives f.old result
-        (field_line indentation.now field.now (elements_text (kind_text (Message schema.header)))
+    ensures { WritesFields (F.writes form.now) out.old result
+        (field_difference field.now (elements_text (kind_text (Message schema.header)))
         (elements_part (message_part ⟦<Header as WireRecord>⟧.parts) actual.now.items)
-        (elements_part (message_part ⟦<Header as WireRecord>⟧.parts) expected.now.items)) f.new }
+        (elements_part (message_part ⟦<Header as WireRecord>⟧.parts) expected.now.items)) out.new }
 {
     write_unless(
-        f,
-        indentation,
+        form,
+        out,
         same_messages(actual, expected),
         field,
         HeadersText(actual),

@@ -3,12 +3,11 @@
 
 ghost use Rattle.std.specs.Prelude.{refl};
 
-use crate::difference::{CommandMessageHeaderDiff, write_message};
+use crate::difference::{CommandMessageHeaderDiff, DifferenceForm, write_message};
 use crate::equality::{CommandMessageHeaderEq, same_record};
 use crate::name::NamedCommandMessage;
 use shared_core_state_commands::GetEagerStateKeysCommandMessage;
 use std::fmt;
-use std::fmt::Formatter;
 
 impl NamedCommandMessage for GetEagerStateKeysCommandMessage {
     fn command_name(&self) -> &str {
@@ -23,13 +22,13 @@ impl CommandMessageHeaderEq for GetEagerStateKeysCommandMessage {
 }
 
 impl CommandMessageHeaderDiff for GetEagerStateKeysCommandMessage {
-    fn write_lines<W: fmt::Write>(
+    fn write_fields<T, F: DifferenceForm<T>>(
         &self,
         expected: &Self,
-        f: &mut Formatter<W>,
-        indentation: &str,
+        form: &F,
+        out: &mut T,
     ) -> fmt::Result {
-        write_message(f, indentation, "value", &self.value, &expected.value)
+        write_message(form, out, "value", &self.value, &expected.value)
     }
 
     ghost printed_whole = { refl };

@@ -3,12 +3,11 @@
 
 ghost use Rattle.std.specs.Prelude.{refl};
 
-use crate::difference::{CommandMessageHeaderDiff, write_bytes, write_number};
+use crate::difference::{CommandMessageHeaderDiff, DifferenceForm, write_bytes, write_number};
 use crate::equality::{CommandMessageHeaderEq, same_record};
 use crate::name::NamedCommandMessage;
 use shared_core_state_commands::GetLazyStateCommandMessage;
 use std::fmt;
-use std::fmt::Formatter;
 
 impl NamedCommandMessage for GetLazyStateCommandMessage {
     fn command_name(&self) -> &str {
@@ -23,16 +22,16 @@ impl CommandMessageHeaderEq for GetLazyStateCommandMessage {
 }
 
 impl CommandMessageHeaderDiff for GetLazyStateCommandMessage {
-    fn write_lines<W: fmt::Write>(
+    fn write_fields<T, F: DifferenceForm<T>>(
         &self,
         expected: &Self,
-        f: &mut Formatter<W>,
-        indentation: &str,
+        form: &F,
+        out: &mut T,
     ) -> fmt::Result {
-        write_bytes(f, indentation, "key", &self.key, &expected.key)?;
+        write_bytes(form, out, "key", &self.key, &expected.key)?;
         write_number(
-            f,
-            indentation,
+            form,
+            out,
             "result_completion_id",
             self.result_completion_id,
             expected.result_completion_id,

@@ -3,12 +3,11 @@
 
 ghost use Rattle.std.specs.Prelude.{refl};
 
-use crate::difference::{CommandMessageHeaderDiff, write_number, write_text};
+use crate::difference::{CommandMessageHeaderDiff, DifferenceForm, write_number, write_text};
 use crate::equality::{CommandMessageHeaderEq, same_record};
 use crate::name::NamedCommandMessage;
 use shared_core_call_commands::GetPromiseCommandMessage;
 use std::fmt;
-use std::fmt::Formatter;
 
 impl NamedCommandMessage for GetPromiseCommandMessage {
     fn command_name(&self) -> &str {
@@ -23,16 +22,16 @@ impl CommandMessageHeaderEq for GetPromiseCommandMessage {
 }
 
 impl CommandMessageHeaderDiff for GetPromiseCommandMessage {
-    fn write_lines<W: fmt::Write>(
+    fn write_fields<T, F: DifferenceForm<T>>(
         &self,
         expected: &Self,
-        f: &mut Formatter<W>,
-        indentation: &str,
+        form: &F,
+        out: &mut T,
     ) -> fmt::Result {
-        write_text(f, indentation, "key", &self.key, &expected.key)?;
+        write_text(form, out, "key", &self.key, &expected.key)?;
         write_number(
-            f,
-            indentation,
+            form,
+            out,
             "result_completion_id",
             self.result_completion_id,
             expected.result_completion_id,

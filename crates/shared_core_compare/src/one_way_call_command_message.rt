@@ -4,14 +4,13 @@
 ghost use Rattle.std.specs.Prelude.{refl};
 
 use crate::difference::{
-    CommandMessageHeaderDiff, write_bytes, write_headers, write_number, write_optional_text,
-    write_text,
+    CommandMessageHeaderDiff, DifferenceForm, write_bytes, write_headers, write_number,
+    write_optional_text, write_text,
 };
 use crate::equality::{CommandMessageHeaderEq, same_messages};
 use crate::name::NamedCommandMessage;
 use shared_core_call_commands::OneWayCallCommandMessage;
 use std::fmt;
-use std::fmt::Formatter;
 
 impl NamedCommandMessage for OneWayCallCommandMessage {
     fn command_name(&self) -> &str {
@@ -35,54 +34,42 @@ impl CommandMessageHeaderEq for OneWayCallCommandMessage {
 }
 
 impl CommandMessageHeaderDiff for OneWayCallCommandMessage {
-    fn write_lines<W: fmt::Write>(
+    fn write_fields<T, F: DifferenceForm<T>>(
         &self,
         expected: &Self,
-        f: &mut Formatter<W>,
-        indentation: &str,
+        form: &F,
+        out: &mut T,
     ) -> fmt::Result {
         write_text(
-            f,
-            indentation,
+            form,
+            out,
             "service_name",
             &self.service_name,
             &expected.service_name,
         )?;
         write_text(
-            f,
-            indentation,
+            form,
+            out,
             "handler_name",
             &self.handler_name,
             &expected.handler_name,
         )?;
-        write_bytes(
-            f,
-            indentation,
-            "parameter",
-            &self.parameter,
-            &expected.parameter,
-        )?;
-        write_text(f, indentation, "key", &self.key, &expected.key)?;
-        write_headers(f, indentation, "headers", &self.headers, &expected.headers)?;
-        write_text(f, indentation, "name", &self.name, &expected.name)?;
+        write_bytes(form, out, "parameter", &self.parameter, &expected.parameter)?;
+        write_text(form, out, "key", &self.key, &expected.key)?;
+        write_headers(form, out, "headers", &self.headers, &expected.headers)?;
+        write_text(form, out, "name", &self.name, &expected.name)?;
         write_optional_text(
-            f,
-            indentation,
+            form,
+            out,
             "idempotency_key",
             &self.idempotency_key,
             &expected.idempotency_key,
         )?;
-        write_optional_text(f, indentation, "scope", &self.scope, &expected.scope)?;
-        write_optional_text(
-            f,
-            indentation,
-            "limit_key",
-            &self.limit_key,
-            &expected.limit_key,
-        )?;
+        write_optional_text(form, out, "scope", &self.scope, &expected.scope)?;
+        write_optional_text(form, out, "limit_key", &self.limit_key, &expected.limit_key)?;
         write_number(
-            f,
-            indentation,
+            form,
+            out,
             "invocation_id_notification_idx",
             self.invocation_id_notification_idx,
             expected.invocation_id_notification_idx,

@@ -6,7 +6,7 @@ ghost use Rattle.shared_core_codec.specs.FieldParts.{option_part};
 ghost use Rattle.shared_core_compare.specs.Erasure.{without_payloads};
 ghost use Rattle.shared_core_wire.specs.Schema as row;
 
-use crate::difference::{CommandMessageHeaderDiff, write_oneof};
+use crate::difference::{CommandMessageHeaderDiff, DifferenceForm, write_oneof};
 use crate::equality::{CommandMessageHeaderEq, same_oneof};
 use crate::name::NamedCommandMessage;
 use crate::printed::{PrintedMessage, PrintedOneOf};
@@ -56,13 +56,13 @@ impl PrintedOneOf for Result {
 }
 
 impl CommandMessageHeaderDiff for OutputCommandMessage {
-    fn write_lines<W: fmt::Write>(
+    fn write_fields<T, F: DifferenceForm<T>>(
         &self,
         expected: &Self,
-        f: &mut Formatter<W>,
-        indentation: &str,
+        form: &F,
+        out: &mut T,
     ) -> fmt::Result {
-        write_oneof(f, indentation, "result", &self.result, &expected.result)
+        write_oneof(form, out, "result", &self.result, &expected.result)
     }
 
     ghost printed_whole = { refl };

@@ -3,7 +3,7 @@
 
 ghost use Rattle.std.specs.Prelude.{refl};
 
-use crate::difference::{CommandMessageHeaderDiff, write_oneof, write_text};
+use crate::difference::{CommandMessageHeaderDiff, DifferenceForm, write_oneof, write_text};
 use crate::equality::{CommandMessageHeaderEq, same_record};
 use crate::name::NamedCommandMessage;
 use crate::printed::{PrintedMessage, PrintedOneOf};
@@ -44,27 +44,21 @@ impl PrintedOneOf for Result {
 }
 
 impl CommandMessageHeaderDiff for SendSignalCommandMessage {
-    fn write_lines<W: fmt::Write>(
+    fn write_fields<T, F: DifferenceForm<T>>(
         &self,
         expected: &Self,
-        f: &mut Formatter<W>,
-        indentation: &str,
+        form: &F,
+        out: &mut T,
     ) -> fmt::Result {
         write_text(
-            f,
-            indentation,
+            form,
+            out,
             "target_invocation_id",
             &self.target_invocation_id,
             &expected.target_invocation_id,
         )?;
-        write_oneof(
-            f,
-            indentation,
-            "signal_id",
-            &self.signal_id,
-            &expected.signal_id,
-        )?;
-        write_oneof(f, indentation, "result", &self.result, &expected.result)
+        write_oneof(form, out, "signal_id", &self.signal_id, &expected.signal_id)?;
+        write_oneof(form, out, "result", &self.result, &expected.result)
     }
 
     ghost printed_whole = { refl };

@@ -3,12 +3,11 @@
 
 ghost use Rattle.std.specs.Prelude.{refl};
 
-use crate::difference::{CommandMessageHeaderDiff, write_bytes, write_message};
+use crate::difference::{CommandMessageHeaderDiff, DifferenceForm, write_bytes, write_message};
 use crate::equality::CommandMessageHeaderEq;
 use crate::name::NamedCommandMessage;
 use shared_core_state_commands::SetStateCommandMessage;
 use std::fmt;
-use std::fmt::Formatter;
 
 impl NamedCommandMessage for SetStateCommandMessage {
     fn command_name(&self) -> &str {
@@ -29,14 +28,14 @@ impl CommandMessageHeaderEq for SetStateCommandMessage {
 }
 
 impl CommandMessageHeaderDiff for SetStateCommandMessage {
-    fn write_lines<W: fmt::Write>(
+    fn write_fields<T, F: DifferenceForm<T>>(
         &self,
         expected: &Self,
-        f: &mut Formatter<W>,
-        indentation: &str,
+        form: &F,
+        out: &mut T,
     ) -> fmt::Result {
-        write_bytes(f, indentation, "key", &self.key, &expected.key)?;
-        write_message(f, indentation, "value", &self.value, &expected.value)
+        write_bytes(form, out, "key", &self.key, &expected.key)?;
+        write_message(form, out, "value", &self.value, &expected.value)
     }
 
     ghost printed_whole = { refl };

@@ -1,6 +1,6 @@
-use Rattle.shared_core_compare.proofs.Lines.{line_is}
+use Rattle.shared_core_compare.proofs.Fields.{field_is}
 use Rattle.shared_core_compare.proofs.difference.write_oneof.Goals as goal
 
 pub returns : goal.returns
-returns g c plain ok =
-    rw (← line_is c.same_oneof.result c.args.indentation.now c.args.field.now _ _ _ c.same_oneof.ensures) (c.write_unless.ensures plain ok)
+returns g c ok =
+    rw (← field_is c.same_oneof.result c.args.field.now _ _ _ c.same_oneof.ensures) (c.write_unless.ensures ok)
