@@ -103,9 +103,31 @@ is_other="$is_other - The current execution attempts to perform the following: '
 journal_diff 0 '{"verdict":"same","commands":4}' '' --json recorded recorded
 journal_diff 1 '{"verdict":"replayedEnded","index":0,"recordedAt":0}' '' --json recorded /dev/null
 journal_diff 1 '{"verdict":"recordedEnded","index":1,"replayedAt":17}' '' "$work/first" --json "$work/malformed"
-journal_diff 1 "{\"verdict\":\"headerMismatch\",$places,\"text\":\"$head$differs\"}" '' \
+fields="[{\"name\":\"value\",\"recorded\":\"'1'\",\"replayed\":\"'2'\"}]"
+journal_diff 1 "{\"verdict\":\"headerMismatch\",$places,\"text\":\"$head$differs\",\"fields\":$fields}" '' \
   --json recorded replayed_other_payload
 journal_diff 1 "{\"verdict\":\"typeMismatch\",$places,\"text\":\"$head$is_other\"}" '' --json recorded "$work/other"
+# fields_of FIELDS ARGUMENT..: the line of JSON ends with these fields
+fields_of() {
+  printf '%s\n' "\"fields\":$1}" > "$work/lines"
+  shift
+  "$program" --json "$@" > "$out" 2> "$err"
+  status=$?
+  [ "$status" -eq 1 ] && [ ! -s "$err" ] && sed 's/.*,"fields":/"fields":/' "$out" | cmp -s - "$work/lines"
+  outcome "the fields of journal_diff --json $*" $?
+}
+# as the example of docs/PROGRAMS.md says
+fields_of '[{"name":"handler_name","recorded":"greet","replayed":"greet_all"}]' recorded replayed_other_handler
+# set_state FILE LENGTH PAYLOAD: the first command, and then one that sets a state, its payload's length in octal digits
+set_state() {
+  { cat "$work/first"; printf "\\004\\003\\000\\000\\000\\000\\000\\$2$3"; } > "$work/$1"
+}
+# a key of two lines, with quotes and ' != ', one of bytes that are not UTF-8, and values that are absent and empty
+set_state lines 015 '\012\013a\n "b": != '
+set_state bytes 005 '\012\003\377\001\000'
+set_state empty 007 '\012\003\377\001\000\032\000'
+fields_of "[{\"name\":\"key\",\"recorded\":\"'a\\n \\\"b\\\": != '\",\"replayed\":\"[255, 1, 0]\"}]" "$work/lines" "$work/bytes"
+fields_of "[{\"name\":\"value\",\"recorded\":\"<empty>\",\"replayed\":\"''\"}]" "$work/bytes" "$work/empty"
 { printf '\000\010\000\000\000\000\000\000'; cat recorded; } > "$work/more"
 told replayed '1 unknown header'
 passed_over 1 '{"verdict":"recordedEnded","index":0,"replayedAt":8}' --json /dev/null "$work/more"

@@ -1,15 +1,16 @@
 //! The line of JSON of a comparison.
 
 ghost use Rattle.std.specs.Prelude.{◌≡◌, ◌∷◌, ◌++◌, [], codes, decimal, IfOk, OnOk};
+ghost use Rattle.json.specs.Json.{Members};
 ghost use Rattle.json.specs.Token.{key, end_object};
 ghost use Rattle.json.specs.Token as token;
 ghost use Rattle.json.specs.Tree.{json_tokens, members_tokens};
 ghost use Rattle.std.specs.String.{string_bytes};
-ghost use Rattle.journal_diff.specs.Json.{ended_members, found_json, json_line, mismatch_members};
+ghost use Rattle.journal_diff.specs.Json.{ended_members, field_json, fields_members, found_json, json_line, mismatch_members};
 ghost use Rattle.journal_diff.specs.Json.{offset_tokens, verdict_members};
 
 use json::Writer;
-use replay_bench::{Comparison, Verdict};
+use replay_bench::{Comparison, FieldDifference, Verdict};
 use std::alloc::{AllocError, Global};
 
 /// The line of a comparison.
@@ -36,7 +37,8 @@ fn write_found(alloc: Global, found: &Comparison, out: &mut Writer) -> Result<()
 /// Writes the members of a comparison.
 fn write_members(alloc: Global, found: &Comparison, out: &mut Writer) -> Result<(), AllocError>
     ensures tokens { OnOk result (out.new.tokens ++ end_object ∷ [] ≡ out.old.tokens
-        ++ members_tokens (verdict_members found.now.verdict found.now.recorded_at found.now.replayed_at)) }
+        ++ members_tokens (verdict_members found.now.verdict found.now.recorded_at found.now.replayed_at
+        found.now.fields.items)) }
     ensures before { out.new.before ≡ out.old.before }
 {
     match &found.verdict {
@@ -68,7 +70,8 @@ fn write_members(alloc: Global, found: &Comparison, out: &mut Writer) -> Result<
             write_mismatch(alloc, "typeMismatch", found, *index, text.as_str(), out)
         }
         Verdict::HeaderMismatch { index, text } => {
-            write_mismatch(alloc, "headerMismatch", found, *index, text.as_str(), out)
+            write_mismatch(alloc, "headerMismatch", found, *index, text.as_str(), out)?;
+            write_fields(found.fields.as_slice(), out)
         }
     }
 }
@@ -91,7 +94,7 @@ fn write_ended(
     write_offset(alloc, out, name, offset)
 }
 
-/// Writes the members of a mismatch of this kind.
+/// Writes the members of a mismatch of this kind, up to its text.
 fn write_mismatch(
     alloc: Global,
     kind: &str,
@@ -100,16 +103,44 @@ fn write_mismatch(
     text: &str,
     out: &mut Writer,
 ) -> Result<(), AllocError>
-    ensures tokens { OnOk result (out.new.tokens ++ end_object ∷ [] ≡ out.old.tokens
-        ++ members_tokens (mismatch_members kind.now index found.now.recorded_at found.now.replayed_at text.now)) }
+    ensures tokens { OnOk result ((others : Members) → out.new.tokens ++ members_tokens others ≡ out.old.tokens
+        ++ members_tokens (mismatch_members kind.now index found.now.recorded_at found.now.replayed_at text.now
+        others)) }
     ensures before { out.new.before ≡ out.old.before }
 {
     write_kind(out, kind)?;
     write_number(out, "index", index)?;
     write_offset(alloc, out, "recordedAt", found.recorded_at)?;
     write_offset(alloc, out, "replayedAt", found.replayed_at)?;
-    out.key("text")?;
-    out.string(text)
+    write_text(out, "text", text)
+}
+
+/// Writes the fields in which two commands differ, as a member.
+fn write_fields(fields: &[FieldDifference], out: &mut Writer) -> Result<(), AllocError>
+    ensures tokens { OnOk result (out.new.tokens ++ end_object ∷ [] ≡ out.old.tokens
+        ++ members_tokens (fields_members fields.now)) }
+    ensures before { out.new.before ≡ out.old.before }
+{
+    out.key("fields")?;
+    out.begin_array()?;
+    let mut left = fields;
+    while let [field, rest @ ..] = left {
+        write_field(field, out)?;
+        left = rest;
+    }
+    out.end_array()
+}
+
+/// Writes the object of a field.
+fn write_field(field: &FieldDifference, out: &mut Writer) -> Result<(), AllocError>
+    ensures tokens { OnOk result (out.new.tokens ≡ out.old.tokens ++ json_tokens (field_json field.now)) }
+    ensures before { out.new.before ≡ out.old.before }
+{
+    out.begin_object()?;
+    write_text(out, "name", field.name)?;
+    write_text(out, "recorded", field.recorded.as_str())?;
+    write_text(out, "replayed", field.replayed.as_str())?;
+    out.end_object()
 }
 
 /// Writes what a verdict says.
@@ -118,8 +149,17 @@ fn write_kind(out: &mut Writer, kind: &str) -> Result<(), AllocError>
         ++ (key (codes "verdict") ∷ token.string kind.now ∷ [])) }
     ensures before { out.new.before ≡ out.old.before }
 {
-    out.key("verdict")?;
-    out.string(kind)
+    write_text(out, "verdict", kind)
+}
+
+/// Writes a text as a member.
+fn write_text(out: &mut Writer, name: &str, text: &str) -> Result<(), AllocError>
+    ensures tokens { OnOk result (out.new.tokens ≡ out.old.tokens
+        ++ (key name.now ∷ token.string text.now ∷ [])) }
+    ensures before { out.new.before ≡ out.old.before }
+{
+    out.key(name)?;
+    out.string(text)
 }
 
 /// Writes a number as a member.

@@ -3,6 +3,7 @@ use Rattle.std.proofs.Common.{◌≡◌, ℕ, ◌+◌, Bool, true, false, List, 
 use Rattle.std.specs.Prelude.{MatchOption, is_some}
 use Rattle.shared_core_base.specs.declared.version.Version.{Version}
 use Rattle.shared_core.specs.declared.encoding.raw_message.RawMessage.{RawMessage}
+use Rattle.replay_bench.specs.declared.mismatches.Found.{Found}
 use Rattle.replay_bench.specs.declared.verdicts.Verdict.{Verdict}
 use Rattle.replay_bench.specs.declared.verdicts.BenchError.{BenchError}
 use Rattle.replay_bench.specs.declared.verdicts.BenchError.TheVariants.{Malformed, TooLong, OutOfMemory}
@@ -10,7 +11,7 @@ use Rattle.replay_bench.specs.declared.verdicts.ReaderError.TheVariants.{Bench}
 use Rattle.replay_bench.specs.Journals.{IsJournal}
 use Rattle.replay_bench.specs.Taking.{HasNoCommand, TakesFirst}
 use Rattle.replay_bench.specs.Outcomes.{Outcome, SameCommands, RecordedEnds, ReplayedEnds, NotWellFormed, outcome_of}
-use Rattle.replay_bench.specs.Verdicts.{ReturnsPair, AreAlike, ComparesKnown, HasOutcome, IsOutcome, IsFound}
+use Rattle.replay_bench.specs.Verdicts.{ReturnsPair, AreAlike, ComparesKnown, HasFields, HasOutcome, IsOutcome, IsFound}
 use Rattle.replay_bench.proofs.Fronts.{journal_of}
 
 module _ (version : Version) (ignore : Bool) where
@@ -42,13 +43,14 @@ module _ (version : Version) (ignore : Bool) where
 
   -- ---- one command of each is taken
 
-  pub are_alike : (index : ℕ) (recorded_command replayed_command : RawMessage) → ReturnsPair ignore index recorded_command replayed_command (Ok None) → AreAlike ignore recorded_command replayed_command
+  pub are_alike : (is_listed : Bool) (index : ℕ) (recorded_command replayed_command : RawMessage) → ReturnsPair ignore is_listed index recorded_command replayed_command (Ok None) → AreAlike ignore recorded_command replayed_command
   unfolding ReturnsPair
-  are_alike index recorded_command replayed_command is = is
+  are_alike is_listed index recorded_command replayed_command is = is
 
-  pub is_found : (index : ℕ) (recorded_command replayed_command : RawMessage) (verdict : Verdict) → ReturnsPair ignore index recorded_command replayed_command (Ok (Some verdict)) → IsFound ignore index recorded_command replayed_command (outcome_of verdict)
+  pub is_found : (is_listed : Bool) (index : ℕ) (recorded_command replayed_command : RawMessage) (found : Found) → ReturnsPair ignore is_listed index recorded_command replayed_command (Ok (Some found))
+      → IsFound ignore index recorded_command replayed_command (outcome_of found.verdict) × HasFields is_listed recorded_command replayed_command found.verdict found.fields.items
   unfolding ReturnsPair
-  is_found index recorded_command replayed_command verdict is = is
+  is_found is_listed index recorded_command replayed_command found is = is
 
   module _ (index : ℕ) (recorded_command replayed_command : RawMessage) where
     -- they are alike
@@ -148,14 +150,14 @@ module _ (version : Version) (ignore : Bool) where
   returns_out_of_memory (Some recorded) (Some replayed) = tt
 
   -- two commands have an error
-  pub returns_error : (index : ℕ) (recorded_command replayed_command : RawMessage) (recorded replayed left others now then : Option (List ℕ)) (error : BenchError)
+  pub returns_error : (is_listed : Bool) (index : ℕ) (recorded_command replayed_command : RawMessage) (recorded replayed left others now then : Option (List ℕ)) (error : BenchError)
       → GoesOn recorded replayed index left others
-      → TakesFirst version left (Some recorded_command) now → TakesFirst version others (Some replayed_command) then → ReturnsPair ignore index recorded_command replayed_command (Err error)
+      → TakesFirst version left (Some recorded_command) now → TakesFirst version others (Some replayed_command) then → ReturnsPair ignore is_listed index recorded_command replayed_command (Err error)
       → ComparesKnown version ignore recorded replayed (Err (Bench error))
   unfolding ReturnsPair
-  returns_error index recorded_command replayed_command recorded replayed left others now then OutOfMemory goes one other rejected = returns_out_of_memory recorded replayed
-  returns_error index recorded_command replayed_command recorded replayed left others now then TooLong goes one other rejected = absurd rejected
-  returns_error index recorded_command replayed_command recorded replayed left others now then (Malformed side at) goes one other rejected =
+  returns_error is_listed index recorded_command replayed_command recorded replayed left others now then OutOfMemory goes one other rejected = returns_out_of_memory recorded replayed
+  returns_error is_listed index recorded_command replayed_command recorded replayed left others now then TooLong goes one other rejected = absurd rejected
+  returns_error is_listed index recorded_command replayed_command recorded replayed left others now then (Malformed side at) goes one other rejected =
       returns_malformed recorded replayed (ends_found index recorded_command replayed_command recorded replayed left others now then (NotWellFormed side at) goes one other rejected)
     where
       returns_malformed : (recorded replayed : Option (List ℕ)) → IsKnownOutcome recorded replayed (NotWellFormed side at) → ComparesKnown version ignore recorded replayed (Err (Bench (Malformed side at)))

@@ -1,6 +1,8 @@
 pub mod Fronts
 pub mod Lengths
+pub mod Listing
 pub mod Pairs
+pub mod Places
 pub mod Readings
 pub mod Seen
 pub mod Endings

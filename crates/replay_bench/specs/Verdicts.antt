@@ -1,5 +1,5 @@
 -- The verdict on the commands of two journals, and their comparison.
-use Rattle.std.specs.Prelude.{◌≡◌, ◌≢◌, ◌⊎◌, ℕ, ◌+◌, ◌^◌, ◌<◌, ◌≤◌, pos, Bool, true, false, List, [], ◌∷◌, length, codes, Option, Some, None, Result, Ok, Err}
+use Rattle.std.specs.Prelude.{IsTrue, ◌≡◌, ◌≢◌, ◌⊎◌, ℕ, ◌+◌, ◌^◌, ◌<◌, ◌≤◌, pos, Bool, true, false, List, [], ◌∷◌, length, codes, Option, Some, None, Result, Ok, Err}
 use Rattle.std.specs.Option.{IsSomeAnd}
 use Rattle.shared_core_base.specs.declared.header.MessageType.{MessageType}
 use Rattle.shared_core_base.specs.declared.version.Version.{Version}
@@ -14,6 +14,8 @@ use Rattle.shared_core.specs.declared.encoding.raw_message.RawMessage.{RawMessag
 use Rattle.shared_core.specs.Errors.{command_mismatch_text}
 use Rattle.replay_bench.specs.declared.verdicts.Side.{Side}
 use Rattle.replay_bench.specs.declared.verdicts.Side.TheVariants.{Recorded, Replayed}
+use Rattle.replay_bench.specs.declared.fields.FieldDifference.{FieldDifference}
+use Rattle.replay_bench.specs.declared.mismatches.Found.{Found}
 use Rattle.replay_bench.specs.declared.verdicts.Comparison.{Comparison}
 use Rattle.replay_bench.specs.declared.verdicts.Verdict.{Verdict}
 use Rattle.replay_bench.specs.declared.verdicts.Verdict.TheVariants.{Same, RecordedEnded, ReplayedEnded, TypeMismatch, HeaderMismatch}
@@ -22,6 +24,7 @@ use Rattle.replay_bench.specs.declared.verdicts.BenchError.TheVariants.{Malforme
 use Rattle.replay_bench.specs.declared.verdicts.ReaderError.{ReaderError}
 use Rattle.replay_bench.specs.declared.verdicts.ReaderError.TheVariants.{Read, Bench}
 use Rattle.replay_bench.specs.Outcomes.{Outcome, SameCommands, RecordedEnds, ReplayedEnds, OtherType, OtherCommand, NotWellFormed, outcome_of}
+use Rattle.replay_bench.specs.Fields.{AreFieldsAt, AreFieldsOf}
 use Rattle.replay_bench.specs.Journals.{IsCommand, IsJournal}
 use Rattle.replay_bench.specs.Reading.{IsKnownLast, IsKnownSurvey}
 
@@ -65,14 +68,22 @@ IsFound ignore index recorded replayed (NotWellFormed side found) =
     × IsSomeAnd (message_schema recorded.header.ty) (IsMalformedOn side recorded.payload replayed.payload)
 IsFound ignore index recorded replayed outcome = ⊥
 
--- The result for two commands at an index: nothing if they are the same, otherwise what differs; or an allocation
--- fails.
-unfoldable pub ReturnsPair : Bool → ℕ → RawMessage → RawMessage → Result (Option Verdict) BenchError → Type 0
-ReturnsPair ignore index recorded replayed (Ok None) = AreAlike ignore recorded replayed
-ReturnsPair ignore index recorded replayed (Ok (Some verdict)) = IsFound ignore index recorded replayed (outcome_of verdict)
-ReturnsPair ignore index recorded replayed (Err (Malformed side found)) = IsFound ignore index recorded replayed (NotWellFormed side found)
-ReturnsPair ignore index recorded replayed (Err OutOfMemory) = Unit {0}
-ReturnsPair ignore index recorded replayed (Err TooLong) = ⊥
+-- The fields of a verdict on two commands: if both are of one type and differ, those in which they do, where these are
+-- listed; otherwise none.
+abbrev pub HasFields : Bool → RawMessage → RawMessage → Verdict → List FieldDifference → Type 0
+HasFields is_listed recorded replayed (HeaderMismatch index text) fields = IsTrue is_listed → AreFieldsOf recorded replayed fields
+HasFields is_listed recorded replayed verdict fields = fields ≡ []
+
+-- The result for two commands at an index: nothing if they are the same, otherwise what differs, and in which fields;
+-- or an allocation fails.
+unfoldable pub ReturnsPair : Bool → Bool → ℕ → RawMessage → RawMessage → Result (Option Found) BenchError → Type 0
+ReturnsPair ignore is_listed index recorded replayed (Ok None) = AreAlike ignore recorded replayed
+ReturnsPair ignore is_listed index recorded replayed (Ok (Some found)) =
+    IsFound ignore index recorded replayed (outcome_of found.verdict)
+    × HasFields is_listed recorded replayed found.verdict found.fields.items
+ReturnsPair ignore is_listed index recorded replayed (Err (Malformed side found)) = IsFound ignore index recorded replayed (NotWellFormed side found)
+ReturnsPair ignore is_listed index recorded replayed (Err OutOfMemory) = Unit {0}
+ReturnsPair ignore is_listed index recorded replayed (Err TooLong) = ⊥
 
 -- Two commands of this type are at an index.
 pub record IsPair (index : ℕ) (recorded replayed : RawMessage) (ty : MessageType) : Type 0 where
@@ -127,6 +138,16 @@ abbrev pub ComparesKnown : Version → Bool → Option (List ℕ) → Option (Li
 ComparesKnown version ignore (Some recorded) (Some replayed) result = ComparesRead version ignore recorded replayed result
 ComparesKnown version ignore recorded replayed result = Unit {0}
 
+-- A result without the fields that come with its verdict.
+abbrev pub without_fields : Result Found ReaderError → Result Verdict ReaderError
+without_fields (Ok found) = Ok found.verdict
+without_fields (Err error) = Err error
+
+-- The fields that come with a verdict on two journals: if its commands differ, those in which they do; otherwise none.
+abbrev pub HasFieldsOn : Version → Option (List ℕ) → Option (List ℕ) → Verdict → List FieldDifference → Type 0
+HasFieldsOn version recorded replayed (HeaderMismatch index text) fields = AreFieldsAt version recorded replayed index fields
+HasFieldsOn version recorded replayed verdict fields = fields ≡ []
+
 -- A read is said to have failed only on a side where it may.
 abbrev pub MayFailOn : {T : Type 0} → Bool → Bool → Result T ReaderError → Type 0
 MayFailOn recorded replayed (Err (Read Recorded)) = recorded ≡ true
@@ -163,10 +184,11 @@ replayed_seen (ReplayedEnded index) = index
 replayed_seen (TypeMismatch index text) = index + 1
 replayed_seen (HeaderMismatch index text) = index + 1
 
--- Two journals, as far as their bytes are known, have this verdict, these surveys, and at these offsets the last
--- commands that the verdict has seen.
+-- Two journals, as far as their bytes are known, have this verdict, these fields in which its commands differ, these
+-- surveys, and at these offsets the last commands that the verdict has seen.
 pub record IsComparison (version : Version) (ignore is_strict : Bool) (recorded replayed : Option (List ℕ)) (found : Comparison) : Type 0 where
   pub verdict : ComparesKnown version ignore recorded replayed (Ok found.verdict)
+  pub fields : HasFieldsOn version recorded replayed found.verdict found.fields.items
   pub recorded_survey : IsKnownSurvey version is_strict recorded found.recorded
   pub replayed_survey : IsKnownSurvey version is_strict replayed found.replayed
   pub recorded_last : IsKnownLast version recorded (recorded_seen found.verdict) found.recorded_at

@@ -1,15 +1,15 @@
 //! Two journals compared, command by command.
 
-ghost use Rattle.std.specs.Prelude.{◌≡◌, ◌≤◌, ℕ, List, Some, IfOk};
+ghost use Rattle.std.specs.Prelude.{◌≡◌, ◌≤◌, ℕ, List, Some, IfOk, IsTrue};
 ghost use Rattle.std.specs.List.{concat};
 ghost use Rattle.shared_core_base.specs.Version.{version_number};
 ghost use Rattle.replay_bench.specs.declared.verdicts.Side.TheVariants.{Recorded, Replayed};
 ghost use Rattle.replay_bench.specs.Reading.{IsNew, IsReading};
-ghost use Rattle.replay_bench.specs.Verdicts.{Compares, ComparesKnown, MayFailOn, Surveys};
+ghost use Rattle.replay_bench.specs.Verdicts.{Compares, ComparesKnown, HasFieldsOn, MayFailOn, Surveys, without_fields};
 ghost use Rattle.replay_bench.specs.Verdicts.{recorded_ended, recorded_seen, replayed_ended, replayed_seen};
 
 use crate::commands::Commands;
-use crate::mismatches::{Pair, compare_commands};
+use crate::mismatches::{Found, Pair, compare_commands};
 use crate::reader_chunks::ReaderChunks;
 use crate::sources::{SliceChunks, Source};
 use crate::verdicts::{BenchError, Comparison, ReaderError, Side, Verdict};
@@ -88,36 +88,42 @@ pub fn compare_sources<A: Source, B: Source>(
 {
     let mut recorded = Commands::new(alloc, version, Side::Recorded, recorded, false);
     let mut replayed = Commands::new(alloc, version, Side::Replayed, replayed, false);
-    find_verdict(
+    let found = find_verdict(
         alloc,
         version,
         &mut recorded,
         &mut replayed,
         ignore_payload_equality,
-    )
+        false,
+    )?;
+    Ok(found.verdict)
 }
 
-/// Compares the commands of two journals of which nothing was read yet.
+/// Compares the commands of two journals of which nothing was read yet. If `is_listed`, the fields in which two of them
+/// differ come with the verdict.
 fn find_verdict<A: Source, B: Source>(
     alloc: Global,
     version: Version,
     recorded: &mut Commands<A>,
     replayed: &mut Commands<B>,
     ignore_payload_equality: bool,
-) -> Result<Verdict, ReaderError>
+    is_listed: bool,
+) -> Result<Found, ReaderError>
     requires recorded { IsNew version Recorded recorded.old.side recorded.old.version
         recorded.old.decoder.version recorded.old.decoder.bytes recorded.old.taken recorded.old.survey }
     requires replayed { IsNew version Replayed replayed.old.side replayed.old.version
         replayed.old.decoder.version replayed.old.decoder.bytes replayed.old.taken replayed.old.survey }
     ensures compared { ComparesKnown version ignore_payload_equality
-        (A.coming recorded.old.source) (B.coming replayed.old.source) result }
+        (A.coming recorded.old.source) (B.coming replayed.old.source) (without_fields result) }
     ensures failed { MayFailOn A.may_fail B.may_fail result }
-    ensures recorded { IfOk result (λ verdict. IsReading version Recorded recorded.old.survey.is_strict
-        (A.coming recorded.old.source) (recorded_ended verdict) (recorded_seen verdict)
+    ensures fields { IfOk result (λ found. IsTrue is_listed → HasFieldsOn version
+        (A.coming recorded.old.source) (B.coming replayed.old.source) found.verdict found.fields.items) }
+    ensures recorded { IfOk result (λ found. IsReading version Recorded recorded.old.survey.is_strict
+        (A.coming recorded.old.source) (recorded_ended found.verdict) (recorded_seen found.verdict)
         recorded.new.side recorded.new.version recorded.new.decoder.version
         (A.coming recorded.new.source) recorded.new.decoder.bytes recorded.new.taken recorded.new.survey) }
-    ensures replayed { IfOk result (λ verdict. IsReading version Replayed replayed.old.survey.is_strict
-        (B.coming replayed.old.source) (replayed_ended verdict) (replayed_seen verdict)
+    ensures replayed { IfOk result (λ found. IsReading version Replayed replayed.old.survey.is_strict
+        (B.coming replayed.old.source) (replayed_ended found.verdict) (replayed_seen found.verdict)
         replayed.new.side replayed.new.version replayed.new.decoder.version
         (B.coming replayed.new.source) replayed.new.decoder.bytes replayed.new.taken replayed.new.survey) }
 {
@@ -127,12 +133,21 @@ fn find_verdict<A: Source, B: Source>(
         let replayed_command = replayed.next_command()?;
         let Some(recorded_command) = recorded_command else {
             if replayed_command.is_some() {
-                return Ok(Verdict::RecordedEnded(index));
+                return Ok(Found {
+                    verdict: Verdict::RecordedEnded(index),
+                    fields: Vec::new(alloc),
+                });
             }
-            return Ok(Verdict::Same(index));
+            return Ok(Found {
+                verdict: Verdict::Same(index),
+                fields: Vec::new(alloc),
+            });
         };
         let Some(replayed_command) = replayed_command else {
-            return Ok(Verdict::ReplayedEnded(index));
+            return Ok(Found {
+                verdict: Verdict::ReplayedEnded(index),
+                fields: Vec::new(alloc),
+            });
         };
         let pair = Pair {
             alloc,
@@ -140,10 +155,11 @@ fn find_verdict<A: Source, B: Source>(
             recorded: &recorded_command,
             replayed: &replayed_command,
             ignore: ignore_payload_equality,
+            is_listed,
         };
         let found = compare_commands(pair)?;
-        if let Some(verdict) = found {
-            return Ok(verdict);
+        if let Some(found) = found {
+            return Ok(found);
         }
         index += 1;
     }
@@ -197,19 +213,21 @@ pub fn survey_sources<A: Source, B: Source>(
 {
     let mut recorded = Commands::new(alloc, version, Side::Recorded, recorded, is_strict);
     let mut replayed = Commands::new(alloc, version, Side::Replayed, replayed, is_strict);
-    let verdict = find_verdict(
+    let found = find_verdict(
         alloc,
         version,
         &mut recorded,
         &mut replayed,
         ignore_payload_equality,
+        true,
     )?;
     let recorded_at = recorded.last_command();
     let replayed_at = replayed.last_command();
-    let recorded = recorded.finish(verdict.has_recorded_ended())?;
-    let replayed = replayed.finish(verdict.has_replayed_ended())?;
+    let recorded = recorded.finish(found.verdict.has_recorded_ended())?;
+    let replayed = replayed.finish(found.verdict.has_replayed_ended())?;
     Ok(Comparison {
-        verdict,
+        verdict: found.verdict,
+        fields: found.fields,
         recorded,
         replayed,
         recorded_at,

@@ -4,6 +4,7 @@
 
 mod commands;
 mod comparison;
+mod fields;
 pub mod laws;
 mod mismatches;
 mod reader_chunks;
@@ -13,6 +14,7 @@ mod verdicts;
 pub use crate::comparison::{
     compare_journals, compare_readers, compare_sources, survey_readers, survey_sources,
 };
+pub use crate::fields::FieldDifference;
 pub use crate::reader_chunks::ReaderChunks;
 pub use crate::sources::{SliceChunks, Source, SourceError};
 pub use crate::verdicts::{BenchError, Comparison, ReaderError, Side, Verdict};

@@ -7,6 +7,7 @@ ghost use Rattle.shared_core_message.specs.Messages.{message_schema};
 ghost use Rattle.replay_bench.specs.Journals.{IsCommand};
 ghost use Rattle.replay_bench.specs.Verdicts.{ReturnsPair, IsPair, bench_error_of};
 
+use crate::fields::{FieldDifference, list_fields};
 use crate::verdicts::{BenchError, Side, Verdict};
 use shared_core::encoding::RawMessage;
 use shared_core::errors::{CommandMismatchError, CommandTypeMismatchError};
@@ -15,7 +16,8 @@ use shared_core::version::Version;
 use shared_core::wire::{WireError, is_well_formed};
 use std::alloc::Global;
 
-/// Two commands at the same index of two journals, and whether their payloads are ignored.
+/// Two commands at the same index of two journals, whether their payloads are ignored, and whether the fields in which
+/// they differ are listed.
 #[derive(Drop)]
 pub(crate) struct Pair<'a> {
     pub alloc: Global,
@@ -23,14 +25,23 @@ pub(crate) struct Pair<'a> {
     pub recorded: &'a RawMessage,
     pub replayed: &'a RawMessage,
     pub ignore: bool,
+    pub is_listed: bool,
+}
+
+/// A verdict, and the fields in which two commands differ, if it says so and they are listed.
+#[derive(Drop)]
+pub(crate) struct Found {
+    pub verdict: Verdict,
+    pub fields: Vec<FieldDifference>,
 }
 
 /// The result for two commands, or `None` if they are the same. Those of one type whose payloads are the same bytes are
 /// the same.
-pub(crate) fn compare_commands(pair: Pair<'_>) -> Result<Option<Verdict>, BenchError>
+pub(crate) fn compare_commands(pair: Pair<'_>) -> Result<Option<Found>, BenchError>
     requires index { pair.index < 2 ^ 63 }
     requires command { IsCommand pair.recorded.now }
-    ensures { ReturnsPair pair.entry.ignore pair.entry.index pair.entry.recorded.now pair.entry.replayed.now result }
+    ensures { ReturnsPair pair.entry.ignore pair.entry.is_listed pair.entry.index
+        pair.entry.recorded.now pair.entry.replayed.now result }
 {
     let recorded = pair.recorded.ty();
     let replayed = pair.replayed.ty();
@@ -47,10 +58,12 @@ pub(crate) fn compare_commands(pair: Pair<'_>) -> Result<Option<Verdict>, BenchE
     }
     let mismatch = CommandTypeMismatchError::new(pair.index as i64, recorded, replayed);
     let text = mismatch.to_string(pair.alloc)?;
-    Ok(Some(Verdict::TypeMismatch {
+    let verdict = Verdict::TypeMismatch {
         index: pair.index,
         text,
-    }))
+    };
+    let fields = Vec::new(pair.alloc);
+    Ok(Some(Found { verdict, fields }))
 }
 
 /// Whether the payloads of two commands are the same bytes, which are well-formed for the type of the recorded one.
@@ -74,14 +87,14 @@ fn is_well_formed_command(command: &RawMessage) -> bool
 }
 
 impl<'a> CommandVisitor for Pair<'a> {
-    type Output = Result<Option<Verdict>, BenchError>;
+    type Output = Result<Option<Found>, BenchError>;
 
     ghost may_visit = { λ self ty. IsPair self.index self.recorded.now self.replayed.now ty };
 
     ghost results = { λ self ty schema output.
-        ReturnsPair self.ignore self.index self.recorded.now self.replayed.now output };
+        ReturnsPair self.ignore self.is_listed self.index self.recorded.now self.replayed.now output };
 
-    fn visit<M: CommandMessage>(self) -> Result<Option<Verdict>, BenchError> {
+    fn visit<M: CommandMessage>(self) -> Result<Option<Found>, BenchError> {
         let recorded = match self.recorded.decode_as::<M>(self.alloc) {
             Ok(recorded) => recorded,
             Err(error) => return Err(bench_error(Side::Recorded, self.index, error)),
@@ -93,12 +106,14 @@ impl<'a> CommandVisitor for Pair<'a> {
         if recorded.header_eq(&replayed, self.ignore) {
             return Ok(None);
         }
+        let fields = list_fields(self.alloc, self.is_listed, &recorded, &replayed)?;
         let mismatch = CommandMismatchError::new(self.index as i64, recorded, replayed);
         let text = mismatch.to_string(self.alloc)?;
-        Ok(Some(Verdict::HeaderMismatch {
+        let verdict = Verdict::HeaderMismatch {
             index: self.index,
             text,
-        }))
+        };
+        Ok(Some(Found { verdict, fields }))
     }
 }
 

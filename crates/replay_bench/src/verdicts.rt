@@ -3,6 +3,7 @@
 ghost use Rattle.std.specs.Prelude.{◌≡◌};
 ghost use Rattle.replay_bench.specs.Verdicts.{recorded_ended, replayed_ended};
 
+use crate::fields::FieldDifference;
 use std::alloc::AllocError;
 use std::error::Error;
 use std::fmt;
@@ -77,6 +78,8 @@ impl Verdict {
 pub struct Comparison {
     /// How they compare.
     pub verdict: Verdict,
+    /// If it is a `HeaderMismatch`, the fields of the lines of its text, in their order; otherwise none.
+    pub fields: Vec<FieldDifference>,
     /// What the recorded journal has.
     pub recorded: Survey,
     /// What the replayed journal has.

@@ -4,6 +4,7 @@ use Rattle.replay_bench.specs.declared.verdicts.Side.TheVariants.{Recorded, Repl
 use Rattle.replay_bench.specs.Reading.{HasRead}
 use Rattle.replay_bench.specs.Taking.{KeepsLength, known_length}
 use Rattle.replay_bench.proofs.Endings.{GoesOn}
+use Rattle.replay_bench.proofs.Places.{IsKnownAfter}
 use Rattle.replay_bench.proofs.comparison.find_verdict.Given as goal
 
 abbrev pub invariant-loop-recorded_command : goal.invariant-loop-recorded_command
@@ -24,6 +25,8 @@ invariant-loop-recorded_command g l = record {
   other_fits : l.replayed.taken < 2 ^ 64;
   counted : KeepsLength (known_length 0 (g.A.Source.coming l.fn.recorded.source)) (known_length l.recorded.taken (g.A.Source.coming l.recorded.source));
   other_counted : KeepsLength (known_length 0 (g.B.Source.coming l.fn.replayed.source)) (known_length l.replayed.taken (g.B.Source.coming l.replayed.source));
+  after : IsKnownAfter l.fn.version (g.A.Source.coming l.fn.recorded.source) l.index (prepend_known l.recorded.decoder.bytes (g.A.Source.coming l.recorded.source));
+  other_after : IsKnownAfter l.fn.version (g.B.Source.coming l.fn.replayed.source) l.index (prepend_known l.replayed.decoder.bytes (g.B.Source.coming l.replayed.source));
   goes_on : GoesOn l.fn.version l.ignore_payload_equality (g.A.Source.coming l.fn.recorded.source) (g.B.Source.coming l.fn.replayed.source) l.index
       (prepend_known l.recorded.decoder.bytes (g.A.Source.coming l.recorded.source))
       (prepend_known l.replayed.decoder.bytes (g.B.Source.coming l.replayed.source));

@@ -26,26 +26,26 @@ visited_holds holds (Some s) output is = is
 pub returns-then-eq : goal.returns-then-eq
 returns-then-eq c =
     let pair = c.args.pair in
-    visited_holds (ReturnsPair pair.ignore pair.index pair.recorded.now pair.replayed.now) (command_schema c.ty-recorded.result) c.in-Some.found c.in-Some.ensures.visited
+    visited_holds (ReturnsPair pair.ignore pair.is_listed pair.index pair.recorded.now pair.replayed.now) (command_schema c.ty-recorded.result) c.in-Some.found c.in-Some.ensures.visited
 
 pub returns-then-has_same_bytes : goal.returns-then-has_same_bytes
 returns-then-has_same_bytes c =
     let pair = c.args.pair in
     let typed = sym c.ty-recorded.ensures ∙ types_equal _ _ (sym c.eq.ensures ∙ c.if-eq.true) ∙ c.ty-replayed.ensures in
-    pair_same_bytes pair.ignore pair.index pair.recorded.now pair.replayed.now typed
+    pair_same_bytes pair.ignore pair.is_listed pair.index pair.recorded.now pair.replayed.now typed
     (c.has_same_bytes.ensures.payloads c.if-has_same_bytes.true) (c.has_same_bytes.ensures.accepted c.if-has_same_bytes.true)
 
 pub returns-in_err-text : goal.returns-in_err-text
 returns-in_err-text c =
     let pair = c.args.pair in
     let from = err_from_is_err_and c.from_residual.result c.from_residual.ensures.1 in
-    rw (from.1, from.2) (pair_out_of_memory pair.ignore pair.index pair.recorded.now pair.replayed.now)
+    rw (from.1, from.2) (pair_out_of_memory pair.ignore pair.is_listed pair.index pair.recorded.now pair.replayed.now)
 
 pub returns : goal.returns
 returns c =
     let pair = c.args.pair in
     let index = pair.index in
-    pair_types pair.ignore index pair.recorded.now pair.replayed.now c.in_ok-text.text
+    pair_types pair.ignore pair.is_listed index pair.recorded.now pair.replayed.now c.in_ok-text.text c.new-fields.result c.new-fields.ensures.items
     (λ same. both_ways _ (sym c.eq.ensures ∙ c.if-eq.false) (types_same _ _ (c.ty-recorded.ensures ∙ same ∙ sym c.ty-replayed.ensures)))
     (
     c.in_ok-text.ensures.ok
