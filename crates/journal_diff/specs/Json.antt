@@ -38,12 +38,16 @@ mismatch_members kind index recorded_at replayed_at text others =
     (offset_member (codes "replayedAt") replayed_at
     (member (codes "text") (string text) others))))
 
--- The object of a field in which two commands differ: its name, and what it prints in each.
-abbrev pub field_json : FieldDifference → Json
-field_json field =
-    object (member (codes "name") (string field.name.now)
+-- The members of a field in which two commands differ: its name, and what it prints in each.
+abbrev pub field_members : FieldDifference → Members
+field_members field =
+    member (codes "name") (string field.name.now)
     (member (codes "recorded") (string (string_bytes field.recorded))
-    (member (codes "replayed") (string (string_bytes field.replayed)) no_members)))
+    (member (codes "replayed") (string (string_bytes field.replayed)) no_members))
+
+-- Its object.
+abbrev pub field_json : FieldDifference → Json
+field_json field = object (field_members field)
 
 -- The objects of such fields.
 abbrev pub field_items : List FieldDifference → Items

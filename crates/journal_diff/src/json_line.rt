@@ -6,7 +6,7 @@ ghost use Rattle.json.specs.Token.{key, end_object};
 ghost use Rattle.json.specs.Token as token;
 ghost use Rattle.json.specs.Tree.{json_tokens, members_tokens};
 ghost use Rattle.std.specs.String.{string_bytes};
-ghost use Rattle.journal_diff.specs.Json.{ended_members, field_json, fields_members, found_json, json_line, mismatch_members};
+ghost use Rattle.journal_diff.specs.Json.{ended_members, field_json, field_members, fields_members, found_json, json_line, mismatch_members};
 ghost use Rattle.journal_diff.specs.Json.{offset_tokens, verdict_members};
 
 use json::Writer;
@@ -137,10 +137,19 @@ fn write_field(field: &FieldDifference, out: &mut Writer) -> Result<(), AllocErr
     ensures before { out.new.before ≡ out.old.before }
 {
     out.begin_object()?;
+    write_field_members(field, out)?;
+    out.end_object()
+}
+
+/// Writes the members of a field.
+fn write_field_members(field: &FieldDifference, out: &mut Writer) -> Result<(), AllocError>
+    ensures tokens { OnOk result (out.new.tokens ++ end_object ∷ [] ≡ out.old.tokens
+        ++ members_tokens (field_members field.now)) }
+    ensures before { out.new.before ≡ out.old.before }
+{
     write_text(out, "name", field.name)?;
     write_text(out, "recorded", field.recorded.as_str())?;
-    write_text(out, "replayed", field.replayed.as_str())?;
-    out.end_object()
+    write_text(out, "replayed", field.replayed.as_str())
 }
 
 /// Writes what a verdict says.
