@@ -1,3 +1,4 @@
 pub mod Decimals
+pub mod Members
 pub mod Painting
 pub mod Reporting

@@ -6,7 +6,8 @@ ghost use Rattle.json.specs.Token.{key, end_object};
 ghost use Rattle.json.specs.Token as token;
 ghost use Rattle.json.specs.Tree.{json_tokens, members_tokens};
 ghost use Rattle.std.specs.String.{string_bytes};
-ghost use Rattle.journal_diff.specs.Json.{ended_members, field_json, field_members, fields_members, found_json, json_line, mismatch_members};
+ghost use Rattle.journal_diff.specs.Json.{ended_members, field_json, field_members, fields_members};
+ghost use Rattle.journal_diff.specs.Json.{found_json, json_line, mismatch_members};
 ghost use Rattle.journal_diff.specs.Json.{offset_tokens, verdict_members};
 
 use json::Writer;
