@@ -1,4 +1,4 @@
-use Rattle.std.proofs.Common.{◌≡◌, ℕ, Bool, false, List, [], ◌++◌, Option, Some, None, Result, Ok, Err, ap, sym, subst, ◌∙◌}
+use Rattle.std.proofs.Common.{◌≡◌, ℕ, Bool, false, List, [], ◌++◌, Option, Some, None, Result, Ok, Err, ap, refl, sym, subst, ◌∙◌}
 use Rattle.shared_core_base.specs.declared.version.Version.{Version}
 use Rattle.replay_bench.specs.declared.verdicts.Comparison.{Comparison}
 use Rattle.replay_bench.specs.declared.verdicts.BenchError.TheVariants.{OutOfMemory}
@@ -7,6 +7,7 @@ use Rattle.replay_bench.specs.Verdicts.{ComparesKnown, IsComparison}
 use Rattle.journal_diff.specs.declared.diff.DiffError.{DiffError}
 use Rattle.journal_diff.specs.declared.diff.DiffError.TheVariants.{NoVerdict, Faulty, Output}
 use Rattle.journal_diff.specs.declared.diff.Findings.{Findings}
+use Rattle.journal_diff.specs.declared.passed_over.Trouble.{Trouble}
 use Rattle.journal_diff.specs.PassedOver.{strict_trouble}
 use Rattle.journal_diff.specs.Verdicts.{Reports, ReportsFound, ReportsWithColors, WritesWithColors}
 
@@ -37,6 +38,14 @@ reported_with_colors version ignore is_strict a b findings text (Err Output) wri
 reported_with_colors version ignore is_strict a b findings text (Err (Faulty trouble)) written reports painted = absurd painted
 reported_with_colors version ignore is_strict a b findings text (Err (NoVerdict why)) written reports painted =
     (subst (λ w. ComparesKnown version ignore a b (Err w)) (sym painted.0) (out_of_memory version ignore a b), painted.1)
+
+-- what is wrong with a journal is reported alike with colors
+pub reported_faulty : (version : Version) (ignore is_strict : Bool) (a b : Option (List ℕ)) (trouble : Trouble) (result : Result Findings DiffError) (written : List ℕ)
+    → result ≡ Err (Faulty trouble) → Reports version ignore is_strict false a b result written
+    → ReportsWithColors version ignore is_strict a b (Err (Faulty trouble)) []
+reported_faulty version ignore is_strict a b trouble result written is reports =
+    let (found, has, none) = subst (λ (r : Result Findings DiffError). Reports version ignore is_strict false a b r written) is reports in
+    (found, has, refl)
 
 -- the same of a text that was written into an empty vector
 pub reported_text : (version : Version) (ignore is_strict : Bool) (a b : Option (List ℕ)) (findings : Findings) (start items slice text : List ℕ) (result : Result Findings DiffError) (written : List ℕ)
