@@ -123,10 +123,10 @@ set_state() {
   { cat "$work/first"; printf "\\004\\003\\000\\000\\000\\000\\000\\$2$3"; } > "$work/$1"
 }
 # a key of two lines, with quotes and ' != ', one of bytes that are not UTF-8, and values that are absent and empty
-set_state lines 015 '\012\013a\n "b": != '
+set_state key_of_lines 015 '\012\013a\n "b": != '
 set_state bytes 005 '\012\003\377\001\000'
 set_state empty 007 '\012\003\377\001\000\032\000'
-fields_of "[{\"name\":\"key\",\"recorded\":\"'a\\n \\\"b\\\": != '\",\"replayed\":\"[255, 1, 0]\"}]" "$work/lines" "$work/bytes"
+fields_of "[{\"name\":\"key\",\"recorded\":\"'a\\n \\\"b\\\": != '\",\"replayed\":\"[255, 1, 0]\"}]" "$work/key_of_lines" "$work/bytes"
 fields_of "[{\"name\":\"value\",\"recorded\":\"<empty>\",\"replayed\":\"''\"}]" "$work/bytes" "$work/empty"
 { printf '\000\010\000\000\000\000\000\000'; cat recorded; } > "$work/more"
 told replayed '1 unknown header'
