@@ -28,6 +28,16 @@ if ! cargo build --release --bin agree --bin vectors > "$work/log" 2>&1; then
   echo "0 passed, 1 failed"
   exit 1
 fi
+
+# kinds FILE..: of each test vector its schema, or its type and its version, and whether its result is 'malformed'
+kinds() {
+  awk '
+    /^#/ || NF == 0 { next }
+    $1 == "stream" { print $1, $2; next }
+    $1 == "frame" { print $1, $2, $3 }
+    { print $1, $2, ($NF == "malformed" ? "malformed" : "well-formed") }' "$@" | LC_ALL=C sort -u
+}
+
 stage target/release/agree --vectors ../conformance/*.txt
 if command -v python3 > /dev/null; then
   stage python3 ../tools/generate.py --check random_vectors peer long_vectors record_vectors
@@ -37,6 +47,14 @@ fi
 # what is random last, so that what the readers differ on is seen before
 if target/release/vectors "$seed" "$count" > "$work/lines"; then
   echo "random cases: seed $seed, $count of them"
+  # whatever the seed, as many cases as the gate has are of each kind that the files of random ones have
+  if [ "$count" -ge 50000 ]; then
+    kinds ../conformance/random_*.txt > "$work/wanted"
+    kinds "$work/lines" > "$work/found"
+    LC_ALL=C comm -23 "$work/wanted" "$work/found" > "$out"
+    [ -s "$work/wanted" ] && [ ! -s "$out" ]
+    outcome 'random cases of each kind, which lack those on the standard output' $?
+  fi
   stage sh ../scripts/checks/conformance.sh - < "$work/lines"
 else
   echo "failed: vectors $seed $count"

@@ -194,6 +194,7 @@ journal_diff 2 '' 'journal_diff: an argument is not UTF-8' recorded "$(printf '\
 failing_input 'journal_diff: reading the recorded journal failed' - recorded
 failing_input 'journal_diff: reading the replayed journal failed' recorded -
 failing_outputs recorded recorded recorded
+failing_help
 gone_reader recorded recorded
 little_memory /dev/null /dev/null - recorded
 

@@ -222,6 +222,16 @@ failing_outputs() {
   fi
 }
 
+# failing_help: the help and the version, where the standard output is closed
+failing_help() {
+  : > "$out"
+  for word in --help --version; do
+    "$program" "$word" 2> "$err" >&-
+    status=$?
+    ended "a closed output: $word" "$failure" /dev/null "${program##*/}: output failed"
+  done
+}
+
 # shortened_outputs INPUT LINES: an output that fails before all of these lines, which are more than 100 KiB, are
 # written: a file that may not grow past 200 blocks, and a pipe whose reader ends after three lines, which is not
 # reported (the program has the signal SIGPIPE ignored)

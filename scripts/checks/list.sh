@@ -165,6 +165,7 @@ ended 'a long stream, a byte a read' 0 "$work/long.stdout"
 
 failing_outputs "$stream"
 failing_outputs "$work/long"
+failing_help
 shortened_outputs "$work/long" "$work/long.stdout"
 
 # With a closed output the program stops at the first line, which the first message of 27 bytes makes: the chunks that

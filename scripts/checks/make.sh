@@ -135,6 +135,7 @@ outcome 'journal_make --help' $?
 failing_input 'journal_make: input failed'
 closed_input 'journal_make: input failed'
 failing_outputs replay.dump
+failing_help
 
 # Long lines and many lines, in reads of 65,536 bytes
 i=0
