@@ -426,7 +426,22 @@ pub fn frame_shared(
     payload: &[u8],
     rounds: usize,
 ) -> Result<Bytes, Refusal> {
-    let mut room = Shared::new();
+    let mut room = Shared {
+        block: BytesMut::with_capacity(BLOCK),
+        kept: Kept::new(),
+    };
+    frames(version, code, payload, rounds, &mut room)?;
+    Ok(room.kept.last)
+}
+
+/// The same, each in a buffer of its own; the last ones are held.
+pub fn frame_held(
+    version: u32,
+    code: u16,
+    payload: &[u8],
+    rounds: usize,
+) -> Result<Bytes, Refusal> {
+    let mut room = Kept::new();
     frames(version, code, payload, rounds, &mut room)?;
     Ok(room.last)
 }
@@ -440,10 +455,7 @@ trait Room {
 impl Room for Bytes {
     fn put(&mut self, code: u16, acknowledge: bool, message: &impl Message) {
         *self = Bytes::new();
-        let length = message.encoded_len();
-        let mut frame = Vec::with_capacity(HEADER + length);
-        append(code, acknowledge, length, message, &mut frame);
-        *self = frame.into();
+        *self = new_frame(code, acknowledge, message);
     }
 }
 
@@ -457,25 +469,43 @@ impl Room for BytesMut {
     }
 }
 
-/// How many frames that share blocks are held, and the bytes of a block.
+/// How many frames are held, and the bytes of a block that they share.
 const HELD: usize = 1024;
 const BLOCK: usize = 65_536;
 
-/// One buffer out of which all frames are taken, the last frame, and those that are held before it.
-struct Shared {
-    block: BytesMut,
+/// The last frame, and those that are held before it.
+struct Kept {
     last: Bytes,
     held: VecDeque<Bytes>,
 }
 
-impl Shared {
-    fn new() -> Shared {
-        Shared {
-            block: BytesMut::with_capacity(BLOCK),
+impl Kept {
+    fn new() -> Kept {
+        Kept {
             last: Bytes::new(),
             held: VecDeque::with_capacity(HELD),
         }
     }
+
+    fn keep(&mut self, frame: Bytes) {
+        if self.held.len() == HELD {
+            self.held.pop_front();
+        }
+        self.held.push_back(mem::replace(&mut self.last, frame));
+    }
+}
+
+/// A buffer of its own for each frame.
+impl Room for Kept {
+    fn put(&mut self, code: u16, acknowledge: bool, message: &impl Message) {
+        self.keep(new_frame(code, acknowledge, message));
+    }
+}
+
+/// One buffer out of which all frames are taken.
+struct Shared {
+    block: BytesMut,
+    kept: Kept,
 }
 
 impl Room for Shared {
@@ -483,12 +513,16 @@ impl Room for Shared {
         let length = message.encoded_len();
         self.block.reserve(HEADER + length);
         append(code, acknowledge, length, message, &mut self.block);
-        let frame = self.block.split().freeze();
-        if self.held.len() == HELD {
-            self.held.pop_front();
-        }
-        self.held.push_back(mem::replace(&mut self.last, frame));
+        self.kept.keep(self.block.split().freeze());
     }
+}
+
+/// A frame in a buffer of its own.
+fn new_frame(code: u16, acknowledge: bool, message: &impl Message) -> Bytes {
+    let length = message.encoded_len();
+    let mut frame = Vec::with_capacity(HEADER + length);
+    append(code, acknowledge, length, message, &mut frame);
+    frame.into()
 }
 
 /// Appends a header and the message's payload.

@@ -1,6 +1,6 @@
 //! Measures the library and the peer side by side, and prints a table in Markdown: speed [--check] [--only WORKLOAD]
 //! [--side ours|peer]
-//! [--what items|item_refs|messages|encode|encode_into|encode_spare|encode_shared|payloads|headers]
+//! [--what items|item_refs|messages|encode|encode_into|encode_spare|encode_shared|encode_held|payloads|headers]
 //! [--chunk N] [--row NAME] [--size N] [--rounds N] [--protocol 5..9]
 //!
 //! With --side nothing is compared or printed: that side alone goes over the workload that many times, for a profiler.
@@ -81,7 +81,10 @@ enum What {
     /// Frames are made in one buffer that is used again.
     EncodeInto,
     EncodeSpare,
+    /// Frames share the blocks of one buffer, on both sides.
     EncodeShared,
+    /// The library's frames share the blocks of one buffer; each of the peer's has one of its own.
+    EncodeHeld,
     /// Commands are compared, with their payloads.
     Payloads,
     /// Commands are compared, but for their payloads. The peer's derived `==` knows no such thing, and compares all.
@@ -90,7 +93,7 @@ enum What {
 
 impl What {
     /// What is done to a stream of messages.
-    const STREAM: [What; 7] = [
+    const STREAM: [What; 8] = [
         What::Items,
         What::ItemRefs,
         What::Messages,
@@ -98,14 +101,16 @@ impl What {
         What::EncodeInto,
         What::EncodeSpare,
         What::EncodeShared,
+        What::EncodeHeld,
     ];
 
     /// What is done to messages that are only written.
-    const FRAMES: [What; 4] = [
+    const FRAMES: [What; 5] = [
         What::Encode,
         What::EncodeInto,
         What::EncodeSpare,
         What::EncodeShared,
+        What::EncodeHeld,
     ];
 
     /// What is done to commands.
@@ -120,7 +125,11 @@ impl What {
     fn least_rounds(self) -> usize {
         match self {
             What::Items | What::ItemRefs | What::Messages => 1,
-            What::Encode | What::EncodeInto | What::EncodeSpare | What::EncodeShared => ENCODINGS,
+            What::Encode
+            | What::EncodeInto
+            | What::EncodeSpare
+            | What::EncodeShared
+            | What::EncodeHeld => ENCODINGS,
             What::Payloads | What::Headers => COMPARISONS,
         }
     }
@@ -134,6 +143,7 @@ impl What {
             What::EncodeInto => "encode_into",
             What::EncodeSpare => "encode_spare",
             What::EncodeShared => "encode_shared",
+            What::EncodeHeld => "encode_held",
             What::Payloads => "payloads",
             What::Headers => "headers",
         }
@@ -284,12 +294,10 @@ impl<'a> Bench<'a> {
             }
             (What::Messages, Side::Ours) => ours::messages(version, stream, self.chunk, rounds)?,
             (What::Messages, Side::Peer) => peer::messages(version, stream, self.chunk, rounds)?,
-            (What::Encode | What::EncodeInto | What::EncodeSpare | What::EncodeShared, side) => {
-                self.encode(side, rounds)?
-            }
             (What::Payloads, Side::Ours) => ours::compare(version, stream, false, rounds)?,
             (What::Headers, Side::Ours) => ours::compare(version, stream, true, rounds)?,
             (What::Payloads | What::Headers, Side::Peer) => peer::compare(version, stream, rounds)?,
+            (_, side) => self.encode(side, rounds)?,
         };
         if black_box(count) != self.expected(rounds) {
             return Err(Failed(format!("{count} is not what was to be counted")));
@@ -318,7 +326,7 @@ impl<'a> Bench<'a> {
                 (Side::Ours, What::EncodeSpare) => {
                     ours::frame_spare(version, *code, payload, rounds, &mut self.out)?;
                 }
-                (Side::Ours, What::EncodeShared) => {
+                (Side::Ours, What::EncodeShared | What::EncodeHeld) => {
                     ours::frame_shared(version, *code, payload, rounds, &mut self.out)?;
                 }
                 (Side::Ours, _) => {
@@ -326,6 +334,10 @@ impl<'a> Bench<'a> {
                 }
                 (Side::Peer, What::EncodeShared) => {
                     let frame = peer::frame_shared(version, *code, payload, rounds)?;
+                    self.out[..frame.len()].copy_from_slice(&frame);
+                }
+                (Side::Peer, What::EncodeHeld) => {
+                    let frame = peer::frame_held(version, *code, payload, rounds)?;
                     self.out[..frame.len()].copy_from_slice(&frame);
                 }
                 (Side::Peer, What::EncodeInto | What::EncodeSpare) => {
@@ -677,8 +689,8 @@ fn check_comparisons(workload: &Workload, what: What, side: Side) -> Result<(), 
 }
 
 /// That a side makes the rounds that are requested of it, each with the same allocations, which are none where a buffer
-/// is used again or items are borrowed; and that it takes the stream in the chunks that are requested of it: each payload that straddles
-/// chunks has to be joined.
+/// is used again or items are borrowed; and that it takes the stream in the chunks that are requested of it: each
+/// payload that straddles chunks has to be joined.
 fn check_rounds(workload: &Workload, what: What, side: Side) -> Result<(), Failed> {
     let failed = |why| {
         Failed(format!(
@@ -693,7 +705,7 @@ fn check_rounds(workload: &Workload, what: What, side: Side) -> Result<(), Faile
     let twice = bench.counted(side, 2)?;
     let more = bench.counted(side, 5)?;
     // of frames that share blocks, a round allocates none or several, as the blocks are used up
-    if what == What::EncodeShared {
+    if what == What::EncodeShared || (what == What::EncodeHeld && side == Side::Ours) {
         return Ok(());
     }
     // the peer makes the lists of a suspension before V7, and the library writes them off its tree
@@ -934,7 +946,7 @@ fn measure_calls(crossings: &[Crossing]) -> Result<(), Failed> {
 fn main() -> ExitCode {
     let Some(options) = Options::read(env::args().skip(1)) else {
         eprintln!(
-            "usage: speed [--check] [--only WORKLOAD] [--side ours|peer] [--what items|item_refs|messages|encode|encode_into|encode_spare|encode_shared|payloads|headers] [--chunk N] [--row NAME] [--size N] [--rounds N] [--protocol 5..9]"
+            "usage: speed [--check] [--only WORKLOAD] [--side ours|peer] [--what items|item_refs|messages|encode|encode_into|encode_spare|encode_shared|encode_held|payloads|headers] [--chunk N] [--row NAME] [--size N] [--rounds N] [--protocol 5..9]"
         );
         return ExitCode::from(2);
     };
