@@ -107,6 +107,12 @@ pub count_more_fits : (p : Item → Bool) (items : List Item) (item : Item) (cou
     → items_size items < 2 ^ 127 → count ≡ count_by p items → more ≡ cond (p item) 1 0 → count + more < 2 ^ 128
 count_more_fits p items item count more small is one = rw (is, one) (count_fits p items (cond (p item) 1 0) small (one_at_most (p item)))
 
+-- a count that nothing has changed has room for one more, where a test says so
+pub count_next_fits : (p : Item → Bool) (items : List Item) (item : Item) (old count : ℕ) (test : Bool)
+    → items_size items < 2 ^ 127 → old ≡ count_by p items → count ≡ old → test ≡ p item → count + cond test 1 0 < 2 ^ 128
+count_next_fits p items item old count test small is kept tested =
+    count_more_fits p items item count (cond test 1 0) small (kept ∙ is) (ap (λ b. cond b 1 0) tested)
+
 -- what is noted of one item more is the survey of it and those before
 pub survey_next : (version : Version) (is_strict : Bool) (items : List Item) (item : Item) (old : Survey) (fault : Option Fault)
     → old ≡ survey_of version is_strict items 0 → fault ≡ fault_with old (is_malformed version old.is_strict item) item

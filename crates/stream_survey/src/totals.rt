@@ -67,31 +67,14 @@ impl Survey {
     {
         let is_next_command = is_command(item);
         let is_next_malformed = is_malformed(version, self.is_strict, item);
-        let fault = self.fault_with(is_next_malformed, item);
-        let Survey {
-            is_strict,
-            size,
-            commands,
-            last_command,
-            others,
-            unknown,
-            skipped,
-            malformed,
-            rest,
-            fault: _,
-        } = *self;
-        *self = Survey {
-            is_strict,
-            size: size + item_size(item),
-            commands: commands + one_if(is_next_command),
-            last_command: last_of(is_next_command, size, last_command),
-            others: others + one_if(is_other(item)),
-            unknown: unknown + one_if(is_unknown(item)),
-            skipped: skipped + one_if(is_skipped(item)),
-            malformed: malformed + one_if(is_next_malformed),
-            rest,
-            fault,
-        };
+        self.note_fault(is_next_malformed, item);
+        self.last_command = last_of(is_next_command, self.size, self.last_command);
+        count(&mut self.commands, is_next_command);
+        count(&mut self.others, is_other(item));
+        count(&mut self.unknown, is_unknown(item));
+        count(&mut self.skipped, is_skipped(item));
+        count(&mut self.malformed, is_next_malformed);
+        self.size += item_size(item);
     }
 
     /// The survey of a whole stream, of whose end this many bytes are in no item.
@@ -117,14 +100,12 @@ impl Survey {
         })
     }
 
-    /// The first fault of the items so far and one more, which is malformed or not.
-    fn fault_with(&self, is_malformed: bool, item: &Item) -> Option<Fault>
-        ensures { result ≡ fault_with self.now is_malformed item.now }
+    /// Keeps the first fault of the items so far and one more, which is malformed or not.
+    fn note_fault(&mut self, is_malformed: bool, item: &Item)
+        ensures { self.new ≡ record self.old { fault = fault_with self.old is_malformed item.now } }
     {
         if self.is_strict && self.fault.is_none() {
-            fault_at(self.size, is_malformed, item)
-        } else {
-            self.fault
+            self.fault = fault_at(self.size, is_malformed, item);
         }
     }
 }
@@ -188,9 +169,12 @@ fn last_of(is_command: bool, offset: u128, before: Option<u128>) -> Option<u128>
     if is_command { Some(offset) } else { before }
 }
 
-/// What is added to a count.
-fn one_if(is_counted: bool) -> u128
-    ensures { result ≡ (if is_counted then 1 else 0) }
+/// Adds one to a count, or nothing: most counts stay as they are, and are not written again.
+fn count(count: &mut u128, is_counted: bool)
+    requires { count.old + (if is_counted then 1 else 0) < 2 ^ 128 }
+    ensures { count.new ≡ count.old + (if is_counted then 1 else 0) }
 {
-    if is_counted { 1 } else { 0 }
+    if is_counted {
+        *count += 1;
+    }
 }
