@@ -4,12 +4,20 @@
 
 ghost use Rattle.journal_c_api.specs.Outcomes.{Returns, Writes};
 ghost use Rattle.journal_c_api.specs.Payloads.{ReturnsFrame, ReturnsWellFormed};
-ghost use Rattle.measured_c_api.specs.Comparisons.{ReturnsComparisons};
-ghost use Rattle.measured_c_api.specs.Streams.{ReturnsItems, ReturnsMessages};
+ghost use Rattle.bench_ffi.specs.Comparisons.{ReturnsComparisons};
+ghost use Rattle.bench_ffi.specs.Streams.{ReturnsItems, ReturnsMessages};
 
+mod chunked_stream;
+mod commands;
+mod frames;
+mod item_refs;
+mod messages;
+mod payloads;
+mod rounds;
+mod streams;
+
+use crate::frames::{Buffer, Rounds};
 use journal_c_api::outcome::outcome_of;
-use measured_c_api::frames::{Buffer, Rounds};
-use measured_c_api::{commands, frames, item_refs, payloads, streams};
 use std::alloc::Global;
 
 /// Reads a stream of a version from 5 to 9, which comes in chunks of this many bytes (0: in one chunk), and writes a

@@ -1,0 +1,16 @@
+use Rattle.std.proofs.Common.{◌≡◌, ◌+◌, ◌≤◌, List, length}
+use Rattle.shared_core.specs.declared.encoding.item.Item.{Item}
+use Rattle.shared_core.specs.Items.{IsItemsThen}
+use Rattle.shared_core_message.specs.Messages.{message_schema}
+use Rattle.bench_ffi.specs.Chunks.{untaken}
+use Rattle.bench_ffi.specs.Streams.{AllDecode, count_with}
+use Rattle.bench_ffi.proofs.streams.decode_all.Given as goal
+
+abbrev pub invariant-loop-chunked : goal.invariant-loop-chunked
+invariant-loop-chunked l =
+    (l.chunked.version ≡ l.fn.version) × (l.count + length (untaken l.chunked) ≤ length l.stream)
+    × (items : List Item) × IsItemsThen l.fn.version l.stream items (untaken l.chunked)
+    × (l.count ≡ count_with message_schema items) × AllDecode message_schema items
+
+abbrev pub decreases-loop-chunked : goal.decreases-loop-chunked
+decreases-loop-chunked l = length (untaken l.chunked)
