@@ -3,6 +3,7 @@
 
 mod arguments;
 mod colors;
+mod definitions;
 mod input;
 mod pipe;
 mod progress;
@@ -14,6 +15,7 @@ ghost use Rattle.std.specs.Process.{exit_status};
 
 pub use crate::arguments::{ArgumentsError, read_arguments};
 pub use crate::colors::{ColorChoice, Style, color_of, color_option, has_color, paint};
+pub use crate::definitions::{flag, operand};
 pub use crate::input::{Input, OpenError, input_size, open};
 pub use crate::pipe::Pipe;
 pub use crate::progress::{Progress, Watched};

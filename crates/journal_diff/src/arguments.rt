@@ -4,8 +4,10 @@ ghost use Rattle.std.specs.Prelude.{◌≤◌, IfOk};
 ghost use Rattle.shared_core_base.specs.Version.{version_number};
 
 use clap::error::ErrorKind;
-use clap::{Arg, ArgAction, Command, Error};
-use command_line::{ColorChoice, color_of, color_option, protocol_of, protocol_option};
+use clap::{Command, Error};
+use command_line::{
+    ColorChoice, color_of, color_option, flag, operand, protocol_of, protocol_option,
+};
 use shared_core::version::Version;
 use std::alloc::{AllocError, Global};
 
@@ -30,45 +32,36 @@ pub struct Arguments<'a> {
 
 /// The clap definition of the command line.
 fn command<'a>(alloc: Global) -> Result<Command<'a>, AllocError> {
-    let recorded = Arg::new(alloc, "recorded")
-        .value_name("RECORDED")
-        .required(true)
-        .help("The journal that was recorded: a file, or - for the standard input");
-    let replayed = Arg::new(alloc, "replayed")
-        .value_name("REPLAYED")
-        .required(true)
-        .help("The journal that is replayed: a file, or - for the standard input");
-    let protocol = protocol_option(
-        alloc,
-        "The version of the protocol of both journals",
-    ).default_value("8");
-    let ignore_payloads = Arg::new(alloc, "ignore-payloads")
-        .long("ignore-payloads")
-        .action(ArgAction::SetTrue)
-        .help("Compares all but payloads");
-    let strict = Arg::new(alloc, "strict")
-        .long("strict")
-        .action(ArgAction::SetTrue)
-        .help(
-            "Unknown headers, malformed payloads and bytes after the last whole item are trouble",
-        );
-    let json = Arg::new(alloc, "json")
-        .long("json")
-        .action(ArgAction::SetTrue)
-        .help("Prints the verdict as a line of JSON");
-    let color = color_option(alloc);
     Command::new(alloc, "journal_diff")
         .version("0.1.0")
         .about(
             "Compares two journals, command by command. Ends with 0 where they are the same, 1 where they differ, and 2 where there is trouble.",
         )
-        .arg(ignore_payloads)?
-        .arg(strict)?
-        .arg(json)?
-        .arg(color)?
-        .arg(protocol)?
-        .arg(recorded)?
-        .arg(replayed)
+        .arg(flag(alloc, "ignore-payloads", "Compares all but payloads"))?
+        .arg(flag(
+            alloc,
+            "strict",
+            "Unknown headers, malformed payloads and bytes after the last whole item are trouble",
+        ))?
+        .arg(flag(alloc, "json", "Prints the verdict as a line of JSON"))?
+        .arg(color_option(alloc))?
+        .arg(protocol_option(alloc, "The version of the protocol of both journals").default_value(
+            "8",
+        ))?
+        .arg(operand(
+            alloc,
+            "recorded",
+            "RECORDED",
+            "The journal that was recorded: a file, or - for the standard input",
+        )
+        .required(true))?
+        .arg(operand(
+            alloc,
+            "replayed",
+            "REPLAYED",
+            "The journal that is replayed: a file, or - for the standard input",
+        )
+        .required(true))
 }
 
 /// Parses the arguments, the program's name first. The error is an invalid argument, or a request for the help or the

@@ -5,7 +5,7 @@ ghost use Rattle.shared_core_base.specs.Version.{version_number};
 
 use clap::error::ErrorKind;
 use clap::{Arg, ArgAction, Command, Error};
-use command_line::{protocol_of, protocol_option};
+use command_line::{flag, operand, protocol_of, protocol_option};
 use shared_core::header::MessageType;
 use shared_core::version::Version;
 use std::alloc::{AllocError, Global};
@@ -75,45 +75,45 @@ fn unknown_type(alloc: Global, name: &str) -> Result<String, AllocError> {
 
 /// The clap definition of the command line.
 fn command<'a>(alloc: Global) -> Result<Command<'a>, AllocError> {
-    let protocol = protocol_option(
-        alloc,
-        "The version of the protocol of the stream",
-    ).default_value("8");
-    let types = Arg::new(alloc, "type")
-        .long("type")
-        .value_name("NAME")
-        .action(ArgAction::Append)
-        .help("Shows messages of this type alone, or of several, with commas between");
-    let no_payload = Arg::new(alloc, "no-payload")
-        .long("no-payload")
-        .action(ArgAction::SetTrue)
-        .help("Leaves out what is in messages");
-    let pretty = Arg::new(alloc, "pretty")
-        .long("pretty")
-        .action(ArgAction::SetTrue)
-        .help("Prints each object on several lines, indented, for people to read");
-    let strict = Arg::new(alloc, "strict")
-        .long("strict")
-        .action(ArgAction::SetTrue)
-        .help("Ends with status 2 if there is an unknown code, a malformed payload or a rest");
-    let text = Arg::new(alloc, "text")
-        .long("text")
-        .action(ArgAction::SetTrue)
-        .help("Prints bytes that are UTF-8 as an object with their text, and not in base64");
-    let path = Arg::new(alloc, "file")
-        .value_name("FILE")
-        .default_value("-")
-        .help("The stream: a file, or - for the standard input");
     Command::new(alloc, "journal_dump")
         .version("0.1.0")
         .about("Prints a stream of the protocol as JSON, one object a line for each of its items.")
-        .arg(no_payload)?
-        .arg(pretty)?
-        .arg(protocol)?
-        .arg(strict)?
-        .arg(text)?
-        .arg(types)?
-        .arg(path)
+        .arg(flag(alloc, "no-payload", "Leaves out what is in messages"))?
+        .arg(flag(
+            alloc,
+            "pretty",
+            "Prints each object on several lines, indented, for people to read",
+        ))?
+        .arg(protocol_option(alloc, "The version of the protocol of the stream").default_value(
+            "8",
+        ))?
+        .arg(flag(
+            alloc,
+            "strict",
+            "Ends with status 2 if there is an unknown code, a malformed payload or a rest",
+        ))?
+        .arg(flag(
+            alloc,
+            "text",
+            "Prints bytes that are UTF-8 as an object with their text, and not in base64",
+        ))?
+        .arg(type_option(alloc))?
+        .arg(operand(
+            alloc,
+            "file",
+            "FILE",
+            "The stream: a file, or - for the standard input",
+        )
+        .default_value("-"))
+}
+
+/// The option `--type`, which may come several times.
+fn type_option<'a>(alloc: Global) -> Arg<'a> {
+    Arg::new(alloc, "type")
+        .long("type")
+        .value_name("NAME")
+        .action(ArgAction::Append)
+        .help("Shows messages of this type alone, or of several, with commas between")
 }
 
 /// Parses the arguments after the program's name. The error is an invalid argument, or a request for the help or the

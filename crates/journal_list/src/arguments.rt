@@ -5,8 +5,8 @@ ghost use Rattle.journal_list.specs.Options.{IsAccepted};
 
 use crate::options::options;
 use clap::error::ErrorKind;
-use clap::{Arg, Command, Error};
-use command_line::{protocol_of, protocol_option};
+use clap::{Command, Error};
+use command_line::{operand, protocol_of, protocol_option};
 use shared_core::version::Version;
 use std::alloc::{AllocError, Global};
 
@@ -42,26 +42,26 @@ fn can_be_path(word: &str) -> bool {
 
 /// The clap definition of the command line.
 fn command<'a>(alloc: Global) -> Result<Command<'a>, AllocError> {
-    let protocol = protocol_option(
-        alloc,
-        "The version of the protocol of the stream, which is 8 without it",
-    );
-    let path = Arg::new(alloc, "file").value_name("FILE").help(
-        "The stream: a file, or - or nothing for the standard input",
-    );
-    let bytes = Arg::new(alloc, "bytes").value_name("BYTES").help(
-        "The number of bytes that are read at a time, from 1 to 65536",
-    );
-    let newest = Arg::new(alloc, "v9")
-        .value_name("v9")
-        .help("The same as --protocol 9");
     Command::new(alloc, "journal_list")
         .version("0.1.0")
         .about("Lists a stream of the protocol, a line for each of its items.")
-        .arg(protocol)?
-        .arg(path)?
-        .arg(bytes)?
-        .arg(newest)
+        .arg(protocol_option(
+            alloc,
+            "The version of the protocol of the stream, which is 8 without it",
+        ))?
+        .arg(operand(
+            alloc,
+            "file",
+            "FILE",
+            "The stream: a file, or - or nothing for the standard input",
+        ))?
+        .arg(operand(
+            alloc,
+            "bytes",
+            "BYTES",
+            "The number of bytes that are read at a time, from 1 to 65536",
+        ))?
+        .arg(operand(alloc, "v9", "v9", "The same as --protocol 9"))
 }
 
 /// What arguments without options say.

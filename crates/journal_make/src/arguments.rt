@@ -1,7 +1,7 @@
 //! Parsing the command line.
 
-use clap::{Arg, Command, Error};
-use command_line::{protocol_of, protocol_option};
+use clap::{Command, Error};
+use command_line::{operand, protocol_of, protocol_option};
 use shared_core::version::Version;
 use std::alloc::{AllocError, Global};
 
@@ -16,19 +16,19 @@ pub struct Arguments<'a> {
 
 /// The clap definition of the command line.
 fn command<'a>(alloc: Global) -> Result<Command<'a>, AllocError> {
-    let protocol = protocol_option(
-        alloc,
-        "The version of the protocol of the stream",
-    ).default_value("8");
-    let path = Arg::new(alloc, "file")
-        .value_name("FILE")
-        .default_value("-")
-        .help("The lines: a file, or - for the standard input");
     Command::new(alloc, "journal_make")
         .version("0.1.0")
         .about("Makes a stream of the protocol of JSON, one object a line for each of its items.")
-        .arg(protocol)?
-        .arg(path)
+        .arg(protocol_option(alloc, "The version of the protocol of the stream").default_value(
+            "8",
+        ))?
+        .arg(operand(
+            alloc,
+            "file",
+            "FILE",
+            "The lines: a file, or - for the standard input",
+        )
+        .default_value("-"))
 }
 
 /// Parses the arguments, the program's name first. The error is an invalid argument, or a request for the help or the

@@ -5,7 +5,7 @@ use anyhow::Result;
 use bytes::Bytes;
 use shared_core::encoding::{Decoder, Encoder, Item};
 use shared_core::header::MessageType;
-use shared_core::messages::{SetStateCommandMessage, StartMessage, Value};
+use shared_core::messages::{EndMessage, SetStateCommandMessage, Value};
 use shared_core::version::Version;
 use shared_core::wire::WireRecord;
 use std::alloc::Global;
@@ -17,15 +17,15 @@ fn value(content: &'static [u8]) -> Option<Value> {
     })
 }
 
-/// A stream of two messages: the start, and a command that sets the state `count` to 1.
+/// A stream of two messages: a command that sets the state `count` to 1, and the end.
 fn recorded(alloc: Global) -> Result<Vec<u8>> {
     let encoder = Encoder::new(Version::V8);
     let mut command = SetStateCommandMessage::empty(alloc);
     command.key = Bytes::from_static(b"count");
     command.value = value(b"1");
     let mut stream = Vec::new(alloc);
-    encoder.encode_into(&StartMessage::empty(alloc), &mut stream)?;
     encoder.encode_into(&command, &mut stream)?;
+    encoder.encode_into(&EndMessage::empty(alloc), &mut stream)?;
     Ok(stream)
 }
 

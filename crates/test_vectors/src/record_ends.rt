@@ -33,17 +33,20 @@ fn after_record(bytes: &[u8]) -> Option<&[u8]> {
     }
 }
 
-/// The number that the bytes begin with, groups of seven bits with the least first, and the bytes after it.
+/// The number that the bytes begin with, at most ten groups of seven bits with the least first, and the bytes after it.
 fn split_varint(bytes: &[u8]) -> Option<(u64, &[u8])> {
     let mut number = 0u64;
     let mut scale = 1u64;
-    for (index, byte) in bytes.iter().enumerate() {
+    let mut rest = bytes;
+    for _ in 0..10 {
+        let (byte, after) = rest.split_first()?;
         let group = u64::from(*byte % 128).checked_mul(scale)?;
         number = number.checked_add(group)?;
         if *byte < 128 {
-            return Some((number, bytes.get(index + 1..)?));
+            return Some((number, after));
         }
         scale = scale.checked_mul(128)?;
+        rest = after;
     }
     None
 }
