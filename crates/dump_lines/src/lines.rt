@@ -29,7 +29,7 @@ use shared_core::encoding::{Decoder, Item, RawMessage};
 use shared_core::header::MessageType;
 use shared_core::messages::schema_at;
 use shared_core::wire::is_well_formed;
-use shared_core_json::{JsonError, write_byte_string, write_message_with};
+use shared_core_json::{JsonError, write_byte_string, write_encoding};
 use std::alloc::{AllocError, Global};
 use std::mem;
 use stream_lines::{LinePrinter, PrintError, Trouble};
@@ -328,7 +328,7 @@ fn write_payload(
         Ok(Some(schema)) => {
             out.key("message")?;
             let canonical = scratch.canonical.as_slice();
-            write_message_with(out, &mut scratch.text, options.texts, schema, canonical)?;
+            write_encoding(out, &mut scratch.text, options.texts, schema, canonical)?;
         }
         Ok(None) => write_bytes(out, options.texts, payload, &mut scratch.text)?,
         Err(JsonError::Malformed) => {

@@ -15,7 +15,7 @@ use shared_core::messages::{RecordVisitor, visit_record};
 use shared_core::wire::{WireRecord, decode_parts};
 use shared_core_codec::canonical::is_canonical;
 use shared_core_codec::check;
-use shared_core_json::{write_canonical as encode_canonical, write_message};
+use shared_core_json::{write_canonical as encode_canonical, write_encoding};
 use std::alloc::{AllocError, Global};
 use std::fmt::Debug;
 
@@ -155,12 +155,13 @@ fn json(alloc: Global, schema: u32, payload: &[u8]) -> Result<Vec<u8>, CallError
 
 /// The JSON of what a canonical payload means.
 fn print(alloc: Global, schema: u32, canonical: &[u8]) -> Result<Vec<u8>, AllocError>
+    requires { (v : Parts) × IsEncoding schema v canonical.now }
     ensures { IfOk result (λ text. (v : Parts) → IsEncoding schema v canonical.now
         → text.items ≡ json_text schema v) }
 {
     let mut text = Writer::new(Vec::new(alloc));
     let mut base64 = String::new(alloc);
-    write_message(&mut text, &mut base64, schema, canonical)?;
+    write_encoding(&mut text, &mut base64, false, schema, canonical)?;
     Ok(text.into_inner())
 }
 

@@ -3,5 +3,6 @@ pub mod InRows
 pub mod Walk
 pub mod Lookup
 pub mod Members
+pub mod Known
 pub mod Levels
 pub mod Payloads

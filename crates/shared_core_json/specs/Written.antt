@@ -1,5 +1,6 @@
 -- The tokens that are written for the records of a payload, one after the other.
-use Rattle.std.specs.Prelude.{ℕ, zero, suc, ◌-◌, ◌%◌, Bool, not, List, [], ◌∷◌, ◌++◌, map, length, decimal, nat_eq, ◌==◌, if◌then◌else◌, Option, Some, None, Result, Ok, Err}
+use Rattle.std.specs.Prelude.{◌≡◌, true, false, ℕ, zero, suc, ◌-◌, ◌%◌, Bool, not, List, [], ◌∷◌, ◌++◌, map, length, decimal, nat_eq, ◌==◌, if◌then◌else◌, Option, Some, None, Result, Ok, Err}
+use Rattle.std.specs.List.{list_all}
 use Rattle.std.specs.Str.{is_utf8}
 use Rattle.json.specs.Token.{Token, begin_object, end_object, begin_array, end_array, key, string, number, boolean, null}
 use Rattle.json.specs.Tree.{json_tokens}
@@ -63,6 +64,15 @@ value_tokens texts nested k (Length bytes) = length_tokens texts nested k bytes
 value_tokens texts nested k (Fixed64 bytes) = null ∷ []
 value_tokens texts nested k (Group bytes) = null ∷ []
 value_tokens texts nested k (Fixed32 bytes) = null ∷ []
+
+-- Whether a token is not null.
+abbrev pub is_not_null : Token → Bool
+is_not_null null = false
+is_not_null t = true
+
+-- If texts are known to be UTF-8, so is each text that tokens are written for: none of them is null.
+abbrev pub IsKnown : Bool → List Token → Type 0
+IsKnown is_checked tokens = is_checked ≡ true → list_all is_not_null tokens ≡ true
 
 -- The end of the open list: that of the field of this number, or none if it is 0.
 abbrev pub end_tokens : ℕ → List Token

@@ -15,7 +15,7 @@ ghost use Rattle.shared_core_json.specs.Payloads.{IsEncoding, IsTooLong};
 ghost use Rattle.shared_core_json.specs.declared.error.JsonError.TheVariants.{Malformed, TooLong};
 
 use crate::error::JsonError;
-use crate::write::write_message;
+use crate::write::write_encoding;
 use bytes::Bytes;
 use json::Writer;
 use shared_core_codec::canonical::is_canonical;
@@ -84,6 +84,7 @@ pub fn json_of<M: WireRecord>(
 
 /// Returns the JSON of what a canonical payload means.
 fn print(alloc: Global, schema: u32, canonical: &[u8]) -> Result<Vec<u8>, AllocError>
+    requires { (v : Parts) × IsEncoding schema v canonical.now }
     ensures text { IfOk result (λ text. (v : Parts) → IsEncoding schema v canonical.now
         → text.items ≡ json_text schema v) }
     ensures utf8 { IfOk result (λ text. IsUtf8 text.items) }
@@ -92,6 +93,6 @@ fn print(alloc: Global, schema: u32, canonical: &[u8]) -> Result<Vec<u8>, AllocE
 {
     let mut out = Writer::new(Vec::new(alloc));
     let mut base64 = String::new(alloc);
-    write_message(&mut out, &mut base64, schema, canonical)?;
+    write_encoding(&mut out, &mut base64, false, schema, canonical)?;
     Ok(out.into_inner())
 }

@@ -7,13 +7,14 @@ ghost use Rattle.json.specs.Json.{object, string, member, no_members};
 ghost use Rattle.json.specs.Tree.{json_tokens};
 ghost use Rattle.base64.specs.GeneralPurpose.{encode_of};
 ghost use Rattle.base64.specs.Engines.{standard};
+ghost use Rattle.shared_core_wire.specs.Value.{Parts};
 ghost use Rattle.shared_core_wire.specs.View.{value_of};
 ghost use Rattle.shared_core_codec.specs.ProgramRows.{kind_view};
 ghost use Rattle.shared_core_json.specs.Form.{enum_digits, byte_string_json};
 ghost use Rattle.shared_core_json.specs.Fields.{field_view, schema_fields, field_numbered};
-ghost use Rattle.shared_core_json.specs.Payloads.{WritesJson};
+ghost use Rattle.shared_core_json.specs.Payloads.{IsEncoding, WritesJson};
 ghost use Rattle.shared_core_json.specs.Written.{low, varint_token, run_tokens};
-ghost use Rattle.shared_core_json.specs.Written.{text_token, length_tokens, value_tokens, end_tokens};
+ghost use Rattle.shared_core_json.specs.Written.{text_token, length_tokens, value_tokens, end_tokens, IsKnown};
 ghost use Rattle.shared_core_json.specs.Written.{lead_tokens, record_tokens, next_open_list, payload_tokens};
 
 use crate::fields::{Field, find_field};
@@ -29,23 +30,20 @@ use std::alloc::AllocError;
 /// How deep messages may be nested, the outermost included: a payload has depths 0 to 100, and the walk needs one more.
 const LEVELS: u32 = 102;
 
-/// Writes the JSON of the value of a schema whose canonical payload this is (what it writes for another payload is
-/// unspecified). `base64` is a buffer that is overwritten. If an allocation fails, some tokens may be written.
-pub fn write_message(
-    out: &mut Writer,
-    base64: &mut String,
-    schema: u32,
-    canonical: &[u8],
-) -> Result<(), AllocError>
-    ensures tokens { OnOk result (WritesJson false schema canonical.now out.old.tokens out.new.tokens) }
-    ensures before { out.new.before ≡ out.old.before }
-{
-    write_message_with(out, base64, false, schema, canonical)
+/// How a payload is written.
+#[derive(Clone, Copy)]
+struct Form {
+    /// Whether bytes that are UTF-8 are written as texts.
+    texts: bool,
+    /// Whether the texts of the payload are known to be UTF-8. Others are checked where they are written.
+    is_checked: bool,
 }
 
-/// Does what `write_message` does; if `texts` is given, bytes that are UTF-8 are not written in base64, but as the
-/// object `{"text":".."}`, which proto3's JSON form does not have.
-pub fn write_message_with(
+/// Writes the JSON of the value of a schema whose canonical payload this is (what it writes for another payload is
+/// unspecified). If `texts` is given, bytes that are UTF-8 are not written in base64, but as the object
+/// `{"text":".."}`, which proto3's JSON form does not have. `base64` is a buffer that is overwritten. If an allocation
+/// fails, some tokens may be written.
+pub fn write_message(
     out: &mut Writer,
     base64: &mut String,
     texts: bool,
@@ -55,7 +53,30 @@ pub fn write_message_with(
     ensures tokens { OnOk result (WritesJson texts schema canonical.now out.old.tokens out.new.tokens) }
     ensures before { out.new.before ≡ out.old.before }
 {
-    write_payload(out, base64, texts, schema, canonical, LEVELS)
+    let form = Form {
+        texts,
+        is_checked: false,
+    };
+    write_payload(out, base64, form, schema, canonical, LEVELS)
+}
+
+/// Does what `write_message` does for a payload that is known to be canonical. Its texts are not checked again.
+pub fn write_encoding(
+    out: &mut Writer,
+    base64: &mut String,
+    texts: bool,
+    schema: u32,
+    canonical: &[u8],
+) -> Result<(), AllocError>
+    requires { (v : Parts) × IsEncoding schema v canonical.now }
+    ensures tokens { OnOk result (WritesJson texts schema canonical.now out.old.tokens out.new.tokens) }
+    ensures before { out.new.before ≡ out.old.before }
+{
+    let encoding = Form {
+        texts,
+        is_checked: true,
+    };
+    write_payload(out, base64, encoding, schema, canonical, LEVELS)
 }
 
 /// Writes a payload as an object; it may be nested this deep, itself included.
@@ -63,12 +84,14 @@ pub fn write_message_with(
 fn write_payload(
     out: &mut Writer,
     base64: &mut String,
-    texts: bool,
+    form: Form,
     schema: u32,
     payload: &[u8],
     levels: u32,
 ) -> Result<(), AllocError>
-    ensures tokens { OnOk result (out.new.tokens ≡ out.old.tokens ++ payload_tokens texts levels schema payload.now) }
+    requires known { IsKnown form.is_checked (payload_tokens form.texts levels schema payload.now) }
+    ensures tokens { OnOk result (out.new.tokens
+        ≡ out.old.tokens ++ payload_tokens form.texts levels schema payload.now) }
     ensures before { out.new.before ≡ out.old.before }
 {
     if levels == 0 {
@@ -78,7 +101,7 @@ fn write_payload(
     let mut open_list = 0;
     for item in Records::within(payload, levels - 1) {
         if let Ok(found) = item {
-            open_list = write_record(out, base64, texts, schema, &found, open_list, levels - 1)?;
+            open_list = write_record(out, base64, form, schema, &found, open_list, levels - 1)?;
         }
     }
     end_list(out, open_list)?;
@@ -91,14 +114,16 @@ fn write_payload(
 fn write_record(
     out: &mut Writer,
     base64: &mut String,
-    texts: bool,
+    form: Form,
     schema: u32,
     found: &Record<'_>,
     open_list: u32,
     left: u32,
 ) -> Result<u32, AllocError>
+    requires known { IsKnown form.is_checked (record_tokens form.texts (payload_tokens form.texts left) open_list
+        (field_numbered (schema_fields schema) found.now.number) (value_of found.now.value)) }
     ensures tokens { OnOk result (out.new.tokens ≡ out.old.tokens
-        ++ record_tokens texts (payload_tokens texts left) open_list
+        ++ record_tokens form.texts (payload_tokens form.texts left) open_list
         (field_numbered (schema_fields schema) found.now.number) (value_of found.now.value)) }
     ensures open_list { IfOk result (λ now. now ≡ next_open_list open_list
         (field_numbered (schema_fields schema) found.now.number)) }
@@ -110,7 +135,7 @@ fn write_record(
     if open_list != field.number {
         begin_member(out, schema, &field, open_list)?;
     }
-    write_value(out, base64, texts, field.kind, found.value, left)?;
+    write_value(out, base64, form, field.kind, found.value, left)?;
     Ok(if field.is_element { field.number } else { 0 })
 }
 
@@ -150,22 +175,24 @@ fn end_list(out: &mut Writer, open_list: u32) -> Result<(), AllocError>
 fn write_value(
     out: &mut Writer,
     base64: &mut String,
-    texts: bool,
+    form: Form,
     kind: Kind,
     value: WireValue<'_>,
     left: u32,
 ) -> Result<(), AllocError>
+    requires known { IsKnown form.is_checked (value_tokens form.texts (payload_tokens form.texts left)
+        (kind_view kind) (value_of value)) }
     ensures tokens { OnOk result (out.new.tokens ≡ out.old.tokens
-        ++ value_tokens texts (payload_tokens texts left) (kind_view kind) (value_of value.entry)) }
+        ++ value_tokens form.texts (payload_tokens form.texts left) (kind_view kind) (value_of value.entry)) }
     ensures before { out.new.before ≡ out.old.before }
 {
     match value {
         WireValue::Varint(number) => write_varint(out, kind, number),
         WireValue::Length(bytes) => match kind {
             Kind::U32 => write_run(out, bytes),
-            Kind::Text => write_text(out, bytes),
-            Kind::ByteString => write_byte_string(out, base64, texts, bytes),
-            Kind::Message(schema) => write_payload(out, base64, texts, schema, bytes, left),
+            Kind::Text => write_text(out, form.is_checked, bytes),
+            Kind::ByteString => write_byte_string(out, base64, form.texts, bytes),
+            Kind::Message(schema) => write_payload(out, base64, form, schema, bytes, left),
             _ => out.null(),
         },
         _ => out.null(),
@@ -213,10 +240,15 @@ fn write_run(out: &mut Writer, run: &[u8]) -> Result<(), AllocError>
 }
 
 /// Writes a text, with JSON's escapes.
-fn write_text(out: &mut Writer, bytes: &[u8]) -> Result<(), AllocError>
+fn write_text(out: &mut Writer, is_checked: bool, bytes: &[u8]) -> Result<(), AllocError>
+    requires known { IsKnown is_checked (text_token bytes.now ∷ []) }
     ensures tokens { OnOk result (out.new.tokens ≡ out.old.tokens ++ text_token bytes.now ∷ []) }
     ensures before { out.new.before ≡ out.old.before }
 {
+    if is_checked {
+        // the caller knows that it is UTF-8
+        return out.string(unsafe { std::str::from_utf8_unchecked(bytes) });
+    }
     match std::str::from_utf8(bytes) {
         Ok(text) => out.string(text),
         Err(_) => out.null(),

@@ -12,16 +12,16 @@ use Rattle.shared_core.specs.Visiting.{schema_at}
 use Rattle.dump_lines.proofs.Tokens.{then_tokens, shown_message, shown_malformed}
 use Rattle.dump_lines.proofs.lines.write_payload.Goals as goal
 
-pub returns-in_ok-write_message_with-in-Ok-Some-clause-tokens : goal.returns-in_ok-write_message_with-in-Ok-Some-clause-tokens
-returns-in_ok-write_message_with-in-Ok-Some-clause-tokens c =
+pub returns-in_ok-write_encoding-in-Ok-Some-clause-tokens : goal.returns-in_ok-write_encoding-in-Ok-Some-clause-tokens
+returns-in_ok-write_encoding-in-Ok-Some-clause-tokens c =
     let s = c.in-Ok-Some.schema in
     let payload = c.args.payload.now in
     let found : ReturnsEncoding (schema_at c.args.options.now.version c.args.ty) payload c.canonical_of.new.canonical.items (Ok (Some s)) = search rules in
-    let written : WritesJson c.args.options.now.texts s c.as_slice-canonical.result.now c.key.new.self.tokens c.write_message_with.new.out.tokens = search rules in
+    let written : WritesJson c.args.options.now.texts s c.as_slice-canonical.result.now c.key.new.self.tokens c.write_encoding.new.out.tokens = search rules in
     let name : c.key.new.self.tokens ≡ c.args.out.now.tokens ++ (key (codes "message") ∷ []) = search rules in
     let encoding : IsEncoding s (payload_meaning s payload) c.as_slice-canonical.result.now = rw c.as_slice-canonical.ensures.value found.2 in
     let json = json_tokens (json_with c.args.options.now.texts s (payload_meaning s payload)) in
-    then_tokens c.key.new.self.tokens c.write_message_with.new.out.tokens json (end_object ∷ []) (written (payload_meaning s payload) encoding)
+    then_tokens c.key.new.self.tokens c.write_encoding.new.out.tokens json (end_object ∷ []) (written (payload_meaning s payload) encoding)
     ∙ then_tokens c.args.out.now.tokens c.key.new.self.tokens (key (codes "message") ∷ []) (json ++ (end_object ∷ [])) name
     ∙ ap (λ (ms : Members). c.args.out.now.tokens ++ members_tokens ms) (sym (shown_message c.args.options.now.texts (schema_at c.args.options.now.version c.args.ty) s payload found.0 found.1))
 

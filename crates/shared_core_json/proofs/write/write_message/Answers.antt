@@ -1,7 +1,7 @@
 use Rattle.std.proofs.Common.{◌<◌, ◌^◌, length, rules}
 use Rattle.shared_core_json.proofs.Payloads.{encoding_written}
 use Rattle.shared_core_json.proofs.Walk.{on_ok}
-use Rattle.shared_core_json.proofs.write.write_message_with.Goals as goal
+use Rattle.shared_core_json.proofs.write.write_message.Goals as goal
 
 pub returns-clause-tokens : goal.returns-clause-tokens
 returns-clause-tokens c =
