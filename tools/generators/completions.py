@@ -31,42 +31,65 @@ WORDS = {"BYTES": "':bytes:'", "v9": "':version:(v9)'"}
 COMMON = {"help": "Print help", "version": "Print version"}
 
 
-def declarations(path):
-    """What a file declares: the code of each argument, for a shared one with its own help after the shared code."""
-    text = (ROOT / path).read_text(encoding="utf-8")
-    for name, declared in re.findall(r"(?:= |^ *)(Arg::new|\w+_option)\((.*?);\n", text, re.M | re.S):
-        if name in SHARED:
-            shared = (ROOT / SHARED[name]).read_text(encoding="utf-8")
-            declared = shared + re.sub(r'^\s*alloc,\s*"', '.help("', declared)
-        yield declared
-
-
 class Option:
-    """An option of a program: its name, the name of its value, whether it may be repeated, and what it does."""
+    """An argument of a program: its name if it is an option, the name of its value, what it does, its values."""
 
-    def __init__(self, declared):
-        found = dict(re.findall(r'\.(long|value_name|help)\(\s*"([^"]*)",?\s*\)', declared))
-        self.name = found.get("long")
-        self.value = found.get("value_name")
-        self.help = found["help"]
-        self.is_repeated = "ArgAction::Append" in declared
-        self.has_versions = "supported_numbers" in declared
-        named = re.search(r"\.value_parser\(&\[(.*?)\]", declared, re.S)
-        self.values = re.findall(r'"([^"]*)"', named[1]) if named else []
+    def __init__(self, name, value, help, code=""):
+        self.name = name
+        self.value = value
+        self.help = help
+        self.is_repeated = "ArgAction::Append" in code
+        self.has_versions = "supported_numbers" in code
+        named = re.search(r"\.value_parser\(&\[(.*?)\]", code, re.S)
+        self.values = texts_of(named[1]) if named else []
+
+
+def texts_of(code):
+    """The string literals of some code."""
+    return re.findall(r'"([^"]*)"', code)
+
+
+def function_of(text, name):
+    """The code of a function of a file."""
+    return re.search(rf"^(?:pub )?fn {name}\b.*?^}}$", text, re.M | re.S)[0]
+
+
+def option_of(code, texts):
+    """The option that a function defines, to which its help is given where it does not say it."""
+    found = dict(re.findall(r'\.(long|value_name|help)\(\s*"([^"]*)",?\s*\)', code))
+    return Option(found["long"], found["value_name"], found.get("help") or texts[0], code)
+
+
+def declared(path):
+    """The arguments that a file declares, in the order of its function `command`: each is one call of a function."""
+    text = (ROOT / path).read_text(encoding="utf-8")
+    command = function_of(text, "command")
+    calls = re.findall(r'\.arg\(\s*(\w+)\(\s*alloc((?:,\s*"[^"]*")*),?\s*\)', command)
+    if len(calls) != command.count(".arg("):
+        raise ValueError(f"{path}: an argument is declared in another form")
+    for function, code in calls:
+        texts = texts_of(code)
+        if function == "flag":
+            yield Option(texts[0], None, texts[1])
+        elif function == "operand":
+            yield Option(None, texts[1], texts[2])
+        else:
+            source = (ROOT / SHARED[function]).read_text(encoding="utf-8") if function in SHARED else text
+            yield option_of(function_of(source, function), texts)
 
 
 def options(program):
     """The options of a program, and the names of its other arguments."""
     numbers = re.search(r"fn supported_numbers.*?^    }$", (ROOT / VERSIONS).read_text(encoding="utf-8"), re.M | re.S)
     versions = re.findall(r'"(\d+)"', numbers[0])
-    declared = [Option(found) for found in declarations(DECLARED[program])]
-    named = [option for option in declared if option.name]
+    arguments = list(declared(DECLARED[program]))
+    named = [option for option in arguments if option.name]
     for option in named:
         if option.has_versions:
             option.values = versions
         elif not option.values:
             option.values = [message.type_name() for message in typed()]
-    return named, [option.value for option in declared if not option.name]
+    return named, [option.value for option in arguments if not option.name]
 
 
 def for_bash(program):

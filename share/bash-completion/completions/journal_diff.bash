@@ -2,9 +2,9 @@
 _journal_diff() {
     local word=${COMP_WORDS[COMP_CWORD]}
     case ${COMP_WORDS[COMP_CWORD - 1]} in
-        --protocol) mapfile -t COMPREPLY < <(compgen -W '5 6 7 8 9' -- "$word") ;;
         --color) mapfile -t COMPREPLY < <(compgen -W 'auto always never' -- "$word") ;;
-        *) [[ $word != -* ]] || mapfile -t COMPREPLY < <(compgen -W '--protocol --ignore-payloads --strict --json --color --help --version' -- "$word") ;;
+        --protocol) mapfile -t COMPREPLY < <(compgen -W '5 6 7 8 9' -- "$word") ;;
+        *) [[ $word != -* ]] || mapfile -t COMPREPLY < <(compgen -W '--ignore-payloads --strict --json --color --protocol --help --version' -- "$word") ;;
     esac
 }
 complete -o default -F _journal_diff journal_diff
