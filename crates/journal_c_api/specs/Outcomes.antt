@@ -1,5 +1,5 @@
 -- The results of the calls, as C sees them.
-use Rattle.std.specs.Prelude.{◌≡◌, ℕ, ℤ, pos, negsuc, ◌^◌, nat_lt, nat_le, List, ◌++◌, drop, length, Vec, Option, Some, None, Result, Ok, Err, ◌==◌, if◌then◌else◌}
+use Rattle.std.specs.Prelude.{◌≡◌, ℕ, ℤ, pos, negsuc, ◌^◌, nat_lt, nat_le, List, ◌++◌, drop, length, Vec, Option, Some, None, Result, Ok, Err, if◌then◌else◌}
 use Rattle.shared_core_base.specs.declared.version.Version.{Version}
 pub use Rattle.shared_core_base.specs.Version.{supported_version}
 use Rattle.shared_core_wire.specs.declared.error.WireError.{WireError}

@@ -1,16 +1,14 @@
 -- What is returned for two commands.
-use Rattle.std.proofs.Common.{Global, ◌≡◌, ◌≢◌, ℕ, pos, Bool, List, Option, Some, None, Ok, Err, refl, sym, ap, ◌∙◌, subst, ⊎_elim}
-use Rattle.std.specs.Prelude.{[], codes, IsSome, IsTrue, String, Vec}
+use Rattle.std.proofs.Common.{Global, ◌≡◌, ◌≢◌, ℕ, pos, Bool, List, Option, Some, None, Ok, Err, refl, sym, ap, ◌∙◌, subst}
+use Rattle.std.specs.Prelude.{[], codes, IsTrue, String, Vec}
 use Rattle.std.specs.Option.{IsSomeAnd}
 use Rattle.std.specs.String.{string_bytes}
 use Rattle.shared_core_base.specs.declared.header.MessageType.{MessageType}
-use Rattle.shared_core_base.specs.declared.header.MessageType.TheVariants.{Suspension}
-use Rattle.shared_core_base.specs.CommandType.{command_type_of}
 use Rattle.shared_core_wire.specs.declared.error.WireError.{WireError}
 use Rattle.shared_core_wire.specs.declared.error.WireError.TheVariants as wire
 use Rattle.shared_core_wire.specs.Value.{Parts}
 use Rattle.shared_core_codec.specs.Payloads.{IsAccepted, payload_meaning}
-use Rattle.shared_core_message.specs.Messages.{IsSchemaOf, message_schema}
+use Rattle.shared_core_message.specs.Messages.{message_schema}
 use Rattle.shared_core_compare.specs.Differences.{difference, differing_fields}
 use Rattle.shared_core_compare.specs.Erasure.{AreSame, erased}
 use Rattle.shared_core_errors.specs.Mismatch.{command_type_mismatch_text}

@@ -1,6 +1,6 @@
 -- How a journal is read on, and surveyed.
 use Rattle.std.proofs.Common.{◌≡◌, ℕ, ◌+◌, ◌≤◌, ◌<◌, ◌^◌, Bool, true, false, cond, List, [], ◌∷◌, ◌++◌, length, Option, Some, None, refl, sym, ap, ◌∙◌, subst, arith, length-append, append-nil}
-use Rattle.std.specs.Prelude.{is_some, count_by}
+use Rattle.std.specs.Prelude.{is_some}
 use Rattle.std.specs.Io.KnownBytes.{Consumes, IsAtEnd}
 use Rattle.std.proofs.KnownBytes.{Consumes-nil, Consumes-trans}
 use Rattle.shared_core_base.specs.declared.version.Version.{Version}
@@ -14,7 +14,7 @@ use Rattle.shared_core.proofs.Items.{then_more, then_start, then_takes}
 use Rattle.stream_lines.specs.Printing.{items_size}
 use Rattle.stream_lines.proofs.Progress.{then_long}
 use Rattle.stream_survey.specs.declared.totals.Survey.{Survey}
-use Rattle.stream_survey.specs.Survey.{IsSurvey, is_command, survey_of}
+use Rattle.stream_survey.specs.Survey.{is_command, survey_of}
 use Rattle.stream_survey.proofs.Surveys.{count_more}
 use Rattle.replay_bench.specs.declared.verdicts.Side.{Side}
 use Rattle.replay_bench.specs.declared.verdicts.ReaderError.{ReaderError}

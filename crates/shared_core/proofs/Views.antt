@@ -8,14 +8,13 @@ use Rattle.shared_core_base.specs.declared.header.MessageType.{MessageType}
 use Rattle.shared_core_base.specs.declared.header.MessageType.TheVariants.{CustomEntry}
 use Rattle.shared_core_base.specs.MessageType.{IsNamed, code_of}
 use Rattle.shared_core_wire.specs.Grammar.{FieldRecord}
-use Rattle.shared_core_wire.specs.Schema.{Kind, OneOf, U32, Text, Message, includes, numbers}
+use Rattle.shared_core_wire.specs.Schema.{Kind, OneOf, includes, numbers}
 use Rattle.shared_core_wire.specs.Value.{Part, Parts, Absent, Number, cons, nil}
 use Rattle.shared_core_wire.specs.Overlay.{NestedOverlay, message_overlay, oneof_over, own_records, payload_records}
 use Rattle.shared_core_wire.specs.Template.{is_within_template}
 use Rattle.shared_core_wire.proofs.TemplateView.{payload_views}
 use Rattle.shared_core_codec.specs.Equality.{is_present}
 use Rattle.shared_core_codec.specs.Table.{table, notification_template}
-use Rattle.shared_core_codec.specs.Table as tables
 use Rattle.shared_core_codec.specs.Payloads.{IsAccepted}
 use Rattle.shared_core_codec.proofs.Tables.{are_schemas}
 use Rattle.shared_core_message.specs.Messages.{message_schema}

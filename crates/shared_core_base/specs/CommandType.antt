@@ -1,5 +1,5 @@
 -- The types of commands, the message types that they denote, and the texts that both print.
-use Rattle.std.specs.Prelude.{◌≡◌, ℕ, List, Option, Some, None, Result, Ok, Err}
+use Rattle.std.specs.Prelude.{◌≡◌, ℕ, List, Some, None, Result, Ok, Err}
 use Rattle.shared_core_base.specs.declared.header.MessageType.{MessageType}
 use Rattle.shared_core_base.specs.declared.command_type.CommandType.{CommandType}
 use Rattle.shared_core_base.specs.MessageType.{debug_name_of}

@@ -1,4 +1,4 @@
-use Rattle.std.proofs.Common.{◌≡◌, ap, ◌∙◌}
+use Rattle.std.proofs.Common.{ap, ◌∙◌}
 use Rattle.journal_c_api.specs.Outcomes.{written_over}
 use Rattle.journal_c_api.proofs.FoundItems.{item_found}
 use Rattle.journal_c_api.proofs.items.write_item.Goals as goal

@@ -1,5 +1,4 @@
-use Rattle.std.proofs.Common.{◌∙◌, ◌+◌, ap, arith, cond, sym}
-use Rattle.std.specs.Prelude.{is_some}
+use Rattle.std.proofs.Common.{◌∙◌, ◌+◌, ap, arith, sym}
 use Rattle.replay_bench.proofs.Fronts.{leads_on}
 use Rattle.replay_bench.proofs.Readings.{commands_noted, item_noted, items_small}
 use Rattle.replay_bench.proofs.commands.buffered_command.Goals as goal

@@ -1,4 +1,4 @@
-use Rattle.std.proofs.Common.{◌≡◌, [], rules}
+use Rattle.std.proofs.Common.{rules}
 use Rattle.std.proofs.lemmas.List.Sorted.{answers_always, ranks_by}
 use Rattle.std.specs.Cmp.Lexicographic.{nat_list_cmp_total}
 use Rattle.shared_core_errors.specs.Awaited.{order_key}

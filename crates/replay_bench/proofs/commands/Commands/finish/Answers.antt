@@ -2,7 +2,6 @@ use Rattle.std.proofs.Common.{◌≡◌, ◌+◌, ◌-◌, ◌^◌, ◌<◌, ◌
 use Rattle.std.specs.Prelude.{IfSome, is_none}
 use Rattle.std.proofs.lemmas.Result.{err_from_is_err_and}
 use Rattle.shared_core.specs.declared.encoding.raw_message.RawMessage.{RawMessage}
-use Rattle.stream_survey.specs.declared.totals.Survey.{Survey}
 use Rattle.replay_bench.proofs.Readings.{on_more, on_whole, read_counts, read_short, rejects_before}
 use Rattle.replay_bench.proofs.commands.Commands.finish.Goals as goal
 
