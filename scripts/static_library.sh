@@ -2,10 +2,11 @@
 # Builds a static library, crates/CRATE/out/libCRATE.a, with its proofs, where it is not there or older than a source:
 # scripts/static_library.sh [--target aarch64-unknown-linux-gnu] CRATE, which is journal_ffi or bench_ffi.
 #
-# The toolchain builds no library that it has not proved. Over what rt ci has proved it takes half a minute, over what
-# rt check keeps some ten seconds, and from nothing every crate below is proved first. For another target than x86-64
-# the library is in a folder of its own, out/TARGET, and of the proof of the crate only what depends on the processor is
-# made again. It prints the line of the verdict. Where there is no rt it has status 2.
+# The toolchain builds no library that it has not proved. Over what rt ci has proved journal_ffi takes half a minute, and
+# bench_ffi four, since all of its functions are proved again; over what rt check keeps either takes some ten seconds,
+# and from nothing every crate below is proved first. For another target than x86-64 the library is in a folder of its
+# own, out/TARGET, and of the proof of the crate only what depends on the processor is made again. It prints the line of
+# the verdict. Where there is no rt it has status 2.
 set -u
 cd "$(dirname "$0")/.." || exit 1
 . scripts/up_to_date.sh
@@ -45,7 +46,10 @@ build() {
   set -- --extern "std=$kit/rlibs/std.rlib" -L "dependency=$kit/rlibs"
   used=$(sed -n "s/^$crate [^:]*://p" "$top/crates.txt")
   for name in $used; do
-    set -- "$@" --extern "$name=$top/crates/$name/out/rlib/$name.rlib"
+    folder_of_library=$top/crates/$name/out/rlib
+    # what is no crate of this repository is one of the toolchain's
+    [ -d "$top/crates/$name" ] || folder_of_library=$kit/rlibs
+    set -- "$@" --extern "$name=$folder_of_library/$name.rlib"
   done
   for name in $libraries; do
     set -- "$@" -L "dependency=$top/crates/$name/out/rlib"
