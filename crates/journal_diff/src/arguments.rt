@@ -12,7 +12,7 @@ use shared_core::version::Version;
 use std::alloc::{AllocError, Global};
 
 /// The parsed command line.
-#[derive(Clone, Copy, Drop)]
+#[derive(Debug, Clone, Copy, Drop)]
 pub struct Arguments<'a> {
     /// The path of the recorded journal, or `-` for the standard input.
     pub recorded: &'a str,
