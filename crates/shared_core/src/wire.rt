@@ -5,7 +5,7 @@ mod payload_form;
 
 pub use crate::wire::payload_form::{PayloadForm, check_payload};
 pub use shared_core_codec::check::is_well_formed;
-pub use shared_core_codec::record::{WireRecord, decode_parts};
+pub use shared_core_codec::record::{WireRecord, decode_parts, merge_payload};
 pub use shared_core_wire::error::WireError;
 pub use shared_core_wire::record::WireValue;
 pub use shared_core_wire::records::{Record, Records};

@@ -29,7 +29,7 @@ use Rattle.shared_core_wire.proofs.ReadBackLevels.{canonical_back}
 use Rattle.shared_core_wire.specs.Overlay.{meaning}
 use Rattle.shared_core_codec.specs.ProgramRows.{field_in_row, member_numbered}
 use Rattle.shared_core_codec.specs.RowEncoding.{unpacked}
-use Rattle.shared_core_codec.specs.Canonicity.{IsCanonical, is_written_value, low_varint_at, is_written_run, is_written_element, is_default_value, is_plain, is_written_field, may_recur, after_found, rows_after, written_size, Coming, coming_after, all_come, all_come_read, is_canonical_message, is_canonical_payload}
+use Rattle.shared_core_codec.specs.Canonicity.{IsCanonical, is_written_value, low_varint_at, is_written_run, is_written_element, is_default_value, is_plain, is_written_field, may_recur, found_or, next_field, rows_after_field, rows_after, written_size, Coming, coming_after, all_come, all_come_read, is_canonical_message, is_canonical_payload}
 
 -- ---- bytes
 
@@ -520,7 +520,7 @@ module _ (nested : NestedAcceptance) (left : ℕ) (nested_sound : (t : ℕ) (b :
 
   found_sound : (row : Row) (rows next : List Row) (r : FieldRecord) (rs : List FieldRecord) → may_be_empty row ≡ true → readable r.value ≡ true
       → (rows_after nested rows r ≡ Some next → Value rows (r ∷ rs))
-      → (o : Option (Kind × Bool)) → field_in_row row r.number ≡ o → after_found nested row rows r.value (rows_after nested rows r) o ≡ Some next → Value next rs → Value (row ∷ rows) (r ∷ rs)
+      → (o : Option (Kind × Bool)) → field_in_row row r.number ≡ o → (found_or row rows (next_field rows r.number) o >>= rows_after_field nested r.value) ≡ Some next → Value next rs → Value (row ∷ rows) (r ∷ rs)
   unfolding with_number
   found_sound row rows next r rs h c later None i g x = skip row rows (r ∷ rs) h (later g)
   found_sound row rows next r rs h c later (Some f) i g x =
@@ -532,7 +532,7 @@ module _ (nested : NestedAcceptance) (left : ℕ) (nested_sound : (t : ℕ) (b :
   recur_empty row rows next h false q = ap (list_all may_be_empty) (sym q) ∙ (and_split _ _ h).1
 
   found_empty : (row : Row) (rows next : List Row) (r : FieldRecord) → list_all may_be_empty (row ∷ rows) ≡ true → (rows_after nested rows r ≡ Some next → list_all may_be_empty next ≡ true)
-      → (o : Option (Kind × Bool)) → after_found nested row rows r.value (rows_after nested rows r) o ≡ Some next → list_all may_be_empty next ≡ true
+      → (o : Option (Kind × Bool)) → (found_or row rows (next_field rows r.number) o >>= rows_after_field nested r.value) ≡ Some next → list_all may_be_empty next ≡ true
   found_empty row rows next r h later None g = later g
   found_empty row rows next r h later (Some f) g =
       let t = passed (is_written_field nested (is_plain row) f r.value) (Some (cond (may_recur f) (row ∷ rows) rows)) next g in

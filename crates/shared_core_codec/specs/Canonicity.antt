@@ -11,7 +11,8 @@ use Rattle.shared_core_wire.specs.Fitting.{Fits}
 use Rattle.shared_core_wire.specs.declared.error.WireError.{WireError}
 use Rattle.shared_core_codec.specs.Table.{table}
 use Rattle.shared_core_codec.specs.Payloads.{IsAccepted, payload_meaning}
-use Rattle.shared_core_codec.specs.ProgramRows.{field_in_row}
+use Rattle.shared_core_codec.specs.ProgramRows.{found_view, rows_view, field_in_row}
+use Rattle.shared_core_codec.specs.declared.canonical.NextField.{NextField}
 use Rattle.shared_core_codec.specs.RowEncoding.{varint_record, length_record, unpacked}
 
 -- The payload is not too long for a header, is accepted, and is the canonical payload of what it means, which fits the
@@ -75,21 +76,35 @@ is_written_field nested plain (k, false) w = is_written_value nested k w && not 
 abbrev pub may_recur : Kind × Bool → Bool
 may_recur f = f.1 && unpacked f.0
 
--- The rows that may come after a record of the first row's field, if the record is one that is written for it.
-abbrev pub after_field : NestedAcceptance → Row → List Row → RecordValue → Kind × Bool → Option (List Row)
-after_field nested row rows w f =
-    if is_written_field nested (is_plain row) f w then Some (if may_recur f then row ∷ rows else rows) else None
+-- A field of which a record may come next: its kind and whether it is repeated, whether it is plain, and the rows that
+-- may come after the record.
+pub record Next : Type 0 where
+  pub field : Kind × Bool
+  pub is_plain : Bool
+  pub rows : List Row
 
--- The same where the first row has the record's number; otherwise those of the later rows.
-abbrev pub after_found : NestedAcceptance → Row → List Row → RecordValue → Option (List Row) → Option (Kind × Bool) → Option (List Row)
-after_found nested row rows w later None = later
-after_found nested row rows w later (Some f) = after_field nested row rows w f
+-- The same of the program.
+abbrev pub next_view : NextField → Next
+next_view n = record { field = found_view n.field; is_plain = n.is_plain; rows = rows_view n.rows }
+
+-- The first row's field, if it is found there; otherwise that of the later rows.
+abbrev pub found_or : Row → List Row → Option Next → Option (Kind × Bool) → Option Next
+found_or row rows later None = later
+found_or row rows later (Some f) =
+    Some (record { field = f; is_plain = is_plain row; rows = if may_recur f then row ∷ rows else rows })
+
+-- The field of the first row that has the number.
+abbrev pub next_field : List Row → ℕ → Option Next
+next_field [] n = None
+next_field (row ∷ rows) n = found_or row rows (next_field rows n) (field_in_row row n)
+
+-- The rows that may come after a record of the field, if it is written as the record's value.
+abbrev pub rows_after_field : NestedAcceptance → RecordValue → Next → Option (List Row)
+rows_after_field nested w next = if is_written_field nested next.is_plain next.field w then Some next.rows else None
 
 -- The rows that may come after a record, if one of these is written as the record.
 abbrev pub rows_after : NestedAcceptance → List Row → FieldRecord → Option (List Row)
-rows_after nested [] r = None
-rows_after nested (row ∷ rows) r =
-    after_found nested row rows r.value (rows_after nested rows r) (field_in_row row r.number)
+rows_after nested rows r = next_field rows r.number >>= rows_after_field nested r.value
 
 -- The number of bytes of a record that is written for a field.
 abbrev pub written_size : FieldRecord → ℕ

@@ -5,9 +5,9 @@ ghost use Rattle.shared_core_wire.specs.Reader.{Gives};
 ghost use Rattle.shared_core_wire.specs.View.{value_of};
 ghost use Rattle.shared_core_codec.specs.Checking.{field_record_of};
 ghost use Rattle.shared_core_codec.specs.RowEncoding.{length_record};
-ghost use Rattle.shared_core_codec.specs.ProgramRows.{kind_view, found_view, row_view, rows_view};
+ghost use Rattle.shared_core_codec.specs.ProgramRows.{kind_view, found_view, row_view};
 ghost use Rattle.shared_core_codec.specs.Canonicity.{IsCanonical, is_canonical_payload, is_canonical_message};
-ghost use Rattle.shared_core_codec.specs.Canonicity.{rows_after, may_recur};
+ghost use Rattle.shared_core_codec.specs.Canonicity.{next_view, next_field, may_recur};
 ghost use Rattle.shared_core_codec.specs.Canonicity.{is_written_number, is_written_value, low_varint_at};
 ghost use Rattle.shared_core_codec.specs.Canonicity.{is_written_run, is_written_element, is_default_value, is_plain};
 ghost use Rattle.shared_core_codec.specs.Canonicity.{is_written_field, written_size};
@@ -20,7 +20,17 @@ use shared_core_wire::records::{Record, Records};
 use shared_core_wire::varint::read_varint;
 
 /// How deep messages may be nested (this project's own limit).
-const LEVELS: u32 = 100;
+pub const LEVELS: u32 = 100;
+
+/// A field of which a record may come next in a canonical payload.
+#[derive(Clone, Copy)]
+pub struct NextField<'a> {
+    pub field: Found,
+    /// Whether it is a plain field, of which a default is not written.
+    pub is_plain: bool,
+    /// The rows of which records may come after that record.
+    pub rows: &'a [Row],
+}
 
 /// Whether a payload is canonical: it is well-formed for the schema at an index of the table and the canonical encoding
 /// of what it means, at most one hundred levels deep and at most 4,294,967,295 bytes long. Does not allocate, and makes
@@ -46,36 +56,36 @@ fn is_canonical_payload(schema: u32, payload: &[u8], left: u32) -> bool
         let Ok(found) = item else {
             return false;
         };
-        let Some(next) = rows_after(rows, &found, left) else {
+        let Some(next) = next_field(rows, found.number) else {
             return false;
         };
+        if !is_written_field(next.is_plain, next.field, found.value, left) {
+            return false;
+        }
         let size = written_size(&found);
         if room < size {
             return false;
         }
-        rows = next;
+        rows = next.rows;
         room -= size;
     }
     // more bytes than the records take when they are written
     room == 0
 }
 
-/// The rows of which records may come after a record, or `None` if none of these rows is written as the record.
-#[cycle(canonical)]
-fn rows_after<'a>(rows: &'a [Row], found: &Record<'_>, left: u32) -> Option<&'a [Row]>
-    ensures { option_map rows_view result
-        ≡ rows_after (is_canonical_message left) (map row_view rows.now) (field_record_of found.now) }
+/// The field of the first row that has a number, among the rows that may come next in a canonical payload; `None` if no
+/// row has it.
+pub fn next_field<'a>(rows: &'a [Row], number: u32) -> Option<NextField<'a>>
+    ensures { option_map next_view result ≡ next_field (map row_view rows.now) number }
 {
     let mut rest = rows;
     while let Some((row, after)) = rest.split_first() {
-        if let Some(field) = find_in_row(row, found.number) {
-            if !is_written_field(is_plain(row), field, found.value, left) {
-                return None;
-            }
-            if may_recur(field) {
-                return Some(rest);
-            }
-            return Some(after);
+        if let Some(field) = find_in_row(row, number) {
+            return Some(NextField {
+                field,
+                is_plain: is_plain(row),
+                rows: if may_recur(field) { rest } else { after },
+            });
         }
         rest = after;
     }
@@ -126,7 +136,7 @@ fn is_written_value(kind: Kind, value: WireValue<'_>, left: u32) -> bool
 }
 
 /// Whether a number is written for a value of a kind: an enum's is that of 32 bits, sign-extended.
-fn is_written_number(kind: Kind, number: u64) -> bool
+pub fn is_written_number(kind: Kind, number: u64) -> bool
     ensures { result ≡ is_written_number (kind_view kind) number }
 {
     match kind {
@@ -139,7 +149,7 @@ fn is_written_number(kind: Kind, number: u64) -> bool
 }
 
 /// Whether a value is a default: 0, false or empty.
-fn is_default(value: WireValue<'_>) -> bool
+pub fn is_default(value: WireValue<'_>) -> bool
     ensures { result ≡ is_default_value (value_of value.entry) }
 {
     match value {
@@ -160,7 +170,7 @@ fn is_plain(row: &Row) -> bool
 }
 
 /// Whether a field may be written as more than one record.
-fn may_recur(field: Found) -> bool
+pub fn may_recur(field: Found) -> bool
     ensures { result ≡ may_recur (found_view field) }
 {
     match field.kind {
@@ -170,7 +180,7 @@ fn may_recur(field: Found) -> bool
 }
 
 /// Whether bytes are a packed run as it is written: the shortest varints of one or more numbers of 32 bits.
-fn is_written_run(run: &[u8]) -> bool
+pub fn is_written_run(run: &[u8]) -> bool
     ensures { result ≡ is_written_run run.now }
 {
     if run.is_empty() {
@@ -200,7 +210,7 @@ fn read_low_varint(bytes: &[u8]) -> Option<(u64, &[u8])>
 }
 
 /// The number of bytes of a record that is written for a field.
-fn written_size(found: &Record<'_>) -> u64
+pub fn written_size(found: &Record<'_>) -> u64
     ensures { result ≡ written_size (field_record_of found.now) }
 {
     match found.value {

@@ -191,9 +191,10 @@ pub(crate) fn merge_occurrences<M: WireRecord>(
     Ok(())
 }
 
-/// Merges a whole payload into a record. After an error some of its fields may have changed.
+/// Merges a payload that its owner keeps into a record of the caller's, whatever that holds, as `merge` does, without
+/// moving the record. The errors are those of `decode`; after one some fields of the record may have changed.
 #[tactic(auto, using(crate::proofs::MergingRecords::computed_accepted, crate::proofs::MergingRecords::computed_merged, crate::proofs::MergingRecords::computed_rejected))]
-fn merge_payload<M: WireRecord>(
+pub fn merge_payload<M: WireRecord>(
     target: &mut M,
     alloc: Global,
     payload: &Bytes,
