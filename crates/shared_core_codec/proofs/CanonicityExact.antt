@@ -409,7 +409,7 @@ level_comes left s v h l z back =
     ∙ ap (λ (n : ℕ). all_come (is_canonical_message left) (table s, n) rs) size
     ∙ value_comes (is_canonical_message left) left back v (table s) (and_split _ _ (are_schemas s)).1 (rows_may_be_empty s) h l c
 
-canonical_comes : (left s : ℕ) (v : Parts) → Fits table v (table s) → levels v ≤ left → length (canonical_payload table s v) < 2 ^ 64 → is_canonical_payload left s (canonical_payload table s v) ≡ true
+pub canonical_comes : (left s : ℕ) (v : Parts) → Fits table v (table s) → levels v ≤ left → length (canonical_payload table s v) < 2 ^ 64 → is_canonical_payload left s (canonical_payload table s v) ≡ true
 unfolding is_canonical_message
 canonical_comes zero s v h l z = level_comes zero s v h l z (λ t ps f k c. absurd (omega arith))
 canonical_comes (suc left) s v h l z = level_comes (suc left) s v h l z (λ t ps f k c. canonical_comes left t ps f (omega arith) c)

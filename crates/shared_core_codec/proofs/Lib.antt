@@ -13,4 +13,5 @@ pub mod PayloadLaws
 pub mod Checked
 pub mod Canonicity
 pub mod CanonicityExact
+pub mod NextFields
 pub mod Positions
