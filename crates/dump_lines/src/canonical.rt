@@ -13,7 +13,6 @@ use shared_core::header::MessageType;
 use shared_core::messages::{RecordVisitor, schema_at, visit_record};
 use shared_core::version::Version;
 use shared_core::wire::WireRecord;
-use shared_core_codec::canonical::is_canonical;
 use shared_core_json::{JsonError, write_canonical};
 use std::alloc::Global;
 use std::fmt::Debug;
@@ -21,7 +20,6 @@ use std::mem;
 
 /// Overwrites the buffer with the canonical payload of what a message's payload means, and returns the index of its
 /// schema; `None` for a custom entry, whose payload is opaque.
-#[tactic(auto, using(shared_core_json::proofs::Payloads::canonical_encoding))]
 pub fn canonical_of(
     alloc: Global,
     version: Version,
@@ -34,12 +32,6 @@ pub fn canonical_of(
     let Some(schema) = schema_at(version, ty) else {
         return Ok(None);
     };
-    // most payloads are canonical: such a one is neither decoded nor encoded again
-    if is_canonical(schema, payload.as_slice()) {
-        canonical.clear();
-        canonical.extend_from_slice(payload.as_slice())?;
-        return Ok(Some(schema));
-    }
     let writing = Writing {
         alloc,
         payload,

@@ -1,6 +1,6 @@
 //! The lines of a dump.
 
-ghost use Rattle.std.specs.Prelude.{◌≡◌, ◌∷◌, ◌++◌, [], true, codes, decimal, length, OnOk, IfErr};
+ghost use Rattle.std.specs.Prelude.{◌≡◌, ◌∷◌, ◌++◌, [], true, codes, decimal, length, OnOk, IfOk, IfErr};
 ghost use Rattle.std.specs.Str.{IsUtf8};
 ghost use Rattle.json.specs.Lex.{tokens};
 ghost use Rattle.json.specs.Print.{print};
@@ -11,6 +11,7 @@ ghost use Rattle.json.specs.Tree.{json_tokens, members_tokens};
 ghost use Rattle.shared_core.specs.declared.encoding.item.Item.TheVariants as variant;
 ghost use Rattle.shared_core_base.specs.MessageType.{debug_name_of};
 ghost use Rattle.dump_lines.specs.Canonical.{IsLongFor};
+ghost use Rattle.dump_lines.specs.declared.lines.Form.TheVariants.{Encoded};
 ghost use Rattle.stream_lines.specs.Printing.{IsLack};
 ghost use Rattle.dump_lines.specs.Dump.{HasLongPayload, is_well_formed_for, wrong_of};
 ghost use Rattle.shared_core.specs.Visiting.{schema_at};
@@ -29,13 +30,22 @@ use shared_core::encoding::{Decoder, Item, RawMessage};
 use shared_core::header::MessageType;
 use shared_core::messages::schema_at;
 use shared_core::wire::is_well_formed;
-use shared_core_json::{JsonError, write_byte_string, write_encoding};
+use shared_core_json::{JsonError, write_byte_string, write_encoding, write_if_canonical};
 use std::alloc::{AllocError, Global};
 use std::mem;
 use stream_lines::{LinePrinter, PrintError, Trouble};
 
 /// What a code is multiplied by in the word of a header.
 const CODE_UNIT: u128 = 1 << 48;
+
+/// Which bytes the JSON of a payload is written of.
+#[derive(Clone, Copy)]
+enum Form {
+    /// The payload as it was received, of which nothing is written if it is not canonical.
+    Received,
+    /// The canonical encoding of what it means.
+    Encoded,
+}
 
 /// Prints the lines of items by these options.
 impl<'a> LinePrinter for Options<'a> {
@@ -81,7 +91,13 @@ impl<'a> LinePrinter for Options<'a> {
         let mut line = mem::replace(&mut scratch.line, Vec::new(alloc));
         line.clear();
         let mut out = Writer::new(line);
-        write_item(alloc, self, offset, word, &item, scratch, &mut out)?;
+        if !write_item(alloc, self, offset, word, &item, Form::Received, scratch, &mut out)? {
+            // the payload is not canonical: the line begins anew
+            line = out.into_inner();
+            line.clear();
+            out = Writer::new(line);
+            write_item(alloc, self, offset, word, &item, Form::Encoded, scratch, &mut out)?;
+        }
         scratch.line = out.into_inner();
         Ok(append_object(alloc, self.pretty, scratch.line.as_slice(), lines)?)
     }
@@ -193,51 +209,57 @@ fn write_rest(
     Ok(())
 }
 
-/// Writes the object of an item.
+/// Writes the object of an item. Returns false if its payload is to be written as it was received and is not canonical;
+/// then some tokens may be written.
 fn write_item(
     alloc: Global,
     options: &Options<'_>,
     offset: u128,
     word: u64,
     item: &Item,
+    form: Form,
     scratch: &mut Scratch,
     out: &mut Writer,
-) -> Result<(), PrintError>
-    ensures tokens { OnOk result (out.new.tokens ≡ out.old.tokens
+) -> Result<bool, PrintError>
+    ensures tokens { IfOk result (λ whole. whole ≡ true → out.new.tokens ≡ out.old.tokens
         ++ json_tokens (item_json options.now offset word item.now)) }
+    ensures whole { IfOk result (λ whole. form ≡ Encoded → whole ≡ true) }
     ensures before { out.new.before ≡ out.old.before }
     ensures lack { IfErr result (IsLack (HasLongPayload options.now item.now)) }
 {
     out.begin_object()?;
     write_offset(out, offset, &mut scratch.text)?;
-    write_members(alloc, options, word, item, scratch, out)?;
-    Ok(out.end_object()?)
+    let whole = write_members(alloc, options, word, item, form, scratch, out)?;
+    out.end_object()?;
+    Ok(whole)
 }
 
-/// Writes the members of an item after its offset.
+/// Writes the members of an item after its offset. The result is that of `write_item`.
 fn write_members(
     alloc: Global,
     options: &Options<'_>,
     word: u64,
     item: &Item,
+    form: Form,
     scratch: &mut Scratch,
     out: &mut Writer,
-) -> Result<(), PrintError>
-    ensures tokens { OnOk result (out.new.tokens ++ end_object ∷ [] ≡ out.old.tokens
+) -> Result<bool, PrintError>
+    ensures tokens { IfOk result (λ whole. whole ≡ true → out.new.tokens ++ end_object ∷ [] ≡ out.old.tokens
         ++ members_tokens (item_members options.now word item.now)) }
+    ensures whole { IfOk result (λ whole. form ≡ Encoded → whole ≡ true) }
     ensures before { out.new.before ≡ out.old.before }
     ensures lack { IfErr result (IsLack (HasLongPayload options.now item.now)) }
 {
     match item {
         Item::Message(message) => {
-            write_message_members(alloc, options, word, message, scratch, out)?;
+            return write_message_members(alloc, options, word, message, form, scratch, out);
         }
         Item::Unknown(code) => write_unknown(word, *code, &mut scratch.text, out)?,
         Item::Skipped(code, payload) => {
             write_skipped(options, word, *code, payload, &mut scratch.text, out)?;
         }
     }
-    Ok(())
+    Ok(true)
 }
 
 /// Writes the members of an unknown code after its offset.
@@ -282,17 +304,19 @@ fn write_skipped(
     Ok(())
 }
 
-/// Writes the members of a message after its offset.
+/// Writes the members of a message after its offset. The result is that of `write_item`.
 fn write_message_members(
     alloc: Global,
     options: &Options<'_>,
     word: u64,
     message: &RawMessage,
+    form: Form,
     scratch: &mut Scratch,
     out: &mut Writer,
-) -> Result<(), PrintError>
-    ensures tokens { OnOk result (out.new.tokens ++ end_object ∷ [] ≡ out.old.tokens
+) -> Result<bool, PrintError>
+    ensures tokens { IfOk result (λ whole. whole ≡ true → out.new.tokens ++ end_object ∷ [] ≡ out.old.tokens
         ++ members_tokens (item_members options.now word (variant.Message message.now))) }
+    ensures whole { IfOk result (λ whole. form ≡ Encoded → whole ≡ true) }
     ensures before { out.new.before ≡ out.old.before }
     ensures lack { IfErr result (IsLack ((options.now.payloads ≡ true)
         × IsLongFor (schema_at options.now.version message.now.header.ty) message.now.payload)) }
@@ -305,13 +329,43 @@ fn write_message_members(
     write_ack(out, header.requested_ack())?;
     write_header(out, word, u128::from(u64::from(header)), &mut scratch.text)?;
     if options.payloads {
-        write_payload(alloc, options, ty, message.payload(), scratch, out)?;
+        return write_payload(alloc, options, ty, message.payload(), form, scratch, out);
     }
-    Ok(())
+    Ok(true)
 }
 
-/// Writes the members of a message's payload.
+/// Writes the members of a message's payload. The result is that of `write_item`.
 fn write_payload(
+    alloc: Global,
+    options: &Options<'_>,
+    ty: MessageType,
+    payload: &Bytes,
+    form: Form,
+    scratch: &mut Scratch,
+    out: &mut Writer,
+) -> Result<bool, PrintError>
+    ensures tokens { IfOk result (λ whole. whole ≡ true → out.new.tokens ++ end_object ∷ [] ≡ out.old.tokens
+        ++ members_tokens (payload_members options.now.texts (schema_at options.now.version ty) payload.now)) }
+    ensures whole { IfOk result (λ whole. form ≡ Encoded → whole ≡ true) }
+    ensures before { out.new.before ≡ out.old.before }
+    ensures lack { IfErr result (IsLack (IsLongFor (schema_at options.now.version ty) payload.now)) }
+{
+    if let Form::Encoded = form {
+        write_encoded(alloc, options, ty, payload, scratch, out)?;
+        return Ok(true);
+    }
+    let Some(schema) = schema_at(options.version, ty) else {
+        // the payload of a custom entry is opaque
+        write_bytes(out, options.texts, payload, &mut scratch.text)?;
+        return Ok(true);
+    };
+    out.key("message")?;
+    let text = &mut scratch.text;
+    Ok(write_if_canonical(out, text, options.texts, schema, payload.as_slice())?)
+}
+
+/// Writes the members of a message's payload, by the canonical encoding of what it means.
+fn write_encoded(
     alloc: Global,
     options: &Options<'_>,
     ty: MessageType,

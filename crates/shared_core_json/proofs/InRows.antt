@@ -1,25 +1,21 @@
 -- The field that a number finds in the rows of a schema, as JSON has it.
-use Rattle.std.proofs.Common.{◌≡◌, ℕ, List, [], ◌∷◌, ◌++◌, Option, Some, None, Bool, true, false, cond, ◌&&◌, refl, ap, ◌∙◌, eqb}
+use Rattle.std.proofs.Common.{◌≡◌, ℕ, List, [], ◌∷◌, ◌++◌, Option, Some, None, Bool, true, false, cond, refl, sym, ap, ◌∙◌, eqb}
 use Rattle.std.specs.Option.{option_map, option_or}
 use Rattle.std.proofs.lemmas.Bool.{eqb-true}
 use Rattle.shared_core_wire.specs.Schema.{Kind, Row, Plain, Optional, Repeated, OneOf}
 use Rattle.shared_core_codec.specs.Table.{table}
 use Rattle.shared_core_codec.specs.ProgramRows as codec
-use Rattle.shared_core_json.specs.Fields.{NamedField, names_of, name_of, stands_alone, row_fields, fields_of_rows, schema_fields, field_numbered}
-
--- the field of a number with this kind, repeated or not
-abbrev pub named : List (ℕ × List ℕ) → ℕ → Kind × Bool → NamedField
-named names n found = record { number = n; name = name_of names n; kind = found.0; is_element = found.1 && stands_alone found.0 }
+use Rattle.shared_core_json.specs.Fields.{NamedField, names_of, named, row_fields, fields_of_rows, schema_fields, field_numbered}
 
 module _ (names : List (ℕ × List ℕ)) (n : ℕ) (o : Option (Kind × Bool)) (fs : List NamedField) (later : option_map (named names n) o ≡ field_numbered fs n) where
   one : (m : ℕ) (k : Kind) (repeated : Bool)
       → option_map (named names n) (option_or (codec.if_numbered (m, k) repeated n) o)
-      ≡ field_numbered (record { number = m; name = name_of names m; kind = k; is_element = repeated && stands_alone k } ∷ fs) n
+      ≡ field_numbered (named names m (k, repeated) ∷ fs) n
   one m k repeated = by_test (eqb n m) refl
     where
       by_test : (b : Bool) → eqb n m ≡ b
           → option_map (named names n) (option_or (cond b (Some (k, repeated)) None) o)
-          ≡ cond b (Some (record { number = m; name = name_of names m; kind = k; is_element = repeated && stands_alone k })) (field_numbered fs n)
+          ≡ cond b (Some (named names m (k, repeated))) (field_numbered fs n)
       by_test true e = ap (λ (x : ℕ). Some (named names x (k, repeated))) (eqb-true n m e)
       by_test false e = later
 
@@ -30,7 +26,7 @@ module _ (names : List (ℕ × List ℕ)) (n : ℕ) (o : Option (Kind × Bool)) 
       by_test : (b : Bool) → eqb n m.0 ≡ b
           → option_map (named names n) (option_or (codec.member_numbered ms n) o) ≡ field_numbered (row_fields names (OneOf ms) ++ fs) n
           → option_map (named names n) (option_or (option_or (cond b (Some (m.1, false)) None) (codec.member_numbered ms n)) o)
-          ≡ cond b (Some (record { number = m.0; name = name_of names m.0; kind = m.1; is_element = false })) (field_numbered (row_fields names (OneOf ms) ++ fs) n)
+          ≡ cond b (Some (named names m.0 (m.1, false))) (field_numbered (row_fields names (OneOf ms) ++ fs) n)
       by_test true e rest = ap (λ (x : ℕ). Some (named names x (m.1, false))) (eqb-true n m.0 e)
       by_test false e rest = rest
 
@@ -44,8 +40,7 @@ in_rows : (names : List (ℕ × List ℕ)) (n : ℕ) (rows : List Row) → optio
 in_rows names n [] = refl
 in_rows names n (row ∷ rows) = in_row names n (codec.field_numbered rows n) (fields_of_rows names rows) (in_rows names n rows) row
 
-pub in_schema : (s n : ℕ) (rows : List Row) (o : Option (Kind × Bool)) → rows ≡ table s → o ≡ codec.field_numbered rows n
-    → option_map (named (names_of s) n) o ≡ field_numbered (schema_fields s) n
+-- what the rows of a schema find, its fields find
+pub in_schema : (s n : ℕ) (f : Kind × Bool) → codec.field_numbered (table s) n ≡ Some f → field_numbered (schema_fields s) n ≡ Some (named (names_of s) n f)
 unfolding schema_fields
-in_schema s n rows o e f =
-    ap (option_map (named (names_of s) n)) (f ∙ ap (λ (rs : List Row). codec.field_numbered rs n) e) ∙ in_rows (names_of s) n (table s)
+in_schema s n f e = sym (in_rows (names_of s) n (table s)) ∙ ap (option_map (named (names_of s) n)) e

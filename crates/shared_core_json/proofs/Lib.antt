@@ -3,6 +3,5 @@ pub mod InRows
 pub mod Walk
 pub mod Lookup
 pub mod Members
-pub mod Known
 pub mod Levels
 pub mod Payloads

@@ -4,14 +4,14 @@ use Rattle.std.proofs.lemmas.Bool.{eqb-true}
 use Rattle.std.proofs.Math.Bool.{or-true}
 use Rattle.shared_core_wire.specs.Schema.{Kind, Row, Plain, Optional, Repeated, OneOf, numbers, includes, member_kind, are_distinct, all_numbers}
 use Rattle.shared_core_wire.proofs.ReadBack.{or_split, includes-append, distinct_other}
-use Rattle.shared_core_json.specs.Fields.{NamedField, name_of, stands_alone, row_fields, fields_of_rows, field_numbered}
+use Rattle.shared_core_json.specs.Fields.{NamedField, named, row_fields, fields_of_rows, field_numbered}
 
 -- the field of a number of a row
 abbrev pub own_field : List (ℕ × List ℕ) → Row → ℕ → NamedField
-own_field names (Plain m k) n = record { number = n; name = name_of names n; kind = k; is_element = false }
-own_field names (Optional m k) n = record { number = n; name = name_of names n; kind = k; is_element = false }
-own_field names (Repeated m k) n = record { number = n; name = name_of names n; kind = k; is_element = stands_alone k }
-own_field names (OneOf members) n = record { number = n; name = name_of names n; kind = member_kind members n; is_element = false }
+own_field names (Plain m k) n = named names n (k, false)
+own_field names (Optional m k) n = named names n (k, false)
+own_field names (Repeated m k) n = named names n (k, true)
+own_field names (OneOf members) n = named names n (member_kind members n, false)
 
 first_own : (n m : ℕ) (f : ℕ → NamedField) (o : Option NamedField) → includes (m ∷ []) n ≡ true → cond (eqb n m) (Some (f m)) o ≡ Some (f n)
 first_own n m f o h = by_test (eqb n m) refl h
@@ -30,9 +30,9 @@ member_own names (m ∷ members) fs n h = by_test (λ g. member_own names member
   where
     by_test : (includes (numbers (OneOf members)) n ≡ true → field_numbered (row_fields names (OneOf members) ++ fs) n ≡ Some (own_field names (OneOf members) n))
         → (b : Bool) → eqb n m.0 ≡ b → (b || includes (numbers (OneOf members)) n) ≡ true
-        → cond b (Some (record { number = m.0; name = name_of names m.0; kind = m.1; is_element = false })) (field_numbered (row_fields names (OneOf members) ++ fs) n)
-        ≡ Some (record { number = n; name = name_of names n; kind = cond b m.1 (member_kind members n); is_element = false })
-    by_test later true e g = ap (λ (x : ℕ). Some (record { number = x; name = name_of names x; kind = m.1; is_element = false })) (sym (eqb-true n m.0 e))
+        → cond b (Some (named names m.0 (m.1, false))) (field_numbered (row_fields names (OneOf members) ++ fs) n)
+        ≡ Some (named names n (cond b m.1 (member_kind members n), false))
+    by_test later true e g = ap (λ (x : ℕ). Some (named names x (m.1, false))) (sym (eqb-true n m.0 e))
     by_test later false e g = later g
 
 member_other : (names : List (ℕ × List ℕ)) (members : List (ℕ × Kind)) (fs : List NamedField) (n : ℕ) → includes (numbers (OneOf members)) n ≡ false

@@ -154,7 +154,7 @@ module _ (texts : Bool) (nested : ℕ → List ℕ → List Token) (left : ℕ)
   single_bytes bytes U64 h = absurd h
   single_bytes bytes Boolean h = absurd h
   single_bytes bytes Enumeration h = absurd h
-  single_bytes bytes Text h = record { w = Length bytes; is = refl; tokens = λ s. rw h refl }
+  single_bytes bytes Text h = record { w = Length bytes; is = refl; tokens = λ s. refl }
   single_bytes bytes ByteString h = record { w = Length bytes; is = refl; tokens = λ s. refl }
   single_bytes bytes (Message s) h = absurd h
 

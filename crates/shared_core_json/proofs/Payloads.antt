@@ -22,7 +22,8 @@ use Rattle.shared_core_wire.proofs.Runs.{and_split}
 use Rattle.shared_core_wire.proofs.EncodingLaws.{encodable, record_encoded}
 use Rattle.shared_core_codec.specs.Table.{table}
 use Rattle.shared_core_codec.specs.Payloads.{payload_meaning}
-use Rattle.shared_core_codec.specs.Canonicity.{IsCanonical}
+use Rattle.shared_core_codec.specs.Canonicity.{IsCanonical, is_canonical_payload}
+use Rattle.shared_core_codec.proofs.CanonicityExact.{canonical_comes}
 use Rattle.shared_core_codec.proofs.Tables.{are_schemas}
 use Rattle.shared_core_json.specs.Fields.{schema_fields, names_of}
 use Rattle.shared_core_json.specs.Form.{json_with}
@@ -65,7 +66,7 @@ level_written texts left s v h l z back =
     let schema = and_split _ _ (are_schemas s) in
     let zero_of = no_zero (all_numbers (table s)) schema.0 in
     let rs = message_records table v (table s) in
-    ap (λ (ts : List Token). begin_object ∷ (ts ++ (end_object ∷ []))) (walk_items texts (payload_tokens texts left) (schema_fields s) (read_records left (canonical_payload table s v)) rs 0 (canonical_items left rs p))
+    ap (λ (ts : List Token). begin_object ∷ (ts ++ (end_object ∷ []))) (walk_items texts (payload_tokens texts left) (schema_fields s) (read_records 0 (canonical_payload table s v)) rs 0 (canonical_items 0 rs p))
     ∙ ap (λ (ts : List Token). begin_object ∷ ts) (members_written texts (payload_tokens texts left) left back (schema_fields s) (names_of s) v (table s) 0 schema.1 (λ n g. refl) zero_of zero_of h l p)
 
 pub canonical_written : (texts : Bool) (left s : ℕ) (v : Parts) → Fits table v (table s) → levels v ≤ left → length (canonical_payload table s v) < 2 ^ 64
@@ -77,6 +78,19 @@ pub encoding_written : (texts : Bool) (s : ℕ) (bytes : List ℕ) (old new : Li
 encoding_written texts s bytes old new len w v encoding =
     w ∙ ap (λ (bs : List ℕ). old ++ payload_tokens texts 102 s bs) encoding.canonical
     ∙ ap (λ (ts : List Token). old ++ ts) (canonical_written texts 101 s v encoding.fits encoding.low (subst (λ (bs : List ℕ). length bs < 2 ^ 64) encoding.canonical len))
+
+-- what is written for a canonical payload
+pub meaning_written : (texts : Bool) (s : ℕ) (bytes : List ℕ) (old new : List Token) → IsCanonical s bytes → new ≡ old ++ payload_tokens texts 101 s bytes
+    → new ≡ old ++ json_tokens (json_with texts s (payload_meaning s bytes))
+meaning_written texts s bytes old new c w =
+    let same : length bytes ≡ length (canonical_payload table s (payload_meaning s bytes)) = ap length c.canonical in
+    w ∙ ap (λ (bs : List ℕ). old ++ payload_tokens texts 101 s bs) c.canonical
+    ∙ ap (λ (ts : List Token). old ++ ts) (canonical_written texts 100 s (payload_meaning s bytes) c.fits c.low (omega (arith, same, c.short)))
+
+-- an encoding passes the check
+pub encoding_passes : (s : ℕ) (bytes : List ℕ) → length bytes < 2 ^ 64 → ((v : Parts) × IsEncoding s v bytes) → is_canonical_payload 101 s bytes ≡ true
+encoding_passes s bytes len (v, e) =
+    ap (is_canonical_payload 101 s) e.canonical ∙ canonical_comes 101 s v e.fits e.low (subst (λ (bs : List ℕ). length bs < 2 ^ 64) e.canonical len)
 
 -- the canonical payload of what a payload means
 pub decoded_encoding : (s : ℕ) (payload bytes : List ℕ) (v : Parts) → v ≡ payload_meaning s payload → Fits table v (table s) → bytes ≡ canonical_payload table s v → IsEncoding s (payload_meaning s payload) bytes

@@ -5,17 +5,17 @@ use Rattle.base64.specs.GeneralPurpose.{encode_of}
 use Rattle.base64.specs.Engines.{standard}
 use Rattle.json.specs.Json.{object, member, no_members}
 use Rattle.json.specs.Json as json
-use Rattle.json.specs.Token.{Token, begin_object, end_object, string, null}
+use Rattle.json.specs.Token.{Token, begin_object, end_object}
 use Rattle.shared_core_wire.proofs.Groups.{beyond}
 use Rattle.shared_core_wire.proofs.Readers.{varint_pos, varint_reads}
 use Rattle.shared_core_wire.specs.Reader.{varint_at}
 use Rattle.shared_core_wire.specs.ReadRecords.{PlacedRecord, read_records}
 use Rattle.shared_core_wire.specs.declared.error.WireError.{WireError}
-use Rattle.std.specs.Prelude.{OnOk, codes}
+use Rattle.std.specs.Prelude.{IfOk, OnOk, codes}
 use Rattle.std.specs.Str.{is_utf8}
 use Rattle.shared_core_json.specs.Fields.{NamedField, schema_fields, field_numbered}
 use Rattle.shared_core_json.specs.Form.{byte_string_json}
-use Rattle.shared_core_json.specs.Written.{text_token, numbers_past, end_tokens, record_tokens, next_open_list, items_tokens, payload_tokens}
+use Rattle.shared_core_json.specs.Written.{numbers_past, value_tokens, end_tokens, lead_tokens, open_list_after, record_tokens, next_open_list, items_tokens, payload_tokens}
 
 numbers_over : (past : ℕ) (bytes : List ℕ) → numbers_past past bytes ≡ numbers_past 0 (drop past bytes)
 unfolding numbers_past
@@ -47,28 +47,18 @@ numbers_turn bytes n rest e =
       more = numbers_first bytes f.text rest n e f.parts (omega arith);
     }
 
-suc_less : (n : ℕ) → suc n - 1 ≡ n
-suc_less n = omega arith
-
-pub payload_none : (texts : Bool) (levels s : ℕ) (bytes : List ℕ) → levels ≡ 0 → payload_tokens texts levels s bytes ≡ null ∷ []
+pub payload_whole : (texts : Bool) (left s : ℕ) (bytes : List ℕ)
+    → payload_tokens texts (suc left) s bytes ≡ begin_object ∷ (items_tokens texts (payload_tokens texts left) (schema_fields s) 0 (read_records 0 bytes) ++ end_object ∷ [])
 unfolding payload_tokens
-payload_none texts levels s bytes e = rw e refl
-
-pub payload_whole : (texts : Bool) (levels s : ℕ) (bytes : List ℕ) → 0 < levels
-    → payload_tokens texts levels s bytes ≡ begin_object ∷ (items_tokens texts (payload_tokens texts (levels - 1)) (schema_fields s) 0 (read_records (levels - 1) bytes) ++ end_object ∷ [])
-unfolding payload_tokens
-payload_whole texts zero s bytes h = absurd (omega arith)
-payload_whole texts (suc left) s bytes h = rw (suc_less left) refl
+payload_whole texts left s bytes = refl
 
 pub on_ok : {A E P Q : Type 0} (r : Result A E) → (P → Q) → OnOk r P → OnOk r Q
 on_ok (Ok x) f p = f p
 on_ok (Err e) f p = tt
 
-pub text_is : (bytes text : List ℕ) → text ≡ bytes → is_utf8 bytes ≡ true → string text ≡ text_token bytes
-text_is bytes text e u = rw (u, e) refl
-
-pub no_text : (bytes : List ℕ) → is_utf8 bytes ≡ false → null ≡ text_token bytes
-no_text bytes u = rw u refl
+pub if_both : {A E : Type 0} {P Q R : A → Type 0} (r : Result A E) → ((x : A) → P x → Q x → R x) → IfOk r P → IfOk r Q → IfOk r R
+if_both (Ok x) f p q = f x p q
+if_both (Err e) f p q = tt
 
 pub text_shown : (texts : Bool) (bytes text : List ℕ) → texts ≡ true → text ≡ bytes → is_utf8 bytes ≡ true → object (member (codes "text") (json.string text) no_members) ≡ byte_string_json texts bytes
 text_shown texts bytes text t e u = rw (t, u, e) refl
@@ -88,7 +78,7 @@ enclosed first last before begun looped ended whole middle b l e w =
     ∙ append_assoc (before ++ first ∷ []) middle (last ∷ []) ∙ append_assoc before (first ∷ []) (middle ++ last ∷ [])
 
 module _ (texts : Bool) (nested : ℕ → List ℕ → List Token) (fields : List NamedField) where
-  pub record_turn : (open_list now : ℕ) (old new all : List Token) (r : PlacedRecord) (items whole : List (Result PlacedRecord WireError))
+  record_turn : (open_list now : ℕ) (old new all : List Token) (r : PlacedRecord) (items whole : List (Result PlacedRecord WireError))
       → new ≡ old ++ record_tokens texts nested open_list (field_numbered fields r.field_record.number) r.field_record.value
       → now ≡ next_open_list open_list (field_numbered fields r.field_record.number)
       → whole ≡ Ok r ∷ items → old ++ items_tokens texts nested fields open_list whole ≡ all → new ++ items_tokens texts nested fields now items ≡ all
@@ -96,10 +86,14 @@ module _ (texts : Bool) (nested : ℕ → List ℕ → List Token) (fields : Lis
   record_turn open_list now old new all r items whole e n w h =
       rw n (step_on old new _ _ all e (sym (ap (λ (is : List (Result PlacedRecord WireError)). old ++ items_tokens texts nested fields open_list is) w) ∙ h))
 
-  pub error_turn : (open_list : ℕ) (old all : List Token) (x : WireError) (items whole : List (Result PlacedRecord WireError))
-      → whole ≡ Err x ∷ items → old ++ items_tokens texts nested fields open_list whole ≡ all → old ++ items_tokens texts nested fields open_list items ≡ all
-  unfolding items_tokens
-  error_turn open_list old all x items whole w h = sym (ap (λ (is : List (Result PlacedRecord WireError)). old ++ items_tokens texts nested fields open_list is) w) ∙ h
+  -- the record of a field that the fields have
+  pub field_turn : (f : NamedField) (open_list now : ℕ) (old new all : List Token) (r : PlacedRecord) (items whole : List (Result PlacedRecord WireError))
+      → field_numbered fields r.field_record.number ≡ Some f → new ≡ old ++ (lead_tokens open_list f ++ value_tokens texts nested f.kind r.field_record.value) → now ≡ open_list_after f
+      → whole ≡ Ok r ∷ items → old ++ items_tokens texts nested fields open_list whole ≡ all → new ++ items_tokens texts nested fields now items ≡ all
+  field_turn f open_list now old new all r items whole found e n w h =
+      record_turn open_list now old new all r items whole
+      (e ∙ ap (λ o. old ++ record_tokens texts nested open_list o r.field_record.value) (sym found))
+      (n ∙ ap (next_open_list open_list) (sym found)) w h
 
   pub items_end : (open_list : ℕ) (items : List (Result PlacedRecord WireError)) → items ≡ [] → items_tokens texts nested fields open_list items ≡ end_tokens open_list
   unfolding items_tokens

@@ -1,8 +1,9 @@
 -- The fields of a schema, with their JSON names.
 use Rattle.std.specs.Prelude.{ℕ, zero, suc, Bool, true, false, List, [], ◌∷◌, ◌++◌, map, nat_eq, if◌then◌else◌, Option, Some, None}
-use Rattle.shared_core_wire.specs.Schema.{Row, Plain, Optional, Repeated, OneOf, Kind as AnyKind, U32}
+use Rattle.shared_core_wire.specs.Schema.{Row, Plain, Optional, Repeated, OneOf, Kind as AnyKind}
 use Rattle.shared_core_codec.specs.Table.{table}
 use Rattle.shared_core_codec.specs.ProgramRows.{kind_view}
+use Rattle.shared_core_codec.specs.Canonicity.{may_recur}
 use Rattle.std.specs.Borrow.{Bor}
 use Rattle.shared_core_json.specs.Names.{names}
 use Rattle.shared_core_json.specs.declared.fields.Field.{Field}
@@ -30,17 +31,16 @@ abbrev pub name_of : List (ℕ × List ℕ) → ℕ → List ℕ
 name_of [] n = []
 name_of (name ∷ names) n = if nat_eq n name.0 then name.1 else name_of names n
 
--- Whether the elements of a repeated field have records of their own: numbers are packed into one.
-abbrev pub stands_alone : AnyKind → Bool
-stands_alone U32 = false
-stands_alone k = true
+-- The field of a number with this kind, repeated or not.
+abbrev pub named : List (ℕ × List ℕ) → ℕ → AnyKind × Bool → NamedField
+named ns n found = record { number = n; name = name_of ns n; kind = found.0; is_element = may_recur found }
 
 -- The fields of a row.
 abbrev pub row_fields : List (ℕ × List ℕ) → Row → List NamedField
-row_fields ns (Plain n k) = record { number = n; name = name_of ns n; kind = k; is_element = false } ∷ []
-row_fields ns (Optional n k) = record { number = n; name = name_of ns n; kind = k; is_element = false } ∷ []
-row_fields ns (Repeated n k) = record { number = n; name = name_of ns n; kind = k; is_element = stands_alone k } ∷ []
-row_fields ns (OneOf members) = map (λ m. record { number = m.0; name = name_of ns m.0; kind = m.1; is_element = false }) members
+row_fields ns (Plain n k) = named ns n (k, false) ∷ []
+row_fields ns (Optional n k) = named ns n (k, false) ∷ []
+row_fields ns (Repeated n k) = named ns n (k, true) ∷ []
+row_fields ns (OneOf members) = map (λ m. named ns m.0 (m.1, false)) members
 
 -- The fields of some rows.
 abbrev pub fields_of_rows : List (ℕ × List ℕ) → List Row → List NamedField

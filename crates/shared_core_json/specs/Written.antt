@@ -1,7 +1,5 @@
 -- The tokens that are written for the records of a payload, one after the other.
-use Rattle.std.specs.Prelude.{◌≡◌, true, false, ℕ, zero, suc, ◌-◌, ◌%◌, Bool, not, List, [], ◌∷◌, ◌++◌, map, length, decimal, nat_eq, ◌==◌, if◌then◌else◌, Option, Some, None, Result, Ok, Err}
-use Rattle.std.specs.List.{list_all}
-use Rattle.std.specs.Str.{is_utf8}
+use Rattle.std.specs.Prelude.{ℕ, zero, suc, ◌-◌, ◌%◌, Bool, not, List, [], ◌∷◌, ◌++◌, map, length, decimal, nat_eq, ◌==◌, if◌then◌else◌, Option, Some, None, Result, Ok, Err}
 use Rattle.json.specs.Token.{Token, begin_object, end_object, begin_array, end_array, key, string, number, boolean, null}
 use Rattle.json.specs.Tree.{json_tokens}
 use Rattle.shared_core_wire.specs.Grammar.{RecordValue, Varint, Fixed64, Length, Group, Fixed32}
@@ -43,17 +41,13 @@ numbers_past zero (b ∷ bs) = elim (varint_at (b ∷ bs)) [
 abbrev pub run_tokens : List ℕ → List Token
 run_tokens run = begin_array ∷ (map number_token (numbers_past 0 run) ++ end_array ∷ [])
 
--- The token of a text; null if it is not UTF-8.
-abbrev pub text_token : List ℕ → Token
-text_token bytes = if is_utf8 bytes then string bytes else null
-
 -- The tokens of length-delimited bytes, where nested gives those of a message's; null if the kind has none.
 abbrev pub length_tokens : Bool → (ℕ → List ℕ → List Token) → Kind → List ℕ → List Token
 length_tokens texts nested U32 bytes = run_tokens bytes
 length_tokens texts nested U64 bytes = null ∷ []
 length_tokens texts nested Boolean bytes = null ∷ []
 length_tokens texts nested Enumeration bytes = null ∷ []
-length_tokens texts nested Text bytes = text_token bytes ∷ []
+length_tokens texts nested Text bytes = string bytes ∷ []
 length_tokens texts nested ByteString bytes = json_tokens (byte_string_json texts bytes)
 length_tokens texts nested (Message s) bytes = nested s bytes
 
@@ -64,15 +58,6 @@ value_tokens texts nested k (Length bytes) = length_tokens texts nested k bytes
 value_tokens texts nested k (Fixed64 bytes) = null ∷ []
 value_tokens texts nested k (Group bytes) = null ∷ []
 value_tokens texts nested k (Fixed32 bytes) = null ∷ []
-
--- Whether a token is not null.
-abbrev pub is_not_null : Token → Bool
-is_not_null null = false
-is_not_null t = true
-
--- If texts are known to be UTF-8, so is each text that tokens are written for: none of them is null.
-abbrev pub IsKnown : Bool → List Token → Type 0
-IsKnown is_checked tokens = is_checked ≡ true → list_all is_not_null tokens ≡ true
 
 -- The end of the open list: that of the field of this number, or none if it is 0.
 abbrev pub end_tokens : ℕ → List Token
@@ -104,8 +89,9 @@ items_tokens texts nested fields open_list (Ok r ∷ items) =
     ++ items_tokens texts nested fields (next_open_list open_list (field_numbered fields r.field_record.number)) items
 items_tokens texts nested fields open_list (Err e ∷ items) = items_tokens texts nested fields open_list items
 
--- The tokens of a payload of the schema s that may be nested this deep, itself included; null if the depth is 0.
+-- The tokens of a payload of the schema s that may be nested this deep, itself included; null if the depth is 0. Groups,
+-- which no schema has, are not read.
 unfoldable pub payload_tokens : Bool → ℕ → ℕ → List ℕ → List Token
 payload_tokens texts zero s bytes = null ∷ []
 payload_tokens texts (suc left) s bytes =
-    begin_object ∷ (items_tokens texts (payload_tokens texts left) (schema_fields s) 0 (read_records left bytes) ++ end_object ∷ [])
+    begin_object ∷ (items_tokens texts (payload_tokens texts left) (schema_fields s) 0 (read_records 0 bytes) ++ end_object ∷ [])

@@ -5,7 +5,6 @@ ghost use Rattle.std.specs.Result.{IsErrOf};
 ghost use Rattle.std.specs.Str.{IsUtf8};
 ghost use Rattle.shared_core_wire.specs.Canonical.{canonical_payload, size};
 ghost use Rattle.shared_core_wire.specs.Fitting.{Fits};
-ghost use Rattle.shared_core_wire.specs.Value.{Parts};
 ghost use Rattle.shared_core_codec.specs.Table.{table};
 ghost use Rattle.shared_core_codec.specs.Payloads.{IsAccepted, payload_meaning};
 ghost use Rattle.json.specs.Lex.{tokens};
@@ -15,12 +14,11 @@ ghost use Rattle.shared_core_json.specs.Payloads.{IsEncoding, IsTooLong};
 ghost use Rattle.shared_core_json.specs.declared.error.JsonError.TheVariants.{Malformed, TooLong};
 
 use crate::error::JsonError;
-use crate::write::write_encoding;
+use crate::write::{write_encoding, write_if_canonical};
 use bytes::Bytes;
 use json::Writer;
-use shared_core_codec::canonical::is_canonical;
 use shared_core_codec::record::{WireRecord, decode_payload};
-use std::alloc::{AllocError, Global};
+use std::alloc::Global;
 
 /// Overwrites the buffer with the canonical payload of what a payload means. `Malformed` if the payload is not
 /// well-formed for the message; `TooLong` if the canonical payload has more than 4,294,967,295 bytes; `OutOfMemory` if
@@ -57,8 +55,7 @@ fn encode_over<M: WireRecord>(message: &M, canonical: &mut Vec<u8>) -> Result<()
 }
 
 /// Returns the JSON of a payload of the message whose schema is at this index of the table. A canonical payload is
-/// printed as it is; any other is decoded and written canonically first. The errors are those of `write_canonical`.
-#[tactic(auto, using(crate::proofs::Payloads::canonical_encoding))]
+/// written as it is; any other is decoded and written canonically first. The errors are those of `write_canonical`.
 pub fn json_of<M: WireRecord>(
     alloc: Global,
     schema: u32,
@@ -74,25 +71,14 @@ pub fn json_of<M: WireRecord>(
     ensures malformed { IsErrOf result Malformed → ¬ (IsAccepted M.schema payload.now) }
     ensures too_long { IsErrOf result TooLong → IsTooLong M.schema payload.now }
 {
-    if is_canonical(schema, payload.as_slice()) {
-        return Ok(print(alloc, schema, payload.as_slice())?);
-    }
-    let mut canonical = Vec::new(alloc);
-    write_canonical::<M>(alloc, payload, &mut canonical)?;
-    Ok(print(alloc, schema, canonical.as_slice())?)
-}
-
-/// Returns the JSON of what a canonical payload means.
-fn print(alloc: Global, schema: u32, canonical: &[u8]) -> Result<Vec<u8>, AllocError>
-    requires { (v : Parts) × IsEncoding schema v canonical.now }
-    ensures text { IfOk result (λ text. (v : Parts) → IsEncoding schema v canonical.now
-        → text.items ≡ json_text schema v) }
-    ensures utf8 { IfOk result (λ text. IsUtf8 text.items) }
-    ensures reads_back { IfOk result (λ text. (v : Parts) → IsEncoding schema v canonical.now
-        → tokens text.items ≡ json_tokens (value_json schema v)) }
-{
-    let mut out = Writer::new(Vec::new(alloc));
     let mut base64 = String::new(alloc);
-    write_encoding(&mut out, &mut base64, false, schema, canonical)?;
+    let mut out = Writer::new(Vec::new(alloc));
+    if write_if_canonical(&mut out, &mut base64, false, schema, payload.as_slice())? {
+        return Ok(out.into_inner());
+    }
+    let mut encoding = Vec::new(alloc);
+    write_canonical::<M>(alloc, payload, &mut encoding)?;
+    out = Writer::new(Vec::new(alloc));
+    write_encoding(&mut out, &mut base64, false, schema, encoding.as_slice())?;
     Ok(out.into_inner())
 }

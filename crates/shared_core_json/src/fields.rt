@@ -1,10 +1,11 @@
-//! The fields of a schema as JSON has them: whether each record of a field is an element of a list.
+//! Fields as JSON has them: whether each record of a field is an element of a list.
 
-ghost use Rattle.std.specs.Prelude.{◌≡◌, ◌&&◌, option_map};
-ghost use Rattle.shared_core_codec.specs.ProgramRows.{kind_view};
-ghost use Rattle.shared_core_json.specs.Fields.{stands_alone, field_view, schema_fields, field_numbered};
+ghost use Rattle.std.specs.Prelude.{◌≡◌, ℕ};
+ghost use Rattle.shared_core_codec.specs.ProgramRows.{found_view};
+ghost use Rattle.shared_core_json.specs.Fields.{field_view, names_of, named};
 
-use shared_core_codec::rows::{self, Found, Kind, rows_of};
+use shared_core_codec::canonical::may_recur;
+use shared_core_codec::rows::{Found, Kind};
 
 /// A field of a schema: its number and its kind, and whether each of its records is an element of a list.
 #[derive(Clone, Copy)]
@@ -14,26 +15,14 @@ pub struct Field {
     pub is_element: bool,
 }
 
-/// Whether each record of a field is an element of a list: the numbers of a repeated one are packed into one record.
-fn is_element(found: Found) -> bool
-    ensures { result ≡ found.is_repeated && stands_alone (kind_view found.kind) }
+/// The field of a number, of which the rows of a schema say what kind it is and whether it is repeated. The numbers of a
+/// packed run are in one record, which is no element.
+pub fn field_of(number: u32, found: Found) -> Field
+    ensures { (schema : ℕ) → field_view schema result ≡ named (names_of schema) number (found_view found) }
 {
-    match found.kind {
-        Kind::U32 => false,
-        _ => found.is_repeated,
-    }
-}
-
-/// The field of the schema that has a number.
-pub fn find_field(schema: u32, number: u32) -> Option<Field>
-    ensures { option_map (field_view schema) result ≡ field_numbered (schema_fields schema) number }
-{
-    let Some(found) = rows::find_field(rows_of(schema), number) else {
-        return None;
-    };
-    Some(Field {
+    Field {
         number,
         kind: found.kind,
-        is_element: is_element(found),
-    })
+        is_element: may_recur(found),
+    }
 }

@@ -1,7 +1,8 @@
 //! Writing canonical payloads as JSON, in one pass and by the rows of schemas for all messages.
 
-ghost use Rattle.std.specs.Prelude.{◌≡◌, [], ◌∷◌, ◌++◌, codes, false, nat_eq, OnOk, IfOk};
-ghost use Rattle.json.specs.Token.{number, null, end_array};
+ghost use Rattle.std.specs.Prelude.{◌≡◌, ◌↔◌, suc, [], ◌∷◌, ◌++◌, codes, true, false, nat_eq, IsTrue, OnOk, IfOk};
+ghost use Rattle.std.specs.Str.{is_utf8};
+ghost use Rattle.json.specs.Token.{number};
 ghost use Rattle.json.specs.Token as token;
 ghost use Rattle.json.specs.Json.{object, string, member, no_members};
 ghost use Rattle.json.specs.Tree.{json_tokens};
@@ -9,134 +10,177 @@ ghost use Rattle.base64.specs.GeneralPurpose.{encode_of};
 ghost use Rattle.base64.specs.Engines.{standard};
 ghost use Rattle.shared_core_wire.specs.Value.{Parts};
 ghost use Rattle.shared_core_wire.specs.View.{value_of};
-ghost use Rattle.shared_core_codec.specs.ProgramRows.{kind_view};
-ghost use Rattle.shared_core_json.specs.Form.{enum_digits, byte_string_json};
-ghost use Rattle.shared_core_json.specs.Fields.{field_view, schema_fields, field_numbered};
+ghost use Rattle.shared_core_codec.specs.Payloads.{payload_meaning};
+ghost use Rattle.shared_core_codec.specs.ProgramRows.{kind_view, found_view};
+ghost use Rattle.shared_core_codec.specs.Canonicity.{IsCanonical, is_canonical_payload, is_canonical_message};
+ghost use Rattle.shared_core_codec.specs.Canonicity.{is_written_field, is_written_element, is_written_value};
+ghost use Rattle.shared_core_codec.specs.Canonicity.{is_written_run};
+ghost use Rattle.shared_core_json.specs.Form.{enum_digits, byte_string_json, json_with};
+ghost use Rattle.shared_core_json.specs.Fields.{field_view, names_of, named};
 ghost use Rattle.shared_core_json.specs.Payloads.{IsEncoding, WritesJson};
-ghost use Rattle.shared_core_json.specs.Written.{low, varint_token, run_tokens};
-ghost use Rattle.shared_core_json.specs.Written.{text_token, length_tokens, value_tokens, end_tokens, IsKnown};
-ghost use Rattle.shared_core_json.specs.Written.{lead_tokens, record_tokens, next_open_list, payload_tokens};
+ghost use Rattle.shared_core_json.specs.Written.{varint_token, run_tokens, value_tokens};
+ghost use Rattle.shared_core_json.specs.Written.{end_tokens, lead_tokens, payload_tokens};
 
-use crate::fields::{Field, find_field};
+use crate::fields::{Field, field_of};
 use crate::names::name_of;
 use base64::engine::general_purpose::STANDARD;
 use json::Writer;
-use shared_core_codec::rows::Kind;
+use shared_core_codec::canonical::{LEVELS, NextField, is_default, is_written_number, is_written_run};
+use shared_core_codec::canonical::{may_recur, next_field, written_size};
+use shared_core_codec::rows::{Kind, rows_of};
+use shared_core_codec::size::Size;
 use shared_core_wire::record::WireValue;
 use shared_core_wire::records::{Record, Records};
 use shared_core_wire::varint::{low_32, read_varint};
 use std::alloc::AllocError;
 
-/// How deep messages may be nested, the outermost included: a payload has depths 0 to 100, and the walk needs one more.
-const LEVELS: u32 = 102;
-
-/// How a payload is written.
-#[derive(Clone, Copy)]
-struct Form {
-    /// Whether bytes that are UTF-8 are written as texts.
-    texts: bool,
-    /// Whether the texts of the payload are known to be UTF-8. Others are checked where they are written.
-    is_checked: bool,
-}
-
-/// Writes the JSON of the value of a schema whose canonical payload this is (what it writes for another payload is
-/// unspecified). If `texts` is given, bytes that are UTF-8 are not written in base64, but as the object
-/// `{"text":".."}`, which proto3's JSON form does not have. `base64` is a buffer that is overwritten. If an allocation
-/// fails, some tokens may be written.
-pub fn write_message(
+/// Writes the JSON of a payload if it is canonical for the schema at an index of the table, and returns whether it is; if
+/// it is not, some tokens may be written. If `texts` is given, bytes that are UTF-8 are not written in base64, but as
+/// the object `{"text":".."}`, which proto3's JSON form does not have. `base64` is a buffer that is overwritten. If an
+/// allocation fails, some tokens may be written. Makes one pass over the bytes.
+pub fn write_if_canonical(
     out: &mut Writer,
     base64: &mut String,
     texts: bool,
     schema: u32,
-    canonical: &[u8],
-) -> Result<(), AllocError>
-    ensures tokens { OnOk result (WritesJson texts schema canonical.now out.old.tokens out.new.tokens) }
+    payload: &[u8],
+) -> Result<bool, AllocError>
+    ensures canonical { IfOk result (λ written. IsTrue written ↔ IsCanonical schema payload.now) }
+    ensures tokens { IfOk result (λ written. IsTrue written → out.new.tokens
+        ≡ out.old.tokens ++ json_tokens (json_with texts schema (payload_meaning schema payload.now))) }
     ensures before { out.new.before ≡ out.old.before }
 {
-    let form = Form {
-        texts,
-        is_checked: false,
-    };
-    write_payload(out, base64, form, schema, canonical, LEVELS)
+    if payload.len() as u64 >= Size::LIMIT {
+        return Ok(false);
+    }
+    write_payload(out, base64, texts, schema, payload, LEVELS)
 }
 
-/// Does what `write_message` does for a payload that is known to be canonical. Its texts are not checked again.
+/// Writes the JSON of the value of a schema that a payload is the canonical encoding of, as `write_if_canonical` does.
 pub fn write_encoding(
     out: &mut Writer,
     base64: &mut String,
     texts: bool,
     schema: u32,
-    canonical: &[u8],
+    encoding: &[u8],
 ) -> Result<(), AllocError>
-    requires { (v : Parts) × IsEncoding schema v canonical.now }
-    ensures tokens { OnOk result (WritesJson texts schema canonical.now out.old.tokens out.new.tokens) }
+    requires { (v : Parts) × IsEncoding schema v encoding.now }
+    ensures tokens { OnOk result (WritesJson texts schema encoding.now out.old.tokens out.new.tokens) }
     ensures before { out.new.before ≡ out.old.before }
 {
-    let encoding = Form {
-        texts,
-        is_checked: true,
-    };
-    write_payload(out, base64, encoding, schema, canonical, LEVELS)
+    if write_payload(out, base64, texts, schema, encoding, LEVELS + 1)? {
+        Ok(())
+    } else {
+        // an encoding is canonical
+        unreachable!()
+    }
 }
 
-/// Writes a payload as an object; it may be nested this deep, itself included.
+/// Writes a payload as an object if it is canonical, and returns whether it is; its records may be nested `left` deep.
 #[cycle(payload)]
 fn write_payload(
     out: &mut Writer,
     base64: &mut String,
-    form: Form,
+    texts: bool,
     schema: u32,
     payload: &[u8],
-    levels: u32,
-) -> Result<(), AllocError>
-    requires known { IsKnown form.is_checked (payload_tokens form.texts levels schema payload.now) }
-    ensures tokens { OnOk result (out.new.tokens
-        ≡ out.old.tokens ++ payload_tokens form.texts levels schema payload.now) }
+    left: u32,
+) -> Result<bool, AllocError>
+    ensures canonical { IfOk result (λ written. written ≡ is_canonical_payload left schema payload.now) }
+    ensures tokens { IfOk result (λ written. written ≡ true
+        → out.new.tokens ≡ out.old.tokens ++ payload_tokens texts (suc left) schema payload.now) }
     ensures before { out.new.before ≡ out.old.before }
 {
-    if levels == 0 {
-        return out.null();
-    }
     out.begin_object()?;
+    let mut rows = rows_of(schema);
+    let mut room = payload.len() as u64;
     let mut open_list = 0;
-    for item in Records::within(payload, levels - 1) {
-        if let Ok(found) = item {
-            open_list = write_record(out, base64, form, schema, &found, open_list, levels - 1)?;
+    // a group is never canonical
+    for item in Records::within(payload, 0) {
+        let Ok(found) = item else {
+            return Ok(false);
+        };
+        let Some(next) = next_field(rows, found.number) else {
+            return Ok(false);
+        };
+        if !write_record(out, base64, texts, schema, next, &found, open_list, left)? {
+            return Ok(false);
         }
+        let size = written_size(&found);
+        if room < size {
+            return Ok(false);
+        }
+        rows = next.rows;
+        room -= size;
+        open_list = if may_recur(next.field) { found.number } else { 0 };
+    }
+    if room > 0 {
+        // more bytes than the records take when they are written
+        return Ok(false);
     }
     end_list(out, open_list)?;
-    out.end_object()
+    out.end_object()?;
+    Ok(true)
 }
 
 /// Writes a record as a member or an element, where the list of the field with the number `open_list` is open, or none
-/// if that is 0, and returns the list that is open after it.
+/// if that is 0, if the record is written so in a canonical payload, and returns whether it is.
 #[cycle(payload)]
 fn write_record(
     out: &mut Writer,
     base64: &mut String,
-    form: Form,
+    texts: bool,
     schema: u32,
+    next: NextField<'_>,
     found: &Record<'_>,
     open_list: u32,
     left: u32,
-) -> Result<u32, AllocError>
-    requires known { IsKnown form.is_checked (record_tokens form.texts (payload_tokens form.texts left) open_list
-        (field_numbered (schema_fields schema) found.now.number) (value_of found.now.value)) }
-    ensures tokens { OnOk result (out.new.tokens ≡ out.old.tokens
-        ++ record_tokens form.texts (payload_tokens form.texts left) open_list
-        (field_numbered (schema_fields schema) found.now.number) (value_of found.now.value)) }
-    ensures open_list { IfOk result (λ now. now ≡ next_open_list open_list
-        (field_numbered (schema_fields schema) found.now.number)) }
+) -> Result<bool, AllocError>
+    ensures canonical { IfOk result (λ written. written
+        ≡ is_written_field (is_canonical_message left) next.entry.is_plain (found_view next.entry.field)
+        (value_of found.now.value)) }
+    ensures tokens { IfOk result (λ written. written ≡ true → out.new.tokens ≡ out.old.tokens
+        ++ (lead_tokens open_list (named (names_of schema) found.now.number (found_view next.entry.field))
+        ++ value_tokens texts (payload_tokens texts left) (kind_view next.entry.field.kind)
+        (value_of found.now.value))) }
     ensures before { out.new.before ≡ out.old.before }
 {
-    let Some(field) = find_field(schema, found.number) else {
-        return Ok(open_list);
-    };
+    let field = field_of(found.number, next.field);
     if open_list != field.number {
         begin_member(out, schema, &field, open_list)?;
     }
-    write_value(out, base64, form, field.kind, found.value, left)?;
-    Ok(if field.is_element { field.number } else { 0 })
+    if next.field.is_repeated {
+        write_element(out, base64, texts, next.field.kind, found.value, left)
+    } else {
+        let is_written = write_value(out, base64, texts, next.field.kind, found.value, left)?;
+        Ok(is_written && !(next.is_plain && is_default(found.value)))
+    }
+}
+
+/// Writes an element of a repeated field of this kind, or all of its elements if they are packed into one record, if the
+/// value is written so in a canonical payload, and returns whether it is.
+#[cycle(payload)]
+fn write_element(
+    out: &mut Writer,
+    base64: &mut String,
+    texts: bool,
+    kind: Kind,
+    value: WireValue<'_>,
+    left: u32,
+) -> Result<bool, AllocError>
+    ensures canonical { IfOk result (λ written. written
+        ≡ is_written_element (is_canonical_message left) (kind_view kind) (value_of value.entry)) }
+    ensures tokens { IfOk result (λ written. written ≡ true → out.new.tokens ≡ out.old.tokens
+        ++ value_tokens texts (payload_tokens texts left) (kind_view kind) (value_of value.entry)) }
+    ensures before { out.new.before ≡ out.old.before }
+{
+    if let Kind::U32 = kind {
+        return match value {
+            WireValue::Length(run) => write_run(out, run),
+            _ => Ok(false),
+        };
+    }
+    write_value(out, base64, texts, kind, value, left)
 }
 
 /// Writes the name of a field of a schema, and the beginning of its list, after closing the open list.
@@ -170,32 +214,43 @@ fn end_list(out: &mut Writer, open_list: u32) -> Result<(), AllocError>
     out.end_array()
 }
 
-/// Writes the value of a record of a field of this kind; null if the kind has no such value.
+/// Writes the value of a record of a field of this kind if it is written so in a canonical payload, and returns whether it
+/// is.
 #[cycle(payload)]
 fn write_value(
     out: &mut Writer,
     base64: &mut String,
-    form: Form,
+    texts: bool,
     kind: Kind,
     value: WireValue<'_>,
     left: u32,
-) -> Result<(), AllocError>
-    requires known { IsKnown form.is_checked (value_tokens form.texts (payload_tokens form.texts left)
-        (kind_view kind) (value_of value)) }
-    ensures tokens { OnOk result (out.new.tokens ≡ out.old.tokens
-        ++ value_tokens form.texts (payload_tokens form.texts left) (kind_view kind) (value_of value.entry)) }
+) -> Result<bool, AllocError>
+    ensures canonical { IfOk result (λ written. written
+        ≡ is_written_value (is_canonical_message left) (kind_view kind) (value_of value.entry)) }
+    ensures tokens { IfOk result (λ written. written ≡ true → out.new.tokens ≡ out.old.tokens
+        ++ value_tokens texts (payload_tokens texts left) (kind_view kind) (value_of value.entry)) }
     ensures before { out.new.before ≡ out.old.before }
 {
     match value {
-        WireValue::Varint(number) => write_varint(out, kind, number),
+        WireValue::Varint(number) => {
+            write_varint(out, kind, number)?;
+            Ok(is_written_number(kind, number))
+        }
         WireValue::Length(bytes) => match kind {
-            Kind::U32 => write_run(out, bytes),
-            Kind::Text => write_text(out, form.is_checked, bytes),
-            Kind::ByteString => write_byte_string(out, base64, form.texts, bytes),
-            Kind::Message(schema) => write_payload(out, base64, form, schema, bytes, left),
-            _ => out.null(),
+            Kind::Text => write_text(out, bytes),
+            Kind::ByteString => {
+                write_byte_string(out, base64, texts, bytes)?;
+                Ok(true)
+            }
+            Kind::Message(schema) => {
+                if left == 0 {
+                    return Ok(false);
+                }
+                write_payload(out, base64, texts, schema, bytes, left - 1)
+            }
+            _ => Ok(false),
         },
-        _ => out.null(),
+        _ => Ok(false),
     }
 }
 
@@ -225,9 +280,11 @@ fn write_enumeration(out: &mut Writer, bits: u32) -> Result<(), AllocError>
     }
 }
 
-/// Writes the numbers of a packed run as an array.
-fn write_run(out: &mut Writer, run: &[u8]) -> Result<(), AllocError>
-    ensures tokens { OnOk result (out.new.tokens ≡ out.old.tokens ++ run_tokens run.now) }
+/// Writes the numbers of a packed run as an array if it is a canonical one, and returns whether it is.
+fn write_run(out: &mut Writer, run: &[u8]) -> Result<bool, AllocError>
+    ensures canonical { IfOk result (λ written. written ≡ is_written_run run.now) }
+    ensures tokens { IfOk result (λ written. written ≡ true
+        → out.new.tokens ≡ out.old.tokens ++ run_tokens run.now) }
     ensures before { out.new.before ≡ out.old.before }
 {
     out.begin_array()?;
@@ -236,22 +293,23 @@ fn write_run(out: &mut Writer, run: &[u8]) -> Result<(), AllocError>
         out.u64(u64::from(low_32(number)))?;
         rest = after;
     }
-    out.end_array()
+    out.end_array()?;
+    Ok(is_written_run(run))
 }
 
-/// Writes a text, with JSON's escapes.
-fn write_text(out: &mut Writer, is_checked: bool, bytes: &[u8]) -> Result<(), AllocError>
-    requires known { IsKnown is_checked (text_token bytes.now ∷ []) }
-    ensures tokens { OnOk result (out.new.tokens ≡ out.old.tokens ++ text_token bytes.now ∷ []) }
+/// Writes a text, with JSON's escapes, if it is UTF-8, and returns whether it is.
+fn write_text(out: &mut Writer, bytes: &[u8]) -> Result<bool, AllocError>
+    ensures canonical { IfOk result (λ written. written ≡ is_utf8 bytes.now) }
+    ensures tokens { IfOk result (λ written. written ≡ true
+        → out.new.tokens ≡ out.old.tokens ++ token.string bytes.now ∷ []) }
     ensures before { out.new.before ≡ out.old.before }
 {
-    if is_checked {
-        // the caller knows that it is UTF-8
-        return out.string(unsafe { std::str::from_utf8_unchecked(bytes) });
-    }
     match std::str::from_utf8(bytes) {
-        Ok(text) => out.string(text),
-        Err(_) => out.null(),
+        Ok(text) => {
+            out.string(text)?;
+            Ok(true)
+        }
+        Err(_) => Ok(false),
     }
 }
 

@@ -1,15 +1,14 @@
-use Rattle.std.proofs.Common.{◌<◌, ◌^◌, length, rules}
-use Rattle.shared_core_json.proofs.Known.{encoding_known}
-use Rattle.shared_core_json.proofs.Payloads.{encoding_written}
-use Rattle.shared_core_json.proofs.Walk.{on_ok}
+use Rattle.std.proofs.Common.{◌≡◌, ◌<◌, ◌^◌, true, false, length, rules, sym, ◌∙◌}
+use Rattle.shared_core_json.proofs.Payloads.{encoding_written, encoding_passes}
 use Rattle.shared_core_json.proofs.write.write_encoding.Goals as goal
 
-pub write_payload-requires : goal.write_payload-requires
-write_payload-requires c =
-    let short : length c.args.canonical.now < 2 ^ 64 = search rules in
-    record { known = λ e. encoding_known c.args.texts c.args.schema c.args.canonical.now short c.requires }
+pub unreachable-requires : goal.unreachable-requires
+unreachable-requires c =
+    let short : length c.args.encoding.now < 2 ^ 64 = search rules in
+    let e : false ≡ true = sym c.if-branch.false ∙ c.in_ok-write_payload.ensures.canonical ∙ encoding_passes c.args.schema c.args.encoding.now short c.requires in
+    cc
 
 pub returns-clause-tokens : goal.returns-clause-tokens
 returns-clause-tokens c =
-    let short : length c.args.canonical.now < 2 ^ 64 = search rules in
-    on_ok c.write_payload.result (λ w. encoding_written c.args.texts c.args.schema c.args.canonical.now c.args.out.now.tokens c.write_payload.new.out.tokens short w) c.write_payload.ensures.tokens
+    let short : length c.args.encoding.now < 2 ^ 64 = search rules in
+    encoding_written c.args.texts c.args.schema c.args.encoding.now c.args.out.now.tokens c.write_payload.new.out.tokens short (c.in_ok-write_payload.ensures.tokens c.if-branch.true)

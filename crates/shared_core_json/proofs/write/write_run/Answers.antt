@@ -2,7 +2,7 @@ use Rattle.std.proofs.Common.{[], ◌∷◌, ◌++◌, map, sym, refl, ap, ◌�
 use Rattle.std.specs.Prelude.{decimal}
 use Rattle.json.specs.Token.{begin_array, end_array, number}
 use Rattle.shared_core_json.specs.Written.{number_token}
-use Rattle.shared_core_json.proofs.Walk.{numbers_turn, numbers_stop, step_on, on_ok, enclosed}
+use Rattle.shared_core_json.proofs.Walk.{numbers_turn, numbers_stop, step_on, enclosed}
 use Rattle.shared_core_json.proofs.write.write_run.Goals as goal
 
 pub loop-number-smaller : goal.loop-number-smaller
@@ -22,4 +22,4 @@ pub returns-clause-tokens : goal.returns-clause-tokens
 returns-clause-tokens c =
     let none = numbers_stop c.loop-number.rest.now c.in_default.ensures in
     let looped = sym (append-nil c.loop-number.out.tokens) ∙ ap (λ (ns : List ℕ). c.loop-number.out.tokens ++ map number_token ns) (sym none) ∙ c.loop-number.invariant.tokens in
-    on_ok c.end_array.result (λ w. enclosed begin_array end_array c.args.out.now.tokens c.begin_array.new.self.tokens c.loop-number.out.tokens c.loop-number.out.tokens _ _ c.in_ok-begin_array.ensures.ok looped refl w) c.end_array.ensures.ok
+    λ e. enclosed begin_array end_array c.args.out.now.tokens c.begin_array.new.self.tokens c.loop-number.out.tokens c.loop-number.out.tokens _ _ c.in_ok-begin_array.ensures.ok looped refl c.in_ok-end_array.ensures.ok

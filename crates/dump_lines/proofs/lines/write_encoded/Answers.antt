@@ -10,7 +10,7 @@ use Rattle.shared_core_json.specs.declared.error.JsonError.TheVariants.{Malforme
 use Rattle.dump_lines.specs.Canonical.{ReturnsEncoding}
 use Rattle.shared_core.specs.Visiting.{schema_at}
 use Rattle.dump_lines.proofs.Tokens.{then_tokens, shown_message, shown_malformed}
-use Rattle.dump_lines.proofs.lines.write_payload.Goals as goal
+use Rattle.dump_lines.proofs.lines.write_encoded.Goals as goal
 
 pub returns-in_ok-write_encoding-in-Ok-Some-clause-tokens : goal.returns-in_ok-write_encoding-in-Ok-Some-clause-tokens
 returns-in_ok-write_encoding-in-Ok-Some-clause-tokens c =
