@@ -91,12 +91,30 @@ impl<'a> LinePrinter for Options<'a> {
         let mut line = mem::replace(&mut scratch.line, Vec::new(alloc));
         line.clear();
         let mut out = Writer::new(line);
-        if !write_item(alloc, self, offset, word, &item, Form::Received, scratch, &mut out)? {
+        if !write_item(
+            alloc,
+            self,
+            offset,
+            word,
+            &item,
+            Form::Received,
+            scratch,
+            &mut out,
+        )? {
             // the payload is not canonical: the line begins anew
             line = out.into_inner();
             line.clear();
             out = Writer::new(line);
-            write_item(alloc, self, offset, word, &item, Form::Encoded, scratch, &mut out)?;
+            write_item(
+                alloc,
+                self,
+                offset,
+                word,
+                &item,
+                Form::Encoded,
+                scratch,
+                &mut out,
+            )?;
         }
         scratch.line = out.into_inner();
         Ok(append_object(alloc, self.pretty, scratch.line.as_slice(), lines)?)

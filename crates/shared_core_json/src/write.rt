@@ -25,8 +25,10 @@ use crate::fields::{Field, field_of};
 use crate::names::name_of;
 use base64::engine::general_purpose::STANDARD;
 use json::Writer;
-use shared_core_codec::canonical::{LEVELS, NextField, is_default, is_written_number, is_written_run};
-use shared_core_codec::canonical::{may_recur, next_field, written_size};
+use shared_core_codec::canonical::{
+    LEVELS, NextField, is_default, is_written_number, is_written_run, may_recur, next_field,
+    written_size,
+};
 use shared_core_codec::rows::{Kind, rows_of};
 use shared_core_codec::size::Size;
 use shared_core_wire::record::WireValue;
@@ -112,7 +114,11 @@ fn write_payload(
         }
         rows = next.rows;
         room -= size;
-        open_list = if may_recur(next.field) { found.number } else { 0 };
+        open_list = if may_recur(next.field) {
+            found.number
+        } else {
+            0
+        };
     }
     if room > 0 {
         // more bytes than the records take when they are written
