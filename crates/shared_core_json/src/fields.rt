@@ -15,7 +15,7 @@ pub struct Field {
     pub is_element: bool,
 }
 
-/// The field of a number, of which the rows of a schema say what kind it is and whether it is repeated. The numbers of a
+/// The field of a number, where the rows of a schema say what kind it is and whether it is repeated. The numbers of a
 /// packed run are in one record, which is no element.
 pub fn field_of(number: u32, found: Found) -> Field
     ensures { (schema : ℕ) → field_view schema result ≡ named (names_of schema) number (found_view found) }

@@ -36,10 +36,10 @@ use shared_core_wire::records::{Record, Records};
 use shared_core_wire::varint::{low_32, read_varint};
 use std::alloc::AllocError;
 
-/// Writes the JSON of a payload if it is canonical for the schema at an index of the table, and returns whether it is; if
-/// it is not, some tokens may be written. If `texts` is given, bytes that are UTF-8 are not written in base64, but as
-/// the object `{"text":".."}`, which proto3's JSON form does not have. `base64` is a buffer that is overwritten. If an
-/// allocation fails, some tokens may be written. Makes one pass over the bytes.
+/// Writes the JSON of a payload if it is canonical for the schema at an index of the table, and returns whether it is.
+/// If it is not, or an allocation fails, some tokens may be written. If `texts` is given, bytes that are UTF-8 are not
+/// written in base64, but as the object `{"text":".."}`, which proto3's JSON form does not have. `base64` is a buffer
+/// that is overwritten. Makes one pass over the bytes.
 pub fn write_if_canonical(
     out: &mut Writer,
     base64: &mut String,
@@ -163,7 +163,7 @@ fn write_record(
     }
 }
 
-/// Writes an element of a repeated field of this kind, or all of its elements if they are packed into one record, if the
+/// Writes an element of a repeated field of this kind, or all of them where they are packed into one record, if the
 /// value is written so in a canonical payload, and returns whether it is.
 #[cycle(payload)]
 fn write_element(
@@ -220,8 +220,8 @@ fn end_list(out: &mut Writer, open_list: u32) -> Result<(), AllocError>
     out.end_array()
 }
 
-/// Writes the value of a record of a field of this kind if it is written so in a canonical payload, and returns whether it
-/// is.
+/// Writes the value of a record of a field of this kind, if it is written so in a canonical payload, and returns
+/// whether it is.
 #[cycle(payload)]
 fn write_value(
     out: &mut Writer,
