@@ -130,7 +130,7 @@ impl<'a> LinePrinter for Options<'a> {
     ) -> Result<(), AllocError> {
         let mut out = Writer::new(Vec::new(alloc));
         out.begin_object()?;
-        write_rest(self, offset, rest, &mut String::new(alloc), &mut out)?;
+        write_rest(self, offset, rest, &mut Scratch::new(alloc), &mut out)?;
         out.end_object()?;
         append_object(alloc, self.pretty, out.into_inner().as_slice(), lines)
     }
@@ -210,7 +210,7 @@ fn write_rest(
     options: &Options<'_>,
     offset: u128,
     rest: &Decoder,
-    text: &mut String,
+    scratch: &mut Scratch,
     out: &mut Writer,
 ) -> Result<(), AllocError>
     ensures tokens { OnOk result (out.new.tokens ++ end_object ∷ [] ≡ out.old.tokens
@@ -218,11 +218,12 @@ fn write_rest(
         (number_member (codes "rest") (length rest.now.bytes) (rest_members options.now rest.now.bytes)))) }
     ensures before { out.new.before ≡ out.old.before }
 {
+    let Scratch { text, base64, .. } = scratch;
     write_offset(out, offset, text)?;
     let count = rest.pending();
     write_number(out, "rest", count)?;
     if options.payloads && count > 0 {
-        write_bytes(out, options.texts, rest.copy_pending()?.as_slice(), text)?;
+        write_bytes(out, options.texts, rest.copy_pending()?.as_slice(), base64)?;
     }
     Ok(())
 }
@@ -272,9 +273,9 @@ fn write_members(
         Item::Message(message) => {
             return write_message_members(alloc, options, word, message, form, scratch, out);
         }
-        Item::Unknown(code) => write_unknown(word, *code, &mut scratch.text, out)?,
+        Item::Unknown(code) => write_unknown(word, *code, &mut scratch.base64, out)?,
         Item::Skipped(code, payload) => {
-            write_skipped(options, word, *code, payload, &mut scratch.text, out)?;
+            write_skipped(options, word, *code, payload, &mut scratch.base64, out)?;
         }
     }
     Ok(true)
@@ -284,7 +285,7 @@ fn write_members(
 fn write_unknown(
     word: u64,
     code: u16,
-    text: &mut String,
+    base64: &mut Vec<u8>,
     out: &mut Writer,
 ) -> Result<(), AllocError>
     ensures tokens { OnOk result (out.new.tokens ++ end_object ∷ [] ≡ out.old.tokens
@@ -293,7 +294,7 @@ fn write_unknown(
 {
     write_flag(out, "unknown", true)?;
     write_number(out, "code", code as u64)?;
-    write_header(out, word, u128::from(code) * CODE_UNIT, text)?;
+    write_header(out, word, u128::from(code) * CODE_UNIT, base64)?;
     Ok(())
 }
 
@@ -303,7 +304,7 @@ fn write_skipped(
     word: u64,
     code: u16,
     payload: &Bytes,
-    text: &mut String,
+    base64: &mut Vec<u8>,
     out: &mut Writer,
 ) -> Result<(), AllocError>
     ensures tokens { OnOk result (out.new.tokens ++ end_object ∷ [] ≡ out.old.tokens
@@ -315,9 +316,9 @@ fn write_skipped(
     write_number(out, "length", payload.len() as u64)?;
     // in memory a payload may be longer than a header can say
     let written = u128::from(code) * CODE_UNIT + payload.len() as u128;
-    write_header(out, word, written, text)?;
+    write_header(out, word, written, base64)?;
     if options.payloads {
-        write_bytes(out, options.texts, payload, text)?;
+        write_bytes(out, options.texts, payload, base64)?;
     }
     Ok(())
 }
@@ -345,7 +346,8 @@ fn write_message_members(
     write_number(out, "length", message.payload().len() as u64)?;
     let header = message.header();
     write_ack(out, header.requested_ack())?;
-    write_header(out, word, u128::from(u64::from(header)), &mut scratch.text)?;
+    let written = u128::from(u64::from(header));
+    write_header(out, word, written, &mut scratch.base64)?;
     if options.payloads {
         return write_payload(alloc, options, ty, message.payload(), form, scratch, out);
     }
@@ -374,12 +376,12 @@ fn write_payload(
     }
     let Some(schema) = schema_at(options.version, ty) else {
         // the payload of a custom entry is opaque
-        write_bytes(out, options.texts, payload, &mut scratch.text)?;
+        write_bytes(out, options.texts, payload, &mut scratch.base64)?;
         return Ok(true);
     };
     out.key("message")?;
-    let text = &mut scratch.text;
-    Ok(write_if_canonical(out, text, options.texts, schema, payload.as_slice())?)
+    let base64 = &mut scratch.base64;
+    Ok(write_if_canonical(out, base64, options.texts, schema, payload.as_slice())?)
 }
 
 /// Writes the members of a message's payload, by the canonical encoding of what it means.
@@ -400,12 +402,13 @@ fn write_encoded(
         Ok(Some(schema)) => {
             out.key("message")?;
             let canonical = scratch.canonical.as_slice();
-            write_encoding(out, &mut scratch.text, options.texts, schema, canonical)?;
+            let base64 = &mut scratch.base64;
+            write_encoding(out, base64, options.texts, schema, canonical)?;
         }
-        Ok(None) => write_bytes(out, options.texts, payload, &mut scratch.text)?,
+        Ok(None) => write_bytes(out, options.texts, payload, &mut scratch.base64)?,
         Err(JsonError::Malformed) => {
             write_flag(out, "malformed", true)?;
-            write_bytes(out, options.texts, payload, &mut scratch.text)?;
+            write_bytes(out, options.texts, payload, &mut scratch.base64)?;
         }
         Err(JsonError::TooLong) => return Err(PrintError::TooLong),
         Err(JsonError::OutOfMemory) => return Err(PrintError::OutOfMemory),
@@ -481,7 +484,7 @@ fn write_header(
     out: &mut Writer,
     word: u64,
     written: u128,
-    text: &mut String,
+    base64: &mut Vec<u8>,
 ) -> Result<(), AllocError>
     ensures tokens { OnOk result (out.new.tokens ≡ out.old.tokens ++ header_tokens word written) }
     ensures before { out.new.before ≡ out.old.before }
@@ -490,7 +493,7 @@ fn write_header(
         return Ok(());
     }
     out.key("header")?;
-    write_byte_string(out, text, false, &word.to_be_bytes())
+    write_byte_string(out, base64, false, &word.to_be_bytes())
 }
 
 /// Writes bytes as the member `bytes`: in base64, or as a text if texts are wanted and they are one.
@@ -498,12 +501,12 @@ fn write_bytes(
     out: &mut Writer,
     texts: bool,
     bytes: &[u8],
-    text: &mut String,
+    base64: &mut Vec<u8>,
 ) -> Result<(), AllocError>
     ensures tokens { OnOk result (out.new.tokens ≡ out.old.tokens
         ++ (key (codes "bytes") ∷ json_tokens (byte_string_json texts bytes.now))) }
     ensures before { out.new.before ≡ out.old.before }
 {
     out.key("bytes")?;
-    write_byte_string(out, text, texts, bytes)
+    write_byte_string(out, base64, texts, bytes)
 }

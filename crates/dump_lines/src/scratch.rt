@@ -9,8 +9,10 @@ pub struct Scratch {
     pub line: Vec<u8>,
     /// The canonical payload of a message.
     pub canonical: Vec<u8>,
-    /// A text in the line.
+    /// A number or a name in the line.
     pub text: String,
+    /// Bytes in base64.
+    pub base64: Vec<u8>,
 }
 
 impl Scratch {
@@ -20,6 +22,7 @@ impl Scratch {
             line: Vec::new(alloc),
             canonical: Vec::new(alloc),
             text: String::new(alloc),
+            base64: Vec::new(alloc),
         }
     }
 }

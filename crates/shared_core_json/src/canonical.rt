@@ -71,7 +71,7 @@ pub fn json_of<M: WireRecord>(
     ensures malformed { IsErrOf result Malformed → ¬ (IsAccepted M.schema payload.now) }
     ensures too_long { IsErrOf result TooLong → IsTooLong M.schema payload.now }
 {
-    let mut base64 = String::new(alloc);
+    let mut base64 = Vec::new(alloc);
     let mut out = Writer::new(Vec::new(alloc));
     if write_if_canonical(&mut out, &mut base64, false, schema, payload.as_slice())? {
         return Ok(out.into_inner());

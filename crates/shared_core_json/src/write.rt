@@ -23,6 +23,7 @@ ghost use Rattle.shared_core_json.specs.Written.{end_tokens, lead_tokens, payloa
 
 use crate::fields::{Field, field_of};
 use crate::names::name_of;
+use base64::encoded_len;
 use base64::engine::general_purpose::STANDARD;
 use json::Writer;
 use shared_core_codec::canonical::{
@@ -42,7 +43,7 @@ use std::alloc::AllocError;
 /// that is overwritten. Makes one pass over the bytes.
 pub fn write_if_canonical(
     out: &mut Writer,
-    base64: &mut String,
+    base64: &mut Vec<u8>,
     texts: bool,
     schema: u32,
     payload: &[u8],
@@ -61,7 +62,7 @@ pub fn write_if_canonical(
 /// Writes the JSON of the value of a schema that a payload is the canonical encoding of, as `write_if_canonical` does.
 pub fn write_encoding(
     out: &mut Writer,
-    base64: &mut String,
+    base64: &mut Vec<u8>,
     texts: bool,
     schema: u32,
     encoding: &[u8],
@@ -82,7 +83,7 @@ pub fn write_encoding(
 #[cycle(payload)]
 fn write_payload(
     out: &mut Writer,
-    base64: &mut String,
+    base64: &mut Vec<u8>,
     texts: bool,
     schema: u32,
     payload: &[u8],
@@ -134,7 +135,7 @@ fn write_payload(
 #[cycle(payload)]
 fn write_record(
     out: &mut Writer,
-    base64: &mut String,
+    base64: &mut Vec<u8>,
     texts: bool,
     schema: u32,
     next: NextField<'_>,
@@ -168,7 +169,7 @@ fn write_record(
 #[cycle(payload)]
 fn write_element(
     out: &mut Writer,
-    base64: &mut String,
+    base64: &mut Vec<u8>,
     texts: bool,
     kind: Kind,
     value: WireValue<'_>,
@@ -225,7 +226,7 @@ fn end_list(out: &mut Writer, open_list: u32) -> Result<(), AllocError>
 #[cycle(payload)]
 fn write_value(
     out: &mut Writer,
-    base64: &mut String,
+    base64: &mut Vec<u8>,
     texts: bool,
     kind: Kind,
     value: WireValue<'_>,
@@ -323,7 +324,7 @@ fn write_text(out: &mut Writer, bytes: &[u8]) -> Result<bool, AllocError>
 /// object `{"text":".."}`. If an allocation fails, some tokens may be written.
 pub fn write_byte_string(
     out: &mut Writer,
-    base64: &mut String,
+    base64: &mut Vec<u8>,
     texts: bool,
     bytes: &[u8],
 ) -> Result<(), AllocError>
@@ -351,12 +352,21 @@ fn write_marked(out: &mut Writer, text: &str) -> Result<(), AllocError>
     out.end_object()
 }
 
-/// Writes bytes in base64, using the buffer `base64`.
-fn write_base64(out: &mut Writer, base64: &mut String, bytes: &[u8]) -> Result<(), AllocError>
+/// Writes bytes in base64, by way of the buffer `base64`, which keeps the length of the longest text.
+fn write_base64(out: &mut Writer, base64: &mut Vec<u8>, bytes: &[u8]) -> Result<(), AllocError>
     ensures tokens { OnOk result (out.new.tokens ≡ out.old.tokens ++ token.string (encode_of standard bytes.now) ∷ []) }
     ensures before { out.new.before ≡ out.old.before }
 {
-    base64.clear();
-    STANDARD.encode_string(bytes, base64)?;
-    out.string(base64.as_str())
+    let Some(len) = encoded_len(bytes.len(), true) else {
+        return Err(AllocError);
+    };
+    if base64.len() < len {
+        base64.resize(len, 0)?;
+    }
+    let text = base64.as_mut_slice();
+    let Ok(len) = STANDARD.encode_slice(bytes, text) else {
+        unreachable!();
+    };
+    // base64 is ASCII
+    out.string(unsafe { std::str::from_utf8_unchecked(&text[..len]) })
 }
