@@ -1,9 +1,6 @@
 //! Payloads of any schema, decoded and written again.
 
-ghost use Rattle.std.specs.Prelude.{◌≡◌, [], ◌∷◌, List, IfOk};
-ghost use Rattle.shared_core_wire.specs.Value.{Parts};
-ghost use Rattle.shared_core_json.specs.Form.{json_text};
-ghost use Rattle.shared_core_json.specs.Payloads.{IsEncoding};
+ghost use Rattle.std.specs.Prelude.{[], ◌∷◌};
 ghost use Rattle.journal_c_api.specs.Outcomes.{Writes, bytes_of};
 ghost use Rattle.journal_c_api.specs.Payloads.{ReturnsCanonical, ReturnsJson, ReturnsMeaning};
 ghost use Rattle.journal_c_api.specs.Payloads.{ReturnsWellFormed, MeansRecord, EncodesPayload};
@@ -15,8 +12,8 @@ use shared_core::messages::{RecordVisitor, visit_record};
 use shared_core::wire::{WireRecord, decode_parts};
 use shared_core_codec::canonical::is_canonical;
 use shared_core_codec::check;
-use shared_core_json::{write_canonical as encode_canonical, write_encoding};
-use std::alloc::{AllocError, Global};
+use shared_core_json::{write_canonical as encode_canonical, write_encoding, write_if_canonical};
+use std::alloc::Global;
 use std::fmt::Debug;
 
 /// Writes the canonical payload of what a payload means. One that is canonical is copied, without allocating.
@@ -140,28 +137,22 @@ impl<'a> RecordVisitor for Merging<'a> {
     }
 }
 
-/// The JSON of what a payload means. One that is canonical is printed as it is.
-#[tactic(auto, using(shared_core_json::proofs::Payloads::canonical_encoding))]
+/// The JSON of what a payload means. One that is canonical is written as it is.
 fn json(alloc: Global, schema: u32, payload: &[u8]) -> Result<Vec<u8>, CallError>
     ensures { ReturnsJson schema payload.now (bytes_of result) }
 {
-    if check::is_schema(schema) && is_canonical(schema, payload) {
-        return Ok(print(alloc, schema, payload)?);
+    if !check::is_schema(schema) {
+        return Err(CallError::Unknown);
+    }
+    let mut text = Writer::new(Vec::new(alloc));
+    let mut base64 = Vec::new(alloc);
+    if write_if_canonical(&mut text, &mut base64, false, schema, payload)? {
+        return Ok(text.into_inner());
     }
     let decoding = CanonicalPayload { alloc, payload };
     let canonical = visit_record(schema, decoding).ok_or(CallError::Unknown)??;
-    Ok(print(alloc, schema, canonical.as_slice())?)
-}
-
-/// The JSON of what a canonical payload means.
-fn print(alloc: Global, schema: u32, canonical: &[u8]) -> Result<Vec<u8>, AllocError>
-    requires { (v : Parts) × IsEncoding schema v canonical.now }
-    ensures { IfOk result (λ text. (v : Parts) → IsEncoding schema v canonical.now
-        → text.items ≡ json_text schema v) }
-{
-    let mut text = Writer::new(Vec::new(alloc));
-    let mut base64 = String::new(alloc);
-    write_encoding(&mut text, &mut base64, false, schema, canonical)?;
+    text = Writer::new(Vec::new(alloc));
+    write_encoding(&mut text, &mut base64, false, schema, canonical.as_slice())?;
     Ok(text.into_inner())
 }
 
