@@ -99,7 +99,3 @@ decoded_encoding s payload bytes v e f c = record {
   low = meaning_levels table 100 s payload;
   canonical = c ∙ ap (canonical_payload table s) e;
 }
-
--- a canonical payload
-pub canonical_encoding : (s : ℕ) (payload : List ℕ) → IsCanonical s payload → IsEncoding s (payload_meaning s payload) payload
-canonical_encoding s payload c = decoded_encoding s payload payload (payload_meaning s payload) refl c.fits c.canonical

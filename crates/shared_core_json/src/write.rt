@@ -223,6 +223,7 @@ fn end_list(out: &mut Writer, open_list: u32) -> Result<(), AllocError>
 
 /// Writes the value of a record of a field of this kind, if it is written so in a canonical payload, and returns
 /// whether it is.
+#[inline(always)]
 #[cycle(payload)]
 fn write_value(
     out: &mut Writer,
