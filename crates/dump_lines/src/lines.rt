@@ -88,35 +88,10 @@ impl<'a> LinePrinter for Options<'a> {
         if !is_selected(self.codes, item_code(&item)) {
             return Ok(());
         }
-        let mut line = mem::replace(&mut scratch.line, Vec::new(alloc));
-        line.clear();
-        let mut out = Writer::new(line);
-        if !write_item(
-            alloc,
-            self,
-            offset,
-            word,
-            &item,
-            Form::Received,
-            scratch,
-            &mut out,
-        )? {
-            // the payload is not canonical: the line begins anew
-            line = out.into_inner();
-            line.clear();
-            out = Writer::new(line);
-            write_item(
-                alloc,
-                self,
-                offset,
-                word,
-                &item,
-                Form::Encoded,
-                scratch,
-                &mut out,
-            )?;
+        if !write_object(alloc, self, offset, word, &item, Form::Received, scratch)? {
+            // the payload is not canonical: the object begins anew
+            write_object(alloc, self, offset, word, &item, Form::Encoded, scratch)?;
         }
-        scratch.line = out.into_inner();
         Ok(append_object(alloc, self.pretty, scratch.line.as_slice(), lines)?)
     }
 
@@ -228,8 +203,33 @@ fn write_rest(
     Ok(())
 }
 
-/// Writes the object of an item. Returns false if its payload is to be written as it was received and is not canonical;
-/// then some tokens may be written.
+/// Overwrites the line with the object of an item. Returns false if its payload is to be written as it was received and
+/// is not canonical; then the line is unspecified.
+fn write_object(
+    alloc: Global,
+    options: &Options<'_>,
+    offset: u128,
+    word: u64,
+    item: &Item,
+    form: Form,
+    scratch: &mut Scratch,
+) -> Result<bool, PrintError>
+    ensures utf8 { IfOk result (λ whole. IsUtf8 scratch.new.line.items) }
+    ensures printed { IfOk result (λ whole. scratch.new.line.items ≡ print (tokens scratch.new.line.items)) }
+    ensures object { IfOk result (λ whole. whole ≡ true → tokens scratch.new.line.items
+        ≡ json_tokens (item_json options.now offset word item.now)) }
+    ensures whole { IfOk result (λ whole. form ≡ Encoded → whole ≡ true) }
+    ensures lack { IfErr result (IsLack (HasLongPayload options.now item.now)) }
+{
+    let mut line = mem::replace(&mut scratch.line, Vec::new(alloc));
+    line.clear();
+    let mut out = Writer::new(line);
+    let is_whole = write_item(alloc, options, offset, word, item, form, scratch, &mut out)?;
+    scratch.line = out.into_inner();
+    Ok(is_whole)
+}
+
+/// Writes the object of an item. The result is that of `write_object`; where it is false, some tokens may be written.
 fn write_item(
     alloc: Global,
     options: &Options<'_>,
@@ -253,7 +253,7 @@ fn write_item(
     Ok(whole)
 }
 
-/// Writes the members of an item after its offset. The result is that of `write_item`.
+/// Writes the members of an item after its offset. The result is that of `write_object`.
 fn write_members(
     alloc: Global,
     options: &Options<'_>,
@@ -323,7 +323,7 @@ fn write_skipped(
     Ok(())
 }
 
-/// Writes the members of a message after its offset. The result is that of `write_item`.
+/// Writes the members of a message after its offset. The result is that of `write_object`.
 fn write_message_members(
     alloc: Global,
     options: &Options<'_>,
@@ -354,7 +354,7 @@ fn write_message_members(
     Ok(true)
 }
 
-/// Writes the members of a message's payload. The result is that of `write_item`.
+/// Writes the members of a message's payload. The result is that of `write_object`.
 fn write_payload(
     alloc: Global,
     options: &Options<'_>,
