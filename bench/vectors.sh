@@ -3,8 +3,8 @@
 # by hand are what their programs write, and that the library gives the readers' results for random cases: vectors.sh
 # [--no-install] [SEED [COUNT]]
 #
-# It needs no static library. The last line is 'N passed, M failed'; it is '0 passed, 0 failed' if the tools are
-# missing.
+# The last takes the static library for C, which scripts/static_library.sh builds over what is proved, and a C compiler.
+# The last line is 'N passed, M failed'; it is '0 passed, 0 failed' if the tools are missing.
 set -u
 cd "$(dirname "$0")" || exit 1
 
@@ -55,7 +55,7 @@ if target/release/vectors "$seed" "$count" > "$work/lines"; then
     [ -s "$work/wanted" ] && [ ! -s "$out" ]
     outcome 'random cases of each kind, which lack those on the standard output' $?
   fi
-  stage sh ../scripts/checks/conformance.sh - < "$work/lines"
+  stage sh ../scripts/checks/c_vectors.sh < "$work/lines"
 else
   echo "failed: vectors $seed $count"
   failed=$((failed + 1))

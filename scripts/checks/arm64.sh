@@ -28,7 +28,7 @@ case_of 'install.sh --target' sh scripts/install.sh --target $target "$prefix"
 [ "$failed" -eq 0 ] || finish
 exported_names
 constants
-test_vectors
+test_vectors conformance/*.txt conformance/json/*.txt
 compile_hostile_calls
 # shellcheck disable=SC2086 # the words are split
 case_of 'adversarial calls' $emulator "$work/hostile" 1 20000

@@ -72,7 +72,7 @@ sed -n 's/^| \(-[0-9]\) | `\(JOURNAL_[A-Z_]*\)` .*/\1 \2/p' docs/C.md > "$work/o
 same 'the refusals of docs/C.md' "$work/wanted" "$work/out"
 
 constants
-test_vectors
+test_vectors conformance/*.txt conformance/json/*.txt
 
 # The example in C, without a warning of any compiler that is there, and with each library.
 example=examples/c/listing.c

@@ -38,14 +38,14 @@ constants() {
   same 'the constants that tests/c/constants.c reads' "$work/wanted" "$work/names"
 }
 
-# test_vectors: all of them, by the calls for C
+# test_vectors FILE..: the test vectors of these files, by the calls for C
 test_vectors() {
+  cat "$@" > "$work/lines"
   compiled 'test_vectors.c' -std=c99 -Wpedantic -Wconversion tests/c/test_vectors.c "$prefix/lib/libpendratsoa.a" \
     -o "$work/test_vectors"
   # the names of schemas in the order of their numbers
   awk '/^message / { name = $2 } /^  option \(schema\) = / { print $4 + 0, name }' proto/journal.proto \
     | sort -n | cut -d' ' -f2 > "$work/schemas"
-  cat conformance/*.txt conformance/json/*.txt > "$work/lines"
   # shellcheck disable=SC2086 # the words are split
   counted 'the test vectors' $emulator "$work/test_vectors" "$work/schemas" < "$work/lines"
 }

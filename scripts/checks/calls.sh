@@ -15,7 +15,7 @@ cd "$(dirname "$0")/../.." || exit 1
 last=$(sed -n '/fn maximum_supported_version/,/^    }$/s/^        Version::V\([0-9]*\)$/\1/p' \
   crates/shared_core_base/src/version.rt)
 for place in include/pendratsoa.h python/pendratsoa/_request.py rust/src/lib.rs ruby/lib/pendratsoa/functions.rb \
-  tools/generators/record_vectors.py crates/test_vectors/src/cases.rt; do
+  tools/generators/record_vectors.py tests/vectors/cases.rt.in; do
   echo "$place $last" >> "$work/last"
   found=$(grep -oE 'Version::V[0-9]+|LAST_VERSION(: u32)? (= )?[0-9]+' "$place" | grep -oE '[0-9]+$' | sort -n | tail -n 1)
   echo "$place $found" >> "$work/asked"

@@ -1,12 +1,15 @@
 #!/bin/sh
-# The library gives the results of all of conformance/*.txt; with the word '-' those on standard input.
+# The library gives the results of the test vectors of conformance/*.txt that are not random, by the program of
+# tests/vectors; with the word '-' those of the lines on standard input.
 #
-# It runs the proved program of crates/test_vectors where `rt ci` or `rt run` has built it, else it builds one without
-# the proofs, which is slow: it needs a minute for some ten thousand lines. Each line that fails is shown with the
-# result of the library instead.
+# The program is built without proofs, with checks of each access to memory, and needs a minute for some ten thousand
+# lines. All lines but `record`, the random ones too, are checked by the calls for C over the proved library
+# (scripts/checks/c.sh) and by each package. Each line that fails is shown with the result of the library instead. That
+# the program finds wrong results is shown first, by a wrong line of each kind.
 set -u
 cd "$(dirname "$0")/../.." || exit 1
 . scripts/checks/lib.sh
+. scripts/keeping_kit.sh
 
 case $#:${1-} in
   0:) lines='' ;;
@@ -16,27 +19,22 @@ esac
 
 # input: the lines to be checked
 input() {
-  if [ "$lines" = - ]; then cat; else cat conformance/*.txt; fi
+  if [ "$lines" = - ]; then cat; else find conformance -maxdepth 1 -name '*.txt' ! -name 'random_*' -exec cat {} +; fi
 }
 
-program=crates/test_vectors/out/test_vectors
-if [ -x "$program" ]; then
-  input | "$program"
-  exit
+input > "$work/lines"
+unproved_crate vectors shared_core shared_core_base bytes hex
+sources tests/vectors "$crate/src"
+keeping_kit "$work"
+# the program is kept; here it is run without input
+(cd "$crate" && "$work/kit/bin/rt" try --steps 1 < /dev/null) > "$out" 2> "$err"
+if [ ! -x "$work/program" ]; then
+  outcome 'the program of tests/vectors does not compile' 1
+  finish
 fi
-
-echo "conformance.sh: built without the proofs" >&2
-# The tool gives a run two minutes, so the lines come in parts.
-input | split -l 6000 - "$work/part."
-for part in "$work"/part.*; do
-  [ -e "$part" ] || continue
-  (cd crates/test_vectors && rt try < "$part" > "$work/out" 2> "$work/err")
-  sed '$d' "$work/out"
-  if ! add "$(sed -n '$p' "$work/out")"; then
-    echo "failed: rt try"
-    sed -n '$p' "$work/out"
-    cat "$work/err"
-    failed=$((failed + 1))
-  fi
-done
+"$work/program" < tests/vectors/wrong_lines.txt > "$out" 2> "$err"
+status=$?
+[ "$status" -eq 1 ] && cmp -s "$out" tests/vectors/wrong_lines.found
+outcome 'wrong lines are found' $?
+counted 'the test vectors' "$work/program" < "$work/lines"
 finish

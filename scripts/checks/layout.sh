@@ -12,8 +12,8 @@ if command -v rt > /dev/null; then
     -exec "$(dirname "$(rt doc)")/bin/rattle" fmt --check {} + > "$out" 2> "$err"
   outcome 'the layout of crates/' $?
   # the formatter takes .rt files alone
-  for folder in tests/*/mod.rt.in; do
-    folder=${folder%/mod.rt.in}
+  for folder in tests/*/mod.rt.in tests/vectors/main.rt.in; do
+    folder=${folder%/*}
     sources "$folder" "$work/$folder"
   done
   find "$work/tests" -name '*.rt' -exec "$(dirname "$(rt doc)")/bin/rattle" fmt --check {} + > "$out" 2> "$err"

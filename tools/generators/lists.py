@@ -94,7 +94,7 @@ def surface():
 def texts():
     """The files, not yet laid out."""
     return {
-        "crates/test_vectors/src/schema_names.rt": schema_names(),
+        "tests/vectors/schema_names.rt.in": schema_names(),
         "tests/ffi/codes.rt.in": codes(),
         "tests/public_api/surface_messages.rt.in": surface(),
         "tests/wire/listed_types.rt.in": listed_types(),
