@@ -13,7 +13,7 @@ case ${1-} in
   '')
     for name in $all; do
       # the second line of a check says what it shows
-      printf '%-12s %s\n' "$name" "$(sed -n '2s/^# //p' "scripts/checks/$name.sh")"
+      printf '%-12s %s\n' "$name" "$(sed -n '2s/^\("""\|# \)//p' "scripts/checks/$name".*)"
     done
     exit 0
     ;;
@@ -39,6 +39,10 @@ done
 
 . scripts/checks/lib.sh
 for name in "$@"; do
-  stage sh "scripts/checks/$name.sh"
+  if [ -e "scripts/checks/$name.py" ]; then
+    stage python3 -B "scripts/checks/$name.py"
+  else
+    stage sh "scripts/checks/$name.sh"
+  fi
 done
 finish

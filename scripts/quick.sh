@@ -36,7 +36,11 @@ counted() {
 # two at a time
 sh scripts/checks/tests.sh "$@" > "$work/tests" 2>&1 &
 for check in layout table calls pages words generated; do
-  sh "scripts/checks/$check.sh" > "$work/$check" 2>&1
+  if [ -e "scripts/checks/$check.py" ]; then
+    python3 -B "scripts/checks/$check.py"
+  else
+    sh "scripts/checks/$check.sh"
+  fi > "$work/$check" 2>&1
   counted "$check"
 done
 sh scripts/checks/conformance.sh > "$work/conformance" 2> /dev/null

@@ -1,0 +1,285 @@
+#!/usr/bin/env python3
+"""Links, paths, worked lines and the names in tables of promises exist; the README shows what runs.
+
+Each link, anchor and path of this repository in `code`, the length of lines, the index of decisions, each worked line
+of conformance, the test vectors of each rule, the README's page of code and the dump that it shows, each name in a
+table of promises, in the crates of its section, and the version of the library. What is missing is shown before the
+last line.
+"""
+from __future__ import annotations
+
+import collections
+import collections.abc
+import functools
+import os
+import pathlib
+import posixpath
+import re
+
+import checks
+import crates
+
+# What a function here yields: a page, what is missing of it, and whether that is there.
+Found = collections.abc.Iterator[tuple[str, str, bool]]
+
+WIDTH = 120
+
+# The folders with which a path in code begins.
+FOLDERS = (
+    "bench", "conformance", "crates", "docs", "examples", "go", "include", "node", "proto", "python", "ruby", "rust",
+    "scripts", "share", "tests", "tools", "view",
+)
+
+# What a build leaves, which is not there before it.
+BUILT = ("out", "target")
+
+# The files of test vectors that are not random: each of their headings is named by a rule.
+VECTORS = ("payloads", "merging", "levels", "hostile", "worked", "streams", "frames", "long")
+
+# Where the version of the library is: in the first line that has these words, it is the number after them.
+VERSIONS = (
+    ("CHANGELOG.md", r"^## "),
+    ("README.md", r"^Status: "),
+    ("crates/journal_diff/src/arguments.rt", r'\.version\("'),
+    ("crates/journal_dump/src/arguments.rt", r'\.version\("'),
+    ("crates/journal_ffi/src/names.rt", r'the version of the library, as "'),
+    ("docs/C.md", r"libpendratsoa\.so\."),
+    ("docs/C.md", r"The version\*\*, "),
+    ("go/README.md", r"pendratsoa@v"),
+    ("go/types.go", r'the version of the library, as "'),
+    ("include/pendratsoa.h", r'JOURNAL_LIBRARY_VERSION "'),
+    ("include/pendratsoa.h", r'the version of the library, as "'),
+    ("node/index.d.ts", r"The version of the library, as `'"),
+    ("node/package.json", r'^  "version": "'),
+    ("python/pendratsoa/_calls.py", r'The version of the library, as "'),
+    ("python/README.md", r"pendratsoa-"),
+    ("python/pyproject.toml", r'^version = "'),
+    ("rust/Cargo.toml", r'^version = "'),
+    ("rust/src/calls.rs", r"The version of the library, as `"),
+    ("ruby/README.md", r"pendratsoa-"),
+    ("ruby/lib/pendratsoa/functions.rb", r'The version of the library, as "'),
+    ("ruby/lib/pendratsoa/version.rb", r'VERSION = "'),
+    ("scripts/checks/diff.sh", r"'journal_diff "),
+    ("scripts/checks/dump.sh", r"'journal_dump "),
+)
+
+
+def files(top: str, *endings: str) -> list[str]:
+    """The paths of all files below a folder whose names end so, but for what is built."""
+    found = []
+    for folder, folders, names in os.walk(top):
+        folders[:] = [name for name in folders if name not in (*BUILT, ".git")]
+        found += [posixpath.normpath(posixpath.join(folder, name)) for name in names if name.endswith(endings)]
+    return sorted(found)
+
+
+@functools.cache
+def text(path: str) -> str:
+    return pathlib.Path(path).read_text(encoding="utf-8")
+
+
+@functools.cache
+def lines(path: str) -> list[str]:
+    return text(path).splitlines()
+
+
+@functools.cache
+def pages() -> list[str]:
+    return files(".", ".md")
+
+
+def fences(page: str) -> collections.abc.Iterator[tuple[str, str | None]]:
+    """The lines of a page without its fences: each with what follows the marks of the fence that it is in, or None."""
+    inside = None
+    for line in lines(page):
+        mark = re.match(r" *```(.*)", line)
+        if mark:
+            inside = mark[1] if inside is None else None
+        else:
+            yield line, inside
+
+
+def links_and_paths() -> Found:
+    """Links, and paths in code that begin with a folder of this repository."""
+    path = re.compile(f"({'|'.join(FOLDERS)})/[A-Za-z0-9_./-]+")
+    for page in pages():
+        links = {target for line in lines(page) for target in re.findall(r"\]\(([^)#: ]+)[)#]", line)}
+        places = {code for code in text(page).split("`")[1::2] if path.fullmatch(code)}
+        targets = [(target, posixpath.join(posixpath.dirname(page), target)) for target in links]
+        for target, place in sorted(targets + [(place, place) for place in places]):
+            if not any(f"/{folder}/" in target for folder in BUILT):
+                yield page, f"there is no {target}", os.path.exists(place)
+
+
+@functools.cache
+def headings(page: str) -> list[str]:
+    """The anchors of a page's headings, as GitHub names them."""
+    found = [re.match(r"#+ (.*)", line) for line, fence in fences(page) if fence is None]
+    return [re.sub(r"[^a-z0-9_ -]", "", heading[1].lower()).replace(" ", "-") for heading in found if heading]
+
+
+def anchors() -> Found:
+    """An anchor is a heading of its page."""
+    for page in pages():
+        found = {target for line in lines(page) for target in re.findall(r"\]\(([^):# ]*#[^) ]+)\)", line)}
+        for target in sorted(found):
+            name, _, anchor = target.partition("#")
+            place = posixpath.normpath(posixpath.join(posixpath.dirname(page), name)) if name else page
+            if place.endswith(".md"):
+                yield page, f"there is no heading {target}", place in pages() and anchor in headings(place)
+
+
+def long_lines() -> Found:
+    """Lines have at most 120 characters, but for rows of tables, pictures and code. Those that have are not counted."""
+    for page in pages():
+        is_fenced = was_code = False
+        before = ""
+        for number, line in enumerate(lines(page), 1):
+            if re.match(" *```", line):
+                is_fenced = not is_fenced
+                before = ""
+                continue
+            was_code = is_fenced or line.startswith("    ") and (before == "" or was_code)
+            before = line
+            if len(line) > WIDTH and not was_code and not re.match(r" *\||!\[", line):
+                yield page, f"line {number} has more than {WIDTH} characters", False
+
+
+def decisions() -> Found:
+    """Each decision is in the index."""
+    page = "docs/DECISIONS.md"
+    for anchor in headings(page):
+        yield page, f"the index lacks #{anchor}", anchor == "decisions" or f"(#{anchor})" in text(page)
+
+
+def worked_lines() -> Found:
+    """A worked line is one of conformance."""
+    vectors = {line for path in pathlib.Path("conformance").glob("*.txt") for line in lines(str(path))}
+    for page in pages():
+        if page == "conformance/README.md":
+            continue
+        for line in lines(page):
+            worked = re.fullmatch("    ((payload|merge|frame|stream|record|compare) .* = .*)", line)
+            if worked:
+                yield page, f"no line of conformance/: {worked[1]}", worked[1].strip() in vectors
+
+
+def vector_headings(file: str) -> list[tuple[str, int]]:
+    """The headings of a file of test vectors, each with the number of its lines."""
+    found = []
+    heading: list[str] = []
+    count = 0
+    for line in [*lines(f"conformance/{file}"), ""]:
+        if count > 0 and (line == "" or line.startswith("#")):
+            found.append((" ".join(heading), count))
+        if line == "" or count > 0 and line.startswith("#"):
+            heading, count = [], 0
+        if line.startswith("#"):
+            heading.append(line[2:])
+        elif line != "":
+            count += 1
+    return found
+
+
+def rules() -> Found:
+    """The test vectors of each rule: `FILE, N: BEGINNING` in a page names the N lines of FILE under the one heading
+    that begins so, and every heading of the files that are not random is named."""
+    rule = re.compile(r"    ([a-z]*\.txt), ([0-9]*): (.*)")
+    page = "docs/PAYLOADS.md"
+    found = [rule.fullmatch(line) for each in (page, "docs/FORMAT.md") for line in lines(each)]
+    named = [(match[1], int(match[2]), match[3]) for match in found if match]
+    seen: collections.Counter[tuple[str, int, str]] = collections.Counter()
+    for file in (f"{name}.txt" for name in VECTORS):
+        for heading, count in vector_headings(file):
+            naming = [each for each in named if each[0] == file and heading.startswith(each[2])]
+            seen.update(naming)
+            for each in naming:
+                if each[1] != count:
+                    yield page, f"{each[1]} lines in {file} where there are {count}: {each[2]}", False
+            if not naming:
+                yield page, f"no rule names the lines in {file}: {heading}", False
+    for each in named:
+        yield page, f"{seen[each]} headings in {each[0]} begin: {each[2]}", seen[each] == 1
+
+
+def page_of_code() -> Found:
+    """The page of code of the README is part of the program that the gate proves and runs."""
+    program = "crates/readme_example/src/main.rt"
+    shown = "".join(f"{line}\n" for line, fence in fences("README.md") if fence == "rust")
+    yield "README.md", f"its page of code is not part of {program}", bool(shown) and shown in text(program)
+
+
+def quoted_code() -> Found:
+    """What the page of a crate quotes of code is there, line by line."""
+    code = {line.lstrip(" ") for file in files("crates", ".rt") for line in lines(file)}
+    for page in map(str, sorted(pathlib.Path("crates").glob("*/README.md"))):
+        for line in (line.lstrip(" ") for line, fence in fences(page) if fence == "rust"):
+            yield page, f"no such line of code: {line}", line in code
+
+
+def shown_dump() -> Found:
+    """The dump of the README is that which the program is checked against."""
+    dump = "examples/streams/replay.dump"
+    for line in lines("README.md"):
+        if line.startswith('    {"offset":'):
+            yield "README.md", f"no line of {dump}: {line.strip()}", line.removeprefix("    ") in lines(dump)
+
+
+@functools.cache
+def words_of(crate: str) -> set[str]:
+    """The words of the code and the definitions of a crate; none of one that is not here."""
+    folders = [f"crates/{crate}/{part}" for part in ("src", "specs")]
+    return {word for folder in folders for file in files(folder, ".rt", ".antt")
+            for word in re.findall(r"[A-Za-z_0-9]+", text(file))}
+
+
+def promises(page: str) -> collections.abc.Iterator[tuple[str, list[str]]]:
+    """The rows of tables below the headings that are crates: the crate, and the names in the last column, each the
+    last part of a path without its arguments."""
+    crate = ""
+    for line in lines(page):
+        if line.startswith("##"):
+            name = re.sub("[:,].*", "", re.sub("^##+ ", "", line))
+            crate = name if re.fullmatch("[a-z_]+", name) else ""
+        if crate and line.startswith("| ") and line.count("|") >= 3:
+            column = line.split("|")[-2]
+            names = [re.sub("[<( ].*", "", code).rpartition("::")[2] for code in column.split("`")[1::2]]
+            yield crate, [name for name in names if re.fullmatch("[A-Za-z_0-9]+", name)]
+
+
+def promised_names() -> Found:
+    """Each name in a table of promises is a word of the code or the definitions of the crate in the heading, of one
+    that it depends on, or of one that the column names; or it is a crate."""
+    below = crates.uses()
+    for page in ("README.md", "docs/PROOFS.md"):
+        for crate, names in promises(page):
+            known = set().union(*map(words_of, [crate, *below.get(crate, []), *names]))
+            for name in names:
+                yield page, f"{name} is not in crates/{crate}", name in known or bool(words_of(name))
+
+
+def versions() -> Found:
+    """The version of the library is one everywhere."""
+    stated = re.search(r'^pub const LIBRARY_VERSION: &str = "(.*)";$', text("crates/journal_c_api/src/names.rt"), re.M)
+    version = stated[1] if stated else ""
+    for place, words in VERSIONS:
+        found = re.search(words + r"([0-9]+(?:\.[0-9]+)+)", text(place), re.M)
+        number = found[1] if found else ""
+        complaint = f"the version of the library is '{version}', and after '{words}' is '{number}'"
+        yield place, complaint, number == version != ""
+
+
+PARTS = (
+    links_and_paths, anchors, long_lines, decisions, worked_lines, rules, page_of_code, quoted_code, shown_dump,
+    promised_names, versions,
+)
+
+
+def main(check: checks.Check) -> None:
+    for part in PARTS:
+        for page, complaint, is_there in part():
+            check.case(f"{page}: {complaint}", is_there)
+
+
+if __name__ == "__main__":
+    checks.perform(main)

@@ -1,0 +1,59 @@
+"""The crates of this repository, by crates.txt: which uses which, and whether what was built of one is up to date."""
+from __future__ import annotations
+
+import collections.abc
+import os
+import pathlib
+
+ROOT = pathlib.Path(__file__).resolve().parent.parent
+
+# The folders of a crate that it is built of.
+PARTS = ("src", "specs", "proofs")
+
+
+def uses() -> dict[str, list[str]]:
+    """The crates that each crate names, of which some are the toolchain's; a line is 'NAME [WORD..]: CRATE..'."""
+    listed = {}
+    for line in (ROOT / "crates.txt").read_text().splitlines():
+        head, colon, words = line.partition(":")
+        if colon and not line.startswith("#"):
+            listed[head.split()[0]] = words.split()
+    return listed
+
+
+def with_below(crates: collections.abc.Iterable[str]) -> list[str]:
+    """These crates and those of this repository that they depend on, the lowest first."""
+    listed = uses()
+    found: dict[str, None] = {}
+
+    def visit(crate: str) -> None:
+        if crate in listed and crate not in found:
+            for name in listed[crate]:
+                visit(name)
+            found[crate] = None
+
+    for crate in crates:
+        visit(crate)
+    return list(found)
+
+
+def with_above(crates: collections.abc.Iterable[str]) -> list[str]:
+    """These crates and all that depend on them."""
+    listed = uses()
+    found = list(dict.fromkeys(crates))
+    for crate in found:
+        found += [user for user, names in listed.items() if crate in names and user not in found]
+    return found
+
+
+def is_up_to_date(file: pathlib.Path, crate: str) -> bool:
+    """Whether a file exists and no source of the crate, or of one that it depends on, is newer."""
+    if not file.exists():
+        return False
+    built = file.stat().st_mtime_ns
+    sources = [ROOT / "crates.txt"]
+    for name in with_below([crate]):
+        for part in PARTS:
+            for folder, folders, files in os.walk(ROOT / "crates" / name / part):
+                sources += [pathlib.Path(folder, entry) for entry in ["", *files]]
+    return all(source.stat().st_mtime_ns <= built for source in sources)
