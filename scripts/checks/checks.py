@@ -7,6 +7,7 @@ from __future__ import annotations
 
 import collections.abc
 import dataclasses
+import itertools
 import os
 import pathlib
 import resource
@@ -32,6 +33,20 @@ def beginning(text: bytes) -> str:
     return "".join(f"{line[:CHARACTERS]}\n" for line in lines[:LINES])
 
 
+# A text, or its lines.
+Text = typing.Union[bytes, str, list[str]]
+
+
+def difference(expected: Text, found: Text) -> str:
+    """Where two texts differ first."""
+    pair = [text if isinstance(text, list) else text.splitlines() for text in (expected, found)]
+    for number, lines in enumerate(itertools.zip_longest(*pair), 1):
+        if lines[0] != lines[1]:
+            first, second = ("nothing" if line is None else f"{line!r:.{CHARACTERS}}" for line in lines)
+            return f"line {number} is {second}, and not {first}"
+    return "both are empty" if not found else "the ends of lines"
+
+
 @dataclasses.dataclass
 class Run:
     """How a program ended, and what it wrote."""
@@ -55,7 +70,7 @@ def run(
 
     def bound() -> None:
         if kibibytes is not None:
-            resource.setrlimit(resource.RLIMIT_AS, (kibibytes * 1024, kibibytes * 1024))
+            resource.setrlimit(resource.RLIMIT_AS, (kibibytes * 1024, resource.getrlimit(resource.RLIMIT_AS)[1]))
 
     ended = subprocess.run(words, input=given, capture_output=True, env=env, cwd=cwd, preexec_fn=bound)
     return Run(ended.returncode, ended.stdout, ended.stderr)
@@ -92,9 +107,9 @@ class Check:
         ended = run(words, **how)
         return self.case(name, ended.status == 0, ended)
 
-    def same(self, name: str, expected: bytes | str | list[str], found: bytes | str | list[str]) -> bool:
+    def same(self, name: str, expected: Text, found: Text) -> bool:
         """Counts a case, which is right where both are the same and not empty."""
-        return self.case(name, found == expected and bool(found), f"\n expected {expected!r:.1000}\n but was {found!r:.1000}")
+        return self.case(name, found == expected and bool(found), difference(expected, found))
 
     def stop_if_failed(self) -> None:
         """Ends the check if a case has failed."""

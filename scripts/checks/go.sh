@@ -38,10 +38,9 @@ tests() {
 case_of 'the tests' tests
 counted 'the test vectors' grep -xE '[0-9]+ passed, [0-9]+ failed' "$work/tests"
 
-# listed STREAM VERSION: the example lists a stream as list_stream.awk does
+# listed STREAM VERSION: the example lists a stream as list_stream.py does
 listed() {
-  od -An -v -t u1 "$work/examples/streams/$1" |
-    awk -v version="$2" -f "$top/scripts/checks/list_stream.awk" "$work/proto/types.txt" - > "$work/listing"
+  python3 -B "$top/scripts/checks/list_stream.py" "$2" < "$work/examples/streams/$1" > "$work/listing"
   "$work/listing_program" "$2" < "$work/examples/streams/$1" > "$out" 2> "$err"
   same "the listing of $1" "$work/listing" "$out"
 }

@@ -109,7 +109,7 @@ if command -v tsc > /dev/null; then
     node "$user/listing.mjs" "${stream#*:}" < "examples/streams/${stream%:*}" > "$out" 2> "$err"
     same "the listing of $stream" "$work/wanted" "$out"
   done
-  LC_ALL=C awk -v kind=mixed -v size=100000 -v seed=7 -f scripts/checks/write_stream.awk proto/types.txt > "$work/mixed"
+  python3 -B scripts/checks/write_stream.py mixed 100000 7 > "$work/mixed"
   "$work/listing" < "$work/mixed" > "$work/wanted"
   node "$user/listing.mjs" < "$work/mixed" > "$out" 2> "$err"
   same 'the listing of a mixed stream' "$work/wanted" "$out"

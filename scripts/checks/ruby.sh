@@ -43,10 +43,9 @@ else
   without 'the gem' gem
 fi
 
-# listed STREAM VERSION: the example lists a stream as list_stream.awk does
+# listed STREAM VERSION: the example lists a stream as list_stream.py does
 listed() {
-  od -An -v -t u1 "$work/examples/streams/$1" |
-    awk -v version="$2" -f "$top/scripts/checks/list_stream.awk" "$work/proto/types.txt" - > "$work/listing"
+  python3 -B "$top/scripts/checks/list_stream.py" "$2" < "$work/examples/streams/$1" > "$work/listing"
   ruby examples/listing.rb "$2" < "$work/examples/streams/$1" > "$out" 2> "$err"
   same "the listing of $1" "$work/listing" "$out"
 }

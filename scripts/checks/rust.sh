@@ -33,13 +33,12 @@ links() {
   readelf -d "$1" | grep -q 'NEEDED.*libpendratsoa\.so\.0'
 }
 
-# listed NAME STREAM VERSION: the example lists a stream as list_stream.awk does
+# listed NAME STREAM VERSION: the example lists a stream as list_stream.py does
 listed() {
   "$CARGO_TARGET_DIR/debug/examples/listing" "$3" < "$top/$2" > "$out" 2> "$err"
   outcome "$1: the listing of $2" $?
-  od -An -v -t u1 "$top/$2" |
-    awk -v version="$3" -f "$top/scripts/checks/list_stream.awk" "$top/proto/types.txt" - > "$work/listing"
-  same "$1: the listing of $2 beside that of awk" "$work/listing" "$out"
+  python3 -B "$top/scripts/checks/list_stream.py" "$3" < "$top/$2" > "$work/listing"
+  same "$1: the listing of $2 beside the lister" "$work/listing" "$out"
 }
 
 # tested NAME: the tests, the test vectors and the example, by the cargo and the rustc on the path
