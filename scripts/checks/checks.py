@@ -69,10 +69,10 @@ def run(
     """Runs a program with this standard input, and with so many KiB of address space."""
 
     def bound() -> None:
-        if kibibytes is not None:
-            resource.setrlimit(resource.RLIMIT_AS, (kibibytes * 1024, resource.getrlimit(resource.RLIMIT_AS)[1]))
+        resource.setrlimit(resource.RLIMIT_AS, (kibibytes * 1024, resource.getrlimit(resource.RLIMIT_AS)[1]))
 
-    ended = subprocess.run(words, input=given, capture_output=True, env=env, cwd=cwd, preexec_fn=bound)
+    preexec = bound if kibibytes is not None else None
+    ended = subprocess.run(words, input=given, capture_output=True, env=env, cwd=cwd, preexec_fn=preexec)
     return Run(ended.returncode, ended.stdout, ended.stderr)
 
 
