@@ -58,5 +58,5 @@ function isJson(text) {
 function preview(base64) {
   const bytes = bytesOf(base64.slice(0, 160));
   const text = textOf(bytes, base64.length > 160);
-  return text === null ? `0x${hexOf(bytes.subarray(0, 24)).replaceAll(" ", "")}` : text.replace(/\s+/g, " ");
+  return text === null ? `0x${hexOf(bytes.subarray(0, 24)).replaceAll(" ", "")}` : text.replace(/[ \t\r\n]+/g, " ");
 }
