@@ -14,7 +14,7 @@
 #   scripts/run.sh list|diff|dump|make|view --help
 #       what docs/PROGRAMS.md says of the program
 #
-# The first run without the proofs builds the program, in some two minutes of processor time, and keeps it; it is a
+# The first run without the proofs builds the program, in one to two minutes of processor time, and keeps it; it is a
 # thousand times slower than the proved one. With --proved every crate below the program is proved first, which takes
 # more than an hour of processor time. The program checks its arguments; the status is its own, and 2 if it is not run.
 set -eu

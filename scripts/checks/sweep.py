@@ -9,6 +9,7 @@ all that says up to which sizes none does. SWEEP_DIVISOR divides all sizes, for 
 """
 import base64
 import contextlib
+import fcntl
 import functools
 import os
 import random
@@ -31,7 +32,7 @@ SMALL_READ = 100
 SINGLE_BYTES = 5_000_000 // DIVISOR
 
 # The bytes of a value that is large, which base64 makes without padding.
-VALUE = 150_000_000 // DIVISOR // 12 * 12
+VALUE = 120_000_000 // DIVISOR // 12 * 12
 
 # The numbers of a list.
 NUMBERS = 5_000_000 // DIVISOR
@@ -128,6 +129,7 @@ def rest_line(offset):
 def small_reads(parts, size):
     """The reading end of a pipe into which another process writes bytes; no read of it returns more than `size`."""
     reader, writer = os.pipe2(os.O_DIRECT)
+    fcntl.fcntl(writer, fcntl.F_SETPIPE_SZ, 1 << 20)
     child = os.fork()
     if child == 0:
         # another pipe's reader here would hide from its writer that the program has ended
@@ -283,11 +285,24 @@ class Programs(Sweep):
 
 
 class Calls(Sweep):
-    def setUp(self):
-        self.payload = set_state(b"key", large())
-        # the same fields in another order, with two keys, of which the last one counts
-        self.loose = record(1, b"x") + record(3, record(1, large())) + record(1, b"key")
-        self.other = set_state(b"key", other(large()))
+    @functools.cached_property
+    def payload(self):
+        return set_state(b"key", large())
+
+    @functools.cached_property
+    def loose(self):
+        """The same fields in another order, with two keys, of which the last one counts."""
+        return record(1, b"x") + record(3, record(1, large())) + record(1, b"key")
+
+    @functools.cached_property
+    def other(self):
+        """The payload with another value."""
+        return set_state(b"key", other(large()))
+
+    def tearDown(self):
+        # unittest keeps its cases, and they would keep these
+        for name in ("payload", "loose", "other"):
+            vars(self).pop(name, None)
 
     def test_is_well_formed(self):
         self.assertTrue(pendratsoa.is_well_formed("SetStateCommandMessage", self.payload))
