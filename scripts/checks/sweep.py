@@ -39,7 +39,6 @@ NUMBERS = 5_000_000 // DIVISOR
 
 SET_STATE = 0x0403
 RUN_COMPLETION = 0x8011
-SUSPENSION = 0x0001
 
 MISMATCH = (
     "Found a mismatch between the code paths taken during the previous execution and the paths taken during this "

@@ -30,10 +30,13 @@ function hexDump(bytes) {
   return lines.join("\n");
 }
 
+const INDENTATION = 4_000_000; // characters before the lines of a JSON text: what is after them stays on one line
+
 /** A JSON text with line breaks; its numbers and strings stay as they are. */
 function indented(json) {
   let depth = 0;
-  const line = () => `\n${"  ".repeat(depth)}`;
+  let room = INDENTATION;
+  const line = () => ((room -= 2 * depth) < 0 ? "" : `\n${"  ".repeat(depth)}`);
   return json.replace(/"(?:[^"\\]|\\.)*"|[[{]\s*[\]}]|[[\]{},:]|\s+/g, (token) => {
     if (token.startsWith('"')) return token;
     if (/^\s+$/.test(token)) return "";

@@ -343,6 +343,11 @@ class Payloads(PageTest):
         _, text = self.shown(b'{"a":12345678901234567890,"a":1.0e-7,"\\u0041":"\\""}')
         self.assertEqual(text, '{\n  "a": 12345678901234567890,\n  "a": 1.0e-7,\n  "\\u0041": "\\""\n}')
 
+    def test_json_of_many_levels(self):
+        form, text = self.shown(b"[" * 20_000 + b"1" + b"]" * 20_000)
+        self.assertEqual(form, "JSON, 40,001 bytes")
+        self.assertTrue(text.startswith("[\n  [\n    [\n"))
+
     def test_what_only_looks_like_json_is_text(self):
         self.assertEqual(self.shown(b"{a}"), ("text, 3 bytes", "{a}"))
 
