@@ -3,8 +3,9 @@
 #
 # The proved program is crates/CRATE/out/CRATE; to prove every crate below it takes more than an hour of processor time.
 # With --unproved it takes that one if it is up to date, and otherwise builds crates/CRATE/out/unproved/CRATE without
-# the proofs, which takes less than a minute. That one stops at a bad access, and is slower. The status is 2 where there
-# is no rt.
+# the proofs, in one to two minutes of processor time: half of them for the program, and half for a check beside it of
+# what the compiler refuses. That program has an address sanitizer, which stops it at a bad access, and is a thousand
+# times slower; rt try has no other way. The status is 2 where there is no rt.
 set -eu
 cd "$(dirname "$0")/.."
 . scripts/keeping_kit.sh
@@ -37,12 +38,24 @@ if ! command -v rt > /dev/null; then
   echo 'program.sh: nothing is built, since there is no rt, the command of the Rattle toolchain' >&2
   exit 2
 fi
+
+# tell_time: says every 15 seconds how long it has taken, as long as the script runs
+tell_time() {
+  seconds=0
+  # whoever reads what the script prints does not wait for this sleep
+  while sleep 15 > /dev/null 2>&1 && kill -0 $$ 2> /dev/null; do
+    seconds=$((seconds + 15))
+    echo "program.sh: $seconds seconds" >&2
+  done
+}
+
 work=$(mktemp -d)
-trap 'rm -rf "$work"' EXIT
+tell_time > /dev/null &
+trap 'kill $! 2> /dev/null || :; rm -rf "$work"' EXIT
+# In both cases it is run, without input and arguments, and may fail then.
 if [ "$is_unproved" = yes ]; then
-  echo "program.sh: building $crate without the proofs, once, which takes less than a minute" >&2
+  echo "program.sh: building $crate without the proofs, once, in one to two minutes of processor time" >&2
   keeping_kit "$work"
-  # the program is run without input and arguments, and may fail then
   (cd "crates/$crate" && "$work/kit/bin/rt" try --steps 1 < /dev/null) > "$work/log" 2>&1 || :
   if [ -e "$work/program" ]; then
     mkdir -p "${unproved%/*}"
@@ -51,7 +64,6 @@ if [ "$is_unproved" = yes ]; then
   take "$unproved"
 else
   echo "program.sh: proving $crate and what is not proved yet below it, which can take more than an hour" >&2
-  # it is run too, without input and arguments, and may fail then
   (cd "crates/$crate" && rt run < /dev/null) > "$work/log" 2>&1 || :
   take "$proved"
 fi

@@ -6,14 +6,18 @@ stream is decoded here. The page is one file with its data, style and script ins
 """
 import argparse
 import base64
+import contextlib
 import hashlib
 import html
 import json
+import os
 import pathlib
 import re
+import shutil
 import string
 import subprocess
 import sys
+import tempfile
 
 HERE = pathlib.Path(__file__).resolve().parent
 ROOT = HERE.parent
@@ -42,7 +46,7 @@ VERDICTS = (
 class Failure(Exception):
     """Why there is no page: a line for the standard error, and the status."""
 
-    def __init__(self, line, status):
+    def __init__(self, line, status=2):
         super().__init__(line)
         self.status = status
 
@@ -52,7 +56,7 @@ def parse_arguments(words):
     parser = argparse.ArgumentParser(
         prog="run.sh view", description="Writes a page that shows one journal, or two side by side."
     )
-    parser.add_argument("stream", metavar="STREAM", help="a journal; with OTHER the recorded one")
+    parser.add_argument("stream", metavar="STREAM", help="a journal; with OTHER the recorded one; - is the input")
     parser.add_argument("other", metavar="OTHER", nargs="?", help="the replayed journal")
     parser.add_argument("-o", "--output", metavar="FILE", default="journal.html", help="the page; - is the output")
     parser.add_argument("--protocol", type=int, default=8, metavar="N", help="the version of the protocol, 8 by default")
@@ -64,7 +68,39 @@ def parse_arguments(words):
     arguments = parser.parse_args(words)
     if arguments.items < 1:
         parser.error("--items is at least 1")
+    if arguments.stream == arguments.other == "-":
+        parser.error("- is one of two journals at most")
     return arguments
+
+
+def shown(path):
+    """The last part of a path as a page shows it: a byte that is no text and a hidden character by its number."""
+    name = os.fsencode(pathlib.PurePath(path).name).decode("utf-8", "backslashreplace")
+    return "".join(one if one.isprintable() else f"\\u{ord(one):04x}" for one in name)
+
+
+def is_text(path):
+    """Whether a path is UTF-8, as the programs take it."""
+    try:
+        return bool(path.encode())
+    except UnicodeEncodeError:
+        return False
+
+
+@contextlib.contextmanager
+def opened(path):
+    """A path at which the programs can read a journal, more than once: a copy of what comes from a pipe, or whose own
+    path they do not take."""
+    if path == "-" and sys.stdin is None:
+        raise Failure("view: the standard input is closed")
+    with contextlib.nullcontext(sys.stdin.buffer) if path == "-" else open(path, "rb") as source:
+        if path != "-" and pathlib.Path(path).is_file() and is_text(path):
+            yield path
+            return
+        with tempfile.NamedTemporaryFile() as copy:
+            shutil.copyfileobj(source, copy)
+            copy.flush()
+            yield copy.name
 
 
 def program(name, unproved):
@@ -72,10 +108,11 @@ def program(name, unproved):
     words = ["sh", str(ROOT / "scripts" / "program.sh"), *(["--unproved"] if unproved else []), f"journal_{name}"]
     built = subprocess.run(words, stdin=subprocess.DEVNULL, stdout=subprocess.PIPE, encoding="utf-8")
     if built.returncode != 0:
-        raise Failure(f"view: journal_{name} cannot be built", 2)
+        raise Failure(f"view: journal_{name} cannot be built")
     path = built.stdout.strip()
     if "/unproved/" in path:
-        print(f"view: journal_{name} is built without the proofs; --proved builds the proved program", file=sys.stderr)
+        slow = "is built without the proofs: it checks each access, and is a thousand times slower than with --proved"
+        print(f"view: journal_{name} {slow}", file=sys.stderr)
     return path
 
 
@@ -88,11 +125,11 @@ def shortened(line):
     return json.dumps(item, separators=(",", ":"))
 
 
-def read_journal(words, path, most):
-    """A journal for the page: its lines as journal_dump prints them, the last of them that of the rest. `most` items
-    are kept; the others are counted."""
+def read_journal(words, path, source, most):
+    """A journal for the page, of `path` and read at `source`: its lines as journal_dump prints them, the last of them
+    that of the rest. `most` items are kept; the others are counted."""
     lines, last, items, characters, is_full = [], None, 0, 0, False
-    words = [*words, "--", path]
+    words = [*words, "--", source]
     with subprocess.Popen(words, stdin=subprocess.DEVNULL, stdout=subprocess.PIPE, encoding="utf-8") as dump:
         for line in dump.stdout:
             if last is not None:
@@ -106,8 +143,10 @@ def read_journal(words, path, most):
     if dump.returncode != 0 or last is None:
         raise Failure(f"view: {path}: journal_dump ended with the status {dump.returncode}", dump.returncode or 1)
     rest = json.loads(last)
+    if items == 0 and rest["rest"] > 0:
+        raise Failure(f"view: {path}: no message in it; is it a journal of version {words[2]}?")
     return {
-        "name": pathlib.PurePath(path).name,
+        "name": shown(path),
         "items": items,
         "shown": len(lines),
         "bytes": rest["offset"] + rest["rest"],
@@ -188,35 +227,62 @@ def page(journals, verdict, version, ignores_payloads):
     )
 
 
+def put(text):
+    """Writes a text to the standard output."""
+    if sys.stdout is None:
+        raise Failure("view: the standard output is closed")
+    try:
+        sys.stdout.write(text)
+        sys.stdout.flush()
+    except OSError as error:
+        # what is left would be written again at the end
+        os.dup2(os.open(os.devnull, os.O_WRONLY), sys.stdout.fileno())
+        raise Failure(f"view: the standard output: {error.strerror}") from error
+
+
+def write_file(path, text):
+    """Writes a page to a file."""
+    try:
+        pathlib.Path(path).write_text(text, encoding="utf-8", newline="\n")
+    except OSError as error:
+        raise Failure(f"view: {path}: {error.strerror}") from error
+
+
 def run(arguments):
     """Makes the page and writes it."""
     paths = [path for path in (arguments.stream, arguments.other) if path is not None]
-    for path in paths:
-        if not pathlib.Path(path).is_file():
-            raise Failure(f"view: no such file: {path}", 2)
     protocol = ["--protocol", str(arguments.protocol)]
-    dump = [program("dump", arguments.unproved), *protocol]
-    journals = [read_journal(dump, path, max(1, arguments.items // len(paths))) for path in paths]
-    verdict = None
-    if len(paths) == 2:
-        options = [*protocol, *(["--ignore-payloads"] if arguments.ignore_payloads else [])]
-        verdict = compare([program("diff", arguments.unproved), *options], paths)
+    with contextlib.ExitStack() as files:
+        sources = [files.enter_context(opened(path)) for path in paths]
+        dump = [program("dump", arguments.unproved), *protocol]
+        most = max(1, arguments.items // len(paths))
+        journals = [read_journal(dump, path, source, most) for path, source in zip(paths, sources)]
+        verdict = None
+        if len(paths) == 2:
+            options = [*protocol, *(["--ignore-payloads"] if arguments.ignore_payloads else [])]
+            verdict = compare([program("diff", arguments.unproved), *options], sources)
     text = page(journals, verdict, arguments.protocol, arguments.ignore_payloads)
     if arguments.output == "-":
-        sys.stdout.buffer.write(text.encode())
+        put(text)
     else:
-        pathlib.Path(arguments.output).write_text(text, encoding="utf-8", newline="\n")
-        print(arguments.output)
+        write_file(arguments.output, text)
+        put(f"{arguments.output}\n")
 
 
 def main(words):
     try:
         run(parse_arguments(words))
-    except (Failure, OSError) as error:
-        print(error if isinstance(error, Failure) else f"view: {error.filename}: {error.strerror}", file=sys.stderr)
-        return getattr(error, "status", 2)
+    except Failure as error:
+        print(error, file=sys.stderr)
+        return error.status
+    except OSError as error:
+        print("view", *([error.filename] if error.filename else []), error.strerror, sep=": ", file=sys.stderr)
+        return 2
     return 0
 
 
 if __name__ == "__main__":
+    if sys.stdout is not None:
+        # a page is UTF-8 wherever it is written, and the name of a file may be any bytes
+        sys.stdout.reconfigure(encoding="utf-8", errors="surrogateescape", newline="\n")
     sys.exit(main(sys.argv[1:]))

@@ -30,10 +30,13 @@ function hexDump(bytes) {
   return lines.join("\n");
 }
 
+const INDENTATION = 4_000_000; // characters before the lines of a JSON text: what is after them stays on one line
+
 /** A JSON text with line breaks; its numbers and strings stay as they are. */
 function indented(json) {
   let depth = 0;
-  const line = () => `\n${"  ".repeat(depth)}`;
+  let room = INDENTATION;
+  const line = () => ((room -= 2 * depth) < 0 ? "" : `\n${"  ".repeat(depth)}`);
   return json.replace(/"(?:[^"\\]|\\.)*"|[[{]\s*[\]}]|[[\]{},:]|\s+/g, (token) => {
     if (token.startsWith('"')) return token;
     if (/^\s+$/.test(token)) return "";
@@ -58,5 +61,5 @@ function isJson(text) {
 function preview(base64) {
   const bytes = bytesOf(base64.slice(0, 160));
   const text = textOf(bytes, base64.length > 160);
-  return text === null ? `0x${hexOf(bytes.subarray(0, 24)).replaceAll(" ", "")}` : text.replace(/\s+/g, " ");
+  return text === null ? `0x${hexOf(bytes.subarray(0, 24)).replaceAll(" ", "")}` : text.replace(/[ \t\r\n]+/g, " ");
 }

@@ -40,13 +40,19 @@ function element(name, className, ...children) {
   return made;
 }
 
-// Controls, and characters that turn the direction of a text: they are shown by their numbers.
-const HIDDEN = /([\u0000-\u0008\u000b-\u001f\u007f-\u009f\u200b-\u200f\u2028-\u202e\u2060-\u2069\ufeff])/;
+// Characters that nothing is seen of, or that turn the direction of a text, but for tabs and line feeds: controls,
+// formats such as U+202E, separators of lines and of paragraphs, and what fonts leave out.
+const HIDDEN = /((?![\t\n])[\p{Cc}\p{Cf}\p{Zl}\p{Zp}\p{Default_Ignorable_Code_Point}])/u;
+
+/** A hidden character by its number. */
+function numbered(character) {
+  const digits = character.codePointAt(0).toString(16);
+  return element("span", "control", digits.length > 4 ? `\\u{${digits}}` : `\\u${digits.padStart(4, "0")}`);
+}
 
 /** A text with its hidden characters made visible. */
 function visible(text) {
-  return text.split(HIDDEN).map((part, place) =>
-    place % 2 === 0 ? part : element("span", "control", `\\u${part.charCodeAt(0).toString(16).padStart(4, "0")}`));
+  return text.split(HIDDEN).map((part, place) => (place % 2 === 0 ? part : numbered(part)));
 }
 
 /** A name in camel case or with dots, which may be broken before each of its words. */

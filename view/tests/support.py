@@ -5,12 +5,11 @@ import io
 import pathlib
 import sys
 import tempfile
-import unittest
 
 sys.dont_write_bytecode = True
 VIEW = pathlib.Path(__file__).resolve().parent.parent
 STREAMS = VIEW.parent / "examples" / "streams"
-sys.path.insert(0, str(VIEW))
+sys.path[:0] = [str(VIEW), str(VIEW.parent / "scripts" / "checks")]
 
 import make_page  # noqa: E402
 
@@ -46,11 +45,3 @@ def page_of(*words):
     if status != 0:
         raise AssertionError(f"status {status}: {error}")
     return path
-
-
-def tell():
-    """Runs the tests of the program, and prints the last line of a check."""
-    runner = unittest.TextTestRunner(stream=sys.stdout)
-    result = unittest.main(module="__main__", exit=False, testRunner=runner).result
-    wrong = {getattr(test, "test_case", test) for test, _ in result.failures + result.errors}
-    print(f"{result.testsRun - len(wrong)} passed, {len(wrong)} failed")

@@ -4,11 +4,16 @@ import base64
 import hashlib
 import html.parser
 import json
+import os
 import pathlib
 import re
+import subprocess
+import sys
+import threading
 import unittest
 
-from support import STREAMS, WORK, page_of, run, tell, written
+from support import STREAMS, WORK, page_of, run, written
+from tally import tell
 
 import make_page
 import samples
@@ -19,7 +24,7 @@ class Scripts(html.parser.HTMLParser):
 
     def __init__(self, text):
         super().__init__()
-        self.found, self.policy, self.tags, self.is_inside = [], None, [], False
+        self.found, self.policy, self.tags, self.is_inside, self.title = [], None, [], False, ""
         self.feed(text)
 
     def handle_starttag(self, tag, attributes):
@@ -37,6 +42,8 @@ class Scripts(html.parser.HTMLParser):
     def handle_data(self, data):
         if self.is_inside:
             self.found[-1][2] += data
+        elif self.tags[-1:] == ["title"]:
+            self.title += data.strip()
 
 
 class Embedding(unittest.TestCase):
@@ -126,10 +133,21 @@ class Endings(unittest.TestCase):
         self.assertEqual(run(STREAMS / "replay", "-o", path)[:2], (0, f"{path}\n"))
         self.assertTrue(path.read_text().startswith("<!doctype html>"))
 
+    def refused(self, line, *words):
+        path = WORK / "unwritten.html"
+        self.assertEqual(run(*words, "-o", path), (2, "", f"view: {line}\n"))
+        self.assertFalse(path.exists())
+
     def test_a_stream_that_is_not_there(self):
-        status, output, error = run(WORK / "nothing", "-o", WORK / "unwritten.html")
-        self.assertEqual((status, output, error), (2, "", f"view: no such file: {WORK / 'nothing'}\n"))
-        self.assertFalse((WORK / "unwritten.html").exists())
+        self.refused(f"{WORK / 'nothing'}: No such file or directory", WORK / "nothing")
+        self.refused(f"{WORK}: Is a directory", WORK)
+
+    def test_a_file_without_a_message(self):
+        path = written("text", b"this is a text and no journal")
+        self.refused(f"{path}: no message in it; is it a journal of version 8?", path)
+        self.refused(f"{path}: no message in it; is it a journal of version 7?", "--protocol", "7", STREAMS / "replay", path)
+        # a journal may be empty
+        self.assertEqual(run(written("empty", b""), "-o", WORK / "empty.html")[0], 0)
 
     def test_a_folder_that_is_not_there(self):
         status, output, error = run(STREAMS / "replay", "-o", WORK / "no folder" / "page.html")
@@ -149,6 +167,83 @@ class Endings(unittest.TestCase):
         self.assertFalse(path.exists())
 
 
+class Files(unittest.TestCase):
+    """Inputs and outputs that are no plain files, of the maker as it is run."""
+
+    def make(self, *words, **how):
+        how = {"stdin": subprocess.DEVNULL, "stdout": subprocess.PIPE, **how}
+        words = [sys.executable, make_page.__file__, "--unproved", *words]
+        made = subprocess.run(words, stderr=subprocess.PIPE, **how)
+        # of programs that are built without the proofs there is a line more
+        lines = [line for line in made.stderr.decode().splitlines() if not line.startswith("view: journal_")]
+        return made.returncode, made.stdout, lines
+
+    def wanted(self, *paths):
+        return page_of(*paths).read_bytes()
+
+    def test_the_page_on_the_output(self):
+        self.assertEqual(self.make(STREAMS / "replay", "-o", "-"), (0, self.wanted(STREAMS / "replay"), []))
+
+    def test_an_output_that_is_closed(self):
+        words = ["sh", "-c", 'exec "$@" >&-', "sh", sys.executable, make_page.__file__, "--unproved"]
+        made = subprocess.run([*words, STREAMS / "replay", "-o", "-"], stderr=subprocess.PIPE)
+        self.assertEqual(made.returncode, 2)
+        self.assertEqual(made.stderr.decode().splitlines()[-1], "view: the standard output is closed")
+
+    def test_an_output_that_is_full(self):
+        self.assertEqual(
+            self.make(STREAMS / "replay", "-o", "/dev/full"), (2, b"", ["view: /dev/full: No space left on device"])
+        )
+        with open("/dev/full", "wb") as full:
+            for output in ("-", WORK / "full.html"):
+                with self.subTest(output=output):
+                    made = self.make(STREAMS / "replay", "-o", output, stdout=full)
+                    self.assertEqual(made, (2, None, ["view: the standard output: No space left on device"]))
+
+    def test_an_output_whose_reader_is_gone(self):
+        reader, writer = os.pipe()
+        os.close(reader)
+        made = self.make(STREAMS / "replay", "-o", "-", stdout=writer)
+        os.close(writer)
+        self.assertEqual(made, (2, None, ["view: the standard output: Broken pipe"]))
+
+    def test_the_input(self):
+        data = (STREAMS / "replay").read_bytes()
+        words = [sys.executable, make_page.__file__, "--unproved", "-", "-o", "-"]
+        made = subprocess.run(words, input=data, stdout=subprocess.PIPE, stderr=subprocess.DEVNULL)
+        self.assertEqual(made.returncode, 0)
+        self.assertEqual(made.stdout, self.wanted(written("-", data)))
+
+    def test_the_input_that_is_closed(self):
+        words = ["sh", "-c", 'exec "$@" <&-', "sh", sys.executable, make_page.__file__, "--unproved"]
+        made = subprocess.run([*words, "-", "-o", "-"], stdout=subprocess.PIPE, stderr=subprocess.PIPE)
+        self.assertEqual((made.returncode, made.stderr), (2, b"view: the standard input is closed\n"))
+
+    def test_the_input_as_both_journals(self):
+        status, output, lines = self.make("-", "-", "-o", "-")
+        self.assertEqual((status, output, lines[-1]), (2, b"", "run.sh view: error: - is one of two journals at most"))
+
+    def test_fifos(self):
+        paths = [STREAMS / "recorded", STREAMS / "replayed_other_handler"]
+        fifos = [WORK / "fifos" / path.name for path in paths]
+        fifos[0].parent.mkdir()
+        for path, fifo in zip(paths, fifos):
+            os.mkfifo(fifo)
+            threading.Thread(target=fifo.write_bytes, args=[path.read_bytes()]).start()
+        self.assertEqual(self.make(*fifos, "-o", "-"), (0, self.wanted(*paths), []))
+
+    def test_names_that_are_not_utf_8(self):
+        name = os.fsencode(WORK) + b"/not\xff\x1butf-8"
+        with open(name, "wb") as file:
+            file.write((STREAMS / "replay").read_bytes())
+        page = name + b".html"
+        self.assertEqual(self.make(name, "-o", page), (0, page + b"\n", []))
+        with open(page, "rb") as file:
+            self.assertEqual(Scripts(file.read().decode()).title, "not\\xff\\u001butf-8")
+        status, _, lines = self.make(name + b"other", "-o", "-")
+        self.assertEqual((status, len(lines)), (2, 1))
+
+
 class Protocol(unittest.TestCase):
     def test_a_suspension_has_another_message_before_version_7(self):
         for version, message in ((5, "SuspensionMessageV6"), (6, "SuspensionMessageV6"), (7, "SuspensionMessage")):
@@ -160,4 +255,4 @@ class Protocol(unittest.TestCase):
 
 
 if __name__ == "__main__":
-    tell()
+    tell(sys.argv[1:])

@@ -1,9 +1,11 @@
 #!/usr/bin/env python3
 """The page in a headless Chromium: what it shows, by its keys, and what no payload can do to it."""
 import json
+import sys
 import unittest
 
-from support import FOLDER, STREAMS, WORK, page_of, tell, written
+from support import FOLDER, STREAMS, WORK, page_of, written
+from tally import tell
 
 import samples
 from browser import Browser
@@ -341,6 +343,11 @@ class Payloads(PageTest):
         _, text = self.shown(b'{"a":12345678901234567890,"a":1.0e-7,"\\u0041":"\\""}')
         self.assertEqual(text, '{\n  "a": 12345678901234567890,\n  "a": 1.0e-7,\n  "\\u0041": "\\""\n}')
 
+    def test_json_of_many_levels(self):
+        form, text = self.shown(b"[" * 20_000 + b"1" + b"]" * 20_000)
+        self.assertEqual(form, "JSON, 40,001 bytes")
+        self.assertTrue(text.startswith("[\n  [\n    [\n"))
+
     def test_what_only_looks_like_json_is_text(self):
         self.assertEqual(self.shown(b"{a}"), ("text, 3 bytes", "{a}"))
 
@@ -379,8 +386,23 @@ class Hostile(PageTest):
             self.assertIn(text, self.value("document.querySelector('.row .text').textContent"))
 
     def test_hidden_characters_are_shown_by_their_numbers(self):
-        self.open(written("hidden", frame("InputCommand", name="a\u202eb\u001b")))
+        self.open(written("hidden", frame("InputCommand", name="a\u202eb\u001b", value={"content": "k\ufeffk".encode()})))
         self.assertIn("a\\u202eb\\u001b", self.text("#row-0 .text"))
+        self.assertIn("k\\ufeffk", self.text("#row-0 .text"))
+
+    def test_each_hidden_character(self):
+        controls = [*range(0x20), *range(0x7F, 0xA0), 0x61C, 0x200E, 0x200F, *range(0x2028, 0x202F), *range(0x2066, 0x206A)]
+        others = [0xAD, 0x34F, 0x115F, 0x180E, 0x200B, 0x200D, 0x2060, 0x206A, 0x3164, 0xFE0F, 0xFEFF, 0xFFF9, 0xE0041]
+        hidden = [chr(number) for number in [*controls, *others] if chr(number) not in "\t\n"]
+        numbers = [f"\\u{ord(one):04x}" if ord(one) < 0x10000 else f"\\u{{{ord(one):x}}}" for one in hidden]
+        # bytes with a control that no text has are shown in hex
+        content = "".join(hidden[31:])
+        self.assertEqual(hidden[31], "\x80")
+        self.open(written("hidden", frame("InputCommand", name="<".join(hidden), value={"content": content.encode()})))
+        shown = self.value("document.getElementById('rows').textContent + document.getElementById('detail').textContent")
+        self.assertEqual([one for one in hidden if one in shown], [])
+        self.assertIn("<".join(numbers), shown)
+        self.assertIn("".join(numbers[31:]), shown)
 
     def test_the_verdict_of_hostile_journals(self):
         streams = [frame("RunCommand", name=text) for text in HOSTILE[:2]]
@@ -595,5 +617,5 @@ class Accessibility(PageTest):
 
 
 if __name__ == "__main__":
-    tell()
+    tell(sys.argv[1:])
     FOLDER.cleanup()
