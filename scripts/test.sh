@@ -1,9 +1,10 @@
 #!/bin/sh
 # scripts/test.sh [--quick [FOLDER..]]
 #
-# All tests: the gate (every proof from nothing, the mutants of must-fail/, the stored runs of the programs), then all
-# checks of scripts/check.sh, which lists them. With --quick: what can be known within two minutes, without a proof, and
-# the tests of the folders of tests/ that are named (scripts/quick.sh). The last line is 'N passed, M failed', of all.
+# All tests: the gate (proves every crate, on a machine that has proved it before what changed and what is above it; the
+# mutants of must-fail/, the stored runs of the programs), then all checks of scripts/check.sh, which lists them. With
+# --quick: what can be known within two minutes, without a proof, and the tests of the folders of tests/ that are named
+# (scripts/quick.sh). The last line is 'N passed, M failed', of all.
 set -u
 cd "$(dirname "$0")/.." || exit 1
 
@@ -12,7 +13,7 @@ case ${1-} in
     shift
     exec sh scripts/quick.sh "$@"
     ;;
-  --help) sed -n '2,6s/^# \{0,1\}//p' scripts/test.sh; exit 0 ;;
+  --help) sed -n '2,7s/^# \{0,1\}//p' scripts/test.sh; exit 0 ;;
 esac
 if [ $# -gt 0 ]; then
   echo 'usage: test.sh [--quick [FOLDER..]]' >&2
