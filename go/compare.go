@@ -1,8 +1,8 @@
 package pendratsoa
 
 // HeaderEq returns whether two commands of a type, each by its payload, are the same for a replay. If payloads are
-// ignored, the content of user data is not compared. ErrUnknown if the code is that of no command; ErrMalformed,
-// ErrOutOfMemory.
+// ignored, the content of user data is not compared, but that of a signal is. ErrUnknown if the code is that of no
+// command; ErrMalformed, ErrOutOfMemory.
 func HeaderEq(code uint16, first, second []byte, ignorePayloads bool) (bool, error) {
 	result := journalHeaderEq(code, first, second, ignorePayloads)
 	if result < 0 {
@@ -57,7 +57,7 @@ type Verdict struct {
 
 // CompareJournals compares a recorded journal with a replayed one, both streams of a version, command by command. Other
 // items, and bytes after the last whole item, are skipped. If payloads are ignored, the content of user data is not
-// compared. ErrUnknown for an unknown version; ErrOutOfMemory.
+// compared, but that of a signal is. ErrUnknown for an unknown version; ErrOutOfMemory.
 func CompareJournals(version int, recorded, replayed []byte, ignorePayloads bool) (Verdict, error) {
 	number, err := unsigned("CompareJournals", "version", version)
 	if err != nil {

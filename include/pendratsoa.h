@@ -219,7 +219,8 @@ int64_t journal_notification(uint16_t code, const uint8_t *payload, size_t paylo
 
 /*
  * Returns 1 if two commands are the same for a replay, otherwise 0. If `ignore_payloads` is not 0, the content of user
- * data (values, parameters) is not compared; that there is a value, and no failure or nothing, still is.
+ * data (values, parameters) is not compared, but that of a signal is; that there is a value, and no failure or nothing,
+ * is compared in any case. Of an input nothing is ever compared.
  */
 int64_t journal_header_eq(uint16_t code, const uint8_t *first, size_t first_length, const uint8_t *second,
                           size_t second_length,
@@ -230,9 +231,10 @@ int64_t journal_header_eq(uint16_t code, const uint8_t *first, size_t first_leng
  * three spaces, the name of the field, ": ", what the first has, " != ", and what the second has. The last line has no
  * line feed after it; so the text comes after "- Difference:" in that of a mismatch. Returns its length in bytes.
  *
- * Payloads of user data are printed if they differ, and so is the completion id of a sleep, which is never compared.
- * The name of a command is compared, and printed only for a sleep, a run, a call and a one way call: two others that
- * differ only in their names are not the same, and have no line.
+ * Of an input nothing is printed. Payloads of user data of other commands are printed if they differ, and so is the
+ * completion id of a sleep, which is never compared. The name is compared, but for that of an input, and printed only
+ * for a sleep, a run, a call and a one way call: two other commands that differ only in their names are not the same,
+ * and have no line.
  */
 int64_t journal_difference(uint16_t code, const uint8_t *first, size_t first_length, const uint8_t *second,
                            size_t second_length,
@@ -259,9 +261,9 @@ int64_t journal_difference(uint16_t code, const uint8_t *first, size_t first_len
 /*
  * Compares a recorded journal with a replayed one, both streams of a version from 5 to 9, command by command; other
  * items, and bytes after the last whole item, are skipped. If `ignore_payloads` is not 0, the content of user data is
- * not compared. Writes two numbers, the kind of the verdict and its index, and the text of a mismatch, as the SDKs
- * report it. Returns the text's length in bytes: 0 if there is none; if there is no room for it, the numbers are
- * written nevertheless.
+ * not compared, but that of a signal is. Writes two numbers, the kind of the verdict and its index, and the text of a
+ * mismatch, as the SDKs report it. Returns the text's length in bytes: 0 if there is none; if there is no room for it,
+ * the numbers are written nevertheless.
  *
  * JOURNAL_UNKNOWN if the number is no version's, otherwise JOURNAL_NO_ROOM if `numbers` has room for fewer than two,
  * before anything is compared; JOURNAL_OUT_OF_MEMORY.

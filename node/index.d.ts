@@ -304,7 +304,10 @@ export function notification(code: number, payload: Uint8Array): Notification;
 
 /** How commands and journals are compared. */
 export interface CompareOptions {
-  /** Whether the content of user data (values, parameters) is not compared; by default it is. */
+  /**
+   * Whether the content of user data (values, parameters) is left out of the comparison, but not that of a signal; by
+   * default it is not.
+   */
   readonly ignorePayloads?: boolean;
 }
 

@@ -179,8 +179,9 @@ def notification(code: int, payload: BytesLike) -> Notification:
 
 
 def header_eq(code: int, first: BytesLike, second: BytesLike, ignore_payloads: bool = False) -> bool:
-    """Whether two commands of a type are the same for a replay; `ignore_payloads` leaves the content of user data out.
+    """Whether two commands of a type are the same for a replay.
 
+    `ignore_payloads` leaves the content of user data out of the comparison, but not that of a signal.
     `Unknown` if the code is not that of a command; `Malformed`, `OutOfMemory`.
     """
     request = Request("header_eq", code=code, first=first, second=second)

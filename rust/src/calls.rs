@@ -168,9 +168,9 @@ pub fn to_json(schema: u32, payload: &[u8]) -> Result<String, Error> {
 
 /// Whether two commands of the type that has the code are the same for a replay.
 ///
-/// If `ignore_payloads`, the content of user data is not compared; that there is a value, and no failure or nothing,
-/// still is. `Error::Unknown` if the code is that of no command, `Error::Malformed` if one of the payloads is not
-/// well-formed, `Error::OutOfMemory`.
+/// If `ignore_payloads`, the content of user data is not compared, but that of a signal is; that there is a value, and
+/// no failure or nothing, is compared in any case. `Error::Unknown` if the code is that of no command,
+/// `Error::Malformed` if one of the payloads is not well-formed, `Error::OutOfMemory`.
 ///
 /// ```
 /// use pendratsoa::{header_eq, MessageType};

@@ -122,11 +122,19 @@ impl fmt::Display for Argument {
             Argument::Schema(number) => write!(f, "the schema {number}"),
             Argument::Name(name) => write!(f, "the name {name:?}"),
             Argument::PayloadLength(length) => write!(f, "the payload length {length}"),
-            Argument::Payload(length) => write!(f, "the payload of {length} bytes"),
-            Argument::Json(length) => write!(f, "the JSON text of {length} bytes"),
-            Argument::First(length) => write!(f, "the first payload of {length} bytes"),
-            Argument::Second(length) => write!(f, "the second payload of {length} bytes"),
+            Argument::Payload(length) => write!(f, "the payload of {}", bytes(*length)),
+            Argument::Json(length) => write!(f, "the JSON text of {}", bytes(*length)),
+            Argument::First(length) => write!(f, "the first payload of {}", bytes(*length)),
+            Argument::Second(length) => write!(f, "the second payload of {}", bytes(*length)),
         }
+    }
+}
+
+/// A length in bytes, as text.
+fn bytes(length: usize) -> String {
+    match length {
+        1 => "1 byte".to_owned(),
+        _ => format!("{length} bytes"),
     }
 }
 
@@ -140,6 +148,14 @@ mod tests {
             (
                 Error::Malformed(Argument::Second(3)),
                 "the second payload of 3 bytes is malformed",
+            ),
+            (
+                Error::Malformed(Argument::Payload(1)),
+                "the payload of 1 byte is malformed",
+            ),
+            (
+                Error::NoId(Argument::Payload(0)),
+                "the payload of 0 bytes has no id",
             ),
             (Error::OutOfMemory, "an allocation failed"),
             (Error::NoRoom, "a slice for numbers is too short"),

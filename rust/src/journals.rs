@@ -50,8 +50,8 @@ const KINDS: [VerdictKind; 7] = [
 /// Compares a recorded journal with a replayed one, both streams of a version from 5 to 9, command by command.
 ///
 /// Other items, and bytes after the last whole item, are skipped. If `ignore_payloads`, the content of user data is not
-/// compared. `Error::Unknown` if the number is no version's; `Error::OutOfMemory`. A malformed command is no error, but
-/// a verdict.
+/// compared, but that of a signal is. `Error::Unknown` if the number is no version's; `Error::OutOfMemory`. A malformed
+/// command is no error, but a verdict.
 ///
 /// ```
 /// use pendratsoa::{compare_journals, VerdictKind};

@@ -12,7 +12,7 @@ use shared_core::messages::{CommandMessage, CommandVisitor, visit_command};
 use std::alloc::Global;
 
 /// 1 if the commands that two payloads of a code mean are the same for a replay, otherwise 0; if payloads are ignored,
-/// the content of user data is not compared.
+/// the content of user data is not compared, but that of a signal is.
 ///
 /// `Malformed` if one of the two is not well-formed for the type, `Unknown` if the code is that of no command.
 pub fn header_eq(

@@ -9,7 +9,8 @@ use journal_c_api::outcome::outcome_of;
 use std::alloc::Global;
 
 /// Decodes two payloads for the command type that has the code, and returns 1 if the two commands are the same for a
-/// replay, otherwise 0. The content of user data is not compared if `ignore_payloads` is not 0.
+/// replay, otherwise 0. If `ignore_payloads` is not 0, the content of user data is not compared, but that of a signal
+/// is.
 ///
 /// `Malformed` if one of the two is not well-formed for the type, `Unknown` if the code is that of no command.
 #[unsafe(no_mangle)]

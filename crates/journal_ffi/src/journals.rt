@@ -10,7 +10,8 @@ use std::alloc::Global;
 
 /// Compares a recorded journal with a replayed one, both streams of a version from 5 to 9, command by command, and
 /// writes two numbers, the kind of the verdict and its index, and the text of a mismatch. The content of user data is
-/// not compared if `ignore_payloads` is not 0. The numbers are written even if there is no room for the text.
+/// not compared if `ignore_payloads` is not 0, but that of a signal is. The numbers are written even if there is no
+/// room for the text.
 ///
 /// `Unknown` if the number is no version's, otherwise `NoRoom` if there is room for fewer than two numbers.
 #[unsafe(no_mangle)]

@@ -144,7 +144,8 @@ module Pendratsoa
       Notification.new(id_kind, id_kind == :signal_name ? name.freeze : number, result_kind, result.freeze)
     end
 
-    # Whether two commands of a type are the same for a replay; `ignore_payloads` leaves the content of user data out.
+    # Whether two commands of a type are the same for a replay; `ignore_payloads` leaves the content of user data out of
+    # the comparison, but not that of a signal.
     #
     # Unknown if the code is not that of a command; Malformed, OutOfMemory.
     def header_eq?(code, first, second, ignore_payloads: false)
