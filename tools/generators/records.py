@@ -286,6 +286,7 @@ def write_oneof(source, module, name, oneof, about, derived=()):
         + "    ghost part = { elim [\n"
         + "".join(parts)
         + "    ] };\n\n"
+        + "    #[tactic(auto, using(shared_core_codec::proofs::Keeping::part_stays))]\n"
         + f"    fn merge_member(oneof: &mut Option<{name}>, field: &Occurrence<'_>) -> {result}<(), WireError> {{\n"
         + "        match field.number {\n"
         + "".join(merges)
@@ -396,6 +397,7 @@ def write_record(source, crate, message, shared):
         + f"    ghost schema = {{ tables.{schema_name(name)} }};\n\n"
         + f"    ghost parts = {{ λ {binder}. {value} }};\n\n"
         + f"    fn empty({alloc}: Global) -> {name} {{\n        {name} {built}\n    }}\n\n"
+        + "    #[tactic(auto, using(shared_core_codec::proofs::Keeping::rows_stay))]\n"
         + f"    fn merge_field(&mut self, {unused}field: &Occurrence<'_>) -> {result}<(), WireError> {{\n{merge}    }}\n\n"
         + f"    fn measure(&self, {unused}size: &mut Size) {{\n{''.join(sizes)}    }}\n\n"
         + f"    fn encode_back(&self, {unused}out: &mut [u8], end: usize) -> usize {{\n{write}    }}\n\n"

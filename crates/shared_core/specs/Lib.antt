@@ -31,6 +31,7 @@ pub use Rattle.shared_core_wire.specs.Template
 pub use Rattle.shared_core_wire.specs.Value
 pub use Rattle.shared_core_codec.specs.Canonicity
 pub use Rattle.shared_core_codec.specs.Equality
+pub use Rattle.shared_core_codec.specs.Kept
 pub use Rattle.shared_core_codec.specs.Payloads
 pub use Rattle.shared_core_codec.specs.Table
 pub use Rattle.shared_core_message.specs.Frames

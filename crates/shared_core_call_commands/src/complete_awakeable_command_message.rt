@@ -48,6 +48,7 @@ impl OneOf for Result {
       | result_is.Failure x ↦ Member 3 (message_part ⟦<Failure as WireRecord>⟧.parts x)
     ] };
 
+    #[tactic(auto, using(shared_core_codec::proofs::Keeping::part_stays))]
     fn merge_member(
         oneof: &mut Option<Result>,
         field: &Occurrence<'_>,
@@ -131,6 +132,7 @@ impl WireRecord for CompleteAwakeableCommandMessage {
         }
     }
 
+    #[tactic(auto, using(shared_core_codec::proofs::Keeping::rows_stay))]
     fn merge_field(&mut self, field: &Occurrence<'_>) -> result::Result<(), WireError> {
         match field.number {
             1 => plain::merge(&mut self.awakeable_id, field)?,

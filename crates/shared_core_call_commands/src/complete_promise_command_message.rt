@@ -47,6 +47,7 @@ impl OneOf for Completion {
       | completion_is.CompletionFailure x ↦ Member 3 (message_part ⟦<Failure as WireRecord>⟧.parts x)
     ] };
 
+    #[tactic(auto, using(shared_core_codec::proofs::Keeping::part_stays))]
     fn merge_member(
         oneof: &mut Option<Completion>,
         field: &Occurrence<'_>,
@@ -144,6 +145,7 @@ impl WireRecord for CompletePromiseCommandMessage {
         }
     }
 
+    #[tactic(auto, using(shared_core_codec::proofs::Keeping::rows_stay))]
     fn merge_field(&mut self, field: &Occurrence<'_>) -> Result<(), WireError> {
         match field.number {
             1 => plain::merge(&mut self.key, field)?,

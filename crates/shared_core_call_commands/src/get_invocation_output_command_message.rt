@@ -51,6 +51,7 @@ impl WireRecord for GetInvocationOutputCommandMessage {
         }
     }
 
+    #[tactic(auto, using(shared_core_codec::proofs::Keeping::rows_stay))]
     fn merge_field(&mut self, field: &Occurrence<'_>) -> Result<(), WireError> {
         match field.number {
             1 | 3 | 4 => oneof::merge(&mut self.target, field)?,

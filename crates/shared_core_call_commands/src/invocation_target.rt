@@ -41,6 +41,7 @@ impl OneOf for InvocationTarget {
       | invocation_target_is.WorkflowTarget x ↦ Member 4 (message_part ⟦<WorkflowTarget as WireRecord>⟧.parts x)
     ] };
 
+    #[tactic(auto, using(shared_core_codec::proofs::Keeping::part_stays))]
     fn merge_member(
         oneof: &mut Option<InvocationTarget>,
         field: &Occurrence<'_>,

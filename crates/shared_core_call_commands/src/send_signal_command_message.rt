@@ -49,6 +49,7 @@ impl OneOf for SignalId {
       | signal_id_is.Name x ↦ Member 3 (text_part x)
     ] };
 
+    #[tactic(auto, using(shared_core_codec::proofs::Keeping::part_stays))]
     fn merge_member(
         oneof: &mut Option<SignalId>,
         field: &Occurrence<'_>,
@@ -118,6 +119,7 @@ impl OneOf for Result {
       | result_is.Failure x ↦ Member 6 (message_part ⟦<Failure as WireRecord>⟧.parts x)
     ] };
 
+    #[tactic(auto, using(shared_core_codec::proofs::Keeping::part_stays))]
     fn merge_member(
         oneof: &mut Option<Result>,
         field: &Occurrence<'_>,
@@ -220,6 +222,7 @@ impl WireRecord for SendSignalCommandMessage {
         }
     }
 
+    #[tactic(auto, using(shared_core_codec::proofs::Keeping::rows_stay))]
     fn merge_field(&mut self, field: &Occurrence<'_>) -> result::Result<(), WireError> {
         match field.number {
             1 => plain::merge(&mut self.target_invocation_id, field)?,

@@ -4,6 +4,7 @@ pub mod Backwards
 pub mod FittingRows
 pub mod ElementLoops
 pub mod FieldElements
+pub mod Keeping
 pub mod FoldingRecords
 pub mod MergingRecords
 pub mod PackedRuns

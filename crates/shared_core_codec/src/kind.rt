@@ -7,13 +7,14 @@
 //! `Malformed` always means that the occurrence is none of the field's kind: another wire type (this project's own), a
 //! text that is not UTF-8, a packed run that does not fill its length, or a message that is not well-formed.
 
-ghost use Rattle.std.specs.Prelude.{◌≡◌, ◌+◌, ◌≤◌, ◌++◌, length, drop, OnOk, IfOk, true, false};
+ghost use Rattle.std.specs.Prelude.{◌≡◌, ◌+◌, ◌≤◌, ◌++◌, length, drop, OnOk, is_ok, IfOk, true, false};
 ghost use Rattle.std.specs.Result.{IsErrOf};
 ghost use Rattle.shared_core_wire.specs.Schema.{Kind as SchemaKind};
 ghost use Rattle.shared_core_wire.specs.Value.{Part, Absent};
 ghost use Rattle.shared_core_wire.specs.Canonical.{is_default as is_default_part};
 ghost use Rattle.shared_core_codec.specs.Equality.{is_present};
 ghost use Rattle.shared_core_codec.specs.Occurrences.{field_accepts, FieldBecomes, IsEmptyField};
+ghost use Rattle.shared_core_codec.specs.Kept.{PartAfter};
 ghost use Rattle.shared_core_codec.specs.RowEncoding.{capped, value_bytes, unpacked};
 ghost use Rattle.shared_core_codec.specs.RowFitting.{ValueFits};
 ghost use Rattle.shared_core_wire.specs.declared.error.WireError.TheVariants as error;
@@ -36,10 +37,11 @@ pub trait FieldKind: Sized + Drop {
         ensures { IsEmptyField kind (part result) };
 
     /// Merges an occurrence into the value that is held: a message into the message; any other kind is replaced. After
-    /// an error the value may have changed.
+    /// an error it is unchanged, but for a message, which loses nothing that it held.
     fn merge_value(&mut self, field: &Occurrence<'_>) -> Result<(), WireError>
         ensures ok { OnOk result (FieldBecomes field.now kind (part self.old) (part self.new)) }
-        ensures malformed { IsErrOf result error.Malformed → field_accepts field.now kind ≡ false };
+        ensures malformed { IsErrOf result error.Malformed → field_accepts field.now kind ≡ false }
+        ensures kept { PartAfter (part self.old) (part self.new) (is_ok result) };
 
     /// Adds the size of a record of this number, even if it holds the default.
     fn measure_value(&self, size: &mut Size, number: u32)

@@ -1,6 +1,6 @@
 //! Oneofs: fields of which at most one is present in a record.
 
-ghost use Rattle.std.specs.Prelude.{◌≡◌, ◌+◌, ◌≤◌, ℕ, List, length, drop, OnOk, true, false};
+ghost use Rattle.std.specs.Prelude.{◌≡◌, ◌+◌, ◌≤◌, ℕ, List, length, drop, OnOk, is_ok, true, false};
 ghost use Rattle.std.specs.Result.{IsErrOf};
 ghost use Rattle.shared_core_wire.specs.Schema.{Kind};
 ghost use Rattle.shared_core_wire.specs.Schema as row;
@@ -9,6 +9,7 @@ ghost use Rattle.shared_core_codec.specs.RowEncoding.{measured_row, before_row, 
 ghost use Rattle.shared_core_codec.specs.RowFitting.{FieldFits};
 ghost use Rattle.shared_core_codec.specs.Equality.{DecidesEquality, is_present};
 ghost use Rattle.shared_core_codec.specs.Occurrences.{IsMember, member_accepts, MemberBecomes};
+ghost use Rattle.shared_core_codec.specs.Kept.{PartAfter};
 ghost use Rattle.shared_core_codec.specs.FieldParts.{option_part};
 ghost use Rattle.shared_core_wire.specs.declared.error.WireError.TheVariants as error;
 
@@ -25,12 +26,13 @@ pub trait OneOf: Sized + Drop + PartialEq {
     ghost part: { Self → Part };
 
     /// Merges an occurrence of one of the members. A message is merged into the held one if it is the same member,
-    /// otherwise into the empty one. After an error the oneof may have changed.
+    /// otherwise into the empty one. After an error a oneof that held a member holds one, maybe the empty one.
     fn merge_member(oneof: &mut Option<Self>, field: &Occurrence<'_>) -> Result<(), WireError>
         requires member { IsMember field.now members }
         ensures ok { OnOk result (MemberBecomes field.now members (option_part part oneof.old)
             (option_part part oneof.new)) }
-        ensures malformed { IsErrOf result error.Malformed → member_accepts field.now members ≡ false };
+        ensures malformed { IsErrOf result error.Malformed → member_accepts field.now members ≡ false }
+        ensures kept { PartAfter (option_part part oneof.old) (option_part part oneof.new) (is_ok result) };
 
     /// Adds the size of the member.
     fn measure(&self, size: &mut Size)
@@ -51,13 +53,14 @@ pub trait OneOf: Sized + Drop + PartialEq {
     ghost equality: { (a b : Self) → DecidesEquality (Self.eq a b) (part a) (part b) };
 }
 
-/// Merges an occurrence of one of the members. After an error the oneof may have changed.
+/// Merges an occurrence of one of the members. After an error a oneof that held a member holds one.
 #[inline]
 pub fn merge<O: OneOf>(field: &mut Option<O>, found: &Occurrence<'_>) -> Result<(), WireError>
     requires member { IsMember found.now O.members }
     ensures ok { OnOk result (MemberBecomes found.now O.members (option_part O.part field.old)
         (option_part O.part field.new)) }
     ensures malformed { IsErrOf result error.Malformed → member_accepts found.now O.members ≡ false }
+    ensures kept { PartAfter (option_part O.part field.old) (option_part O.part field.new) (is_ok result) }
 {
     O::merge_member(field, found)
 }

@@ -7,6 +7,7 @@ ghost use Rattle.shared_core_wire.specs.Value.{Number};
 ghost use Rattle.shared_core_codec.specs.Computed.{IsComputed, packed_onto};
 ghost use Rattle.shared_core_codec.specs.FieldParts.{elements_part, parts_of};
 ghost use Rattle.shared_core_codec.specs.Occurrences.{repeated_accepts, FieldExtends};
+ghost use Rattle.shared_core_codec.specs.Kept.{PartKept};
 ghost use Rattle.shared_core_codec.specs.RowEncoding.{capped, measured_row, before_row, row_size, varints_of};
 ghost use Rattle.shared_core_codec.specs.RowFitting.{FieldFits};
 ghost use Rattle.shared_core_wire.specs.declared.error.WireError.TheVariants as error;
@@ -18,11 +19,13 @@ use shared_core_wire::error::WireError;
 use shared_core_wire::record::WireValue;
 use shared_core_wire::varint::{low_32, read_varint};
 
-/// Appends one number, or each of a packed run. After an error some numbers may have been appended.
+/// Appends one number, or each of a packed run. After an error some numbers may have been appended,
+/// after those that the list had.
 pub fn merge(field: &mut Vec<u32>, found: &Occurrence<'_>) -> Result<(), WireError>
     ensures ok { OnOk result (FieldExtends found.now U32 (parts_of Number field.old.items)
         (parts_of Number field.new.items)) }
     ensures malformed { IsErrOf result error.Malformed → repeated_accepts found.now U32 ≡ false }
+    ensures kept { PartKept (elements_part Number field.old.items) (elements_part Number field.new.items) }
 {
     match found.value {
         WireValue::Varint(number) => {
@@ -37,7 +40,8 @@ pub fn merge(field: &mut Vec<u32>, found: &Occurrence<'_>) -> Result<(), WireErr
 /// Appends the low 32 bits of each number of a packed run. Returns `Malformed` if the bytes are not varints that fill
 /// them exactly; some numbers may then have been appended.
 fn merge_run(numbers: &mut Vec<u32>, run: &[u8]) -> Result<(), WireError>
-    ensures { IsComputed (λ _. numbers.new.items) result (packed_onto numbers.old.items run.now) }
+    ensures computed { IsComputed (λ _. numbers.new.items) result (packed_onto numbers.old.items run.now) }
+    ensures kept { PartKept (elements_part Number numbers.old.items) (elements_part Number numbers.new.items) }
 {
     let mut rest = run;
     while !rest.is_empty() {

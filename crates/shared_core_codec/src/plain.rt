@@ -1,9 +1,10 @@
 //! Fields without a label, which are not written if they hold the default: 0, false or empty.
 
-ghost use Rattle.std.specs.Prelude.{◌≡◌, ◌+◌, ◌≤◌, length, drop, OnOk, false};
+ghost use Rattle.std.specs.Prelude.{◌≡◌, ◌+◌, ◌≤◌, length, drop, OnOk, is_ok, false};
 ghost use Rattle.std.specs.Result.{IsErrOf};
 ghost use Rattle.shared_core_wire.specs.Schema.{Plain};
 ghost use Rattle.shared_core_codec.specs.Occurrences.{field_accepts, FieldBecomes};
+ghost use Rattle.shared_core_codec.specs.Kept.{PartAfter};
 ghost use Rattle.shared_core_codec.specs.RowEncoding.{measured_row, before_row, row_size};
 ghost use Rattle.shared_core_codec.specs.RowFitting.{FieldFits};
 ghost use Rattle.shared_core_wire.specs.declared.error.WireError.TheVariants as error;
@@ -13,11 +14,12 @@ use crate::occurrence::Occurrence;
 use crate::size::Size;
 use shared_core_wire::error::WireError;
 
-/// Replaces the value that is held by an occurrence's. After an error it may have changed.
+/// Replaces the value that is held by an occurrence's. After an error it is unchanged.
 #[inline]
 pub fn merge<V: Scalar>(field: &mut V, found: &Occurrence<'_>) -> Result<(), WireError>
     ensures ok { OnOk result (FieldBecomes found.now V.kind (V.part field.old) (V.part field.new)) }
     ensures malformed { IsErrOf result error.Malformed → field_accepts found.now V.kind ≡ false }
+    ensures kept { PartAfter (V.part field.old) (V.part field.new) (is_ok result) }
 {
     field.merge_value(found)
 }

@@ -1,7 +1,7 @@
 //! The trait of records, and what it provides for all of them: decoding, merging and encoding whole payloads.
 
 ghost use Rattle.std.specs.Prelude.{◌≡◌, ◌≤◌, ◌<◌, ◌^◌, ◌++◌, ◌+◌, ℕ, drop};
-ghost use Rattle.std.specs.Prelude.{IfOk, OnOk, OnErr, vec_len, vec_capacity, MatchOption, Err, false, length};
+ghost use Rattle.std.specs.Prelude.{IfOk, OnOk, OnErr, is_ok, vec_len, vec_capacity, MatchOption, Err, false, length};
 ghost use Rattle.std.specs.List.{All, concat};
 ghost use Rattle.std.specs.Result.{IsErrOf};
 ghost use Rattle.shared_core_wire.specs.ReadRecords.{read_records};
@@ -12,6 +12,7 @@ ghost use Rattle.shared_core_codec.specs.Table.{table};
 ghost use Rattle.shared_core_codec.specs.Computed.{IsComputed};
 ghost use Rattle.shared_core_codec.specs.Folding.{fold_read};
 ghost use Rattle.shared_core_codec.specs.Occurrences.{schema_accepts, RecordMerges, merged_with};
+ghost use Rattle.shared_core_codec.specs.Kept.{RowsAfter, PartsKept, IsPartlyMerged};
 ghost use Rattle.shared_core_codec.specs.Payloads.{IsAccepted, merged_payload, payload_meaning, IsReadBack};
 ghost use Rattle.shared_core_codec.specs.RowEncoding.{measured_rows, before_rows, rows_size};
 ghost use Rattle.shared_core_codec.specs.RowFitting.{FieldsFit};
@@ -44,10 +45,11 @@ pub trait WireRecord: Sized + Drop + PartialEq {
         ensures { parts result ≡ empty_value (table schema) };
 
     /// Merges one occurrence into the field of its number; if the schema has no such field, nothing changes. After an
-    /// error some fields may have changed. (For the code of records.)
+    /// error that field alone may have changed, and nothing that it held is lost. (For the code of records.)
     fn merge_field(&mut self, field: &Occurrence<'_>) -> Result<(), WireError>
         ensures ok { OnOk result (RecordMerges schema field.now (parts self.old) (parts self.new)) }
-        ensures malformed { IsErrOf result error.Malformed → schema_accepts schema field.now ≡ false };
+        ensures malformed { IsErrOf result error.Malformed → schema_accepts schema field.now ≡ false }
+        ensures kept { RowsAfter (table schema) field.now.number (parts self.old) (parts self.new) (is_ok result) };
 
     /// Adds the sizes of the fields, in the order of the schema. (For the code of records.)
     fn measure(&self, size: &mut Size)
@@ -174,15 +176,18 @@ pub trait WireRecord: Sized + Drop + PartialEq {
     }
 }
 
-/// Merges the bytes of a message into a record, one occurrence after the other. After an error some fields may have
-/// changed.
+/// Merges the bytes of a message into a record, one occurrence after the other. After an error those before the failing
+/// one are merged, and nothing that the record held is lost.
 pub(crate) fn merge_occurrences<M: WireRecord>(
     target: &mut M,
     message: &MessageBytes<'_>,
 ) -> Result<(), WireError>
-    ensures { IsComputed (λ _. M.parts target.new) result
+    ensures computed { IsComputed (λ _. M.parts target.new) result
         (fold_read (merged_with message.now.left M.schema) (M.parts target.old)
         (read_records message.now.left message.now.bytes.now)) }
+    ensures kept { PartsKept (M.parts target.old) (M.parts target.new) }
+    ensures partly { OnErr result (IsPartlyMerged message.now.left M.schema (M.parts target.old)
+        (read_records message.now.left message.now.bytes.now) (M.parts target.new)) }
 {
     for item in Records::within(message.bytes, message.left) {
         let found = item?;
@@ -192,7 +197,13 @@ pub(crate) fn merge_occurrences<M: WireRecord>(
 }
 
 /// Merges a payload that its owner keeps into a record of the caller's, whatever that holds, as `merge` does, without
-/// moving the record. The errors are those of `decode`; after one some fields of the record may have changed.
+/// moving the record. The errors are those of `decode`.
+///
+/// After an error nothing that the record held is lost: lists have their elements at their front, messages hold what
+/// they held, and a field that was present is present. Numbers, texts, bytes and the members of oneofs may have been
+/// replaced by what the records of the payload before the failing one say, since these are merged. The failing record
+/// may have changed its own field alone: it replaces no number, text or bytes, but a message or a list may have part of
+/// it, an absent field may be present, and a oneof may hold the empty member of its number.
 #[tactic(auto, using(crate::proofs::MergingRecords::computed_accepted, crate::proofs::MergingRecords::computed_merged, crate::proofs::MergingRecords::computed_rejected))]
 pub fn merge_payload<M: WireRecord>(
     target: &mut M,
@@ -202,6 +213,9 @@ pub fn merge_payload<M: WireRecord>(
     ensures accepted { OnOk result (IsAccepted M.schema payload.now) }
     ensures merged { OnOk result (M.parts target.new ≡ merged_payload M.schema (M.parts target.old) payload.now) }
     ensures malformed { IsErrOf result error.Malformed → ¬ (IsAccepted M.schema payload.now) }
+    ensures kept { PartsKept (M.parts target.old) (M.parts target.new) }
+    ensures partly { OnErr result (IsPartlyMerged 100 M.schema (M.parts target.old) (read_records 100 payload.now)
+        (M.parts target.new)) }
 {
     merge_occurrences(target, &MessageBytes::whole(alloc, payload))
 }

@@ -5,6 +5,7 @@ ghost use Rattle.std.specs.Result.{IsErrOf};
 ghost use Rattle.shared_core_wire.specs.Schema.{Repeated};
 ghost use Rattle.shared_core_codec.specs.FieldParts.{elements_part, parts_of};
 ghost use Rattle.shared_core_codec.specs.Occurrences.{repeated_accepts, FieldExtends};
+ghost use Rattle.shared_core_codec.specs.Kept.{PartKept};
 ghost use Rattle.shared_core_codec.specs.RowEncoding.{measured_row, before_row, row_size};
 ghost use Rattle.shared_core_codec.specs.RowFitting.{FieldFits};
 ghost use Rattle.shared_core_wire.specs.declared.error.WireError.TheVariants as error;
@@ -15,11 +16,12 @@ use crate::size::Size;
 use shared_core_wire::error::WireError;
 
 /// Appends an element, the meaning of the occurrence alone. It is read into its place in the list, and after an error
-/// it may be there.
+/// it may be there, after those that the list had.
 pub fn merge<V: Element>(field: &mut Vec<V>, found: &Occurrence<'_>) -> Result<(), WireError>
     ensures ok { OnOk result (FieldExtends found.now V.kind (parts_of V.part field.old.items)
         (parts_of V.part field.new.items)) }
     ensures malformed { IsErrOf result error.Malformed → repeated_accepts found.now V.kind ≡ false }
+    ensures kept { PartKept (elements_part V.part field.old.items) (elements_part V.part field.new.items) }
 {
     let element = field.push_mut(V::empty_value(found.alloc))?;
     element.merge_value(found)

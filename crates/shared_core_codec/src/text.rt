@@ -17,7 +17,7 @@ use shared_core_wire::record::WireValue;
 use std::alloc::Global;
 use std::string::String;
 
-/// A `string` is copied over the text that is held, whose memory is reused.
+/// A `string` is copied over the text that is held, whose memory is reused if it is enough.
 impl FieldKind for String {
     ghost kind = { Text };
 
@@ -31,8 +31,9 @@ impl FieldKind for String {
     #[inline]
     fn merge_value(&mut self, field: &Occurrence<'_>) -> Result<(), WireError> {
         let text = text_of(field)?;
-        // nearly always a field is read for the first time; then its exact size is allocated at once
-        if self.is_empty() {
+        // memory of its exact size, nearly always for a field that is read for the first time; without it the text that
+        // is held stays
+        if self.capacity() < text.len() {
             *self = String::from_str(field.alloc, text)?;
             return Ok(());
         }

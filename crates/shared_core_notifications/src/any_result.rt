@@ -40,6 +40,7 @@ impl OneOf for AnyResult {
       | any_result_is.Failure x ↦ Member 6 (message_part ⟦<Failure as WireRecord>⟧.parts x)
     ] };
 
+    #[tactic(auto, using(shared_core_codec::proofs::Keeping::part_stays))]
     fn merge_member(
         oneof: &mut Option<AnyResult>,
         field: &Occurrence<'_>,

@@ -48,6 +48,7 @@ impl WireRecord for AttachInvocationCompletionNotificationMessage {
         }
     }
 
+    #[tactic(auto, using(shared_core_codec::proofs::Keeping::rows_stay))]
     fn merge_field(&mut self, field: &Occurrence<'_>) -> result::Result<(), WireError> {
         match field.number {
             1 => plain::merge(&mut self.completion_id, field)?,

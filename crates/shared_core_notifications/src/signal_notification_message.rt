@@ -47,6 +47,7 @@ impl OneOf for SignalId {
       | signal_id_is.Name x ↦ Member 3 (text_part x)
     ] };
 
+    #[tactic(auto, using(shared_core_codec::proofs::Keeping::part_stays))]
     fn merge_member(
         oneof: &mut Option<SignalId>,
         field: &Occurrence<'_>,
@@ -116,6 +117,7 @@ impl WireRecord for SignalNotificationMessage {
         }
     }
 
+    #[tactic(auto, using(shared_core_codec::proofs::Keeping::rows_stay))]
     fn merge_field(&mut self, field: &Occurrence<'_>) -> result::Result<(), WireError> {
         match field.number {
             2 | 3 => oneof::merge(&mut self.signal_id, field)?,

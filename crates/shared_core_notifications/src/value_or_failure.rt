@@ -36,6 +36,7 @@ impl OneOf for ValueOrFailure {
       | value_or_failure_is.Failure x ↦ Member 6 (message_part ⟦<Failure as WireRecord>⟧.parts x)
     ] };
 
+    #[tactic(auto, using(shared_core_codec::proofs::Keeping::part_stays))]
     fn merge_member(
         oneof: &mut Option<ValueOrFailure>,
         field: &Occurrence<'_>,

@@ -1,6 +1,6 @@
 //! The message `Future`, which is recursive and therefore hand-written.
 
-ghost use Rattle.std.specs.Prelude.{◌≡◌, ◌+◌, ◌≤◌, ◌++◌, length, drop, OnOk, false};
+ghost use Rattle.std.specs.Prelude.{◌≡◌, ◌+◌, ◌≤◌, ◌++◌, length, drop, OnOk, OnErr, is_ok, false};
 ghost use Rattle.std.specs.Result.{IsErrOf};
 ghost use Rattle.shared_core_wire.specs.ReadRecords.{read_records};
 ghost use Rattle.shared_core_wire.specs.Schema.{Message, Repeated};
@@ -10,6 +10,7 @@ ghost use Rattle.shared_core_codec.specs.Table as tables;
 ghost use Rattle.shared_core_codec.specs.FieldParts.{message_part};
 ghost use Rattle.shared_core_codec.specs.Computed.{IsComputed};
 ghost use Rattle.shared_core_codec.specs.Folding.{fold_read};
+ghost use Rattle.shared_core_codec.specs.Kept.{PartKept, PartsKept, RowsAfter, IsPartlyMerged};
 ghost use Rattle.shared_core_codec.specs.Occurrences.{schema_accepts, RecordMerges};
 ghost use Rattle.shared_core_codec.specs.Occurrences.{repeated_accepts, FieldExtends, merged_with};
 ghost use Rattle.shared_core_codec.specs.RowEncoding.{capped, value_bytes, measured_row, measured_rows};
@@ -103,9 +104,12 @@ fn empty_future(alloc: Global) -> Future
 /// Merges the records of a message into a future.
 #[cycle(merge_future)]
 fn merge_future(future: &mut Future, message: &MessageBytes<'_>) -> Result<(), WireError>
-    ensures { IsComputed (λ _. future_parts future.new) result
+    ensures computed { IsComputed (λ _. future_parts future.new) result
         (fold_read (merged_with message.now.left tables.future) (future_parts future.old)
         (read_records message.now.left message.now.bytes.now)) }
+    ensures kept { PartsKept (future_parts future.old) (future_parts future.new) }
+    ensures partly { OnErr result (IsPartlyMerged message.now.left tables.future (future_parts future.old)
+        (read_records message.now.left message.now.bytes.now) (future_parts future.new)) }
 {
     for item in Records::within(message.bytes, message.left) {
         let found = item?;
@@ -116,10 +120,13 @@ fn merge_future(future: &mut Future, message: &MessageBytes<'_>) -> Result<(), W
 
 /// Merges one occurrence into its field.
 #[cycle(merge_future)]
+#[tactic(auto, using(shared_core_codec::proofs::Keeping::rows_stay))]
 fn merge_future_field(future: &mut Future, field: &Occurrence<'_>) -> Result<(), WireError>
     ensures ok { OnOk result (RecordMerges tables.future field.now (future_parts future.old)
         (future_parts future.new)) }
     ensures malformed { IsErrOf result error.Malformed → schema_accepts tables.future field.now ≡ false }
+    ensures kept { RowsAfter (table tables.future) field.now.number (future_parts future.old)
+        (future_parts future.new) (is_ok result) }
 {
     match field.number {
         1 => packed::merge(&mut future.waiting_completions, field)?,
@@ -138,6 +145,7 @@ fn extend_futures(futures: &mut Vec<Future>, field: &Occurrence<'_>) -> Result<(
     ensures ok { OnOk result (FieldExtends field.now (Message tables.future) (future_elements futures.old.items)
         (future_elements futures.new.items)) }
     ensures malformed { IsErrOf result error.Malformed → repeated_accepts field.now (Message tables.future) ≡ false }
+    ensures kept { PartKept (futures_part futures.old.items) (futures_part futures.new.items) }
 {
     let Some(nested) = field.nested() else {
         return Err(WireError::Malformed);

@@ -44,6 +44,7 @@ impl OneOf for Id {
       | id_is.SignalName x ↦ Member 3 (text_part x)
     ] };
 
+    #[tactic(auto, using(shared_core_codec::proofs::Keeping::part_stays))]
     fn merge_member(
         oneof: &mut Option<Id>,
         field: &Occurrence<'_>,
@@ -124,6 +125,7 @@ impl OneOf for Result {
       | result_is.StateKeys x ↦ Member 17 (message_part ⟦<StateKeys as WireRecord>⟧.parts x)
     ] };
 
+    #[tactic(auto, using(shared_core_codec::proofs::Keeping::part_stays))]
     fn merge_member(
         oneof: &mut Option<Result>,
         field: &Occurrence<'_>,
@@ -253,6 +255,7 @@ impl WireRecord for NotificationTemplate {
         }
     }
 
+    #[tactic(auto, using(shared_core_codec::proofs::Keeping::rows_stay))]
     fn merge_field(&mut self, field: &Occurrence<'_>) -> result::Result<(), WireError> {
         match field.number {
             1 | 2 | 3 => oneof::merge(&mut self.id, field)?,

@@ -24,6 +24,7 @@ impl WireRecord for Void {
         Void {}
     }
 
+    #[tactic(auto, using(shared_core_codec::proofs::Keeping::rows_stay))]
     fn merge_field(&mut self, _field: &Occurrence<'_>) -> Result<(), WireError> {
         Ok(())
     }

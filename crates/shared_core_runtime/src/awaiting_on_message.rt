@@ -46,6 +46,7 @@ impl WireRecord for AwaitingOnMessage {
         }
     }
 
+    #[tactic(auto, using(shared_core_codec::proofs::Keeping::rows_stay))]
     fn merge_field(&mut self, field: &Occurrence<'_>) -> Result<(), WireError> {
         match field.number {
             1 => optional::merge(&mut self.awaiting_on, field)?,

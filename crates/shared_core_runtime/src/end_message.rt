@@ -34,6 +34,7 @@ impl WireRecord for EndMessage {
         EndMessage {}
     }
 
+    #[tactic(auto, using(shared_core_codec::proofs::Keeping::rows_stay))]
     fn merge_field(&mut self, _field: &Occurrence<'_>) -> Result<(), WireError> {
         Ok(())
     }

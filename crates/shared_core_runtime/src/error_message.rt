@@ -69,6 +69,7 @@ impl WireRecord for ErrorMessage {
         }
     }
 
+    #[tactic(auto, using(shared_core_codec::proofs::Keeping::rows_stay))]
     fn merge_field(&mut self, field: &Occurrence<'_>) -> Result<(), WireError> {
         match field.number {
             1 => plain::merge(&mut self.code, field)?,

@@ -43,6 +43,7 @@ impl OneOf for Result {
       | result_is.Failure x ↦ Member 15 (message_part ⟦<Failure as WireRecord>⟧.parts x)
     ] };
 
+    #[tactic(auto, using(shared_core_codec::proofs::Keeping::part_stays))]
     fn merge_member(
         oneof: &mut Option<Result>,
         field: &Occurrence<'_>,
@@ -111,6 +112,7 @@ impl WireRecord for ProposeRunCompletionMessage {
         }
     }
 
+    #[tactic(auto, using(shared_core_codec::proofs::Keeping::rows_stay))]
     fn merge_field(&mut self, field: &Occurrence<'_>) -> result::Result<(), WireError> {
         match field.number {
             1 => plain::merge(&mut self.result_completion_id, field)?,

@@ -36,6 +36,7 @@ impl WireRecord for SuspensionMessage {
         SuspensionMessage { awaiting_on: None }
     }
 
+    #[tactic(auto, using(shared_core_codec::proofs::Keeping::rows_stay))]
     fn merge_field(&mut self, field: &Occurrence<'_>) -> Result<(), WireError> {
         match field.number {
             4 => optional::merge(&mut self.awaiting_on, field)?,

@@ -44,6 +44,7 @@ impl WireRecord for SuspensionMessageV6 {
         }
     }
 
+    #[tactic(auto, using(shared_core_codec::proofs::Keeping::rows_stay))]
     fn merge_field(&mut self, field: &Occurrence<'_>) -> Result<(), WireError> {
         match field.number {
             1 => packed::merge(&mut self.waiting_completions, field)?,

@@ -41,6 +41,7 @@ impl WireRecord for ClearAllStateCommandMessage {
         }
     }
 
+    #[tactic(auto, using(shared_core_codec::proofs::Keeping::rows_stay))]
     fn merge_field(&mut self, field: &Occurrence<'_>) -> Result<(), WireError> {
         match field.number {
             12 => plain::merge(&mut self.name, field)?,

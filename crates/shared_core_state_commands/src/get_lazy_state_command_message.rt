@@ -49,6 +49,7 @@ impl WireRecord for GetLazyStateCommandMessage {
         }
     }
 
+    #[tactic(auto, using(shared_core_codec::proofs::Keeping::rows_stay))]
     fn merge_field(&mut self, field: &Occurrence<'_>) -> Result<(), WireError> {
         match field.number {
             1 => plain::merge(&mut self.key, field)?,

@@ -45,6 +45,7 @@ impl WireRecord for GetLazyStateKeysCommandMessage {
         }
     }
 
+    #[tactic(auto, using(shared_core_codec::proofs::Keeping::rows_stay))]
     fn merge_field(&mut self, field: &Occurrence<'_>) -> Result<(), WireError> {
         match field.number {
             11 => plain::merge(&mut self.result_completion_id, field)?,

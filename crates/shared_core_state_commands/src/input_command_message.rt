@@ -51,6 +51,7 @@ impl WireRecord for InputCommandMessage {
         }
     }
 
+    #[tactic(auto, using(shared_core_codec::proofs::Keeping::rows_stay))]
     fn merge_field(&mut self, field: &Occurrence<'_>) -> Result<(), WireError> {
         match field.number {
             1 => repeated::merge(&mut self.headers, field)?,

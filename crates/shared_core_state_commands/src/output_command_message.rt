@@ -48,6 +48,7 @@ impl OneOf for Result {
       | result_is.Failure x ↦ Member 15 (message_part ⟦<Failure as WireRecord>⟧.parts x)
     ] };
 
+    #[tactic(auto, using(shared_core_codec::proofs::Keeping::part_stays))]
     fn merge_member(
         oneof: &mut Option<Result>,
         field: &Occurrence<'_>,
@@ -127,6 +128,7 @@ impl WireRecord for OutputCommandMessage {
         }
     }
 
+    #[tactic(auto, using(shared_core_codec::proofs::Keeping::rows_stay))]
     fn merge_field(&mut self, field: &Occurrence<'_>) -> result::Result<(), WireError> {
         match field.number {
             12 => plain::merge(&mut self.name, field)?,

@@ -4,7 +4,9 @@ use Rattle.shared_core_wire.specs.RecordsLeft.{records_left}
 use Rattle.shared_core_wire.specs.Places.{EachLies}
 use Rattle.shared_core_codec.specs.Table.{future}
 use Rattle.shared_core_codec.specs.Folding.{fold_read}
+use Rattle.shared_core_codec.specs.Kept.{PartsKept}
 use Rattle.shared_core_codec.specs.Occurrences.{merged_with}
+use Rattle.shared_core_codec.proofs.Keeping.{IsMergedSoFar}
 use Rattle.shared_core_parts.specs.Futures.{future_parts}
 use Rattle.shared_core_parts.proofs.future.+merge_future.Given as goal
 
@@ -21,4 +23,6 @@ abbrev pub invariant-merge_future-loop-item : goal.invariant-merge_future-loop-i
 invariant-merge_future-loop-item l = record {
   lies : EachLies l.message.bytes.now (records_left l.item-iterator);
   rest : fold_read (merged_with l.message.left future) (future_parts l.future) (records_left l.item-iterator) ≡ fold_read (merged_with l.message.left future) (future_parts l.fn.future) (read_records l.message.left l.message.bytes.now);
+  kept : PartsKept (future_parts l.fn.future) (future_parts l.future);
+  partly : IsMergedSoFar l.message.left future (future_parts l.fn.future) (read_records l.message.left l.message.bytes.now) (future_parts l.future) (records_left l.item-iterator);
 }
