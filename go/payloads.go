@@ -1,7 +1,6 @@
 package pendratsoa
 
-// IsWellFormed returns whether a payload is well-formed for a schema. ErrUnknown if no schema has the number;
-// ErrOutOfMemory.
+// IsWellFormed returns whether a payload is well-formed for a schema. ErrUnknown if no schema has the number.
 func IsWellFormed(schema int, payload []byte) (bool, error) {
 	number, err := unsigned("IsWellFormed", "schema", schema)
 	if err != nil {

@@ -118,7 +118,8 @@ int64_t journal_frame(uint32_t version, uint16_t code, const uint8_t *payload, s
                       size_t room);
 
 /*
- * Payloads, by their schemas. JOURNAL_UNKNOWN if no schema has the number; JOURNAL_OUT_OF_MEMORY.
+ * Payloads, by their schemas. JOURNAL_UNKNOWN if no schema has the number; JOURNAL_OUT_OF_MEMORY, but for
+ * journal_is_well_formed, which does not allocate.
  */
 
 /* Returns 1 if a payload is well-formed for a schema, otherwise 0. */
@@ -126,7 +127,7 @@ int64_t journal_is_well_formed(uint32_t schema, const uint8_t *payload, size_t p
 
 /*
  * Writes the canonical payload of what a payload means. Returns its length in bytes. A payload that is canonical is
- * copied, without allocating. JOURNAL_MALFORMED, JOURNAL_TOO_LONG.
+ * copied: nothing is allocated then, and nothing can fail. JOURNAL_MALFORMED, JOURNAL_TOO_LONG.
  */
 int64_t journal_canonical(uint32_t schema, const uint8_t *payload, size_t payload_length, uint8_t *out, size_t room);
 

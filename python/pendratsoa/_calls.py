@@ -114,7 +114,7 @@ def frame(version: int, code: int, payload: BytesLike) -> bytes:
 
 
 def is_well_formed(schema: Schema, payload: BytesLike) -> bool:
-    """Whether a payload is well-formed for a schema. `Unknown` if there is no such schema; `OutOfMemory`."""
+    """Whether a payload is well-formed for a schema. `Unknown` if there is no such schema."""
     request = Request("is_well_formed", schema=schema, payload=payload)
     return request.returned(library.journal_is_well_formed, request.schema(), *request.data("payload")) == 1
 

@@ -100,7 +100,7 @@ pub fn frame(version: u32, code: u16, payload: &[u8]) -> Result<Vec<u8>, Error> 
 
 /// Whether a payload is well-formed for the schema that has the number.
 ///
-/// `Error::Unknown` if no schema has it; `Error::OutOfMemory`.
+/// `Error::Unknown` if no schema has it.
 ///
 /// ```
 /// use pendratsoa::{is_well_formed, Schema};

@@ -9,7 +9,8 @@
  * - what is read is unchanged, and so are the guards and what is to be written, but for the bytes of the result
  *   where there is room;
  * - the result is one that the header lists, and the same whatever the room;
- * - a failed allocation is JOURNAL_OUT_OF_MEMORY, and a call without a failed one never returns that;
+ * - a failed allocation is JOURNAL_OUT_OF_MEMORY, and a call without a failed one never returns that; a call that does
+ *   not list it allocates nothing, nor does journal_canonical of a canonical payload;
  * - no memory is held.
  *
  * Every fourth case is made on purpose, in turn for each kind of result of each call: each error that it lists but
@@ -539,6 +540,10 @@ static int64_t called(struct work *work, const struct request *request, size_t r
     }
     if (heap.allocations > 0 && !(listed[call].errors & MEMORY)) {
         wrong(work, request, "it allocates", result);
+    }
+    if (heap.allocations > 0 && call == CANONICAL && written > 0 && written == request->source[0].length &&
+        memcmp(work->slices[OUT].at, request->source[0].bytes, written) == 0) {
+        wrong(work, request, "it allocates for a canonical payload", result);
     }
     for (int i = 0; i < 2; i++) {
         const struct slice *slice = &work->slices[FIRST + i];

@@ -1,5 +1,5 @@
 -- The result of the calls on payloads and frames.
-use Rattle.std.specs.Prelude.{◌≡◌, ◌⊎◌, ℕ, ◌^◌, ◌≤◌, nat_lt, List, ◌++◌, length, Vec, Option, Some, None, Result, Ok, Err, MatchBool}
+use Rattle.std.specs.Prelude.{◌≡◌, ◌⊎◌, ℕ, ◌^◌, ◌≤◌, nat_lt, true, List, [], ◌++◌, length, Vec, Option, Some, None, Result, Ok, Err, MatchBool}
 use Rattle.std.specs.List.{All, concat}
 use Rattle.shared_core_base.specs.declared.version.Version.{Version}
 use Rattle.shared_core_base.specs.declared.header.MessageType.{MessageType}
@@ -8,6 +8,7 @@ use Rattle.shared_core_wire.specs.Value.{Parts}
 use Rattle.shared_core_wire.specs.Canonical.{canonical_payload, size}
 use Rattle.shared_core_codec.specs.Table.{schemas, table}
 use Rattle.shared_core_codec.specs.Payloads.{IsAccepted, payload_meaning}
+use Rattle.shared_core_codec.specs.Canonicity.{IsCanonical}
 use Rattle.shared_core_message.specs.Frames.{WireForm, wire_size, wire_frame}
 use Rattle.shared_core_message.specs.Messages.{message_schema}
 use Rattle.shared_core.specs.Typed.{MeansParts}
@@ -37,10 +38,18 @@ ReturnsMeaning s first rest (Err TooLong) =
 ReturnsMeaning s first rest (Err OutOfMemory) = Unit {0}
 ReturnsMeaning s first rest (Err error) = ⊥
 
--- The result of journal_canonical and journal_merge: Unknown if no schema has the number.
-abbrev pub ReturnsCanonical : ℕ → List ℕ → List (List ℕ) → Result (List ℕ) CallError → Type 0
-ReturnsCanonical s first rest outcome =
+-- The result of journal_merge, for a payload and those that are merged into it: Unknown if no schema has the number.
+abbrev pub ReturnsMerged : ℕ → List ℕ → List (List ℕ) → Result (List ℕ) CallError → Type 0
+ReturnsMerged s first rest outcome =
     MatchBool (nat_lt s (length schemas)) (ReturnsMeaning s first rest outcome) (outcome ≡ Err Unknown)
+
+-- A payload that is canonical is the result, whatever allocations would fail.
+abbrev pub KeepsCanonical : ℕ → List ℕ → Result (List ℕ) CallError → Type 0
+KeepsCanonical s payload outcome = (nat_lt s (length schemas) ≡ true) → IsCanonical s payload → outcome ≡ Ok payload
+
+-- The result of journal_canonical: that of a payload into which none is merged, and one that is canonical is kept.
+abbrev pub ReturnsCanonical : ℕ → List ℕ → Result (List ℕ) CallError → Type 0
+ReturnsCanonical s payload outcome = ReturnsMerged s payload [] outcome × KeepsCanonical s payload outcome
 
 -- If the payload is well-formed for the schema, the result is the canonical payload of what it means, or that it is too
 -- long for a header; otherwise it is Malformed. An allocation may fail.
@@ -64,10 +73,9 @@ PrintsPayload s payload (Err error) = ⊥
 abbrev pub ReturnsJson : ℕ → List ℕ → Result (List ℕ) CallError → Type 0
 ReturnsJson s payload outcome = MatchBool (nat_lt s (length schemas)) (PrintsPayload s payload outcome) (outcome ≡ Err Unknown)
 
--- The result is 1 if the payload is well-formed for the schema, otherwise 0. An allocation may fail.
+-- The result is 1 if the payload is well-formed for the schema, otherwise 0; never an error.
 abbrev pub ChecksPayload : ℕ → List ℕ → Result ℕ CallError → Type 0
 ChecksPayload s payload (Ok outcome) = ((outcome ≡ 1) × IsAccepted s payload) ⊎ ((outcome ≡ 0) × ¬ (IsAccepted s payload))
-ChecksPayload s payload (Err OutOfMemory) = Unit {0}
 ChecksPayload s payload (Err error) = ⊥
 
 -- The result of journal_is_well_formed: Unknown if no schema has the number.

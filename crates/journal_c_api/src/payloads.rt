@@ -2,7 +2,7 @@
 
 ghost use Rattle.std.specs.Prelude.{[], ◌∷◌};
 ghost use Rattle.journal_c_api.specs.Outcomes.{Writes, bytes_of};
-ghost use Rattle.journal_c_api.specs.Payloads.{ReturnsCanonical, ReturnsJson, ReturnsMeaning};
+ghost use Rattle.journal_c_api.specs.Payloads.{ReturnsCanonical, ReturnsMerged, ReturnsJson, ReturnsMeaning};
 ghost use Rattle.journal_c_api.specs.Payloads.{ReturnsWellFormed, MeansRecord, EncodesPayload};
 
 use crate::outcome::{CallError, write_outcome, write_over};
@@ -16,7 +16,8 @@ use shared_core_json::{write_canonical as encode_canonical, write_encoding, writ
 use std::alloc::Global;
 use std::fmt::Debug;
 
-/// Writes the canonical payload of what a payload means. One that is canonical is copied, without allocating.
+/// Writes the canonical payload of what a payload means. One that is canonical is copied: nothing is allocated then,
+/// and nothing can fail.
 #[tactic(auto, using(crate::proofs::Writing::writes_outcome, crate::proofs::Copying::returns_canonical))]
 pub fn write_canonical(
     alloc: Global,
@@ -24,7 +25,7 @@ pub fn write_canonical(
     payload: &[u8],
     out: &mut [u8],
 ) -> Result<usize, CallError>
-    ensures { Writes (ReturnsCanonical schema payload.now []) out.old out.new result }
+    ensures { Writes (ReturnsCanonical schema payload.now) out.old out.new result }
 {
     if check::is_schema(schema) && is_canonical(schema, payload) {
         write_over(payload, out);
@@ -42,7 +43,7 @@ pub fn write_merged(
     second: &[u8],
     out: &mut [u8],
 ) -> Result<usize, CallError>
-    ensures { Writes (ReturnsCanonical schema first.now (second.now ∷ [])) out.old out.new result }
+    ensures { Writes (ReturnsMerged schema first.now (second.now ∷ [])) out.old out.new result }
 {
     write_outcome(merged(alloc, schema, first, second), out)
 }
@@ -76,7 +77,7 @@ pub fn is_well_formed(schema: u32, payload: &[u8]) -> Result<usize, CallError>
 
 /// The canonical payload of what a payload means.
 fn canonical(alloc: Global, schema: u32, payload: &[u8]) -> Result<Vec<u8>, CallError>
-    ensures { ReturnsCanonical schema payload.now [] (bytes_of result) }
+    ensures { ReturnsMerged schema payload.now [] (bytes_of result) }
 {
     visit_record(schema, Encoding { alloc, payload }).ok_or(CallError::Unknown)?
 }
@@ -103,7 +104,7 @@ impl<'a> RecordVisitor for Encoding<'a> {
 
 /// The canonical payload of what two payloads mean, the second merged into the first.
 fn merged(alloc: Global, schema: u32, first: &[u8], second: &[u8]) -> Result<Vec<u8>, CallError>
-    ensures { ReturnsCanonical schema first.now (second.now ∷ []) (bytes_of result) }
+    ensures { ReturnsMerged schema first.now (second.now ∷ []) (bytes_of result) }
 {
     let merging = Merging {
         alloc,

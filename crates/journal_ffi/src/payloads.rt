@@ -3,14 +3,14 @@
 ghost use Rattle.std.specs.Prelude.{[], ◌∷◌};
 ghost use Rattle.journal_c_api.specs.Outcomes.{Returns, Writes};
 ghost use Rattle.journal_c_api.specs.JsonPayloads.{WritesReading};
-ghost use Rattle.journal_c_api.specs.Payloads.{ReturnsCanonical, ReturnsJson, ReturnsWellFormed};
+ghost use Rattle.journal_c_api.specs.Payloads.{ReturnsCanonical, ReturnsMerged, ReturnsJson, ReturnsWellFormed};
 
 use journal_c_api::outcome::outcome_of;
 use journal_c_api::{json_payloads, payloads};
 use std::alloc::Global;
 
-/// Returns 1 if a payload is well-formed for a schema, by its number (its index in the table), otherwise 0. `Unknown`
-/// if no schema has the number.
+/// Returns 1 if a payload is well-formed for a schema, by its number (its index in the table), otherwise 0. Nothing is
+/// allocated; the only error is `Unknown`, if no schema has the number.
 #[unsafe(no_mangle)]
 pub extern "C" fn journal_is_well_formed(schema: u32, payload: &[u8]) -> i64
     ensures { Returns result (ReturnsWellFormed schema payload.now) }
@@ -18,8 +18,8 @@ pub extern "C" fn journal_is_well_formed(schema: u32, payload: &[u8]) -> i64
     outcome_of(payloads::is_well_formed(schema, payload))
 }
 
-/// Writes the canonical payload of what a payload means for a schema. A payload that is canonical is copied, without
-/// allocating.
+/// Writes the canonical payload of what a payload means for a schema. A payload that is canonical is copied: nothing is
+/// allocated then, and nothing can fail.
 ///
 /// `Malformed` if it is not well-formed for the schema, `TooLong` if the canonical payload has more than 4,294,967,295
 /// bytes, `Unknown` if no schema has the number.
@@ -30,7 +30,7 @@ pub extern "C" fn journal_canonical(
     payload: &[u8],
     out: &mut [u8],
 ) -> i64
-    ensures { Returns result (Writes (ReturnsCanonical schema payload.now []) out.old out.new) }
+    ensures { Returns result (Writes (ReturnsCanonical schema payload.now) out.old out.new) }
 {
     outcome_of(payloads::write_canonical(alloc, schema, payload, out))
 }
@@ -45,7 +45,7 @@ pub extern "C" fn journal_merge(
     second: &[u8],
     out: &mut [u8],
 ) -> i64
-    ensures { Returns result (Writes (ReturnsCanonical schema first.now (second.now ∷ [])) out.old out.new) }
+    ensures { Returns result (Writes (ReturnsMerged schema first.now (second.now ∷ [])) out.old out.new) }
 {
     outcome_of(payloads::write_merged(alloc, schema, first, second, out))
 }

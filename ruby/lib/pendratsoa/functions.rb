@@ -82,7 +82,7 @@ module Pendratsoa
       call.written(:journal_frame, call.version, call.code("a named type"), *call.data(:payload))
     end
 
-    # Whether a payload is well-formed for a schema. Unknown if there is no such schema; OutOfMemory.
+    # Whether a payload is well-formed for a schema. Unknown if there is no such schema.
     def well_formed?(schema, payload)
       call = Call.new("well_formed?", schema: schema, payload: payload)
       call.returned(:journal_is_well_formed, call.schema, *call.data(:payload)) == 1
