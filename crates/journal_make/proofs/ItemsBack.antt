@@ -1,6 +1,7 @@
 -- The lines of items mean their headers and payloads.
-use Rattle.std.proofs.Common.{◌≡◌, ℕ, ◌+◌, ◌*◌, ◌/◌, ◌%◌, ◌<◌, List, [], ◌++◌, length, take, drop, decimal, Bool, true, false, cond, Option, Some, None, option_map, option_and_then, refl, sym, ap, subst, ◌∙◌, arith, eqb, ltb}
-use Rattle.std.proofs.lemmas.Bool.{lt-ltb, ltb-true, eqb-true}
+use Rattle.std.proofs.Common.{◌≡◌, ℕ, ◌+◌, ◌*◌, ◌/◌, ◌%◌, ◌<◌, List, [], ◌++◌, length, take, drop, decimal, Bool, true, false, cond, not, ◌&&◌, zero, suc, Option, Some, None, option_map, option_and_then, refl, sym, ap, ap₂, subst, ◌∙◌, arith, eqb, ltb}
+use Rattle.std.proofs.lemmas.Bool.{lt-ltb, ltb-true, eqb-true, eq-eqb}
+use Rattle.std.proofs.lemmas.Nat.{from_be_bytes-to_be_bytes_8}
 use Rattle.std.proofs.lemmas.List.{take-append-drop}
 use Rattle.std.specs.Prelude.{codes}
 use Rattle.std.specs.Int.{w32, w64, to_be_bytes}
@@ -9,8 +10,9 @@ use Rattle.base64.specs.Engines.{standard}
 use Rattle.json.specs.Json.{Json, boolean, number, string, Members, member, no_members}
 use Rattle.shared_core_base.specs.declared.header.MessageType.{MessageType}
 use Rattle.shared_core_base.specs.declared.version.Version.{Version}
+use Rattle.shared_core_base.specs.Version.{skips_unknown_messages}
 use Rattle.shared_core_base.specs.MessageType.{type_of, allows_ack, debug_name_of}
-use Rattle.shared_core_base.specs.MessageHeader.{ack_bit}
+use Rattle.shared_core_base.specs.MessageHeader.{ack_bit, word_length}
 use Rattle.shared_core_wire.specs.Acceptance.{accepts_payload}
 use Rattle.shared_core_wire.specs.Canonical.{canonical_payload}
 use Rattle.shared_core_codec.specs.Table.{table}
@@ -26,7 +28,7 @@ use Rattle.shared_core_json_reader.proofs.TreeBack.{same_bytes, message_back}
 use Rattle.shared_core.specs.Visiting.{schema_at}
 use Rattle.journal_make.specs.MadeAgain.{payload_again}
 use Rattle.dump_lines.specs.Lines.{payload_members, header_members}
-use Rattle.journal_make.specs.Lines.{code_read, is_name_of, code_if, code_said, has_flag, flag_said, message_said, word as said_word, header_given, with_size, header_said, line_said}
+use Rattle.journal_make.specs.Lines.{code_read, is_name_of, code_if, code_said, has_flag, flag_said, nothing_if, message_said, word as said_word, agrees, with_size, word_given, checked_given, header_given, header_said, line_said}
 use Rattle.journal_make.proofs.HeaderWords.{Headed, word_small, word_bytes, word_is_bytes, other_length, four_of_word}
 use Rattle.journal_make.proofs.LineMembers.{Says, header_if, message_line, unknown_line, skipped_line, item_is, says_message, says_bytes, says_malformed, says_unknown, says_skipped}
 
@@ -64,6 +66,28 @@ flag_bit None = omega arith
 flag_bit (Some true) = omega arith
 flag_bit (Some false) = omega arith
 
+-- ---- what a header says again
+
+bit_again : (x : ℕ) → x < 2 → eqb x (cond (eqb x 1) 1 0) ≡ true
+bit_again zero h = refl
+bit_again (suc zero) h = refl
+bit_again (suc (suc n)) h = absurd (omega arith)
+
+typed_agrees : (word : ℕ) (ty : MessageType) → type_of (word / 281474976710656) ≡ Some ty → agrees (word / 281474976710656) (requests (flag_of ty word)) word ≡ true
+typed_agrees word ty typed =
+    let n = word / 281474976710656 in
+    ap₂ (λ (a b : Bool). a && b) (eq-eqb n n refl)
+    (ap (λ (o : Option MessageType). cond (has_flag o) (eqb (word / 140737488355328 % 2) (cond (requests (flag_of ty word)) 1 0)) true) typed ∙ by_test (allows_ack ty))
+  where
+    by_test : (b : Bool) → cond b (eqb (word / 140737488355328 % 2) (cond (requests (cond b (Some (eqb (word / 140737488355328 % 2) 1)) None)) 1 0)) true ≡ true
+    by_test true = bit_again (word / 140737488355328 % 2) (omega arith)
+    by_test false = refl
+
+untyped_agrees : (word : ℕ) → type_of (word / 281474976710656) ≡ None → agrees (word / 281474976710656) false word ≡ true
+untyped_agrees word none =
+    let n = word / 281474976710656 in
+    ap₂ (λ (a b : Bool). a && b) (eq-eqb n n refl) (ap (λ (o : Option MessageType). cond (has_flag o) (eqb (word / 140737488355328 % 2) 0) true) none)
+
 -- ---- headers
 
 -- the text of the member of a header, if it is there
@@ -88,27 +112,36 @@ module _ (bytes : List ℕ) (word : ℕ) (headed : Headed bytes word) where
   sized_back : (size : ℕ) → with_size size (to_be_bytes w64 word) ≡ with_length size
   sized_back size = ap (λ (xs : List ℕ). cond (ltb size 4294967296) (Some (xs ++ to_be_bytes w32 size)) None) (four_of_word bytes word headed)
 
-  header_back : (written code size : ℕ) (f : Bool) → (word ≡ written → said_word code f size ≡ word / 4294967296 * 4294967296 + size) → header_said code f size false (option_map string (header_text word written)) ≡ with_length size
-  header_back written code size f same = by_test (eqb word written) refl
+  given_again : (version : Version) (code size : ℕ) (f alone : Bool) → agrees code f word ≡ true
+      → option_and_then (header_given version code f size alone) (bytes_read (string (encode_of standard (to_be_bytes w64 word)))) ≡ word_given version alone size word (to_be_bytes w64 word)
+  given_again version code size f alone a =
+      ap (option_and_then (header_given version code f size alone)) (bytes_back (to_be_bytes w64 word) (word_is_bytes bytes word headed))
+      ∙ ap (λ (n : ℕ). checked_given version code f size alone n (to_be_bytes w64 word)) (from_be_bytes-to_be_bytes_8 word (word_small bytes word headed))
+      ∙ ap (λ (b : Bool). cond b (word_given version alone size word (to_be_bytes w64 word)) None) a
+
+  header_back : (version : Version) (written code size : ℕ) (f : Bool) → agrees code f word ≡ true → (word ≡ written → said_word code f size ≡ word / 4294967296 * 4294967296 + size) → header_said version code f size false (option_map string (header_text word written)) ≡ with_length size
+  header_back version written code size f a same = by_test (eqb word written) refl
     where
       by_size : (b : Bool) → ltb size 4294967296 ≡ b → word ≡ written → cond b (Some (to_be_bytes w64 (said_word code f size))) None ≡ cond b (Some (take 4 bytes ++ to_be_bytes w32 size)) None
       by_size true l e = ap (λ (xs : List ℕ). Some xs) (other_length bytes word headed (said_word code f size) size (same e) (ltb-true size 4294967296 l))
       by_size false l e = refl
 
-      by_test : (b : Bool) → eqb word written ≡ b → header_said code f size false (option_map string (cond b None (Some (encode_of standard (to_be_bytes w64 word))))) ≡ with_length size
+      by_test : (b : Bool) → eqb word written ≡ b → header_said version code f size false (option_map string (cond b None (Some (encode_of standard (to_be_bytes w64 word))))) ≡ with_length size
       by_test true e = by_size (ltb size 4294967296) refl (eqb-true word written e)
-      by_test false e = ap (option_and_then (header_given false size)) (bytes_back (to_be_bytes w64 word) (word_is_bytes bytes word headed)) ∙ sized_back size
+      by_test false e = given_again version code size f false a ∙ sized_back size
 
   -- a header alone
-  alone_back : (code : ℕ) → header_said code false 0 true (option_map string (header_text word (code * 281474976710656))) ≡ Some (take 8 bytes)
-  alone_back code = by_test (eqb word (code * 281474976710656)) refl
+  alone_back : (version : Version) (code : ℕ) → agrees code false word ≡ true → skips_unknown_messages version ≡ false → header_said version code false 0 true (option_map string (header_text word (code * 281474976710656))) ≡ Some (take 8 bytes)
+  alone_back version code a keeps = by_test (eqb word (code * 281474976710656)) refl
     where
-      by_test : (b : Bool) → eqb word (code * 281474976710656) ≡ b → header_said code false 0 true (option_map string (cond b None (Some (encode_of standard (to_be_bytes w64 word))))) ≡ Some (take 8 bytes)
+      by_test : (b : Bool) → eqb word (code * 281474976710656) ≡ b → header_said version code false 0 true (option_map string (cond b None (Some (encode_of standard (to_be_bytes w64 word))))) ≡ Some (take 8 bytes)
       by_test true e =
           let same : said_word code false 0 ≡ word = omega (arith, eqb-true word (code * 281474976710656) e) in
           ap (λ (n : ℕ). Some (to_be_bytes w64 n)) same ∙ ap (λ (xs : List ℕ). Some xs) (word_bytes bytes word headed)
       by_test false e =
-          ap (option_and_then (header_given true 0)) (bytes_back (to_be_bytes w64 word) (word_is_bytes bytes word headed)) ∙ ap (λ (xs : List ℕ). Some xs) (word_bytes bytes word headed)
+          given_again version code 0 false true a
+          ∙ ap (λ (b : Bool). cond (b && not (eqb (word_length word) 0)) None (Some (to_be_bytes w64 word))) keeps
+          ∙ ap (λ (xs : List ℕ). Some xs) (word_bytes bytes word headed)
 
   pub body_is_bytes : IsBytes (drop 8 bytes)
   body_is_bytes = back_bytes (take 8 bytes) (drop 8 bytes) (subst IsBytes (sym (take-append-drop 8 bytes)) headed.small)
@@ -116,22 +149,23 @@ module _ (bytes : List ℕ) (word : ℕ) (headed : Headed bytes word) where
   -- ---- items
 
   module _ (version : Version) (texts : Bool) (at len : List ℕ) where
-    pub unknown_back : line_said version (unknown_line at (decimal (word / 281474976710656)) (header_text word (word / 281474976710656 * 281474976710656))) ≡ Some (take 8 bytes ++ [])
-    unknown_back =
+    pub unknown_back : type_of (word / 281474976710656) ≡ None → skips_unknown_messages version ≡ false → line_said version (unknown_line at (decimal (word / 281474976710656)) (header_text word (word / 281474976710656 * 281474976710656))) ≡ Some (take 8 bytes ++ [])
+    unknown_back none keeps =
         let n = word / 281474976710656 in
-        item_is version _ _ _ _ _ _ _ _ n false [] (Some (take 8 bytes)) (says_unknown at (decimal n) (header_text word (n * 281474976710656))) (code_back n code_small) refl refl (alone_back n)
+        item_is version _ _ _ _ _ _ _ _ n false [] (Some (take 8 bytes)) (says_unknown at (decimal n) (header_text word (n * 281474976710656))) (code_back n code_small) refl (ap nothing_if none)
+        (alone_back version n (untyped_agrees word none) keeps)
 
     skipped_word : (size : ℕ) → word ≡ word / 281474976710656 * 281474976710656 + word % 4294967296 → said_word (word / 281474976710656) false size ≡ word / 4294967296 * 4294967296 + size
     skipped_word size e = omega (arith, e)
 
-    pub skipped_back : length (drop 8 bytes) ≡ word % 4294967296
+    pub skipped_back : type_of (word / 281474976710656) ≡ None → length (drop 8 bytes) ≡ word % 4294967296
         → line_said version (skipped_line at (decimal (word / 281474976710656)) len (header_text word (word / 281474976710656 * 281474976710656 + length (drop 8 bytes))) (byte_string_json texts (drop 8 bytes)))
         ≡ option_map (λ h. h ++ drop 8 bytes) (with_length (length (drop 8 bytes)))
-    skipped_back long =
+    skipped_back none long =
         let n = word / 281474976710656 in
         let body = drop 8 bytes in
         item_is version _ _ _ _ _ _ _ _ n false body (with_length (length body)) (says_skipped at (decimal n) len (header_text word (n * 281474976710656 + length body)) (byte_string_json texts body) (byte_string_there texts body))
-        (code_back n code_small) refl (byte_string_back texts body body_is_bytes) (header_back (n * 281474976710656 + length body) n (length body) false (λ e. skipped_word (length body) (omega (arith, e, long))))
+        (code_back n code_small) refl (byte_string_back texts body body_is_bytes) (header_back version (n * 281474976710656 + length body) n (length body) false (untyped_agrees word none) (λ e. skipped_word (length body) (omega (arith, e, long))))
 
     module _ (ty : MessageType) (typed : type_of (word / 281474976710656) ≡ Some ty) where
       -- the word that the header is written as
@@ -154,7 +188,7 @@ module _ (bytes : List ℕ) (word : ℕ) (headed : Headed bytes word) where
       given_back b payload others read says =
           let n = word / 281474976710656 in
           item_is version _ _ _ _ _ _ _ _ n (requests (flag_of ty word)) payload (with_length (length payload)) says
-          (typed_back n ty code_small typed) (flag_back n word ty typed) read (header_back written n (length payload) (requests (flag_of ty word)) (message_word (length payload)))
+          (typed_back n ty code_small typed) (flag_back n word ty typed) read (header_back version written n (length payload) (requests (flag_of ty word)) (typed_agrees word ty typed) (message_word (length payload)))
 
       value_line : (s : ℕ) → schema_at version ty ≡ Some s → accepts_payload table 100 s (drop 8 bytes) ≡ true → message_said version (word / 281474976710656) (json_with texts s (payload_meaning s (drop 8 bytes))) ≡ Some (canonical_payload table s (payload_meaning s (drop 8 bytes)))
       value_line s e a =
@@ -181,7 +215,7 @@ module _ (bytes : List ℕ) (word : ℕ) (headed : Headed bytes word) where
               let p = canonical_payload table s v in
               item_is version _ _ _ _ _ _ _ _ n (requests (flag_of ty word)) p (with_length (length p))
               (says_message at (debug_name_of ty) (decimal n) len (flag_of ty word) (header_text word written) (members_json texts (names_of s) v (table s)))
-              (typed_back n ty code_small typed) (flag_back n word ty typed) (value_line s e a) (header_back written n (length p) (requests (flag_of ty word)) (message_word (length p)))
+              (typed_back n ty code_small typed) (flag_back n word ty typed) (value_line s e a) (header_back version written n (length p) (requests (flag_of ty word)) (typed_agrees word ty typed) (message_word (length p)))
           by_test false a =
               given_back (byte_string_json texts (drop 8 bytes)) (drop 8 bytes) _ (byte_string_back texts (drop 8 bytes) body_is_bytes)
               (says_malformed at (debug_name_of ty) (decimal (word / 281474976710656)) len (flag_of ty word) (header_text word written) (byte_string_json texts (drop 8 bytes)) (byte_string_there texts (drop 8 bytes)))

@@ -27,7 +27,7 @@ then_some : {A B : Type 0} (f : A → Option B) (o : Option A) (x : A) (y : Opti
 then_some f o x y e g = ap (option_and_then f) e ∙ g
 
 pub item_is : (version : Version) (j : Json) (type code flag header message bytes unknown : Option Json) (c : ℕ) (f : Bool) (payload : List ℕ) (head : Option (List ℕ)) → Says j type code flag header message bytes unknown
-    → code_said type code ≡ Some c → flag_said c flag ≡ Some f → payload_said version c message bytes unknown ≡ Some payload → header_said c f (length payload) (not (is_none unknown)) header ≡ head
+    → code_said type code ≡ Some c → flag_said c flag ≡ Some f → payload_said version c message bytes unknown ≡ Some payload → header_said version c f (length payload) (not (is_none unknown)) header ≡ head
     → line_said version j ≡ option_map (λ h. h ++ payload) head
 unfolding line_said item_said
 item_is version j type code flag header message bytes unknown c f payload head s at_code at_flag at_payload at_header =
@@ -36,15 +36,15 @@ item_is version j type code flag header message bytes unknown c f payload head s
     let three : line_payload version c j ≡ Some payload =
     ap (λ (m : Option Json). payload_said version c m (given_either (codes "bytes") (codes "payload") j) (given (codes "unknown") j)) s.has_message
     ∙ ap₂ (λ (b u : Option Json). payload_said version c message b u) s.has_bytes s.has_unknown ∙ at_payload in
-    let four : line_header c f (length payload) j ≡ head =
-    ap₂ (λ (u h : Option Json). header_said c f (length payload) (not (is_none u)) h) s.has_unknown s.has_header ∙ at_header in
+    let four : line_header version c f (length payload) j ≡ head =
+    ap₂ (λ (u h : Option Json). header_said version c f (length payload) (not (is_none u)) h) s.has_unknown s.has_header ∙ at_header in
     let result = option_map (λ (h : List ℕ). h ++ payload) head in
-    let framed_is : framed c f j payload ≡ result = ap (option_map (λ (h : List ℕ). h ++ payload)) four in
+    let framed_is : framed version c f j payload ≡ result = ap (option_map (λ (h : List ℕ). h ++ payload)) four in
     ap (λ (b : Bool). cond b (said version (given (codes "rest") j) j) None) s.line
     ∙ ap (λ (r : Option Json). said version r j) s.rest
-    ∙ then_some (λ code. option_and_then (λ flag. option_and_then (framed code flag j) (line_payload version code j)) (line_flag code j)) (line_code j) c result one
-    (then_some (λ flag. option_and_then (framed c flag j) (line_payload version c j)) (line_flag c j) f result two
-    (then_some (framed c f j) (line_payload version c j) payload result three framed_is))
+    ∙ then_some (λ code. option_and_then (λ flag. option_and_then (framed version code flag j) (line_payload version code j)) (line_flag code j)) (line_code j) c result one
+    (then_some (λ flag. option_and_then (framed version c flag j) (line_payload version c j)) (line_flag c j) f result two
+    (then_some (framed version c f j) (line_payload version c j) payload result three framed_is))
 
 -- ---- the lines of a dump
 

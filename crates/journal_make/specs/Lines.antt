@@ -1,12 +1,14 @@
 -- What a line means: the bytes of an item, or those after the last one.
-use Rattle.std.specs.Prelude.{ℕ, ◌+◌, ◌*◌, ◌^◌, Bool, true, false, not, ◌&&◌, ◌||◌, List, [], ◌∷◌, ◌++◌, length, take, codes, nat_lt, ◌==◌, if◌then◌else◌, Option, Some, None, option_map, option_and_then}
+use Rattle.std.specs.Prelude.{ℕ, ◌+◌, ◌*◌, ◌/◌, ◌%◌, ◌^◌, Bool, true, false, not, ◌&&◌, ◌||◌, List, [], ◌∷◌, ◌++◌, length, take, codes, nat_lt, ◌==◌, if◌then◌else◌, Option, Some, None, option_map, option_and_then}
 use Rattle.std.specs.Option.{is_none}
-use Rattle.std.specs.Int.{w32, w64, to_be_bytes}
+use Rattle.std.specs.Int.{w32, w64, to_be_bytes, from_be_bytes}
 use Rattle.std.specs.Str.{bytes_eq}
 use Rattle.json.specs.Json.{Json}
 use Rattle.json.specs.Find.{as_str, as_bool}
 use Rattle.shared_core_base.specs.declared.header.MessageType.{MessageType}
 use Rattle.shared_core_base.specs.declared.version.Version.{Version}
+use Rattle.shared_core_base.specs.Version.{skips_unknown_messages}
+use Rattle.shared_core_base.specs.MessageHeader.{word_code, word_length}
 use Rattle.shared_core_base.specs.MessageType.{code_of, type_of, type_in, named_types, allows_ack, debug_name_of}
 use Rattle.shared_core.specs.Visiting.{schema_at}
 use Rattle.shared_core_json_reader.specs.Scalars.{unsigned_read, bytes_read}
@@ -49,16 +51,21 @@ line_code j = code_said (given (codes "type") j) (given (codes "code") j)
 abbrev pub message_said : Version → ℕ → Json → Option (List ℕ)
 message_said version code m = option_and_then (λ s. value_payload s m) (option_and_then (schema_at version) (type_of code))
 
--- No payload, of an item that is a header alone.
-abbrev pub nothing_said : Json → Option (List ℕ)
-nothing_said j = option_and_then (λ b. if b then Some [] else None) (as_bool j)
+-- No payload, if the code is no type's.
+abbrev pub nothing_if : Option MessageType → Option (List ℕ)
+nothing_if None = Some []
+nothing_if (Some ty) = None
+
+-- No payload, of an item that is a header alone, whose code is no type's.
+abbrev pub nothing_said : ℕ → Json → Option (List ℕ)
+nothing_said code j = option_and_then (λ b. if b then nothing_if (type_of code) else None) (as_bool j)
 
 -- The payload by a message, by bytes, or by the member that says that there is none: exactly one of them has to be
 -- present.
 abbrev pub payload_said : Version → ℕ → Option Json → Option Json → Option Json → Option (List ℕ)
 payload_said version code (Some m) None None = message_said version code m
 payload_said version code None (Some b) None = bytes_read b
-payload_said version code None None (Some u) = nothing_said u
+payload_said version code None None (Some u) = nothing_said code u
 payload_said version code m b u = None
 
 -- The payload of the item that a line describes.
@@ -90,34 +97,57 @@ word code flag size = code * 2 ^ 48 + (if flag then 2 ^ 47 else 0) + size
 abbrev pub with_size : ℕ → List ℕ → Option (List ℕ)
 with_size size bytes = if nat_lt size 4294967296 then Some (take 4 bytes ++ to_be_bytes w32 size) else None
 
--- The header by eight given bytes: all of them if there is no payload, otherwise the first four and the length of the
--- payload.
-abbrev pub header_given : Bool → ℕ → List ℕ → Option (List ℕ)
-header_given alone size bytes = if length bytes == 8 then (if alone then Some bytes else with_size size bytes) else None
+-- Whether the word of a header has this flag. Where the code's type has no flag, its bit says nothing.
+abbrev pub agrees_in_flag : ℕ → Bool → ℕ → Bool
+agrees_in_flag code flag word = if has_flag (type_of code) then word / 2 ^ 47 % 2 == (if flag then 1 else 0) else true
+
+-- Whether the word of a header has this code and this flag.
+abbrev pub agrees : ℕ → Bool → ℕ → Bool
+agrees code flag word = (word_code word == code) && agrees_in_flag code flag word
+
+-- A header that stands alone. Where a message of an unknown type is skipped with its payload, it must not have a length.
+abbrev pub alone_given : Version → ℕ → List ℕ → Option (List ℕ)
+alone_given version word bytes = if skips_unknown_messages version && not (word_length word == 0) then None else Some bytes
+
+-- The header by given bytes with this word: all of them if there is no payload, otherwise the first four and the length
+-- of the payload.
+abbrev pub word_given : Version → Bool → ℕ → ℕ → List ℕ → Option (List ℕ)
+word_given version alone size word bytes = if alone then alone_given version word bytes else with_size size bytes
+
+-- The same, if they have this code and this flag.
+abbrev pub checked_given : Version → ℕ → Bool → ℕ → Bool → ℕ → List ℕ → Option (List ℕ)
+checked_given version code flag size alone word bytes =
+    if agrees code flag word then word_given version alone size word bytes else None
+
+-- The header by eight given bytes.
+abbrev pub header_given : Version → ℕ → Bool → ℕ → Bool → List ℕ → Option (List ℕ)
+header_given version code flag size alone bytes =
+    if length bytes == 8 then checked_given version code flag size alone (from_be_bytes w64 bytes) bytes else None
 
 -- The eight bytes of a header: those of its word, which has room for lengths of 32 bits, or those that are given.
-abbrev pub header_said : ℕ → Bool → ℕ → Bool → Option Json → Option (List ℕ)
-header_said code flag size alone None = if nat_lt size 4294967296 then Some (to_be_bytes w64 (word code flag size)) else None
-header_said code flag size alone (Some h) = option_and_then (header_given alone size) (bytes_read h)
+abbrev pub header_said : Version → ℕ → Bool → ℕ → Bool → Option Json → Option (List ℕ)
+header_said version code flag size alone None =
+    if nat_lt size 4294967296 then Some (to_be_bytes w64 (word code flag size)) else None
+header_said version code flag size alone (Some h) = option_and_then (header_given version code flag size alone) (bytes_read h)
 
 -- Whether a line says that there is no payload.
 abbrev pub is_alone : Json → Bool
 is_alone j = not (is_none (given (codes "unknown") j))
 
 -- The eight bytes of the header of the item that a line describes.
-abbrev pub line_header : ℕ → Bool → ℕ → Json → Option (List ℕ)
-line_header code flag size j = header_said code flag size (is_alone j) (given (codes "header") j)
+abbrev pub line_header : Version → ℕ → Bool → ℕ → Json → Option (List ℕ)
+line_header version code flag size j = header_said version code flag size (is_alone j) (given (codes "header") j)
 
 -- ---- lines
 
 -- The header and the payload of an item.
-abbrev pub framed : ℕ → Bool → Json → List ℕ → Option (List ℕ)
-framed code flag j payload = option_map (λ h. h ++ payload) (line_header code flag (length payload) j)
+abbrev pub framed : Version → ℕ → Bool → Json → List ℕ → Option (List ℕ)
+framed version code flag j payload = option_map (λ h. h ++ payload) (line_header version code flag (length payload) j)
 
 -- The bytes of the item that a line describes.
 unfoldable pub item_said : Version → Json → Option (List ℕ)
 item_said version j =
-    option_and_then (λ code. option_and_then (λ flag. option_and_then (framed code flag j) (line_payload version code j)) (line_flag code j)) (line_code j)
+    option_and_then (λ code. option_and_then (λ flag. option_and_then (framed version code flag j) (line_payload version code j)) (line_flag code j)) (line_code j)
 
 -- Whether a line has none of the members that say what an item is.
 abbrev pub says_no_item : Json → Bool

@@ -27,6 +27,14 @@ pub enum LineReason {
     NoFlag,
     /// A header is not eight bytes long.
     HeaderLength,
+    /// The code in its header is not that of its type or its code.
+    OtherCode,
+    /// Its header requests an acknowledgement and `requestedAck` does not, or only that does.
+    OtherFlag,
+    /// It says that there is no payload, but its header announces one, with which a reader would skip the header.
+    NoSuchPayload,
+    /// It says that there is no payload, as of an unknown code, but its code is that of a type.
+    CodeOfType,
     /// Its payload has more bytes than 32 bits can count.
     TooLong,
     /// It is the line of the bytes after the last item, and has members of an item.
@@ -52,6 +60,10 @@ impl fmt::Display for LineReason {
             LineReason::NoSchema => f.write_str("no messages have this code"),
             LineReason::NoFlag => f.write_str("the type has no such flag"),
             LineReason::HeaderLength => f.write_str("not eight bytes"),
+            LineReason::OtherCode => f.write_str("its code is not that of the line"),
+            LineReason::OtherFlag => f.write_str("its flag is not that of the line"),
+            LineReason::NoSuchPayload => f.write_str("it announces a payload, and none is there"),
+            LineReason::CodeOfType => f.write_str("the code is that of a type"),
             LineReason::TooLong => f.write_str("the payload is too long for a header"),
             LineReason::ItemInRest => f.write_str("the rest is no item"),
             LineReason::NoBytes => f.write_str("a rest without its bytes"),

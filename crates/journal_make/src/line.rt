@@ -1,6 +1,6 @@
 //! The bytes that a line means: the header and the payload of an item, or the bytes after the last one.
 
-ghost use Rattle.std.specs.Prelude.{◌≡◌, ◌++◌, Some, option_and_then, IfOk, IfErr, OnOk, MatchResult};
+ghost use Rattle.std.specs.Prelude.{◌≡◌, ◌≢◌, ◌++◌, true, false, length, Some, option_and_then, IfOk, IfErr, OnOk, MatchResult};
 ghost use Rattle.json.specs.Value.{value_view as json_view};
 ghost use Rattle.json.specs.Find.{as_str};
 ghost use Rattle.shared_core_base.specs.MessageType.{type_of};
@@ -9,7 +9,8 @@ ghost use Rattle.shared_core_json_reader.specs.Scalars.{bytes_read};
 ghost use Rattle.journal_make.specs.Errors.{lack};
 ghost use Rattle.journal_make.specs.Lines.{code_read, code_named, is_name_of, code_if, line_code};
 ghost use Rattle.journal_make.specs.Lines.{message_said, nothing_said, line_payload};
-ghost use Rattle.journal_make.specs.Lines.{has_flag, line_flag, word, is_alone, header_given, line_header, framed};
+ghost use Rattle.journal_make.specs.Lines.{has_flag, line_flag, word, is_alone, line_header, framed};
+ghost use Rattle.journal_make.specs.Lines.{agrees_in_flag, agrees, alone_given, with_size, header_given};
 ghost use Rattle.journal_make.specs.Lines.{item_said, says_no_item, rest_said, line_said};
 ghost use Rattle.journal_make.specs.Lines.{is_space, is_blank, line_made};
 ghost use Rattle.journal_make.specs.Appending.{Appends, Rejects};
@@ -25,6 +26,15 @@ use shared_core_json_reader::{
     Reason, payload_of_value, read_bytes, read_u32, read_u64, value_of_text,
 };
 use std::alloc::{AllocError, Global};
+
+/// What a code is multiplied by in the word of a header.
+const CODE: u64 = 1 << 48;
+
+/// What a flag is multiplied by there.
+const FLAG: u64 = 1 << 47;
+
+/// One more than the greatest length there.
+const LENGTHS: u64 = 1 << 32;
 
 // ---- the code
 
@@ -163,13 +173,16 @@ fn message_of(
 }
 
 /// The payload of an item that is a header alone.
-fn nothing_of(alloc: Global, value: &Value<'_>) -> Result<Vec<u8>, LineError>
-    ensures { MatchResult result (λ bytes. nothing_said (json_view value.now) ≡ Some bytes.items)
-        (Rejects (nothing_said (json_view value.now))) }
+fn nothing_of(alloc: Global, code: u16, value: &Value<'_>) -> Result<Vec<u8>, LineError>
+    ensures { MatchResult result (λ bytes. nothing_said code (json_view value.now) ≡ Some bytes.items)
+        (Rejects (nothing_said code (json_view value.now))) }
 {
-    match value.as_bool() {
-        Some(true) => Ok(Vec::new(alloc)),
-        _ => Err(reject(alloc, LineReason::Json(Reason::WrongKind), "unknown")),
+    let Some(true) = value.as_bool() else {
+        return Err(reject(alloc, LineReason::Json(Reason::WrongKind), "unknown"));
+    };
+    match MessageType::try_from(code) {
+        Ok(_) => Err(reject(alloc, LineReason::CodeOfType, "unknown")),
+        Err(_) => Ok(Vec::new(alloc)),
     }
 }
 
@@ -189,7 +202,7 @@ fn payload_of(
     match (message, bytes, unknown) {
         (Some(message), None, None) => message_of(alloc, version, code, message),
         (None, Some(bytes), None) => bytes_of(alloc, bytes, bytes_name(line)),
-        (None, None, Some(unknown)) => nothing_of(alloc, unknown),
+        (None, None, Some(unknown)) => nothing_of(alloc, code, unknown),
         (None, None, None) => Err(reject(alloc, LineReason::NoPayload, "")),
         _ => Err(reject(alloc, LineReason::SeveralPayloads, "")),
     }
@@ -207,6 +220,14 @@ fn has_flag(code: u16) -> bool
     }
 }
 
+/// The name of the member that says whether an acknowledgement is requested.
+fn ack_name(line: &Value<'_>) -> &'static str {
+    match given("requestedAck", line) {
+        Some(_) => "requestedAck",
+        None => "ack",
+    }
+}
+
 /// Whether a line requests an acknowledgement.
 fn flag_of(alloc: Global, code: u16, line: &Value<'_>) -> Result<bool, LineError>
     ensures { MatchResult result (λ flag. line_flag code (json_view line.now) ≡ Some flag)
@@ -220,7 +241,7 @@ fn flag_of(alloc: Global, code: u16, line: &Value<'_>) -> Result<bool, LineError
     }
     match value.as_bool() {
         Some(flag) => Ok(flag),
-        None => Err(reject(alloc, LineReason::Json(Reason::WrongKind), "requestedAck")),
+        None => Err(reject(alloc, LineReason::Json(Reason::WrongKind), ack_name(line))),
     }
 }
 
@@ -228,8 +249,8 @@ fn flag_of(alloc: Global, code: u16, line: &Value<'_>) -> Result<bool, LineError
 fn word(code: u16, flag: bool, size: u32) -> u64
     ensures { result ≡ word code flag size }
 {
-    let flag = if flag { 140_737_488_355_328 } else { 0 };
-    u64::from(code) * 281_474_976_710_656 + flag + u64::from(size)
+    let flag = if flag { FLAG } else { 0 };
+    u64::from(code) * CODE + flag + u64::from(size)
 }
 
 /// Whether a line says that there is no payload.
@@ -239,23 +260,57 @@ fn is_alone(line: &Value<'_>) -> bool
     given("unknown", line).is_some()
 }
 
-/// Appends the header by eight given bytes: all of them if there is no payload, otherwise the first four, which are the
-/// code and the flags, and the length of the payload.
-fn append_given(
+/// Whether the word of a header has this flag, which only some types have.
+fn agrees_in_flag(code: u16, flag: bool, word: u64) -> bool
+    ensures { result ≡ agrees_in_flag code flag word }
+{
+    if !has_flag(code) {
+        return true;
+    }
+    let bit = if flag { 1 } else { 0 };
+    word / FLAG % 2 == bit
+}
+
+/// Checks that the word of a header has this code and this flag.
+fn check_word(alloc: Global, code: u16, flag: bool, word: u64) -> Result<(), LineError>
+    ensures { MatchResult result (λ _. agrees code flag word ≡ true)
+        (λ error. error.reason ≢ lack → agrees code flag word ≡ false) }
+{
+    if word / CODE != u64::from(code) {
+        return Err(reject(alloc, LineReason::OtherCode, "header"));
+    }
+    if !agrees_in_flag(code, flag, word) {
+        return Err(reject(alloc, LineReason::OtherFlag, "header"));
+    }
+    Ok(())
+}
+
+/// Appends a given header that stands alone. Where unknown types are skipped with their payloads, it has no length.
+fn append_alone(
     alloc: Global,
-    alone: bool,
+    version: Version,
+    word: u64,
+    header: &[u8],
+    out: &mut Vec<u8>,
+) -> Result<(), LineError>
+    ensures { Appends result (alone_given version word header.now) out.old.items out.new.items }
+{
+    if version.skips_unknown_messages() && word % LENGTHS != 0 {
+        return Err(reject(alloc, LineReason::NoSuchPayload, "header"));
+    }
+    append(alloc, header, out)
+}
+
+/// Appends the header that has the code and the flags of a given one, and this length.
+fn append_sized(
+    alloc: Global,
     size: usize,
     header: &[u8],
     out: &mut Vec<u8>,
 ) -> Result<(), LineError>
-    ensures { Appends result (header_given alone size header.now) out.old.items out.new.items }
+    requires { length header.now ≡ 8 }
+    ensures { Appends result (with_size size header.now) out.old.items out.new.items }
 {
-    if header.len() != 8 {
-        return Err(reject(alloc, LineReason::HeaderLength, "header"));
-    }
-    if alone {
-        return append(alloc, header, out);
-    }
     let Ok(size) = u32::try_from(size) else {
         return Err(reject(alloc, LineReason::TooLong, ""));
     };
@@ -263,20 +318,57 @@ fn append_given(
     append(alloc, &size.to_be_bytes(), out)
 }
 
+/// Appends the header by eight given bytes: all of them if there is no payload, otherwise the first four, which are the
+/// code and the flags, and the length of the payload.
+fn append_given(
+    alloc: Global,
+    version: Version,
+    code: u16,
+    flag: bool,
+    size: usize,
+    alone: bool,
+    header: &[u8],
+    out: &mut Vec<u8>,
+) -> Result<(), LineError>
+    ensures { Appends result (header_given version code flag size alone header.now) out.old.items out.new.items }
+{
+    let Ok(bytes) = <[u8; 8]>::try_from(header) else {
+        return Err(reject(alloc, LineReason::HeaderLength, "header"));
+    };
+    let word = u64::from_be_bytes(bytes);
+    check_word(alloc, code, flag, word)?;
+    if alone {
+        append_alone(alloc, version, word, header, out)
+    } else {
+        append_sized(alloc, size, header, out)
+    }
+}
+
 /// Appends a header, of a payload of this size.
 fn append_header(
     alloc: Global,
+    version: Version,
     code: u16,
     flag: bool,
     size: usize,
     line: &Value<'_>,
     out: &mut Vec<u8>,
 ) -> Result<(), LineError>
-    ensures { Appends result (line_header code flag size (json_view line.now)) out.old.items out.new.items }
+    ensures { Appends result (line_header version code flag size (json_view line.now)) out.old.items out.new.items }
 {
     if let Some(header) = given("header", line) {
         let header = bytes_of(alloc, header, "header")?;
-        return append_given(alloc, is_alone(line), size, header.as_slice(), out);
+        let alone = is_alone(line);
+        return append_given(
+            alloc,
+            version,
+            code,
+            flag,
+            size,
+            alone,
+            header.as_slice(),
+            out,
+        );
     }
     let Ok(size) = u32::try_from(size) else {
         return Err(reject(alloc, LineReason::TooLong, ""));
@@ -300,15 +392,16 @@ fn append(alloc: Global, bytes: &[u8], out: &mut Vec<u8>) -> Result<(), LineErro
 /// Appends a header and its payload.
 fn append_framed(
     alloc: Global,
+    version: Version,
     code: u16,
     flag: bool,
     payload: &[u8],
     line: &Value<'_>,
     out: &mut Vec<u8>,
 ) -> Result<(), LineError>
-    ensures { Appends result (framed code flag (json_view line.now) payload.now) out.old.items out.new.items }
+    ensures { Appends result (framed version code flag (json_view line.now) payload.now) out.old.items out.new.items }
 {
-    append_header(alloc, code, flag, payload.len(), line, out)?;
+    append_header(alloc, version, code, flag, payload.len(), line, out)?;
     append(alloc, payload, out)
 }
 
@@ -325,7 +418,7 @@ fn append_item(
     let code = code_of(alloc, line)?;
     let flag = flag_of(alloc, code, line)?;
     let payload = payload_of(alloc, version, code, line)?;
-    append_framed(alloc, code, flag, payload.as_slice(), line, out)
+    append_framed(alloc, version, code, flag, payload.as_slice(), line, out)
 }
 
 /// Whether a line has none of the members that say what an item is.
