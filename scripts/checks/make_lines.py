@@ -54,13 +54,20 @@ TAKEN = [
 REJECTED = [
     ("not JSON at byte 2", "{]"),
     ("not JSON at byte 3", "{} {}"),
+    ("not JSON at byte 1", "["),
+    ("not JSON at byte 0", "End"),
+    # an object that is not on one line
+    ("the line ends within an object; one object a line: jq -c", '{\n  "type": "End",\n  "message": {}\n}'),
+    ("the line ends within an object; one object a line: jq -c", ' {"type": "End", \r\n"message": {}}'),
     ("wrong kind of value", "[]"),
     ("other: unknown member", '{"type":"End","other":1,"message":{}}'),
     ("type: repeated member", '{"type":"End","type":"End","message":{}}'),
     ("ack: repeated member", '{"type":"ProposeRunCompletion","ack":true,"requestedAck":true,"message":{}}'),
     # the type and the code
     ("neither a type nor a code", '{"message":{}}'),
-    ("type: no named type has this name", '{"type":"Nothing","message":{}}'),
+    ("type: no named type has the name 'Nothing'", '{"type":"Nothing","message":{}}'),
+    ("type: no named type has the name ''", '{"type":"","message":{}}'),
+    ("type: no named type has the name 'CustomEntry(64513)'", '{"type":"CustomEntry(64513)","bytes":""}'),
     ("type: not the name of the code's type", '{"type":"Start","code":3,"message":{}}'),
     ("type: not the name of the code's type", '{"type":"Start","code":8,"bytes":""}'),
     ("type: wrong kind of value", '{"type":3,"message":{}}'),
@@ -86,7 +93,9 @@ REJECTED = [
     ("unknown: the code is that of a type", '{"type":"InputCommand","unknown":true,"header":"BAAAAAAAAAU="}'),
     ("unknown: the code is that of a type", '{"code":64513,"unknown":true}'),
     # the flag
-    ("the type has no such flag", '{"type":"End","ack":true,"message":{}}'),
+    ("ack: the type has no such flag", '{"type":"End","ack":true,"message":{}}'),
+    ("requestedAck: the type has no such flag", '{"type":"End","requestedAck":false,"message":{}}'),
+    ("requestedAck: the type has no such flag", '{"code":8,"unknown":true,"requestedAck":false}'),
     ("requestedAck: wrong kind of value", '{"type":"ProposeRunCompletion","requestedAck":1,"message":{}}'),
     ("ack: wrong kind of value", '{"type":"ProposeRunCompletion","ack":"true","message":{}}'),
     ("ack: wrong kind of value", '{"type":"ProposeRunCompletion","requestedAck":null,"ack":1,"message":{}}'),

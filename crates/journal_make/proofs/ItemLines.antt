@@ -18,7 +18,7 @@ use Rattle.shared_core.specs.Visiting.{schema_at}
 use Rattle.dump_lines.specs.declared.options.Options.{Options}
 use Rattle.shared_core.specs.Items.{front_word, body_length, item_of, IsItem}
 use Rattle.dump_lines.specs.Lines.{payload_members, ack_members, header_members, item_json, written_word}
-use Rattle.journal_make.specs.Lines.{line_said, line_made}
+use Rattle.journal_make.specs.Lines.{value_made, line_made}
 use Rattle.journal_make.specs.Made.{has_newline}
 use Rattle.journal_make.specs.MadeAgain.{payload_again, with_payload, item_again, IsWhole}
 use Rattle.journal_make.proofs.HeaderWords.{Headed, word_small}
@@ -31,7 +31,7 @@ pub record MadeLine (version : Version) (json : Json) (bytes : Option (List ℕ)
   pub single : has_newline (print (json_tokens json)) ≡ false
   pub means : line_made version (print (json_tokens json)) ≡ bytes
 
-pub as_made : (version : Version) (ms : Members) (bytes : Option (List ℕ)) → IsLineText (object ms) → line_said version (object ms) ≡ bytes → MadeLine version (object ms) bytes
+pub as_made : (version : Version) (ms : Members) (bytes : Option (List ℕ)) → IsLineText (object ms) → value_made version (object ms) ≡ bytes → MadeLine version (object ms) bytes
 as_made version ms bytes text said = record { single = single_line (object ms) text; means = line_reads version ms text ∙ said }
 
 -- ---- what a header says

@@ -1,23 +1,21 @@
 //! The bytes that a line means: the header and the payload of an item, or the bytes after the last one.
 
-ghost use Rattle.std.specs.Prelude.{◌≡◌, ◌≢◌, ◌++◌, true, false, length, Some, option_and_then, IfOk, IfErr, OnOk, MatchResult};
+ghost use Rattle.std.specs.Prelude.{◌≡◌, ◌++◌, length, Some, None, option_and_then, Ok, IfOk, IfErr, OnOk, MatchResult};
 ghost use Rattle.json.specs.Value.{value_view as json_view};
-ghost use Rattle.json.specs.Find.{as_str};
 ghost use Rattle.shared_core_base.specs.MessageType.{type_of};
 ghost use Rattle.shared_core.specs.Visiting.{schema_at};
-ghost use Rattle.shared_core_json_reader.specs.Scalars.{bytes_read};
 ghost use Rattle.journal_make.specs.Errors.{lack};
-ghost use Rattle.journal_make.specs.Lines.{code_read, code_named, is_name_of, code_if, line_code};
-ghost use Rattle.journal_make.specs.Lines.{message_said, nothing_said, line_payload};
-ghost use Rattle.journal_make.specs.Lines.{has_flag, line_flag, word, is_alone, line_header, framed};
-ghost use Rattle.journal_make.specs.Lines.{agrees_in_flag, agrees, alone_given, with_size, header_given};
+ghost use Rattle.journal_make.specs.Lines.{code_read, name_read, code_named, is_name_of, code_if, line_code};
+ghost use Rattle.journal_make.specs.Lines.{bytes_said, bytes_name, message_said, nothing_said, line_payload};
+ghost use Rattle.journal_make.specs.Lines.{has_flag, ack_name, line_flag, word, is_alone, line_header, framed};
+ghost use Rattle.journal_make.specs.Lines.{agrees_in_flag, word_fault, alone_given, with_size, header_given};
 ghost use Rattle.journal_make.specs.Lines.{item_said, says_no_item, rest_said, line_said};
-ghost use Rattle.journal_make.specs.Lines.{is_space, is_blank, line_made};
-ghost use Rattle.journal_make.specs.Appending.{Appends, Rejects};
+ghost use Rattle.journal_make.specs.Appending.{HasFault, Rejects, Appends, AppendsLine};
 
 use crate::error::{LineError, LineReason};
-use crate::members::{check_line, given, given_either};
-use crate::reject::{out_of_memory, reject, reject_json};
+use crate::members::{check_line, given, given_either, given_name};
+use crate::reject::{out_of_memory, reject, reject_inside, reject_name, reject_text};
+use crate::text::is_blank;
 use json::{Scratch, Value};
 use shared_core::header::MessageType;
 use shared_core::messages::schema_at;
@@ -40,7 +38,7 @@ const LENGTHS: u64 = 1 << 32;
 
 /// The code that a value is.
 fn read_code(alloc: Global, value: &Value<'_>) -> Result<u16, LineError>
-    ensures { MatchResult result (λ code. code_read (json_view value.now) ≡ Some code)
+    ensures { MatchResult result (λ code. code_read (json_view value.now) ≡ Ok code)
         (Rejects (code_read (json_view value.now))) }
 {
     match read_u32(value) {
@@ -52,8 +50,8 @@ fn read_code(alloc: Global, value: &Value<'_>) -> Result<u16, LineError>
 
 /// The name that a value is.
 fn read_name<'a>(alloc: Global, value: &Value<'a>) -> Result<&'a str, LineError>
-    ensures { MatchResult result (λ name. as_str (json_view value.now) ≡ Some name.now)
-        (Rejects (as_str (json_view value.now))) }
+    ensures { MatchResult result (λ name. name_read (json_view value.now) ≡ Ok name.now)
+        (Rejects (name_read (json_view value.now))) }
 {
     match value.as_str() {
         Some(name) => Ok(name),
@@ -86,7 +84,7 @@ fn is_name_of(alloc: Global, ty: MessageType, name: &str) -> Result<bool, AllocE
 
 /// A code, if its type has this name.
 fn code_if(alloc: Global, code: u16, name: &str) -> Result<u16, LineError>
-    ensures { MatchResult result (λ said. code_if code name.now ≡ Some said)
+    ensures { MatchResult result (λ said. code_if code name.now ≡ Ok said)
         (Rejects (code_if code name.now)) }
 {
     let Ok(ty) = MessageType::try_from(code) else {
@@ -101,7 +99,7 @@ fn code_if(alloc: Global, code: u16, name: &str) -> Result<u16, LineError>
 
 /// The code of a line, by its type and its code.
 fn code_of(alloc: Global, line: &Value<'_>) -> Result<u16, LineError>
-    ensures { MatchResult result (λ code. line_code (json_view line.now) ≡ Some code)
+    ensures { MatchResult result (λ code. line_code (json_view line.now) ≡ Ok code)
         (Rejects (line_code (json_view line.now))) }
 {
     let ty = given("type", line);
@@ -112,7 +110,7 @@ fn code_of(alloc: Global, line: &Value<'_>) -> Result<u16, LineError>
         let name = read_name(alloc, ty)?;
         return match code_named(name.as_bytes()) {
             Some(code) => Ok(code),
-            None => Err(reject(alloc, LineReason::UnknownType, "type")),
+            None => Err(reject_name(alloc, name)),
         };
     };
     let code = read_code(alloc, code)?;
@@ -126,8 +124,8 @@ fn code_of(alloc: Global, line: &Value<'_>) -> Result<u16, LineError>
 
 /// The bytes that a value is, in base64.
 fn bytes_of(alloc: Global, value: &Value<'_>, member: &str) -> Result<Vec<u8>, LineError>
-    ensures { MatchResult result (λ bytes. bytes_read (json_view value.now) ≡ Some bytes.items)
-        (Rejects (bytes_read (json_view value.now))) }
+    ensures { MatchResult result (λ bytes. bytes_said member.now (json_view value.now) ≡ Ok bytes.items)
+        (Rejects (bytes_said member.now (json_view value.now))) }
 {
     match read_bytes(alloc, value) {
         Ok(bytes) => Ok(bytes),
@@ -136,11 +134,10 @@ fn bytes_of(alloc: Global, value: &Value<'_>, member: &str) -> Result<Vec<u8>, L
 }
 
 /// The name of the member that gives bytes.
-fn bytes_name(line: &Value<'_>) -> &'static str {
-    match given("bytes", line) {
-        Some(_) => "bytes",
-        None => "payload",
-    }
+fn bytes_name(line: &Value<'_>) -> &'static str
+    ensures { result.now ≡ bytes_name (json_view line.now) }
+{
+    given_name("bytes", "payload", line)
 }
 
 /// The schema of the messages that have a code.
@@ -160,7 +157,7 @@ fn message_of(
     code: u16,
     message: &Value<'_>,
 ) -> Result<Vec<u8>, LineError>
-    ensures { MatchResult result (λ bytes. message_said version code (json_view message.now) ≡ Some bytes.items)
+    ensures { MatchResult result (λ bytes. message_said version code (json_view message.now) ≡ Ok bytes.items)
         (Rejects (message_said version code (json_view message.now))) }
 {
     let Some(schema) = schema_of(version, code) else {
@@ -168,13 +165,13 @@ fn message_of(
     };
     match payload_of_value(alloc, schema, message) {
         Ok(payload) => Ok(payload),
-        Err(error) => Err(reject_json(alloc, &error, "message")),
+        Err(error) => Err(reject_inside(alloc, &error, "message")),
     }
 }
 
 /// The payload of an item that is a header alone.
 fn nothing_of(alloc: Global, code: u16, value: &Value<'_>) -> Result<Vec<u8>, LineError>
-    ensures { MatchResult result (λ bytes. nothing_said code (json_view value.now) ≡ Some bytes.items)
+    ensures { MatchResult result (λ bytes. nothing_said code (json_view value.now) ≡ Ok bytes.items)
         (Rejects (nothing_said code (json_view value.now))) }
 {
     let Some(true) = value.as_bool() else {
@@ -193,7 +190,7 @@ fn payload_of(
     code: u16,
     line: &Value<'_>,
 ) -> Result<Vec<u8>, LineError>
-    ensures { MatchResult result (λ payload. line_payload version code (json_view line.now) ≡ Some payload.items)
+    ensures { MatchResult result (λ payload. line_payload version code (json_view line.now) ≡ Ok payload.items)
         (Rejects (line_payload version code (json_view line.now))) }
 {
     let message = given("message", line);
@@ -221,23 +218,22 @@ fn has_flag(code: u16) -> bool
 }
 
 /// The name of the member that says whether an acknowledgement is requested.
-fn ack_name(line: &Value<'_>) -> &'static str {
-    match given("requestedAck", line) {
-        Some(_) => "requestedAck",
-        None => "ack",
-    }
+fn ack_name(line: &Value<'_>) -> &'static str
+    ensures { result.now ≡ ack_name (json_view line.now) }
+{
+    given_name("requestedAck", "ack", line)
 }
 
 /// Whether a line requests an acknowledgement.
 fn flag_of(alloc: Global, code: u16, line: &Value<'_>) -> Result<bool, LineError>
-    ensures { MatchResult result (λ flag. line_flag code (json_view line.now) ≡ Some flag)
+    ensures { MatchResult result (λ flag. line_flag code (json_view line.now) ≡ Ok flag)
         (Rejects (line_flag code (json_view line.now))) }
 {
     let Some(value) = given_either("requestedAck", "ack", line) else {
         return Ok(false);
     };
     if !has_flag(code) {
-        return Err(reject(alloc, LineReason::NoFlag, ""));
+        return Err(reject(alloc, LineReason::NoFlag, ack_name(line)));
     }
     match value.as_bool() {
         Some(flag) => Ok(flag),
@@ -264,17 +260,13 @@ fn is_alone(line: &Value<'_>) -> bool
 fn agrees_in_flag(code: u16, flag: bool, word: u64) -> bool
     ensures { result ≡ agrees_in_flag code flag word }
 {
-    if !has_flag(code) {
-        return true;
-    }
     let bit = if flag { 1 } else { 0 };
-    word / FLAG % 2 == bit
+    !has_flag(code) || word / FLAG % 2 == bit
 }
 
 /// Checks that the word of a header has this code and this flag.
 fn check_word(alloc: Global, code: u16, flag: bool, word: u64) -> Result<(), LineError>
-    ensures { MatchResult result (λ _. agrees code flag word ≡ true)
-        (λ error. error.reason ≢ lack → agrees code flag word ≡ false) }
+    ensures { MatchResult result (λ _. word_fault code flag word ≡ None) (HasFault (word_fault code flag word)) }
 {
     if word / CODE != u64::from(code) {
         return Err(reject(alloc, LineReason::OtherCode, "header"));
@@ -436,7 +428,7 @@ fn says_no_item(line: &Value<'_>) -> bool
 /// The bytes after the last item.
 #[tactic(auto, unfolding(crate::specs::Lines::rest_said))]
 fn rest_of(alloc: Global, rest: &Value<'_>, line: &Value<'_>) -> Result<Vec<u8>, LineError>
-    ensures { MatchResult result (λ bytes. rest_said (json_view rest.now) (json_view line.now) ≡ Some bytes.items)
+    ensures { MatchResult result (λ bytes. rest_said (json_view rest.now) (json_view line.now) ≡ Ok bytes.items)
         (Rejects (rest_said (json_view rest.now) (json_view line.now))) }
 {
     if !says_no_item(line) {
@@ -470,25 +462,6 @@ fn append_said(
     append(alloc, bytes.as_slice(), out)
 }
 
-/// Whether a byte is a space, a tab or a carriage return.
-fn is_space(byte: u8) -> bool
-    ensures { result ≡ is_space byte }
-{
-    byte == b' ' || byte == b'\t' || byte == b'\r'
-}
-
-/// Whether a line has nothing but spaces, tabs and carriage returns.
-fn is_blank(line: &[u8]) -> bool
-    ensures { result ≡ is_blank line.now }
-{
-    for byte in line {
-        if !is_space(*byte) {
-            return false;
-        }
-    }
-    true
-}
-
 /// Appends the bytes that a line means, without its newline; none for a blank one. After an error nothing is appended,
 /// unless an allocation failed. The buffers for reading JSON can be reused.
 #[tactic(auto, unfolding(crate::specs::Lines::line_made))]
@@ -499,13 +472,17 @@ pub fn append_line(
     scratch: &mut Scratch,
     out: &mut Vec<u8>,
 ) -> Result<(), LineError>
-    ensures { Appends result (line_made version line.now) out.old.items out.new.items }
+    ensures { AppendsLine version line.now result out.old.items out.new.items }
 {
     if is_blank(line) {
         return Ok(());
     }
-    match value_of_text(alloc, line, scratch) {
-        Ok(value) => append_said(alloc, version, &value, out),
-        Err(error) => Err(reject_json(alloc, &error, "")),
+    let error = match value_of_text(alloc, line, scratch) {
+        Ok(value) => return append_said(alloc, version, &value, out),
+        Err(error) => error,
+    };
+    match (error.reason, error.offset) {
+        (Reason::NotJson, Some(offset)) => Err(reject_text(alloc, line, offset)),
+        _ => Err(out_of_memory(alloc)),
     }
 }
