@@ -18,7 +18,7 @@ use Rattle.shared_core.specs.Visiting.{schema_at}
 use Rattle.dump_lines.specs.declared.options.Options.{Options}
 use Rattle.shared_core.specs.Items.{front_word, body_length, item_of, IsItem}
 use Rattle.dump_lines.specs.Lines.{payload_members, ack_members, header_members, item_json, written_word}
-use Rattle.journal_make.specs.Lines.{line_said, line_made}
+use Rattle.journal_make.specs.Lines.{value_made, line_made}
 use Rattle.journal_make.specs.Made.{has_newline}
 use Rattle.journal_make.specs.MadeAgain.{payload_again, with_payload, item_again, IsWhole}
 use Rattle.journal_make.proofs.HeaderWords.{Headed, word_small}
@@ -31,7 +31,7 @@ pub record MadeLine (version : Version) (json : Json) (bytes : Option (List ℕ)
   pub single : has_newline (print (json_tokens json)) ≡ false
   pub means : line_made version (print (json_tokens json)) ≡ bytes
 
-pub as_made : (version : Version) (ms : Members) (bytes : Option (List ℕ)) → IsLineText (object ms) → line_said version (object ms) ≡ bytes → MadeLine version (object ms) bytes
+pub as_made : (version : Version) (ms : Members) (bytes : Option (List ℕ)) → IsLineText (object ms) → value_made version (object ms) ≡ bytes → MadeLine version (object ms) bytes
 as_made version ms bytes text said = record { single = single_line (object ms) text; means = line_reads version ms text ∙ said }
 
 -- ---- what a header says
@@ -69,11 +69,11 @@ module _ (options : Options) (whole : IsWhole options) (at : ℕ) (early : at < 
   unknown_json : item_json options at word (Unknown code) ≡ unknown_line (decimal at) (decimal code) (header_text word (code * 281474976710656))
   unknown_json = ap (λ (ms : Members). object (member (codes "offset") (number (decimal at)) (member (codes "unknown") (Json.boolean true) (member (codes "code") (number (decimal code)) ms)))) (shown_header word (code * 281474976710656) no_members)
 
-  unknown_made : MadeLine options.version (item_json options at word (Unknown code)) (Some (take 8 bytes))
-  unknown_made =
+  unknown_made : type_of code ≡ None → skips_unknown_messages options.version ≡ false → MadeLine options.version (item_json options at word (Unknown code)) (Some (take 8 bytes))
+  unknown_made none keeps =
       subst (λ (j : Json). MadeLine options.version j (Some (take 8 bytes))) (sym unknown_json)
       (as_made options.version _ (Some (take 8 bytes)) (unknown_texts at code (header_text word (code * 281474976710656)) early code_low (header_is (code * 281474976710656)))
-      (unknown_back bytes word headed options.version options.texts (decimal at) (decimal 0) ∙ ap (λ (xs : List ℕ). Some xs) (append-nil (take 8 bytes))))
+      (unknown_back bytes word headed options.version options.texts (decimal at) (decimal 0) none keeps ∙ ap (λ (xs : List ℕ). Some xs) (append-nil (take 8 bytes))))
 
   skipped_json : item_json options at word (Skipped code (drop 8 bytes))
       ≡ skipped_line (decimal at) (decimal code) (decimal (length (drop 8 bytes))) (header_text word (code * 281474976710656 + length (drop 8 bytes))) (byte_string_json options.texts (drop 8 bytes))
@@ -83,12 +83,12 @@ module _ (options : Options) (whole : IsWhole options) (at : ℕ) (early : at < 
       ap (λ (b : Bool). shown (header_members word (written_word (Skipped code body)) (cond b (member (codes "bytes") (byte_string_json options.texts body) no_members) no_members))) whole.payloads
       ∙ ap shown (shown_header word (code * 281474976710656 + length body) (member (codes "bytes") (byte_string_json options.texts body) no_members))
 
-  skipped_made : length (drop 8 bytes) ≡ word % 4294967296 → MadeLine options.version (item_json options at word (Skipped code (drop 8 bytes))) (with_payload (take 4 bytes) (drop 8 bytes))
-  skipped_made long =
+  skipped_made : type_of code ≡ None → length (drop 8 bytes) ≡ word % 4294967296 → MadeLine options.version (item_json options at word (Skipped code (drop 8 bytes))) (with_payload (take 4 bytes) (drop 8 bytes))
+  skipped_made none long =
       let body = drop 8 bytes in
       subst (λ (j : Json). MadeLine options.version j (with_payload (take 4 bytes) body)) (sym skipped_json)
       (as_made options.version _ _ (skipped_texts options.texts at code (length body) (header_text word (code * 281474976710656 + length body)) body early code_low (omega (arith, long)) (header_is (code * 281474976710656 + length body)))
-      (skipped_back bytes word headed options.version options.texts (decimal at) (decimal (length body)) long))
+      (skipped_back bytes word headed options.version options.texts (decimal at) (decimal (length body)) none long))
 
   module _ (ty : MessageType) (typed : type_of code ≡ Some ty) (long : length (drop 8 bytes) ≡ word % 4294967296) where
     abbrev as_item : Item
@@ -139,9 +139,9 @@ item_made options at bytes item whole early is small = subst Made (sym is.means)
 
     by_skip : (b : Bool) → skips_unknown_messages options.version ≡ b → type_of (front_word bytes / 281474976710656) ≡ None → Made (cond b (Skipped (front_word bytes / 281474976710656) (drop 8 bytes)) (Unknown (front_word bytes / 281474976710656)))
     by_skip true e none =
-        skipped_made options whole at early bytes (front_word bytes) headed
+        skipped_made options whole at early bytes (front_word bytes) headed none
         (body_long bytes (front_word bytes % 4294967296) (is.whole ∙ ap (λ (n : ℕ). 8 + n) (other_length_of options.version (front_word bytes) none ∙ ap (λ (b : Bool). cond b (front_word bytes % 4294967296) 0) e)))
-    by_skip false e none = unknown_made options whole at early bytes (front_word bytes) headed
+    by_skip false e none = unknown_made options whole at early bytes (front_word bytes) headed none e
 
     by_type : (o : Option MessageType) → type_of (front_word bytes / 281474976710656) ≡ o → Made (item_of options.version (front_word bytes) (drop 8 bytes))
     by_type None none = subst Made (sym (other_item options.version (front_word bytes) (drop 8 bytes) none)) (by_skip (skips_unknown_messages options.version) refl none)

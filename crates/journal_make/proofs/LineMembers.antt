@@ -1,19 +1,21 @@
 -- What the members of a line say.
-use Rattle.std.proofs.Common.{◌≡◌, ℕ, List, [], ◌++◌, eqb, decimal, arith, length, Bool, true, cond, not, Option, Some, None, option_map, option_and_then, refl, ap, ap₂, ◌∙◌}
-use Rattle.std.specs.Prelude.{codes}
+use Rattle.std.proofs.Common.{◌≡◌, ℕ, List, [], ◌++◌, eqb, decimal, arith, length, Bool, true, cond, not, Option, Some, None, option_map, Result, Ok, refl, ap, ap₂, ◌∙◌}
+use Rattle.std.specs.Prelude.{codes, ok_or}
 use Rattle.std.specs.Option.{is_none}
 use Rattle.json.specs.Json.{Json, boolean, number, string, object, Members, member, no_members}
 use Rattle.shared_core_base.specs.declared.version.Version.{Version}
 use Rattle.shared_core_json_reader.specs.Reading.{present}
-use Rattle.shared_core_json_reader.specs.Scalars.{bytes_read}
+use Rattle.shared_core_json_reader.specs.FirstError.{number_reason}
 use Rattle.shared_core_json_reader.proofs.ScalarsBack.{number_back}
 use Rattle.dump_lines.specs.Lines.{ack_members}
-use Rattle.journal_make.specs.Members.{is_line, given, given_either}
-use Rattle.journal_make.specs.Lines.{code_said, flag_said, payload_said, header_said, line_code, line_flag, line_payload, line_header, framed, item_said, rest_said, said, line_said}
+use Rattle.journal_make.specs.declared.error.LineReason.TheVariants.{Json as Wrong}
+use Rattle.journal_make.specs.Errors.{LineFault, at}
+use Rattle.journal_make.specs.Members.{shape_fault, given, given_either}
+use Rattle.journal_make.specs.Lines.{then_read, read_map, unless, none_left, bytes_said, bytes_name, ack_name, code_said, flag_said, payload_said, header_said, line_code, line_flag, line_payload, line_header, framed, item_said, rest_said, said, line_said}
 
 -- what a line has
 pub record Says (j : Json) (type code flag header message bytes unknown : Option Json) : Type 0 where
-  pub line : is_line j ≡ true
+  pub line : shape_fault j ≡ None
   pub rest : given (codes "rest") j ≡ None
   pub has_type : given (codes "type") j ≡ type
   pub has_code : given (codes "code") j ≡ code
@@ -23,28 +25,28 @@ pub record Says (j : Json) (type code flag header message bytes unknown : Option
   pub has_bytes : given_either (codes "bytes") (codes "payload") j ≡ bytes
   pub has_unknown : given (codes "unknown") j ≡ unknown
 
-then_some : {A B : Type 0} (f : A → Option B) (o : Option A) (x : A) (y : Option B) → o ≡ Some x → f x ≡ y → option_and_then f o ≡ y
-then_some f o x y e g = ap (option_and_then f) e ∙ g
+then_ok : {A B : Type 0} (f : A → Result B LineFault) (r : Result A LineFault) (x : A) (y : Result B LineFault) → r ≡ Ok x → f x ≡ y → then_read f r ≡ y
+then_ok f r x y e g = ap (then_read f) e ∙ g
 
-pub item_is : (version : Version) (j : Json) (type code flag header message bytes unknown : Option Json) (c : ℕ) (f : Bool) (payload : List ℕ) (head : Option (List ℕ)) → Says j type code flag header message bytes unknown
-    → code_said type code ≡ Some c → flag_said c flag ≡ Some f → payload_said version c message bytes unknown ≡ Some payload → header_said c f (length payload) (not (is_none unknown)) header ≡ head
-    → line_said version j ≡ option_map (λ h. h ++ payload) head
+pub item_is : (version : Version) (j : Json) (type code flag header message bytes unknown : Option Json) (c : ℕ) (f : Bool) (payload : List ℕ) (head : Result (List ℕ) LineFault) → Says j type code flag header message bytes unknown
+    → code_said type code ≡ Ok c → flag_said c (ack_name j) flag ≡ Ok f → payload_said version c (bytes_name j) message bytes unknown ≡ Ok payload → header_said version c f (length payload) (not (is_none unknown)) header ≡ head
+    → line_said version j ≡ read_map (λ h. h ++ payload) head
 unfolding line_said item_said
 item_is version j type code flag header message bytes unknown c f payload head s at_code at_flag at_payload at_header =
-    let one : line_code j ≡ Some c = ap₂ code_said s.has_type s.has_code ∙ at_code in
-    let two : line_flag c j ≡ Some f = ap (flag_said c) s.has_flag ∙ at_flag in
-    let three : line_payload version c j ≡ Some payload =
-    ap (λ (m : Option Json). payload_said version c m (given_either (codes "bytes") (codes "payload") j) (given (codes "unknown") j)) s.has_message
-    ∙ ap₂ (λ (b u : Option Json). payload_said version c message b u) s.has_bytes s.has_unknown ∙ at_payload in
-    let four : line_header c f (length payload) j ≡ head =
-    ap₂ (λ (u h : Option Json). header_said c f (length payload) (not (is_none u)) h) s.has_unknown s.has_header ∙ at_header in
-    let result = option_map (λ (h : List ℕ). h ++ payload) head in
-    let framed_is : framed c f j payload ≡ result = ap (option_map (λ (h : List ℕ). h ++ payload)) four in
-    ap (λ (b : Bool). cond b (said version (given (codes "rest") j) j) None) s.line
+    let one : line_code j ≡ Ok c = ap₂ code_said s.has_type s.has_code ∙ at_code in
+    let two : line_flag c j ≡ Ok f = ap (flag_said c (ack_name j)) s.has_flag ∙ at_flag in
+    let three : line_payload version c j ≡ Ok payload =
+    ap (λ (m : Option Json). payload_said version c (bytes_name j) m (given_either (codes "bytes") (codes "payload") j) (given (codes "unknown") j)) s.has_message
+    ∙ ap₂ (λ (b u : Option Json). payload_said version c (bytes_name j) message b u) s.has_bytes s.has_unknown ∙ at_payload in
+    let four : line_header version c f (length payload) j ≡ head =
+    ap₂ (λ (u h : Option Json). header_said version c f (length payload) (not (is_none u)) h) s.has_unknown s.has_header ∙ at_header in
+    let result = read_map (λ (h : List ℕ). h ++ payload) head in
+    let framed_is : framed version c f j payload ≡ result = ap (read_map (λ (h : List ℕ). h ++ payload)) four in
+    ap (λ (o : Option LineFault). unless o (said version (given (codes "rest") j) j)) s.line
     ∙ ap (λ (r : Option Json). said version r j) s.rest
-    ∙ then_some (λ code. option_and_then (λ flag. option_and_then (framed code flag j) (line_payload version code j)) (line_flag code j)) (line_code j) c result one
-    (then_some (λ flag. option_and_then (framed c flag j) (line_payload version c j)) (line_flag c j) f result two
-    (then_some (framed c f j) (line_payload version c j) payload result three framed_is))
+    ∙ then_ok (λ code. then_read (λ flag. then_read (framed version code flag j) (line_payload version code j)) (line_flag code j)) (line_code j) c result one
+    (then_ok (λ flag. then_read (framed version c flag j) (line_payload version c j)) (line_flag c j) f result two
+    (then_ok (framed version c f j) (line_payload version c j) payload result three framed_is))
 
 -- ---- the lines of a dump
 
@@ -61,7 +63,7 @@ message_line at name code len flag header others =
 module _ (at name code len : List ℕ) where
   pub says_message : (flag : Option Bool) (header : Option (List ℕ)) (ms : Members)
       → Says (message_line at name code len flag header (member (codes "message") (object ms) no_members)) (Some (string name)) (Some (number code)) (option_map boolean flag) (option_map string header) (Some (object ms)) None None
-  unfolding is_line
+  unfolding shape_fault
   says_message None None ms = record { line = refl; rest = refl; has_type = refl; has_code = refl; has_flag = refl; has_header = refl; has_message = refl; has_bytes = refl; has_unknown = refl }
   says_message None (Some h) ms = record { line = refl; rest = refl; has_type = refl; has_code = refl; has_flag = refl; has_header = refl; has_message = refl; has_bytes = refl; has_unknown = refl }
   says_message (Some f) None ms = record { line = refl; rest = refl; has_type = refl; has_code = refl; has_flag = refl; has_header = refl; has_message = refl; has_bytes = refl; has_unknown = refl }
@@ -69,7 +71,7 @@ module _ (at name code len : List ℕ) where
 
   pub says_bytes : (flag : Option Bool) (header : Option (List ℕ)) (b : Json) → present b ≡ Some b
       → Says (message_line at name code len flag header (member (codes "bytes") b no_members)) (Some (string name)) (Some (number code)) (option_map boolean flag) (option_map string header) None (Some b) None
-  unfolding is_line
+  unfolding shape_fault
   says_bytes None None b there = record { line = rw there refl; rest = refl; has_type = refl; has_code = refl; has_flag = refl; has_header = refl; has_message = refl; has_bytes = rw there refl; has_unknown = refl }
   says_bytes None (Some h) b there = record { line = rw there refl; rest = refl; has_type = refl; has_code = refl; has_flag = refl; has_header = refl; has_message = refl; has_bytes = rw there refl; has_unknown = refl }
   says_bytes (Some f) None b there = record { line = rw there refl; rest = refl; has_type = refl; has_code = refl; has_flag = refl; has_header = refl; has_message = refl; has_bytes = rw there refl; has_unknown = refl }
@@ -77,7 +79,7 @@ module _ (at name code len : List ℕ) where
 
   pub says_malformed : (flag : Option Bool) (header : Option (List ℕ)) (b : Json) → present b ≡ Some b
       → Says (message_line at name code len flag header (member (codes "malformed") (boolean true) (member (codes "bytes") b no_members))) (Some (string name)) (Some (number code)) (option_map boolean flag) (option_map string header) None (Some b) None
-  unfolding is_line
+  unfolding shape_fault
   says_malformed None None b there = record { line = rw there refl; rest = refl; has_type = refl; has_code = refl; has_flag = refl; has_header = refl; has_message = refl; has_bytes = rw there refl; has_unknown = refl }
   says_malformed None (Some h) b there = record { line = rw there refl; rest = refl; has_type = refl; has_code = refl; has_flag = refl; has_header = refl; has_message = refl; has_bytes = rw there refl; has_unknown = refl }
   says_malformed (Some f) None b there = record { line = rw there refl; rest = refl; has_type = refl; has_code = refl; has_flag = refl; has_header = refl; has_message = refl; has_bytes = rw there refl; has_unknown = refl }
@@ -89,7 +91,7 @@ unknown_line at code header =
     object (member (codes "offset") (number at) (member (codes "unknown") (boolean true) (member (codes "code") (number code) (header_if header no_members))))
 
 pub says_unknown : (at code : List ℕ) (header : Option (List ℕ)) → Says (unknown_line at code header) None (Some (number code)) None (option_map string header) None None (Some (boolean true))
-unfolding is_line
+unfolding shape_fault
 says_unknown at code None = record { line = refl; rest = refl; has_type = refl; has_code = refl; has_flag = refl; has_header = refl; has_message = refl; has_bytes = refl; has_unknown = refl }
 says_unknown at code (Some h) = record { line = refl; rest = refl; has_type = refl; has_code = refl; has_flag = refl; has_header = refl; has_message = refl; has_bytes = refl; has_unknown = refl }
 
@@ -99,7 +101,7 @@ skipped_line at code len header b =
     object (member (codes "offset") (number at) (member (codes "skipped") (boolean true) (member (codes "code") (number code) (member (codes "length") (number len) (header_if header (member (codes "bytes") b no_members))))))
 
 pub says_skipped : (at code len : List ℕ) (header : Option (List ℕ)) (b : Json) → present b ≡ Some b → Says (skipped_line at code len header b) None (Some (number code)) None (option_map string header) None (Some b) None
-unfolding is_line
+unfolding shape_fault
 says_skipped at code len None b there = record { line = rw there refl; rest = refl; has_type = refl; has_code = refl; has_flag = refl; has_header = refl; has_message = refl; has_bytes = rw there refl; has_unknown = refl }
 says_skipped at code len (Some h) b there = record { line = rw there refl; rest = refl; has_type = refl; has_code = refl; has_flag = refl; has_header = refl; has_message = refl; has_bytes = rw there refl; has_unknown = refl }
 
@@ -108,10 +110,14 @@ abbrev pub rest_line : List ℕ → List ℕ → Option Json → Json
 rest_line at len None = object (member (codes "offset") (number at) (member (codes "rest") (number len) no_members))
 rest_line at len (Some b) = object (member (codes "offset") (number at) (member (codes "rest") (number len) (member (codes "bytes") b no_members)))
 
-pub rest_is : (version : Version) (at len : List ℕ) (b : Json) → present b ≡ Some b → line_said version (rest_line at len (Some b)) ≡ bytes_read b
-unfolding line_said rest_said is_line
+pub rest_is : (version : Version) (at len : List ℕ) (b : Json) → present b ≡ Some b → line_said version (rest_line at len (Some b)) ≡ bytes_said (codes "bytes") b
+unfolding line_said rest_said shape_fault
 rest_is version at len b there = rw there refl
 
-pub no_rest_is : (version : Version) (at : List ℕ) → line_said version (rest_line at (decimal 0) None) ≡ Some []
-unfolding line_said rest_said is_line
-no_rest_is version at = ap (option_and_then (λ n. cond (eqb n 0) (Some []) None)) (number_back 18446744073709551616 0 (omega arith) (omega arith))
+-- the fault of the number of bytes that are in no item
+abbrev left_fault : List ℕ → LineFault
+left_fault len = at (codes "rest") (Wrong (number_reason (number len)))
+
+pub no_rest_is : (version : Version) (at : List ℕ) → line_said version (rest_line at (decimal 0) None) ≡ Ok []
+unfolding line_said rest_said shape_fault
+no_rest_is version at = ap (λ (o : Option ℕ). then_read none_left (ok_or o (left_fault (decimal 0)))) (number_back 18446744073709551616 0 (omega arith) (omega arith))

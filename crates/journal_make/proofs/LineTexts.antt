@@ -28,7 +28,7 @@ use Rattle.shared_core_json_reader.proofs.Printed.{are_visible, visible_decimal,
 use Rattle.shared_core_json_reader.proofs.PrintedValues.{byte_string_may, value_may}
 use Rattle.base64.specs.GeneralPurpose.{IsBytes}
 use Rattle.dump_lines.specs.Lines.{ack_members, payload_members}
-use Rattle.journal_make.specs.Lines.{line_said, line_made}
+use Rattle.journal_make.specs.Lines.{value_made, line_made}
 use Rattle.journal_make.specs.Made.{has_newline}
 use Rattle.std.specs.Int.{w64, to_be_bytes}
 use Rattle.journal_make.proofs.ItemsBack.{header_text}
@@ -111,9 +111,9 @@ pub record IsLineText (j : Json) : Type 0 where
 pub single_line : (j : Json) → IsLineText j → has_newline (print (json_tokens j)) ≡ false
 single_line j h = printed_line false (json_tokens j) (tokens_may j h.may)
 
-pub line_reads : (version : Version) (ms : Members) → IsLineText (object ms) → line_made version (print (json_tokens (object ms))) ≡ line_said version (object ms)
+pub line_reads : (version : Version) (ms : Members) → IsLineText (object ms) → line_made version (print (json_tokens (object ms))) ≡ value_made version (object ms)
 unfolding line_made print_from
-line_reads version ms h = ap (option_and_then (line_said version)) (printed_back (object ms) h.may h.low)
+line_reads version ms h = ap (option_and_then (value_made version)) (printed_back (object ms) h.may h.low)
 
 -- ---- the lines of a dump
 

@@ -8,6 +8,7 @@ use Rattle.journal_make.specs.declared.error.MakeError.{MakeError}
 use Rattle.journal_make.specs.declared.error.MakeError.TheVariants.{Input, Output, OutOfMemory, Line}
 use Rattle.journal_make.specs.declared.make.Lines.{Lines}
 use Rattle.journal_make.specs.Lines.{line_made}
+use Rattle.journal_make.specs.Appending.{IsRejected}
 use Rattle.journal_make.specs.Made.{made, counted, BeginWith, AreLines, IsMade, StandsMade}
 use Rattle.journal_make.specs.Steps.{IsStep, IsFinished}
 use Rattle.journal_make.proofs.Taking.{none_yet, then_lines, then_bytes, all_lines, made_join, made_one, counted_more, counted_next, counted_suc}
@@ -66,7 +67,7 @@ module _ (version : Version) (first start : Option (List ℕ)) where
       wrote_all : Appends start grown (so_far.bytes ++ written)
       wrote_all = Appends-trans start out grown so_far.bytes written so_far.wrote wrote
 
-      then_ended : (result : Result (Unit {0}) MakeError) → StandsMade (line_made version) result so_far.lines pending (so_far.bytes ++ written) now → HasEnded version first start now grown result
+      then_ended : (result : Result (Unit {0}) MakeError) → StandsMade (line_made version) (IsRejected version) result so_far.lines pending (so_far.bytes ++ written) now → HasEnded version first start now grown result
       then_ended result stands = (so_far.read, so_far.bytes ++ written, came_all, wrote_all, record { lines = so_far.lines; rest = pending; split = so_far.split; stands = stands })
 
       meant_last : (bytes : List ℕ) → line_made version state.pending.items ≡ Some bytes → made (line_made version) (so_far.lines ++ pending ∷ []) ≡ Some (so_far.bytes ++ bytes)
@@ -76,7 +77,7 @@ module _ (version : Version) (first start : Option (List ℕ)) where
       nothing_more : written ≡ [] → so_far.bytes ≡ so_far.bytes ++ written
       nothing_more e = sym (append-nil so_far.bytes) ∙ ap (λ (xs : List ℕ). so_far.bytes ++ xs) (sym e)
 
-      pub ended_finish : (result : Result (Unit {0}) MakeError) → IsFinished (line_made version) result written state → HasEnded version first start now grown result
+      pub ended_finish : (result : Result (Unit {0}) MakeError) → IsFinished (line_made version) (IsRejected version) result written state → HasEnded version first start now grown result
       ended_finish (Ok done) is = then_ended (Ok done) (end, meant_last written is)
       ended_finish (Err Input) is = absurd is
       ended_finish (Err Output) (bytes, e, b) = then_ended (Err Output)
@@ -88,7 +89,7 @@ module _ (version : Version) (first start : Option (List ℕ)) where
         pending,
         inr (end, refl),
         so_far.meant ∙ ap (λ (xs : List ℕ). Some xs) (nothing_more e),
-        subst (λ (xs : List ℕ). line_made version xs ≡ None) held n,
+        subst (λ (xs : List ℕ). IsRejected version xs error) held n,
         c ∙ ap (λ (k : ℕ). counted (suc k)) count ∙ ap (λ (k : ℕ). counted (suc k)) so_far.count ∙ counted_suc (length so_far.lines),
       )
 
@@ -106,7 +107,7 @@ module _ (version : Version) (first start : Option (List ℕ)) where
           then_lines (so_far.read ++ chunk) (pending ++ chunk) rest so_far.lines ls (then_bytes so_far.read pending chunk so_far.lines so_far.split.begins)
           (subst (λ (xs : List ℕ). BeginWith (xs ++ chunk) ls rest) held b)
 
-      pub goes_on : IsStep (line_made version) (old.pending.items ++ chunk) (Ok tt) written old new → GoesOn version first start now grown new.pending.items new.taken
+      pub goes_on : IsStep (line_made version) (IsRejected version) (old.pending.items ++ chunk) (Ok tt) written old new → GoesOn version first start now grown new.pending.items new.taken
       goes_on (ls, are, e, none, n) = record {
         read = so_far.read ++ chunk;
         lines = so_far.lines ++ ls;
@@ -118,7 +119,7 @@ module _ (version : Version) (first start : Option (List ℕ)) where
         count = n ∙ ap (λ (k : ℕ). counted (k + length ls)) (count ∙ so_far.count) ∙ counted_more (length so_far.lines) (length ls) ∙ ap counted (sym (length-append so_far.lines ls));
       }
 
-      pub ended_step : (error : MakeError) → IsStep (line_made version) (old.pending.items ++ chunk) (Err error) written old new → HasEnded version first start now grown (Err error)
+      pub ended_step : (error : MakeError) → IsStep (line_made version) (IsRejected version) (old.pending.items ++ chunk) (Err error) written old new → HasEnded version first start now grown (Err error)
       ended_step Input is = absurd is
       ended_step Output (ls, rest, more, b, e, cut) =
           let (all, last, are, first_ones) = all_lines (so_far.read ++ chunk) rest (so_far.lines ++ ls) (then_begin ls rest b) in (

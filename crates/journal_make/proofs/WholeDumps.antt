@@ -4,6 +4,7 @@ use Rattle.std.proofs.lemmas.Bool.{eq-eqb, lt-ltb}
 use Rattle.std.proofs.lemmas.List.{take-append-le}
 use Rattle.std.proofs.Math.Seq.{drop-append_seam}
 use Rattle.std.specs.Prelude.{codes}
+use Rattle.std.specs.Result.{result_ok}
 use Rattle.std.specs.List.{list_any}
 use Rattle.base64.specs.GeneralPurpose.{IsBytes}
 use Rattle.base64.proofs.EngineFacts.{front_bytes}
@@ -28,6 +29,7 @@ use Rattle.journal_make.specs.Lines.{line_made}
 use Rattle.journal_make.specs.Made.{both}
 use Rattle.journal_make.specs.MadeAgain.{payload_again, with_payload, item_again, stream_again, IsWhole}
 use Rattle.journal_make.proofs.LineMembers.{rest_is, no_rest_is}
+use Rattle.journal_make.proofs.ItemsBack.{bytes_there}
 use Rattle.journal_make.proofs.LineTexts.{rest_texts}
 use Rattle.journal_make.proofs.ItemLines.{MadeLine, as_made, item_made, typed_item, other_item, other_length_of}
 use Rattle.shared_core.proofs.Items.{front_word_more}
@@ -55,7 +57,7 @@ module _ (options : Options) (whole : IsWhole options) where
   rest_line_made at [] early short small =
       let shown : Members → Json = λ (ms : Members). object (member (codes "offset") (number (decimal at)) (member (codes "rest") (number (decimal 0)) ms)) in
       subst (λ (j : Json). MadeLine options.version j (Some [])) (sym (ap (λ (b : Bool). shown (cond b (member (codes "bytes") (byte_string_json options.texts []) no_members) no_members)) (and_false options.payloads)))
-      (as_made options.version _ (Some []) (rest_texts options.texts at 0 None early (omega arith)) (no_rest_is options.version (decimal at)))
+      (as_made options.version _ (Some []) (rest_texts options.texts at 0 None early (omega arith)) (ap result_ok (no_rest_is options.version (decimal at))))
     where
       and_false : (b : Bool) → (b && false) ≡ false
       and_false true = refl
@@ -66,7 +68,8 @@ module _ (options : Options) (whole : IsWhole options) where
       let some : (options.payloads && ltb 0 (length body)) ≡ true = ap₂ (λ (a b : Bool). a && b) whole.payloads (lt-ltb 0 (length body) (omega arith)) in
       subst (λ (j : Json). MadeLine options.version j (Some body)) (sym (ap (λ (b : Bool). shown (cond b (member (codes "bytes") (byte_string_json options.texts body) no_members) no_members)) some))
       (as_made options.version _ (Some body) (rest_texts options.texts at (length body) (Some body) early short)
-      (rest_is options.version (decimal at) (decimal (length body)) (byte_string_json options.texts body) (byte_string_there options.texts body) ∙ byte_string_back options.texts body small))
+      (ap result_ok (rest_is options.version (decimal at) (decimal (length body)) (byte_string_json options.texts body) (byte_string_there options.texts body)
+      ∙ bytes_there (codes "bytes") (byte_string_json options.texts body) body (byte_string_back options.texts body small))))
 
   one_line : (json : Json) → json_line options.pretty json ≡ line_text json
   one_line json = ap (λ (b : Bool). json_line b json) whole.one_line

@@ -3,9 +3,11 @@ use Rattle.std.specs.Prelude.{◌≡◌, ◌⊎◌, ℕ, suc, Bool, false, List,
 use Rattle.std.specs.Io.KnownBytes.{IsAtEnd}
 use Rattle.shared_core_base.specs.declared.version.Version.{Version}
 use Rattle.stream_lines.specs.Printing.{Begins}
+use Rattle.journal_make.specs.declared.error.LineError.{LineError}
 use Rattle.journal_make.specs.declared.error.MakeError.{MakeError}
 use Rattle.journal_make.specs.declared.error.MakeError.TheVariants.{Input, Output, OutOfMemory, Line}
 use Rattle.journal_make.specs.Lines.{line_made}
+use Rattle.journal_make.specs.Appending.{IsRejected}
 
 -- Whether some bytes have a newline.
 abbrev pub has_newline : List ℕ → Bool
@@ -49,22 +51,22 @@ AreFirst done lines rest left = Begins done lines ⊎ (IsAtEnd left × (done ≡
 abbrev pub counted : ℕ → ℕ
 counted n = min n 18446744073709551615
 
--- What is written for each result, for these lines and this rest, and what the reader has left: what all lines mean, at
+-- What is written for each result, where a line means bytes or fails with an error, for these lines and this rest, and what the reader has left: what all lines mean, at
 -- the input's end; what the whole lines mean; a prefix of what the first lines mean; what the first lines mean; or what
 -- the lines before a rejected one mean.
-abbrev pub StandsMade : (List ℕ → Option (List ℕ)) → Result (Unit {0}) MakeError → List (List ℕ) → List ℕ → List ℕ → Option (List ℕ) → Type 0
-StandsMade means (Ok done) lines rest written left = IsAtEnd left × (made means (lines ++ rest ∷ []) ≡ Some written)
-StandsMade means (Err Input) lines rest written left = made means lines ≡ Some written
-StandsMade means (Err Output) lines rest written left =
+abbrev pub StandsMade : (List ℕ → Option (List ℕ)) → (List ℕ → LineError → Type 0) → Result (Unit {0}) MakeError → List (List ℕ) → List ℕ → List ℕ → Option (List ℕ) → Type 0
+StandsMade means fails (Ok done) lines rest written left = IsAtEnd left × (made means (lines ++ rest ∷ []) ≡ Some written)
+StandsMade means fails (Err Input) lines rest written left = made means lines ≡ Some written
+StandsMade means fails (Err Output) lines rest written left =
     (done : List (List ℕ)) × (bytes : List ℕ) × AreFirst done lines rest left × (made means done ≡ Some bytes) × Begins written bytes
-StandsMade means (Err OutOfMemory) lines rest written left = (done : List (List ℕ)) × Begins done lines × (made means done ≡ Some written)
-StandsMade means (Err (Line number error)) lines rest written left =
+StandsMade means fails (Err OutOfMemory) lines rest written left = (done : List (List ℕ)) × Begins done lines × (made means done ≡ Some written)
+StandsMade means fails (Err (Line number error)) lines rest written left =
     (done : List (List ℕ)) × (line : List ℕ) × AreFirst (done ++ line ∷ []) lines rest left
-    × (made means done ≡ Some written) × (means line ≡ None) × (number ≡ counted (suc (length done)))
+    × (made means done ≡ Some written) × fails line error × (number ≡ counted (suc (length done)))
 
 -- The bytes that were read are these lines and this rest, and what is written is as the result says.
 pub record IsMade (version : Version) (result : Result (Unit {0}) MakeError) (read written : List ℕ) (left : Option (List ℕ)) : Type 0 where
   pub lines : List (List ℕ)
   pub rest : List ℕ
   pub split : AreLines read lines rest
-  pub stands : StandsMade (line_made version) result lines rest written left
+  pub stands : StandsMade (line_made version) (IsRejected version) result lines rest written left

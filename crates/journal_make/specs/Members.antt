@@ -1,10 +1,13 @@
 -- The members of a line, by their names.
-use Rattle.std.specs.Prelude.{ℕ, Bool, true, false, not, ◌&&◌, ◌||◌, List, codes, if◌then◌else◌, Option, option_and_then}
+use Rattle.std.specs.Prelude.{ℕ, Bool, true, false, not, ◌&&◌, ◌||◌, List, [], codes, if◌then◌else◌, Option, Some, None, option_and_then}
 use Rattle.std.specs.Option.{is_none, option_or}
 use Rattle.std.specs.Str.{bytes_eq}
 use Rattle.json.specs.Json.{Json, null, boolean, number, string, array, object, Members, no_members, member}
 use Rattle.json.specs.Find.{get}
+use Rattle.shared_core_json_reader.specs.declared.error.Reason.TheVariants.{UnknownMember, RepeatedMember, WrongKind}
 use Rattle.shared_core_json_reader.specs.Reading.{present}
+use Rattle.journal_make.specs.declared.error.LineReason.TheVariants.{Json as Wrong, SeveralPayloads}
+use Rattle.journal_make.specs.Errors.{LineFault, at}
 
 -- Whether a key is one of those that say what an item is.
 abbrev pub says_item : List ℕ → Bool
@@ -30,19 +33,20 @@ abbrev pub has_key : List ℕ → Members → Bool
 has_key key no_members = false
 has_key key (member k j ms) = if bytes_eq k key then true else has_key key ms
 
--- Whether each key is one that a line may have, and none occurs twice.
-abbrev pub are_members : Members → Bool
-are_members no_members = true
-are_members (member k j ms) = if is_known k then (if has_key k ms then false else are_members ms) else false
+-- The fault of some members: of the first one whose key a line may not have, or whose key occurs again.
+abbrev pub members_fault : Members → Option LineFault
+members_fault no_members = None
+members_fault (member k j ms) =
+    if is_known k then (if has_key k ms then Some (at k (Wrong RepeatedMember)) else members_fault ms) else Some (at k (Wrong UnknownMember))
 
--- Whether a value is an object of members that a line may have, none of them twice.
-abbrev pub has_members : Json → Bool
-has_members null = false
-has_members (boolean b) = false
-has_members (number s) = false
-has_members (string s) = false
-has_members (array js) = false
-has_members (object ms) = are_members ms
+-- The fault of a value that should be an object of such members.
+abbrev pub object_fault : Json → Option LineFault
+object_fault null = Some (at [] (Wrong WrongKind))
+object_fault (boolean b) = Some (at [] (Wrong WrongKind))
+object_fault (number s) = Some (at [] (Wrong WrongKind))
+object_fault (string s) = Some (at [] (Wrong WrongKind))
+object_fault (array js) = Some (at [] (Wrong WrongKind))
+object_fault (object ms) = members_fault ms
 
 -- The value of a member, if it is present and not null.
 abbrev pub given : List ℕ → Json → Option Json
@@ -56,9 +60,17 @@ given_either name other j = option_or (given name j) (given other j)
 abbrev pub gives_both : List ℕ → List ℕ → Json → Bool
 gives_both name other j = not (is_none (given name j)) && not (is_none (given other j))
 
--- Whether a value is an object of members that a line may have, none of them twice or under two names.
-unfoldable pub is_line : Json → Bool
-is_line j =
-    if has_members j
-    then not (gives_both (codes "bytes") (codes "payload") j) && not (gives_both (codes "requestedAck") (codes "ack") j)
-    else false
+-- The name under which a member is given that has two.
+abbrev pub given_name : List ℕ → List ℕ → Json → List ℕ
+given_name name other j = if is_none (given name j) then other else name
+
+-- The fault of two members that give the same under two names.
+abbrev pub pairs_fault : Json → Option LineFault
+pairs_fault j =
+    if gives_both (codes "bytes") (codes "payload") j
+    then Some (at [] SeveralPayloads)
+    else (if gives_both (codes "requestedAck") (codes "ack") j then Some (at (codes "ack") (Wrong RepeatedMember)) else None)
+
+-- The fault of a value that should be an object of members that a line may have, none of them twice or under two names.
+unfoldable pub shape_fault : Json → Option LineFault
+shape_fault j = option_or (object_fault j) (pairs_fault j)

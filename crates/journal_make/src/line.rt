@@ -1,22 +1,21 @@
 //! The bytes that a line means: the header and the payload of an item, or the bytes after the last one.
 
-ghost use Rattle.std.specs.Prelude.{◌≡◌, ◌++◌, Some, option_and_then, IfOk, IfErr, OnOk, MatchResult};
+ghost use Rattle.std.specs.Prelude.{◌≡◌, ◌++◌, length, Some, None, option_and_then, Ok, IfOk, IfErr, OnOk, MatchResult};
 ghost use Rattle.json.specs.Value.{value_view as json_view};
-ghost use Rattle.json.specs.Find.{as_str};
 ghost use Rattle.shared_core_base.specs.MessageType.{type_of};
 ghost use Rattle.shared_core.specs.Visiting.{schema_at};
-ghost use Rattle.shared_core_json_reader.specs.Scalars.{bytes_read};
 ghost use Rattle.journal_make.specs.Errors.{lack};
-ghost use Rattle.journal_make.specs.Lines.{code_read, code_named, is_name_of, code_if, line_code};
-ghost use Rattle.journal_make.specs.Lines.{message_said, nothing_said, line_payload};
-ghost use Rattle.journal_make.specs.Lines.{has_flag, line_flag, word, is_alone, header_given, line_header, framed};
+ghost use Rattle.journal_make.specs.Lines.{code_read, name_read, code_named, is_name_of, code_if, line_code};
+ghost use Rattle.journal_make.specs.Lines.{bytes_said, bytes_name, message_said, nothing_said, line_payload};
+ghost use Rattle.journal_make.specs.Lines.{has_flag, ack_name, line_flag, word, is_alone, line_header, framed};
+ghost use Rattle.journal_make.specs.Lines.{agrees_in_flag, word_fault, alone_given, with_size, header_given};
 ghost use Rattle.journal_make.specs.Lines.{item_said, says_no_item, rest_said, line_said};
-ghost use Rattle.journal_make.specs.Lines.{is_space, is_blank, line_made};
-ghost use Rattle.journal_make.specs.Appending.{Appends, Rejects};
+ghost use Rattle.journal_make.specs.Appending.{HasFault, Rejects, Appends, AppendsLine};
 
 use crate::error::{LineError, LineReason};
-use crate::members::{check_line, given, given_either};
-use crate::reject::{out_of_memory, reject, reject_json};
+use crate::members::{check_line, given, given_either, given_name};
+use crate::reject::{out_of_memory, reject, reject_inside, reject_name, reject_text};
+use crate::text::is_blank;
 use json::{Scratch, Value};
 use shared_core::header::MessageType;
 use shared_core::messages::schema_at;
@@ -26,11 +25,20 @@ use shared_core_json_reader::{
 };
 use std::alloc::{AllocError, Global};
 
+/// What a code is multiplied by in the word of a header.
+const CODE: u64 = 1 << 48;
+
+/// What a flag is multiplied by there.
+const FLAG: u64 = 1 << 47;
+
+/// One more than the greatest length there.
+const LENGTHS: u64 = 1 << 32;
+
 // ---- the code
 
 /// The code that a value is.
 fn read_code(alloc: Global, value: &Value<'_>) -> Result<u16, LineError>
-    ensures { MatchResult result (λ code. code_read (json_view value.now) ≡ Some code)
+    ensures { MatchResult result (λ code. code_read (json_view value.now) ≡ Ok code)
         (Rejects (code_read (json_view value.now))) }
 {
     match read_u32(value) {
@@ -42,8 +50,8 @@ fn read_code(alloc: Global, value: &Value<'_>) -> Result<u16, LineError>
 
 /// The name that a value is.
 fn read_name<'a>(alloc: Global, value: &Value<'a>) -> Result<&'a str, LineError>
-    ensures { MatchResult result (λ name. as_str (json_view value.now) ≡ Some name.now)
-        (Rejects (as_str (json_view value.now))) }
+    ensures { MatchResult result (λ name. name_read (json_view value.now) ≡ Ok name.now)
+        (Rejects (name_read (json_view value.now))) }
 {
     match value.as_str() {
         Some(name) => Ok(name),
@@ -76,7 +84,7 @@ fn is_name_of(alloc: Global, ty: MessageType, name: &str) -> Result<bool, AllocE
 
 /// A code, if its type has this name.
 fn code_if(alloc: Global, code: u16, name: &str) -> Result<u16, LineError>
-    ensures { MatchResult result (λ said. code_if code name.now ≡ Some said)
+    ensures { MatchResult result (λ said. code_if code name.now ≡ Ok said)
         (Rejects (code_if code name.now)) }
 {
     let Ok(ty) = MessageType::try_from(code) else {
@@ -91,7 +99,7 @@ fn code_if(alloc: Global, code: u16, name: &str) -> Result<u16, LineError>
 
 /// The code of a line, by its type and its code.
 fn code_of(alloc: Global, line: &Value<'_>) -> Result<u16, LineError>
-    ensures { MatchResult result (λ code. line_code (json_view line.now) ≡ Some code)
+    ensures { MatchResult result (λ code. line_code (json_view line.now) ≡ Ok code)
         (Rejects (line_code (json_view line.now))) }
 {
     let ty = given("type", line);
@@ -102,7 +110,7 @@ fn code_of(alloc: Global, line: &Value<'_>) -> Result<u16, LineError>
         let name = read_name(alloc, ty)?;
         return match code_named(name.as_bytes()) {
             Some(code) => Ok(code),
-            None => Err(reject(alloc, LineReason::UnknownType, "type")),
+            None => Err(reject_name(alloc, name)),
         };
     };
     let code = read_code(alloc, code)?;
@@ -116,8 +124,8 @@ fn code_of(alloc: Global, line: &Value<'_>) -> Result<u16, LineError>
 
 /// The bytes that a value is, in base64.
 fn bytes_of(alloc: Global, value: &Value<'_>, member: &str) -> Result<Vec<u8>, LineError>
-    ensures { MatchResult result (λ bytes. bytes_read (json_view value.now) ≡ Some bytes.items)
-        (Rejects (bytes_read (json_view value.now))) }
+    ensures { MatchResult result (λ bytes. bytes_said member.now (json_view value.now) ≡ Ok bytes.items)
+        (Rejects (bytes_said member.now (json_view value.now))) }
 {
     match read_bytes(alloc, value) {
         Ok(bytes) => Ok(bytes),
@@ -126,11 +134,10 @@ fn bytes_of(alloc: Global, value: &Value<'_>, member: &str) -> Result<Vec<u8>, L
 }
 
 /// The name of the member that gives bytes.
-fn bytes_name(line: &Value<'_>) -> &'static str {
-    match given("bytes", line) {
-        Some(_) => "bytes",
-        None => "payload",
-    }
+fn bytes_name(line: &Value<'_>) -> &'static str
+    ensures { result.now ≡ bytes_name (json_view line.now) }
+{
+    given_name("bytes", "payload", line)
 }
 
 /// The schema of the messages that have a code.
@@ -150,7 +157,7 @@ fn message_of(
     code: u16,
     message: &Value<'_>,
 ) -> Result<Vec<u8>, LineError>
-    ensures { MatchResult result (λ bytes. message_said version code (json_view message.now) ≡ Some bytes.items)
+    ensures { MatchResult result (λ bytes. message_said version code (json_view message.now) ≡ Ok bytes.items)
         (Rejects (message_said version code (json_view message.now))) }
 {
     let Some(schema) = schema_of(version, code) else {
@@ -158,18 +165,21 @@ fn message_of(
     };
     match payload_of_value(alloc, schema, message) {
         Ok(payload) => Ok(payload),
-        Err(error) => Err(reject_json(alloc, &error, "message")),
+        Err(error) => Err(reject_inside(alloc, &error, "message")),
     }
 }
 
 /// The payload of an item that is a header alone.
-fn nothing_of(alloc: Global, value: &Value<'_>) -> Result<Vec<u8>, LineError>
-    ensures { MatchResult result (λ bytes. nothing_said (json_view value.now) ≡ Some bytes.items)
-        (Rejects (nothing_said (json_view value.now))) }
+fn nothing_of(alloc: Global, code: u16, value: &Value<'_>) -> Result<Vec<u8>, LineError>
+    ensures { MatchResult result (λ bytes. nothing_said code (json_view value.now) ≡ Ok bytes.items)
+        (Rejects (nothing_said code (json_view value.now))) }
 {
-    match value.as_bool() {
-        Some(true) => Ok(Vec::new(alloc)),
-        _ => Err(reject(alloc, LineReason::Json(Reason::WrongKind), "unknown")),
+    let Some(true) = value.as_bool() else {
+        return Err(reject(alloc, LineReason::Json(Reason::WrongKind), "unknown"));
+    };
+    match MessageType::try_from(code) {
+        Ok(_) => Err(reject(alloc, LineReason::CodeOfType, "unknown")),
+        Err(_) => Ok(Vec::new(alloc)),
     }
 }
 
@@ -180,7 +190,7 @@ fn payload_of(
     code: u16,
     line: &Value<'_>,
 ) -> Result<Vec<u8>, LineError>
-    ensures { MatchResult result (λ payload. line_payload version code (json_view line.now) ≡ Some payload.items)
+    ensures { MatchResult result (λ payload. line_payload version code (json_view line.now) ≡ Ok payload.items)
         (Rejects (line_payload version code (json_view line.now))) }
 {
     let message = given("message", line);
@@ -189,7 +199,7 @@ fn payload_of(
     match (message, bytes, unknown) {
         (Some(message), None, None) => message_of(alloc, version, code, message),
         (None, Some(bytes), None) => bytes_of(alloc, bytes, bytes_name(line)),
-        (None, None, Some(unknown)) => nothing_of(alloc, unknown),
+        (None, None, Some(unknown)) => nothing_of(alloc, code, unknown),
         (None, None, None) => Err(reject(alloc, LineReason::NoPayload, "")),
         _ => Err(reject(alloc, LineReason::SeveralPayloads, "")),
     }
@@ -207,20 +217,27 @@ fn has_flag(code: u16) -> bool
     }
 }
 
+/// The name of the member that says whether an acknowledgement is requested.
+fn ack_name(line: &Value<'_>) -> &'static str
+    ensures { result.now ≡ ack_name (json_view line.now) }
+{
+    given_name("requestedAck", "ack", line)
+}
+
 /// Whether a line requests an acknowledgement.
 fn flag_of(alloc: Global, code: u16, line: &Value<'_>) -> Result<bool, LineError>
-    ensures { MatchResult result (λ flag. line_flag code (json_view line.now) ≡ Some flag)
+    ensures { MatchResult result (λ flag. line_flag code (json_view line.now) ≡ Ok flag)
         (Rejects (line_flag code (json_view line.now))) }
 {
     let Some(value) = given_either("requestedAck", "ack", line) else {
         return Ok(false);
     };
     if !has_flag(code) {
-        return Err(reject(alloc, LineReason::NoFlag, ""));
+        return Err(reject(alloc, LineReason::NoFlag, ack_name(line)));
     }
     match value.as_bool() {
         Some(flag) => Ok(flag),
-        None => Err(reject(alloc, LineReason::Json(Reason::WrongKind), "requestedAck")),
+        None => Err(reject(alloc, LineReason::Json(Reason::WrongKind), ack_name(line))),
     }
 }
 
@@ -228,8 +245,8 @@ fn flag_of(alloc: Global, code: u16, line: &Value<'_>) -> Result<bool, LineError
 fn word(code: u16, flag: bool, size: u32) -> u64
     ensures { result ≡ word code flag size }
 {
-    let flag = if flag { 140_737_488_355_328 } else { 0 };
-    u64::from(code) * 281_474_976_710_656 + flag + u64::from(size)
+    let flag = if flag { FLAG } else { 0 };
+    u64::from(code) * CODE + flag + u64::from(size)
 }
 
 /// Whether a line says that there is no payload.
@@ -239,23 +256,53 @@ fn is_alone(line: &Value<'_>) -> bool
     given("unknown", line).is_some()
 }
 
-/// Appends the header by eight given bytes: all of them if there is no payload, otherwise the first four, which are the
-/// code and the flags, and the length of the payload.
-fn append_given(
+/// Whether the word of a header has this flag, which only some types have.
+fn agrees_in_flag(code: u16, flag: bool, word: u64) -> bool
+    ensures { result ≡ agrees_in_flag code flag word }
+{
+    let bit = if flag { 1 } else { 0 };
+    !has_flag(code) || word / FLAG % 2 == bit
+}
+
+/// Checks that the word of a header has this code and this flag.
+fn check_word(alloc: Global, code: u16, flag: bool, word: u64) -> Result<(), LineError>
+    ensures { MatchResult result (λ _. word_fault code flag word ≡ None) (HasFault (word_fault code flag word)) }
+{
+    if word / CODE != u64::from(code) {
+        return Err(reject(alloc, LineReason::OtherCode, "header"));
+    }
+    if !agrees_in_flag(code, flag, word) {
+        return Err(reject(alloc, LineReason::OtherFlag, "header"));
+    }
+    Ok(())
+}
+
+/// Appends a given header that stands alone. Where unknown types are skipped with their payloads, it has no length.
+fn append_alone(
     alloc: Global,
-    alone: bool,
+    version: Version,
+    word: u64,
+    header: &[u8],
+    out: &mut Vec<u8>,
+) -> Result<(), LineError>
+    ensures { Appends result (alone_given version word header.now) out.old.items out.new.items }
+{
+    if version.skips_unknown_messages() && word % LENGTHS != 0 {
+        return Err(reject(alloc, LineReason::NoSuchPayload, "header"));
+    }
+    append(alloc, header, out)
+}
+
+/// Appends the header that has the code and the flags of a given one, and this length.
+fn append_sized(
+    alloc: Global,
     size: usize,
     header: &[u8],
     out: &mut Vec<u8>,
 ) -> Result<(), LineError>
-    ensures { Appends result (header_given alone size header.now) out.old.items out.new.items }
+    requires { length header.now ≡ 8 }
+    ensures { Appends result (with_size size header.now) out.old.items out.new.items }
 {
-    if header.len() != 8 {
-        return Err(reject(alloc, LineReason::HeaderLength, "header"));
-    }
-    if alone {
-        return append(alloc, header, out);
-    }
     let Ok(size) = u32::try_from(size) else {
         return Err(reject(alloc, LineReason::TooLong, ""));
     };
@@ -263,20 +310,57 @@ fn append_given(
     append(alloc, &size.to_be_bytes(), out)
 }
 
+/// Appends the header by eight given bytes: all of them if there is no payload, otherwise the first four, which are the
+/// code and the flags, and the length of the payload.
+fn append_given(
+    alloc: Global,
+    version: Version,
+    code: u16,
+    flag: bool,
+    size: usize,
+    alone: bool,
+    header: &[u8],
+    out: &mut Vec<u8>,
+) -> Result<(), LineError>
+    ensures { Appends result (header_given version code flag size alone header.now) out.old.items out.new.items }
+{
+    let Ok(bytes) = <[u8; 8]>::try_from(header) else {
+        return Err(reject(alloc, LineReason::HeaderLength, "header"));
+    };
+    let word = u64::from_be_bytes(bytes);
+    check_word(alloc, code, flag, word)?;
+    if alone {
+        append_alone(alloc, version, word, header, out)
+    } else {
+        append_sized(alloc, size, header, out)
+    }
+}
+
 /// Appends a header, of a payload of this size.
 fn append_header(
     alloc: Global,
+    version: Version,
     code: u16,
     flag: bool,
     size: usize,
     line: &Value<'_>,
     out: &mut Vec<u8>,
 ) -> Result<(), LineError>
-    ensures { Appends result (line_header code flag size (json_view line.now)) out.old.items out.new.items }
+    ensures { Appends result (line_header version code flag size (json_view line.now)) out.old.items out.new.items }
 {
     if let Some(header) = given("header", line) {
         let header = bytes_of(alloc, header, "header")?;
-        return append_given(alloc, is_alone(line), size, header.as_slice(), out);
+        let alone = is_alone(line);
+        return append_given(
+            alloc,
+            version,
+            code,
+            flag,
+            size,
+            alone,
+            header.as_slice(),
+            out,
+        );
     }
     let Ok(size) = u32::try_from(size) else {
         return Err(reject(alloc, LineReason::TooLong, ""));
@@ -300,15 +384,16 @@ fn append(alloc: Global, bytes: &[u8], out: &mut Vec<u8>) -> Result<(), LineErro
 /// Appends a header and its payload.
 fn append_framed(
     alloc: Global,
+    version: Version,
     code: u16,
     flag: bool,
     payload: &[u8],
     line: &Value<'_>,
     out: &mut Vec<u8>,
 ) -> Result<(), LineError>
-    ensures { Appends result (framed code flag (json_view line.now) payload.now) out.old.items out.new.items }
+    ensures { Appends result (framed version code flag (json_view line.now) payload.now) out.old.items out.new.items }
 {
-    append_header(alloc, code, flag, payload.len(), line, out)?;
+    append_header(alloc, version, code, flag, payload.len(), line, out)?;
     append(alloc, payload, out)
 }
 
@@ -325,7 +410,7 @@ fn append_item(
     let code = code_of(alloc, line)?;
     let flag = flag_of(alloc, code, line)?;
     let payload = payload_of(alloc, version, code, line)?;
-    append_framed(alloc, code, flag, payload.as_slice(), line, out)
+    append_framed(alloc, version, code, flag, payload.as_slice(), line, out)
 }
 
 /// Whether a line has none of the members that say what an item is.
@@ -343,7 +428,7 @@ fn says_no_item(line: &Value<'_>) -> bool
 /// The bytes after the last item.
 #[tactic(auto, unfolding(crate::specs::Lines::rest_said))]
 fn rest_of(alloc: Global, rest: &Value<'_>, line: &Value<'_>) -> Result<Vec<u8>, LineError>
-    ensures { MatchResult result (λ bytes. rest_said (json_view rest.now) (json_view line.now) ≡ Some bytes.items)
+    ensures { MatchResult result (λ bytes. rest_said (json_view rest.now) (json_view line.now) ≡ Ok bytes.items)
         (Rejects (rest_said (json_view rest.now) (json_view line.now))) }
 {
     if !says_no_item(line) {
@@ -377,25 +462,6 @@ fn append_said(
     append(alloc, bytes.as_slice(), out)
 }
 
-/// Whether a byte is a space, a tab or a carriage return.
-fn is_space(byte: u8) -> bool
-    ensures { result ≡ is_space byte }
-{
-    byte == b' ' || byte == b'\t' || byte == b'\r'
-}
-
-/// Whether a line has nothing but spaces, tabs and carriage returns.
-fn is_blank(line: &[u8]) -> bool
-    ensures { result ≡ is_blank line.now }
-{
-    for byte in line {
-        if !is_space(*byte) {
-            return false;
-        }
-    }
-    true
-}
-
 /// Appends the bytes that a line means, without its newline; none for a blank one. After an error nothing is appended,
 /// unless an allocation failed. The buffers for reading JSON can be reused.
 #[tactic(auto, unfolding(crate::specs::Lines::line_made))]
@@ -406,13 +472,17 @@ pub fn append_line(
     scratch: &mut Scratch,
     out: &mut Vec<u8>,
 ) -> Result<(), LineError>
-    ensures { Appends result (line_made version line.now) out.old.items out.new.items }
+    ensures { AppendsLine version line.now result out.old.items out.new.items }
 {
     if is_blank(line) {
         return Ok(());
     }
-    match value_of_text(alloc, line, scratch) {
-        Ok(value) => append_said(alloc, version, &value, out),
-        Err(error) => Err(reject_json(alloc, &error, "")),
+    let error = match value_of_text(alloc, line, scratch) {
+        Ok(value) => return append_said(alloc, version, &value, out),
+        Err(error) => error,
+    };
+    match (error.reason, error.offset) {
+        (Reason::NotJson, Some(offset)) => Err(reject_text(alloc, line, offset)),
+        _ => Err(out_of_memory(alloc)),
     }
 }

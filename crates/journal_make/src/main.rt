@@ -8,6 +8,7 @@ mod line;
 mod make;
 mod members;
 mod reject;
+mod text;
 
 use crate::arguments::{Arguments, parse_arguments};
 use crate::error::MakeError;

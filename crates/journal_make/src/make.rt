@@ -3,6 +3,7 @@
 ghost use Rattle.std.specs.Prelude.{◌≡◌, ◌++◌, ℕ, List, [], false};
 ghost use Rattle.std.specs.Io.KnownBytes.{Appends, Consumes};
 ghost use Rattle.journal_make.specs.Lines.{line_made};
+ghost use Rattle.journal_make.specs.Appending.{IsRejected};
 ghost use Rattle.journal_make.specs.Made.{has_newline, IsMade};
 ghost use Rattle.journal_make.specs.Steps.{IsTaken, IsStep, IsFinished, LineIsTaken};
 
@@ -44,7 +45,7 @@ fn take_line(
     scratch: &mut Scratch,
     lines: &mut Lines,
 ) -> Result<Option<Rejected>, AllocError>
-    ensures { LineIsTaken (line_made version) result lines.old lines.new }
+    ensures { LineIsTaken (line_made version) (IsRejected version) result lines.old lines.new }
 {
     let number = lines.taken.saturating_add(1);
     match append_line(
@@ -73,7 +74,8 @@ fn take_chunk(
     lines: &mut Lines,
 ) -> Result<Option<Rejected>, AllocError>
     requires { has_newline lines.old.pending.items ≡ false }
-    ensures { IsTaken (line_made version) (lines.old.pending.items ++ chunk.now) result lines.old lines.new }
+    ensures { IsTaken (line_made version) (IsRejected version) (lines.old.pending.items ++ chunk.now) result
+        lines.old lines.new }
 {
     let mut rest = chunk;
     while let Some(at) = memchr(b'\n', rest) {
@@ -100,7 +102,8 @@ fn step<W: Write>(
     requires unended { has_newline lines.old.pending.items ≡ false }
     ensures { (written : List ℕ)
         × Appends (W.contents output.old) (W.contents output.new) written
-        × IsStep (line_made version) (lines.old.pending.items ++ chunk.now) result written lines.old lines.new }
+        × IsStep (line_made version) (IsRejected version) (lines.old.pending.items ++ chunk.now) result written
+        lines.old lines.new }
 {
     let rejected = take_chunk(alloc, version, chunk, scratch, lines)?;
     write_whole(output, lines.made.as_slice())?;
@@ -122,7 +125,7 @@ fn finish<W: Write>(
     requires { lines.old.made.items ≡ [] }
     ensures { (written : List ℕ)
         × Appends (W.contents output.old) (W.contents output.new) written
-        × IsFinished (line_made version) result written lines.old }
+        × IsFinished (line_made version) (IsRejected version) result written lines.old }
 {
     if let Some(rejected) = take_line(alloc, version, scratch, lines)? {
         return Err(MakeError::Line(rejected.number, rejected.error));

@@ -1,11 +1,11 @@
 //! The members of a line, by their names.
 
-ghost use Rattle.std.specs.Prelude.{◌≡◌, ◌≢◌, true, false, option_map, MatchResult};
+ghost use Rattle.std.specs.Prelude.{◌≡◌, None, option_map, MatchResult};
 ghost use Rattle.json.specs.Value.{value_view as json_view, members_view};
-ghost use Rattle.journal_make.specs.Errors.{lack};
+ghost use Rattle.journal_make.specs.Appending.{HasFault};
 ghost use Rattle.journal_make.specs.Members.{says_item, says_bytes, is_passed_over, is_known};
-ghost use Rattle.journal_make.specs.Members.{has_key, are_members, has_members};
-ghost use Rattle.journal_make.specs.Members.{given, given_either, gives_both, is_line};
+ghost use Rattle.journal_make.specs.Members.{has_key, members_fault, object_fault, shape_fault};
+ghost use Rattle.journal_make.specs.Members.{given, given_either, given_name, gives_both};
 
 use crate::error::{LineError, LineReason};
 use crate::reject::reject;
@@ -63,8 +63,8 @@ fn has_key(key: &str, members: &[Member<'_>]) -> bool
 
 /// Checks that each key is one that a line may have, and that none occurs twice.
 fn check_members(alloc: Global, members: &[Member<'_>]) -> Result<(), LineError>
-    ensures { MatchResult result (λ _. are_members (members_view members.now) ≡ true)
-        (λ error. error.reason ≢ lack → are_members (members_view members.now) ≡ false) }
+    ensures { MatchResult result (λ _. members_fault (members_view members.now) ≡ None)
+        (HasFault (members_fault (members_view members.now))) }
 {
     for (index, member) in members.iter().enumerate() {
         if !is_known(member.0) {
@@ -80,16 +80,16 @@ fn check_members(alloc: Global, members: &[Member<'_>]) -> Result<(), LineError>
 /// The same of all members of an object.
 #[tactic(auto, using(crate::proofs::Checked::same_members))]
 fn check_all(alloc: Global, members: &Vec<Member<'_>>) -> Result<(), LineError>
-    ensures { MatchResult result (λ _. are_members (members_view members.now.items) ≡ true)
-        (λ error. error.reason ≢ lack → are_members (members_view members.now.items) ≡ false) }
+    ensures { MatchResult result (λ _. members_fault (members_view members.now.items) ≡ None)
+        (HasFault (members_fault (members_view members.now.items))) }
 {
     check_members(alloc, members.as_slice())
 }
 
 /// Checks that a value is an object with the members of a line.
 fn check_object(alloc: Global, line: &Value<'_>) -> Result<(), LineError>
-    ensures { MatchResult result (λ _. has_members (json_view line.now) ≡ true)
-        (λ error. error.reason ≢ lack → has_members (json_view line.now) ≡ false) }
+    ensures { MatchResult result (λ _. object_fault (json_view line.now) ≡ None)
+        (HasFault (object_fault (json_view line.now))) }
 {
     match line {
         Value::Object(members) => check_all(alloc, members),
@@ -105,10 +105,10 @@ fn gives_both(name: &str, other: &str, line: &Value<'_>) -> bool
 }
 
 /// Checks that a value is an object of members that a line may have, none of them twice or under two names.
-#[tactic(auto, unfolding(crate::specs::Members::is_line))]
+#[tactic(auto, unfolding(crate::specs::Members::shape_fault))]
 pub fn check_line(alloc: Global, line: &Value<'_>) -> Result<(), LineError>
-    ensures { MatchResult result (λ _. is_line (json_view line.now) ≡ true)
-        (λ error. error.reason ≢ lack → is_line (json_view line.now) ≡ false) }
+    ensures { MatchResult result (λ _. shape_fault (json_view line.now) ≡ None)
+        (HasFault (shape_fault (json_view line.now))) }
 {
     check_object(alloc, line)?;
     if gives_both("bytes", "payload", line) {
@@ -135,5 +135,15 @@ pub fn given_either<'v, 'a>(name: &str, other: &str, line: &'v Value<'a>) -> Opt
     match given(name, line) {
         Some(value) => Some(value),
         None => given(other, line),
+    }
+}
+
+/// The name under which a member is given that has two.
+pub fn given_name(name: &'static str, other: &'static str, line: &Value<'_>) -> &'static str
+    ensures { result.now ≡ given_name name.now other.now (json_view line.now) }
+{
+    match given(name, line) {
+        Some(_) => name,
+        None => other,
     }
 }

@@ -70,7 +70,13 @@ pub struct JsonReadError {
     pub path: String,
 }
 
+/// Prints the reason, with the offset, or with the path before it.
 impl fmt::Display for JsonReadError {
+    ghost use Rattle.std.specs.Prelude.{Some};
+    ghost use Rattle.shared_core_json_reader.specs.Errors.{error_text};
+
+    ghost output = { λ error. Some (error_text error) };
+
     fn fmt<W: fmt::Write>(&self, f: &mut fmt::Formatter<W>) -> fmt::Result {
         let reason = self.reason;
         if let Some(offset) = self.offset {
