@@ -353,13 +353,11 @@ class Calls(Sweep):
         self.assertSame(found, expected, "difference")
 
     def test_journals(self):
-        recorded = frame(SET_STATE, self.payload) + command(0)
-        same = frame(SET_STATE, self.loose) + command(0)
-        replayed = frame(SET_STATE, self.other) + command(0)
         kinds = pendratsoa.VerdictKind
-        found = pendratsoa.compare_journals(8, recorded, same)
+        recorded = frame(SET_STATE, self.payload) + command(0)
+        found = pendratsoa.compare_journals(8, recorded, frame(SET_STATE, self.loose) + command(0))
         self.assertEqual((found.kind, found.index, found.text), (kinds.SAME, 2, ""))
-        found = pendratsoa.compare_journals(8, recorded, replayed)
+        found = pendratsoa.compare_journals(8, recorded, frame(SET_STATE, self.other) + command(0))
         self.assertEqual((found.kind, found.index), (kinds.HEADER_MISMATCH, 0))
         self.assertSame(found.text, MISMATCH % (0, large().decode(), other(large()).decode()), "text")
 

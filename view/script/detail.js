@@ -39,9 +39,17 @@ function joinedNode(item) {
     element("li", "", element("b", "", visible(keyText(key))), threadNodes(threadOf(item, key), item))));
 }
 
-/** The tree of what a future awaits. */
-function futureNode(future, item) {
-  const leaves = awaitedBy(future).map((key) => {
+const AWAITED = 1000; // what is shown of a tree of futures at most
+
+/** The tree of what a future awaits, as far as there is room. */
+function futureNode(future, item, room = { left: AWAITED }) {
+  let more = 0;
+  const nodes = (list, nodeOf) => list.flatMap((one) => {
+    if (room.left-- > 0) return [nodeOf(one)];
+    more++;
+    return [];
+  });
+  const leaves = nodes(awaitedBy(future), (key) => {
     const thread = threadOf(item, key);
     const [command] = thread.requests;
     const [completion] = thread.completes;
@@ -49,9 +57,10 @@ function futureNode(future, item) {
       command ? [" of ", linkTo(command)] : null,
       completion ? [", completed by ", linkTo(completion)] : ", open");
   });
-  const nested = (future.nestedFutures ?? []).map((inner) => element("li", "", futureNode(inner, item)));
+  const nested = nodes(future.nestedFutures ?? [], (inner) => element("li", "", futureNode(inner, item, room)));
   const combinator = future.combinatorType === undefined ? "" : `, combinator ${future.combinatorType}`;
-  return element("div", "future", element("span", "form", `future${combinator}`), element("ul", "", leaves, nested));
+  return element("div", "future", element("span", "form", `future${combinator}`), element("ul", "", leaves, nested,
+    more > 0 ? element("li", "form", `and ${number(more)} more`) : null));
 }
 
 /** What is known of an item from its header. */

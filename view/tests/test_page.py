@@ -280,6 +280,12 @@ class Joins(PageTest):
             self.assertTrue(all(one["to"] < other["from"] for one, other in zip(spans, spans[1:])))
         self.assertLessEqual(self.value("lanes.length"), 6)
 
+    def test_a_wide_tree_is_shown_in_part(self):
+        nested = [{"waiting_completions": [2 * number, 2 * number + 1]} for number in range(1, 2001)]
+        self.open(written("wide", frame("Suspension", awaiting_on={"waiting_signals": [1, 2], "nested_futures": nested})))
+        self.assertEqual(self.value("document.querySelectorAll('.future li:not(.form)').length"), 1000)
+        self.assertIn("and 1,667 more", self.text(".future"))
+
     def test_the_tree_of_a_suspension(self):
         self.open_order()
         self.value("select(11)")
