@@ -22,6 +22,9 @@ sys.path[1:1] = [str(ROOT / "scripts"), str(ROOT / "tools")]
 
 import crates  # noqa: E402
 
+# The programs that are installed.
+PROGRAMS = ("journal_list", "journal_diff", "journal_dump", "journal_make")
+
 # How much of a text is shown where a case failed.
 LINES = 20
 CHARACTERS = 300
@@ -166,6 +169,12 @@ def library_version() -> str:
         if line.startswith('#define JOURNAL_LIBRARY_VERSION "'):
             return line.split('"')[1]
     raise ValueError("include/pendratsoa.h has no version")
+
+
+def names_below(folder: pathlib.Path) -> list[str]:
+    """The paths of the files and links below a folder."""
+    found = [path for path in folder.rglob("*") if path.is_symlink() or not path.is_dir()]
+    return sorted(str(path.relative_to(folder)) for path in found)
 
 
 def perform(body: collections.abc.Callable[[Check], None]) -> typing.NoReturn:

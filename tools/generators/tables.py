@@ -10,7 +10,7 @@ ABOUT = "The tables of schemas, of message types and of compared commands, for c
 SOURCE = "proto/journal.proto"
 
 TYPES = """\
-# The types that the protocol names: the code in hex digits, and the name. For list_stream.awk and write_stream.awk.
+# The types that the protocol names: the code in hex digits, and the name. For list_stream and write_stream of the checks.
 """
 
 TABLE = """\

@@ -1,0 +1,173 @@
+#!/usr/bin/env python3
+"""The whole installation: its programs run, its man pages and completion are found, and nothing of it is left.
+
+scripts/install.sh is run in an empty environment and puts the proved programs and the library into a folder; nothing is
+proved for it here. What it installs is looked at by man, mandoc, bash and zsh where these are installed, and is
+installed once more below DESTDIR.
+"""
+from __future__ import annotations
+
+import os
+import pathlib
+import re
+
+import checks
+import list_stream
+
+STREAMS = checks.ROOT / "examples" / "streams"
+
+# What an installed program prints of the stream that it is given: its words, and the file of it or the text.
+PRINTS = (
+    (("journal_list",), STREAMS / "replay.stdout"),
+    (("journal_dump",), STREAMS / "replay.dump"),
+    (("journal_diff", STREAMS / "recorded", STREAMS / "recorded"), "same, 4 commands\n"),
+    (("journal_list", STREAMS / "replay"), STREAMS / "replay.stdout"),
+    (("journal_list", "-", "3", "--protocol", "7"), STREAMS / "replay.stdout"),
+    (("journal_dump", STREAMS / "replay"), STREAMS / "replay.dump"),
+    (("journal_make", STREAMS / "replay.dump"), STREAMS / "replay"),
+    *(((name, "--version"), f"{name} {checks.library_version()}\n") for name in checks.PROGRAMS),
+)
+
+# What it prints on the standard error alone, with status 2.
+NO_FILE = "./nothing: No such file or directory (os error 2)"
+ERRORS = (
+    (("journal_list", "0"), "usage: journal_list [1..65536] [v9]"),
+    (("journal_list", "./nothing"), f"journal_list: {NO_FILE}"),
+    (("journal_list", "."), "journal_list: .: is a directory"),
+    (("journal_dump", "./nothing"), f"journal_dump: {NO_FILE}"),
+    (("journal_dump", "."), "journal_dump: .: is a directory"),
+    (("journal_diff", "-", "./nothing"), f"journal_diff: {NO_FILE}"),
+    (("journal_diff", ".", "-"), "journal_diff: .: is a directory"),
+)
+
+# What bash makes of the last word, with the completion of a program: the folder of the files, then the words.
+COMPLETE = """. "$1/$2.bash" && shift && COMP_WORDS=("$@") && COMP_CWORD=$(($# - 1)) &&
+"_$1" && printf "%s\\n" "${COMPREPLY[@]}" """
+
+# The function with which zsh completes a command: the folder of the files, then the command.
+ZSH = 'fpath=("$1" $fpath) && autoload -Uz compinit && compinit -D -u && print -r -- "$_comps[$2]"'
+
+# What the library alone has not, by a part of its path.
+OF_PROGRAMS = re.compile("^bin/|/man1/|completion|/zsh/")
+
+
+class Installation:
+    """What is installed below a folder, used in an empty environment."""
+
+    def __init__(self, check: checks.Check):
+        self.check = check
+        self.prefix = check.work / "a prefix"
+        self.calls = re.findall(r"^int64_t (journal_[a-z_]*)\(", pathlib.Path("include/pendratsoa.h").read_text(), re.M)
+        self.pages = (*checks.PROGRAMS, "pendratsoa", *self.calls)
+
+    def install(self, name: str, *words: str | pathlib.Path, **env: str) -> None:
+        """Counts a run of scripts/install.sh."""
+        path = {"PATH": os.environ["PATH"]}
+        self.check.command(name, ["sh", "scripts/install.sh", *words], env={**path, **env})
+
+    def programs(self) -> None:
+        """What the programs print, their errors and statuses."""
+        given = (STREAMS / "replay").read_bytes()
+        results = [
+            *((words, checks.Run(0, of.encode() if isinstance(of, str) else of.read_bytes(), b"")) for words, of in PRINTS),
+            *((words, checks.Run(2, b"", f"{line}\n".encode())) for words, line in ERRORS),
+        ]
+        for (name, *words), expected in results:
+            env = {"PATH": os.environ["PATH"]}
+            ended = checks.run([self.prefix / "bin" / name, *words], given, env, self.check.work)
+            self.check.case(f"{' '.join(map(str, (name, *words)))}, installed", ended == expected, ended)
+
+    def man_pages(self) -> None:
+        """Each program and each call has a man page, which man finds and mandoc finds nothing wrong with."""
+        pages = self.prefix / "share" / "man"
+        for name in self.pages:
+            self.check.case(f"the man page of {name}", any(pages.rglob(f"{name}.[13]")))
+        if self.check.has("man", "the man pages by man"):
+            env = {**os.environ, "LC_ALL": "C", "MANPATH": str(pages), "MANWIDTH": "80"}
+            for name in self.pages:
+                ended = checks.run(["man", "--warnings", name], env=env)
+                is_right = ended.status == 0 and not ended.err and name.encode() in ended.out
+                self.check.case(f"man {name}", is_right, ended)
+        if self.check.has("mandoc", "the man pages by mandoc"):
+            files = [*sorted((pages / "man1").glob("*.1")), pages / "man3" / "pendratsoa.3"]
+            self.check.command("mandoc -T lint", ["mandoc", "-T", "lint", *files])
+
+    def completed(self, *words: str) -> list[str]:
+        """What bash makes of the last word."""
+        folder = self.prefix / "share" / "bash-completion" / "completions"
+        return sorted(checks.run(["bash", "-c", COMPLETE, "bash", folder, *words]).out.decode().splitlines())
+
+    def bash(self) -> None:
+        """Completion in bash: the options are those that the program's help lists."""
+        if not self.check.has("bash", "completion in bash"):
+            return
+        for name in checks.PROGRAMS:
+            text = checks.run([self.prefix / "bin" / name, "--help"]).out.decode()
+            options = sorted(set(re.findall("--[a-z-]+", text)))
+            self.check.same(f"the options of {name} in bash", options, self.completed(name, "--"))
+            versions = [str(version) for version in range(5, 10)]
+            self.check.same(f"the versions of {name} in bash", versions, self.completed(name, "--protocol", ""))
+        types = sorted(list_stream.type_names().values())
+        self.check.same("the types of journal_dump in bash", types, self.completed("journal_dump", "--type", ""))
+        found = self.completed("journal_dump", "--type", "Inp")
+        self.check.same("a type of journal_dump in bash", ["InputCommand"], found)
+
+    def zsh(self) -> None:
+        """Completion in zsh is found, and can be read."""
+        if not self.check.has("zsh", "completion in zsh"):
+            return
+        folder = self.prefix / "share" / "zsh" / "site-functions"
+        env = {**os.environ, "HOME": str(self.check.work)}
+        for name in checks.PROGRAMS:
+            found = checks.run(["zsh", "-f", "-c", ZSH, "zsh", folder, name], env=env).out.decode()
+            self.check.same(f"zsh finds the completion of {name}", f"_{name}\n", found)
+            self.check.command(f"the completion of {name} for zsh", ["zsh", "-n", folder / f"_{name}"])
+
+    def below_destdir(self, names: list[str]) -> None:
+        """Below DESTDIR there is the same, and pkg-config's file has the place where it will be."""
+        root = self.check.work / "root"
+        if self.check.has("make", "make install"):
+            self.check.command("make install below DESTDIR", ["make", "install", "PREFIX=/usr", f"DESTDIR={root}"])
+        else:
+            self.install("install.sh below DESTDIR", "/usr", DESTDIR=str(root))
+        self.check.same("what is installed below DESTDIR", names, checks.names_below(root / "usr"))
+        file = (root / "usr" / "lib" / "pkgconfig" / "pendratsoa.pc").read_text()
+        self.check.case("the prefix below DESTDIR", "prefix=/usr" in file.splitlines(), file)
+        self.install("install.sh --uninstall below DESTDIR", "--uninstall", "/usr", DESTDIR=str(root))
+        left = checks.names_below(root)
+        self.check.case("nothing is left below DESTDIR", not left, left)
+
+
+def main(check: checks.Check) -> None:
+    for name in checks.PROGRAMS:
+        check.program(name)
+    check.static_library()
+    installation = Installation(check)
+    prefix = installation.prefix
+    other = prefix / "bin" / "other"
+    other.parent.mkdir(parents=True)
+    other.write_text("other\n")
+    installation.install("install.sh", prefix)
+    installation.install("install.sh again", prefix)
+    check.stop_if_failed()
+
+    installation.programs()
+    installation.man_pages()
+    installation.bash()
+    installation.zsh()
+    names = [name for name in checks.names_below(prefix) if name != "bin/other"]
+    installation.below_destdir(names)
+
+    # the library alone is the rest of it
+    library = check.work / "library"
+    installation.install("install.sh --library", "--library", library)
+    of_library = [name for name in names if not OF_PROGRAMS.search(name)]
+    check.same("what --library installs", of_library, checks.names_below(library))
+
+    # removed, and nothing but that
+    installation.install("install.sh --uninstall", "--uninstall", prefix)
+    check.same("what is there then", ["bin/other"], checks.names_below(prefix))
+
+
+if __name__ == "__main__":
+    checks.perform(main)
