@@ -104,8 +104,16 @@ pub struct Escaping<W> {
 }
 
 impl<W> Escaping<W> {
+    ghost use Rattle.std.specs.Prelude.{◌≡◌, if◌then◌else◌, Some, None};
+
     /// Writes to this writer, and escapes characters so, if it is a terminal.
-    pub fn new(alloc: Global, writer: W, escapes: Escapes, is_terminal: bool) -> Escaping<W> {
+    pub fn new(alloc: Global, writer: W, escapes: Escapes, is_terminal: bool) -> Escaping<W>
+        ensures { result ≡ record {
+          alloc = alloc;
+          writer = writer;
+          escapes = if is_terminal then Some escapes else None;
+        } }
+    {
         Escaping {
             alloc,
             writer,
