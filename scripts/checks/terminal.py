@@ -258,6 +258,24 @@ class Programs(unittest.TestCase):
         """What journal_diff says of a journal without messages."""
         return f"journal_diff: the {side} {rest}\njournal_diff: no message in the {side} journal; {version} 8?\n"
 
+    def test_rest(self):
+        for size, is_shown in (64, True), (65, False):
+            rest = WORK / "rest"
+            # a header of a message that is longer
+            rest.write_bytes(b"\x04\x00\0\0\0\0\xff\xff".ljust(size, b"x"))
+            said = f"journal_dump: offset 0: {size} bytes after the last whole item"
+            asked = "journal_dump: no message in it; is it a journal of version 8?\n"
+            _, piped, errors = run(DUMP, rest)
+            self.assertEqual(errors, f"{said}\n{asked}")
+            self.assertIn('"bytes":', piped)
+            _, shown, errors = run(DUMP, rest, out=True)
+            if is_shown:
+                self.assertEqual((shown, errors), (piped, f"{said}\n{asked}"))
+            else:
+                self.assertEqual(shown, f'{{"offset":0,"rest":{size}}}\n')
+                self.assertEqual(errors, f"{said}, not shown on a terminal\n{asked}")
+            self.assertNotIn("terminal", run(DUMP, "--no-payload", rest, out=True)[2])
+
     def test_closed_input(self):
         recorded = STREAMS / "recorded"
         cases = [

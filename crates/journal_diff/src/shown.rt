@@ -25,6 +25,7 @@ pub fn shown_text(
 }
 
 /// The lines of fields, as they end the text of a mismatch.
+#[tactic(auto, using(crate::proofs::ShownLines::one_more))]
 fn plain_lines(alloc: Global, fields: &[FieldDifference]) -> Result<String, AllocError>
     ensures { IfOk result (λ lines. string_bytes lines ≡ flat_map plain_line fields.now) }
 {
@@ -46,6 +47,7 @@ fn push_plain_line(lines: &mut String, field: &FieldDifference) -> Result<(), Al
 }
 
 /// The lines of fields, as a terminal shows them.
+#[tactic(auto, using(crate::proofs::ShownLines::one_more))]
 fn shown_lines(alloc: Global, fields: &[FieldDifference]) -> Result<String, AllocError>
     ensures { IfOk result (λ lines. string_bytes lines ≡ flat_map shown_line fields.now) }
 {
