@@ -218,7 +218,11 @@ $rest" '' --type GetLazyStateCompletionNotificationMessage,START -
 # Rejected arguments are named, with what is accepted.
 refused "invalid value '4' for '--protocol <VERSION>'" --protocol 4 replay
 refused '[possible values: 5, 6, 7, 8, 9]' --protocol 4 replay
-refused "no type has the name 'Nothing'; the types are Start, Suspension, " --type Nothing replay
+refused "no type has the name 'Nothing'; names are those of a dump, as InputCommand or CustomEntry(64513)" \
+  --type Nothing replay
+refused "no type has the name 'input'; did you mean InputCommand?" --type input replay
+refused "no type has the name 'Strat'; did you mean Start?" --type Strat replay
+refused "no type has the name 'SetStatCommandMessage'; did you mean SetStateCommand, " --type SetStatCommandMessage replay
 for name in CustomEntry 'CustomEntry(64513' 'CustomEntry(64513) ' ''; do
   refused "no type has the name '$name'" --type "$name" replay
 done

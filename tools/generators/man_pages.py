@@ -9,7 +9,7 @@ ABOUT = "The man pages of the programs and of the library for C."
 SOURCE = "docs/PROGRAMS.md, docs/C.md and include/pendratsoa.h"
 
 # The day on which the text of the pages last changed.
-DATE = "2026-11-25"
+DATE = "2026-11-26"
 
 PROGRAMS = ("journal_list", "journal_diff", "journal_dump", "journal_make")
 
@@ -146,6 +146,7 @@ def program_page(name):
         elif block.startswith("For example, "):
             part = "EXAMPLES"
         parts[part] += ".PP\n" + filled(block)
+    terminal = prose(section(read("docs/PROGRAMS.md"), "On a terminal")[0])
     others = [f".BR {other} (1)" for other in PROGRAMS if other != name] + [".BR pendratsoa (3)"]
     return page(
         name,
@@ -153,6 +154,7 @@ def program_page(name):
         ("NAME", title(name, heading.removeprefix(": "))),
         ("SYNOPSIS", as_it_is(synopsis[1])),
         *parts.items(),
+        ("ON A TERMINAL", terminal),
         ("SEE ALSO", " ,\n".join(others) + "\n"),
     )
 

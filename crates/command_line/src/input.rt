@@ -3,7 +3,7 @@
 use either::Either;
 use std::error::Error;
 use std::fs::File;
-use std::io::Stdin;
+use std::io::{Read, Stdin};
 use std::{fmt, fs, io};
 
 /// A file, or the standard input.
@@ -23,6 +23,7 @@ impl<'a> OpenError<'a> {
     }
 }
 
+// std says nothing of the text of the reason, so this has no output that a contract could name
 impl<'a> fmt::Display for OpenError<'a> {
     fn fmt<W: fmt::Write>(&self, f: &mut fmt::Formatter<W>) -> fmt::Result {
         write!(f, "{}: {}", self.path, self.reason)
@@ -40,6 +41,13 @@ pub fn open<'a>(rt: &HostRuntime, path: &'a str) -> Result<Input, OpenError<'a>>
         Ok(file) => Ok(Either::Left(file)),
         Err(reason) => Err(OpenError { path, reason }),
     }
+}
+
+/// Whether the standard input is open. If it is not, the first file that is opened takes its place, so this is asked
+/// before any is.
+pub fn is_stdin_open(rt: &HostRuntime) -> bool {
+    // a read of no bytes takes none, and fails if there is nothing to read from
+    rt.stdin().read(&mut []).is_ok()
 }
 
 /// Opens a file for reading. A directory is an error already here, and not only when it is read.

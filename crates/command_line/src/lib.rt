@@ -9,6 +9,7 @@ mod pipe;
 mod progress;
 mod protocol;
 mod terminal;
+mod terminal_text;
 
 ghost use Rattle.std.specs.Prelude.{◌≡◌};
 ghost use Rattle.std.specs.Process.{exit_status};
@@ -16,22 +17,36 @@ ghost use Rattle.std.specs.Process.{exit_status};
 pub use crate::arguments::{ArgumentsError, read_arguments};
 pub use crate::colors::{ColorChoice, Style, color_of, color_option, has_color, paint};
 pub use crate::definitions::{flag, operand};
-pub use crate::input::{Input, OpenError, input_size, open};
+pub use crate::input::{Input, OpenError, input_size, is_stdin_open, open};
 pub use crate::pipe::Pipe;
 pub use crate::progress::{Progress, Watched};
 pub use crate::protocol::{protocol_of, protocol_option};
+pub use crate::terminal_text::{Escapes, Escaping, is_steering, push_escaped};
 use clap::Error;
 use clap::error::ErrorKind;
 use std::fmt::Display;
-use std::io;
+use std::io::{self, IsTerminal, Write};
 use std::process::ExitCode;
 
-/// Prints `PROGRAM: WHY` in a line on the standard error, and returns the status.
+/// Prints `PROGRAM: TEXT` in a line on the standard error. If that is a terminal, what it may take as commands is
+/// escaped.
+pub fn note<T: Display + Drop>(rt: &HostRuntime, program: &str, text: T) {
+    let stderr = rt.stderr();
+    // there is nothing to do if the standard error fails too
+    if stderr.is_terminal() {
+        let mut output = Escaping::new(rt.alloc(), stderr, Escapes::Text, true);
+        let _ = write!(output, "{program}: {text}");
+        let _ = eprintln!(rt; "");
+    } else {
+        let _ = eprintln!(rt; "{program}: {text}");
+    }
+}
+
+/// Prints `PROGRAM: WHY` in a line on the standard error, as `note` does, and returns the status.
 pub fn fail<T: Display + Drop>(rt: &HostRuntime, program: &str, why: T, status: u8) -> ExitCode
     ensures { exit_status result ≡ status }
 {
-    // there is nothing to do if the standard error fails too
-    let _ = eprintln!(rt; "{program}: {why}");
+    note(rt, program, why);
     ExitCode::from(status)
 }
 
@@ -42,11 +57,15 @@ pub fn report(rt: &HostRuntime, program: &str, error: &Error, failure: u8) -> Ex
     if error.kind() == ErrorKind::OutOfMemory {
         return fail(rt, program, "out of memory", failure);
     }
-    let printed = error.print(rt);
     if error.use_stderr() {
+        let stderr = rt.stderr();
+        let is_terminal = stderr.is_terminal();
+        let mut output = Escaping::new(rt.alloc(), stderr, Escapes::Lines, is_terminal);
+        // there is nothing to do if the standard error fails
+        let _ = write!(output, "{error}");
         return ExitCode::from(2);
     }
-    match printed {
+    match error.print(rt) {
         Ok(()) => ExitCode::SUCCESS,
         Err(error) if error.kind() == io::ErrorKind::BrokenPipe => ExitCode::from(failure),
         Err(_) => fail(rt, program, "output failed", failure),

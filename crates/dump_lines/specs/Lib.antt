@@ -2,3 +2,4 @@ pub mod Lines
 pub mod Dump
 pub mod Canonical
 pub mod Spread
+pub mod Terminal

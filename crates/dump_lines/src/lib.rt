@@ -7,6 +7,8 @@ mod options;
 mod pretty;
 mod scratch;
 mod stream;
+mod terminal;
 
 pub use crate::options::Options;
 pub use crate::stream::dump;
+pub use crate::terminal::{MOST_SHOWN, dump_on_terminal};

@@ -2,3 +2,4 @@ pub mod Decimals
 pub mod Members
 pub mod Painting
 pub mod Reporting
+pub mod ShownLines

@@ -1,5 +1,7 @@
 -- What a comparison passes over, and which of it is reported or an error.
-use Rattle.std.specs.Prelude.{ℕ, Bool, List, ◌++◌, codes, decimal, ◌==◌, if◌then◌else◌, nat_eq, Option, Some, None}
+use Rattle.std.specs.Prelude.{ℕ, Bool, List, ◌++◌, codes, decimal, ◌==◌, ◌||◌, nat_lt, if◌then◌else◌, nat_eq, Option, Some, None}
+use Rattle.shared_core_base.specs.declared.version.Version.{Version}
+use Rattle.shared_core_base.specs.Version.{version_number}
 use Rattle.replay_bench.specs.declared.verdicts.Side.{Side}
 use Rattle.replay_bench.specs.declared.verdicts.Side.TheVariants.{Recorded, Replayed}
 use Rattle.replay_bench.specs.Texts.{side_text}
@@ -8,7 +10,7 @@ use Rattle.stream_survey.specs.declared.totals.Survey.{Survey}
 use Rattle.stream_survey.specs.Survey.{trouble_of}
 use Rattle.stream_survey.specs.Texts.{fault_text}
 use Rattle.journal_diff.specs.declared.passed_over.Note.{Note}
-use Rattle.journal_diff.specs.declared.passed_over.Note.TheVariants.{UnknownHeaders, Rest}
+use Rattle.journal_diff.specs.declared.passed_over.Note.TheVariants.{UnknownHeaders, Rest, NoItem}
 use Rattle.journal_diff.specs.declared.passed_over.Trouble.{Trouble}
 
 -- The text of what is wrong: the journal, where and why.
@@ -44,6 +46,8 @@ note_text (UnknownHeaders side count) =
     codes "the " ++ (side_text side ++ (codes " journal has " ++ (decimal count ++ (codes " unknown " ++ headers_word count))))
 note_text (Rest side count) =
     codes "the " ++ (side_text side ++ (codes " journal has " ++ (decimal count ++ (codes " " ++ (bytes_word count ++ codes " after its last whole item")))))
+note_text (NoItem side number) =
+    codes "no message in the " ++ (side_text side ++ (codes " journal; is it a journal of version " ++ (decimal number ++ codes "?")))
 
 -- The note on the unknown headers of a journal: their number, if there are any.
 abbrev pub unknown_note : Side → Survey → Option Note
@@ -52,3 +56,8 @@ unknown_note side survey = if survey.unknown == 0 then None else Some (UnknownHe
 -- The note on the bytes after the last whole item of a journal: their number, if there are any.
 abbrev pub rest_note : Side → Survey → Option Note
 rest_note side survey = if survey.rest == 0 then None else Some (Rest side survey.rest)
+
+-- The note on a journal that has bytes and no whole item: it may be something else, or of another version.
+abbrev pub no_item_note : Side → Version → Survey → Option Note
+no_item_note side version survey =
+    if survey.rest == 0 || nat_lt 0 survey.size then None else Some (NoItem side (version_number version))

@@ -12,10 +12,14 @@ use Rattle.replay_bench.specs.Verdicts.{ComparesKnown, IsComparison}
 use Rattle.journal_diff.specs.declared.diff.DiffError.{DiffError}
 use Rattle.journal_diff.specs.declared.diff.DiffError.TheVariants.{NoVerdict, Faulty, Output}
 use Rattle.journal_diff.specs.declared.diff.Findings.{Findings}
+use Rattle.journal_diff.specs.declared.diff.Form.{Form}
+use Rattle.journal_diff.specs.declared.diff.Form.TheVariants.{Text, Terminal, Json}
 use Rattle.journal_diff.specs.declared.passed_over.Trouble.{Trouble}
 use Rattle.command_line.specs.Painting.{IsPainted}
 use Rattle.journal_diff.specs.Json.{json_line}
 use Rattle.journal_diff.specs.PassedOver.{strict_trouble, trouble_text}
+use Rattle.journal_diff.specs.Shown.{shown_text}
+use Rattle.replay_bench.specs.declared.fields.FieldDifference.{FieldDifference}
 
 -- `command` or `commands`, by their number.
 abbrev pub commands_word : ℕ → List ℕ
@@ -29,9 +33,17 @@ verdict_line (ReplayedEnded index) = codes "replayed ends at command " ++ (decim
 verdict_line (TypeMismatch index text) = codes "command " ++ (decimal index ++ (codes ": " ++ (string_bytes text ++ codes "\n")))
 verdict_line (HeaderMismatch index text) = codes "command " ++ (decimal index ++ (codes ": " ++ (string_bytes text ++ codes "\n")))
 
--- The line of a comparison: of JSON, or of its verdict.
-abbrev pub found_line : Bool → Comparison → List ℕ
-found_line is_json found = if is_json then json_line found else verdict_line found.verdict
+-- The line of a verdict on a terminal, with the fields of the lines of its text.
+abbrev pub terminal_line : Verdict → List FieldDifference → List ℕ
+terminal_line (HeaderMismatch index text) fields =
+    codes "command " ++ (decimal index ++ (codes ": " ++ (shown_text (string_bytes text) fields ++ codes "\n")))
+terminal_line verdict fields = verdict_line verdict
+
+-- The line of a comparison, in its form.
+abbrev pub found_line : Form → Comparison → List ℕ
+found_line Text found = verdict_line found.verdict
+found_line Terminal found = terminal_line found.verdict found.fields.items
+found_line Json found = json_line found
 
 -- Whether a verdict is that the journals are the same.
 abbrev pub is_same : Verdict → Bool
@@ -55,11 +67,11 @@ findings_of found = record { is_same = is_same found.verdict; recorded = found.r
 
 -- What is written and returned for a comparison: its line, and its findings; nothing, if an allocation
 -- fails; or a prefix of the line, if the output failed.
-abbrev pub ReportsFound : Bool → Comparison → Result Findings DiffError → List ℕ → Type 0
-ReportsFound is_json found (Ok findings) written = (findings ≡ findings_of found) × (written ≡ found_line is_json found)
-ReportsFound is_json found (Err (NoVerdict why)) written = (why ≡ Bench OutOfMemory) × (written ≡ [])
-ReportsFound is_json found (Err (Faulty trouble)) written = ⊥
-ReportsFound is_json found (Err Output) written = (rest : List ℕ) × (found_line is_json found ≡ written ++ rest)
+abbrev pub ReportsFound : Form → Comparison → Result Findings DiffError → List ℕ → Type 0
+ReportsFound form found (Ok findings) written = (findings ≡ findings_of found) × (written ≡ found_line form found)
+ReportsFound form found (Err (NoVerdict why)) written = (why ≡ Bench OutOfMemory) × (written ≡ [])
+ReportsFound form found (Err (Faulty trouble)) written = ⊥
+ReportsFound form found (Err Output) written = (rest : List ℕ) × (found_line form found ≡ written ++ rest)
 
 -- Two journals have this comparison, and this is what is wrong with them, if that is an error.
 pub record HasFound (version : Version) (ignore is_strict : Bool) (recorded replayed : Option (List ℕ)) (found : Comparison) (trouble : Option Trouble) : Type 0 where
@@ -68,13 +80,13 @@ pub record HasFound (version : Version) (ignore is_strict : Bool) (recorded repl
 
 -- What a comparison of two readers' journals writes and returns: their verdict is reported, if nothing is wrong that is
 -- an error; or else nothing is written, and the error is what is wrong, or why there is no verdict.
-abbrev pub Reports : Version → Bool → Bool → Bool → Option (List ℕ) → Option (List ℕ) → Result Findings DiffError → List ℕ → Type 0
-Reports version ignore is_strict is_json recorded replayed (Err (NoVerdict why)) written =
+abbrev pub Reports : Version → Bool → Bool → Form → Option (List ℕ) → Option (List ℕ) → Result Findings DiffError → List ℕ → Type 0
+Reports version ignore is_strict form recorded replayed (Err (NoVerdict why)) written =
     ComparesKnown version ignore recorded replayed (Err why) × (written ≡ [])
-Reports version ignore is_strict is_json recorded replayed (Err (Faulty trouble)) written =
+Reports version ignore is_strict form recorded replayed (Err (Faulty trouble)) written =
     (found : Comparison) × HasFound version ignore is_strict recorded replayed found (Some trouble) × (written ≡ [])
-Reports version ignore is_strict is_json recorded replayed result written =
-    (found : Comparison) × HasFound version ignore is_strict recorded replayed found None × ReportsFound is_json found result written
+Reports version ignore is_strict form recorded replayed result written =
+    (found : Comparison) × HasFound version ignore is_strict recorded replayed found None × ReportsFound form found result written
 
 -- What is written and returned for a text with colors: the text in parts with their colors, and the findings; nothing,
 -- if an allocation fails; or a prefix of these parts, if the output failed.
@@ -86,13 +98,13 @@ WritesWithColors findings text (Err Output) written = (rest : List ℕ) × IsPai
 
 -- What a comparison with colors writes and returns: what it would write without them, with colors, and what it would
 -- return.
-abbrev pub ReportsWithColors : Version → Bool → Bool → Option (List ℕ) → Option (List ℕ) → Result Findings DiffError → List ℕ → Type 0
-ReportsWithColors version ignore is_strict recorded replayed (Ok findings) written =
-    (text : List ℕ) × Reports version ignore is_strict false recorded replayed (Ok findings) text × IsPainted text written
-ReportsWithColors version ignore is_strict recorded replayed (Err Output) written =
+abbrev pub ReportsWithColors : Version → Bool → Bool → Form → Option (List ℕ) → Option (List ℕ) → Result Findings DiffError → List ℕ → Type 0
+ReportsWithColors version ignore is_strict form recorded replayed (Ok findings) written =
+    (text : List ℕ) × Reports version ignore is_strict form recorded replayed (Ok findings) text × IsPainted text written
+ReportsWithColors version ignore is_strict form recorded replayed (Err Output) written =
     (findings : Findings) × (text rest : List ℕ)
-    × Reports version ignore is_strict false recorded replayed (Ok findings) text × IsPainted text (written ++ rest)
-ReportsWithColors version ignore is_strict recorded replayed (Err (NoVerdict why)) written =
-    Reports version ignore is_strict false recorded replayed (Err (NoVerdict why)) written
-ReportsWithColors version ignore is_strict recorded replayed (Err (Faulty trouble)) written =
-    Reports version ignore is_strict false recorded replayed (Err (Faulty trouble)) written
+    × Reports version ignore is_strict form recorded replayed (Ok findings) text × IsPainted text (written ++ rest)
+ReportsWithColors version ignore is_strict form recorded replayed (Err (NoVerdict why)) written =
+    Reports version ignore is_strict form recorded replayed (Err (NoVerdict why)) written
+ReportsWithColors version ignore is_strict form recorded replayed (Err (Faulty trouble)) written =
+    Reports version ignore is_strict form recorded replayed (Err (Faulty trouble)) written

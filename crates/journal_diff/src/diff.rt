@@ -5,12 +5,13 @@ ghost use Rattle.std.specs.Io.KnownBytes.{Appends};
 ghost use Rattle.std.specs.String.{string_bytes};
 ghost use Rattle.shared_core_base.specs.Version.{version_number};
 ghost use Rattle.journal_diff.specs.Verdicts.{Reports, ReportsFound, ReportsWithColors, WritesWithColors, IsWritten};
-ghost use Rattle.journal_diff.specs.Verdicts.{commands_word, found_line, is_same, verdict_line};
+ghost use Rattle.journal_diff.specs.Verdicts.{commands_word, found_line, is_same, terminal_line, verdict_line};
 
 use crate::colors::with_colors;
 use crate::json_line::json_line;
 use crate::passed_over::{Trouble, strict_trouble};
-use replay_bench::{BenchError, Comparison, ReaderError, Verdict, survey_readers};
+use crate::shown::shown_text;
+use replay_bench::{BenchError, Comparison, FieldDifference, ReaderError, Verdict, survey_readers};
 use shared_core::version::Version;
 use std::alloc::{AllocError, Global};
 use std::error::Error;
@@ -21,6 +22,17 @@ use stream_survey::Survey;
 
 /// The number of bytes that are read at a time.
 const CHUNK_SIZE: usize = 65536;
+
+/// How a verdict is written.
+#[derive(Debug, Clone, Copy, PartialEq, Eq, Drop)]
+pub enum Form {
+    /// As a text, as the journals and the error of an SDK have it.
+    Text,
+    /// As a text for a terminal, in which what comes from the journals is escaped.
+    Terminal,
+    /// As a line of JSON.
+    Json,
+}
 
 /// Why the verdict on two journals was not printed, or not whole.
 #[derive(Debug, Clone, Copy, PartialEq, Eq, Drop)]
@@ -86,8 +98,8 @@ pub struct Findings {
     pub replayed: Survey,
 }
 
-/// Compares two journals of a version, at least V5, from two readers, writes the verdict in a line, or in the lines of
-/// its text, or as a line of JSON, and returns what the journals have and whether they are the same.
+/// Compares two journals of a version, at least V5, from two readers, writes the verdict in this form, a text in one
+/// line or in several, and returns what the journals have and whether they are the same.
 ///
 /// Both are read to their ends. The line is written only once all of that is known and its whole text is made. If
 /// `is_strict`, an unknown header, a payload that is not well-formed, or bytes after the last whole item are an error:
@@ -100,13 +112,13 @@ pub fn diff<A: Read + Drop, B: Read + Drop, W: Write>(
     replayed: B,
     ignore_payloads: bool,
     is_strict: bool,
-    is_json: bool,
+    form: Form,
     output: &mut W,
 ) -> Result<Findings, DiffError>
     requires { 5 ≤ version_number version }
     ensures { (written : List ℕ)
         × Appends (W.contents output.old) (W.contents output.new) written
-        × Reports version ignore_payloads is_strict is_json
+        × Reports version ignore_payloads is_strict form
         (A.remaining recorded) (B.remaining replayed) result written }
 {
     let found = survey_readers(
@@ -121,10 +133,10 @@ pub fn diff<A: Read + Drop, B: Read + Drop, W: Write>(
     if let Some(trouble) = strict_trouble(is_strict, &found.recorded, &found.replayed) {
         return Err(DiffError::Faulty(trouble));
     }
-    report(alloc, found, is_json, output)
+    report(alloc, found, form, output)
 }
 
-/// The same with the verdict in colors, and never as JSON: its text is made whole, then painted, and then written.
+/// The same with the verdict in colors: its text is made whole, then painted, and then written.
 #[tactic(auto, using(crate::proofs::Reporting::reported_text, crate::proofs::Reporting::out_of_memory))]
 pub fn diff_with_colors<A: Read + Drop, B: Read + Drop, W: Write>(
     alloc: Global,
@@ -133,12 +145,13 @@ pub fn diff_with_colors<A: Read + Drop, B: Read + Drop, W: Write>(
     replayed: B,
     ignore_payloads: bool,
     is_strict: bool,
+    form: Form,
     output: &mut W,
 ) -> Result<Findings, DiffError>
     requires { 5 ≤ version_number version }
     ensures { (written : List ℕ)
         × Appends (W.contents output.old) (W.contents output.new) written
-        × ReportsWithColors version ignore_payloads is_strict
+        × ReportsWithColors version ignore_payloads is_strict form
         (A.remaining recorded) (B.remaining replayed) result written }
 {
     let mut text = Vec::new(alloc);
@@ -149,7 +162,7 @@ pub fn diff_with_colors<A: Read + Drop, B: Read + Drop, W: Write>(
         replayed,
         ignore_payloads,
         is_strict,
-        false,
+        form,
         &mut text,
     );
     match compared {
@@ -183,14 +196,14 @@ fn write_with_colors<W: Write>(
 fn report<W: Write>(
     alloc: Global,
     found: Comparison,
-    is_json: bool,
+    form: Form,
     output: &mut W,
 ) -> Result<Findings, DiffError>
     ensures { (written : List ℕ)
         × Appends (W.contents output.old) (W.contents output.new) written
-        × ReportsFound is_json found result written }
+        × ReportsFound form found result written }
 {
-    let line = found_line(alloc, is_json, &found)?;
+    let line = found_line(alloc, form, &found)?;
     write_text(output, line.as_slice())?;
     Ok(Findings {
         is_same: is_same(&found.verdict),
@@ -199,14 +212,32 @@ fn report<W: Write>(
     })
 }
 
-/// The line of a comparison: of JSON, or of its verdict.
-fn found_line(alloc: Global, is_json: bool, found: &Comparison) -> Result<Vec<u8>, AllocError>
-    ensures { IfOk result (λ line. line.items ≡ found_line is_json found.now) }
+/// The line of a comparison, in its form.
+fn found_line(alloc: Global, form: Form, found: &Comparison) -> Result<Vec<u8>, AllocError>
+    ensures { IfOk result (λ line. line.items ≡ found_line form found.now) }
 {
-    if is_json {
-        return json_line(alloc, found);
+    match form {
+        Form::Text => Ok(line_of(alloc, &found.verdict)?.into_bytes()),
+        Form::Terminal => terminal_line(alloc, &found.verdict, found.fields.as_slice()),
+        Form::Json => json_line(alloc, found),
     }
-    Ok(line_of(alloc, &found.verdict)?.into_bytes())
+}
+
+/// The line of a verdict on a terminal, with the fields of the lines of its text.
+fn terminal_line(
+    alloc: Global,
+    verdict: &Verdict,
+    fields: &[FieldDifference],
+) -> Result<Vec<u8>, AllocError>
+    ensures { IfOk result (λ line. line.items ≡ terminal_line verdict.now fields.now) }
+{
+    let Verdict::HeaderMismatch { index, text } = verdict else {
+        return Ok(line_of(alloc, verdict)?.into_bytes());
+    };
+    let mut line = format!(in alloc; "command {index}: ")?.into_bytes();
+    line.extend_from_slice(shown_text(alloc, text.as_str(), fields)?.as_slice())?;
+    line.extend_from_slice(b"\n")?;
+    Ok(line)
 }
 
 /// Whether a verdict is that the journals are the same.

@@ -2,8 +2,10 @@
 
 ghost use Rattle.std.specs.Prelude.{◌≡◌};
 ghost use Rattle.journal_diff.specs.PassedOver.{headers_word, bytes_word, rest_note, strict_trouble, unknown_note};
+ghost use Rattle.journal_diff.specs.PassedOver.{no_item_note};
 
 use replay_bench::Side;
+use shared_core::version::Version;
 use std::fmt;
 use stream_survey::{Fault, Survey};
 
@@ -57,6 +59,8 @@ pub enum Note {
     UnknownHeaders(Side, u128),
     /// This many bytes of it are after the last whole item.
     Rest(Side, u64),
+    /// It has bytes and no whole item, as if it were no journal of the version of this number.
+    NoItem(Side, u32),
 }
 
 /// Prints a sentence without a line feed.
@@ -77,6 +81,12 @@ impl fmt::Display for Note {
                 write!(
                     f,
                     "the {side} journal has {count} {word} after its last whole item"
+                )
+            }
+            Note::NoItem(side, number) => {
+                write!(
+                    f,
+                    "no message in the {side} journal; is it a journal of version {number}?"
                 )
             }
         }
@@ -115,4 +125,14 @@ pub fn rest_note(side: Side, survey: &Survey) -> Option<Note>
         return None;
     }
     Some(Note::Rest(side, survey.rest))
+}
+
+/// The note on a journal of a side that has bytes and no whole item.
+pub fn no_item_note(side: Side, version: Version, survey: &Survey) -> Option<Note>
+    ensures { result ≡ no_item_note side version survey.now }
+{
+    if survey.rest == 0 || survey.size > 0 {
+        return None;
+    }
+    Some(Note::NoItem(side, version.number()))
 }

@@ -3,6 +3,7 @@
 ghost use Rattle.std.specs.Prelude.{◌≤◌, IfOk};
 ghost use Rattle.shared_core_base.specs.Version.{version_number};
 
+use crate::suggestions::unknown_type;
 use clap::error::ErrorKind;
 use clap::{Arg, ArgAction, Command, Error};
 use command_line::{flag, operand, protocol_of, protocol_option};
@@ -59,18 +60,6 @@ fn custom_code(alloc: Global, name: &str) -> Result<Option<u16>, AllocError> {
 fn code_within(name: &str) -> Option<u16> {
     let digits = name.strip_prefix("CustomEntry(")?.strip_suffix(')')?;
     digits.parse().ok()
-}
-
-/// The error text for an unknown type name: the name, and the names of all types.
-fn unknown_type(alloc: Global, name: &str) -> Result<String, AllocError> {
-    let mut text = format!(in alloc; "no type has the name '{name}'; the types are")?;
-    for ty in MessageType::named() {
-        text.push(' ')?;
-        text.push_str(ty.variant_name())?;
-        text.push(',')?;
-    }
-    text.push_str(" and CustomEntry(CODE)")?;
-    Ok(text)
 }
 
 /// The clap definition of the command line.

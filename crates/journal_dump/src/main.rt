@@ -5,12 +5,15 @@ ghost use Rattle.std.specs.Prelude.{◌≤◌};
 ghost use Rattle.shared_core_base.specs.Version.{version_number};
 
 mod arguments;
+mod suggestions;
 
 use crate::arguments::{Arguments, parse_arguments};
 use command_line::{
-    Input, Pipe, Progress, Watched, fail, input_size, open, read_arguments, report,
+    Escapes, Escaping, Input, Pipe, Progress, Watched, fail, input_size, note, open,
+    read_arguments, report,
 };
-use dump_lines::{Options, dump};
+use dump_lines::{MOST_SHOWN, Options, dump, dump_on_terminal};
+use std::io::IsTerminal;
 use std::process::ExitCode;
 use stream_lines::{PrintError, Report, Trouble};
 
@@ -18,33 +21,60 @@ const PROGRAM: &str = "journal_dump";
 
 /// Reports the first trouble of the stream and the bytes that are in no item, and returns the status.
 fn end(rt: &HostRuntime, options: &Options<'_>, found: &Report) -> ExitCode {
-    // there is nothing to do if the standard error fails too
     if let Some((offset, trouble)) = found.trouble {
-        let _ = match trouble {
-            Trouble::UnknownCode(code) => {
-                eprintln!(rt;
-                    "{PROGRAM}: offset {offset}: unknown protocol.message code 0x{code:x}"
-                )
-            }
-            Trouble::Malformed(ty) => {
-                let name = ty.debug_name();
-                eprintln!(rt;
-                    "{PROGRAM}: offset {offset}: the payload of {name} is not well-formed"
-                )
-            }
-        };
+        report_trouble(rt, offset, trouble);
     }
     if found.rest > 0 {
-        let bytes = if found.rest == 1 { "byte" } else { "bytes" };
-        let _ = eprintln!(rt;
-            "{PROGRAM}: offset {}: {} {bytes} after the last whole item",
-            found.end, found.rest
-        );
+        report_rest(rt, options, found);
     }
     if options.strict && (found.trouble.is_some() || found.rest > 0) {
         return ExitCode::from(2);
     }
     ExitCode::SUCCESS
+}
+
+/// Reports what is wrong with the item at an offset.
+fn report_trouble(rt: &HostRuntime, offset: u128, trouble: Trouble) {
+    match trouble {
+        Trouble::UnknownCode(code) => note(
+            rt,
+            PROGRAM,
+            format_args!("offset {offset}: unknown protocol.message code 0x{code:x}"),
+        ),
+        Trouble::Malformed(ty) => {
+            let name = ty.debug_name();
+            note(
+                rt,
+                PROGRAM,
+                format_args!("offset {offset}: the payload of {name} is not well-formed"),
+            );
+        }
+    }
+}
+
+/// Reports the bytes that are in no item, and if they are all there is, that the stream may be something else.
+fn report_rest(rt: &HostRuntime, options: &Options<'_>, found: &Report) {
+    let (offset, count) = (found.end, found.rest);
+    let bytes = if count == 1 { "byte" } else { "bytes" };
+    let is_cut = options.payloads && count > MOST_SHOWN && rt.stdout().is_terminal();
+    let shown = if is_cut {
+        ", not shown on a terminal"
+    } else {
+        ""
+    };
+    note(
+        rt,
+        PROGRAM,
+        format_args!("offset {offset}: {count} {bytes} after the last whole item{shown}"),
+    );
+    if offset == 0 {
+        let version = options.version.number();
+        note(
+            rt,
+            PROGRAM,
+            format_args!("no message in it; is it a journal of version {version}?"),
+        );
+    }
 }
 
 /// Dumps the input, and returns the status.
@@ -61,8 +91,13 @@ fn run_parsed(rt: &HostRuntime, parsed: &Arguments<'_>, input: Input) -> ExitCod
     };
     let progress = Progress::beside_output(rt, PROGRAM, input_size(&input));
     let mut input = Watched::new(input, &progress);
-    let mut output = Pipe::new(rt.stdout());
-    let dumped = dump(rt.alloc(), &options, &mut input, &mut output);
+    let is_terminal = rt.stdout().is_terminal();
+    let mut output = Pipe::new(Escaping::new(rt.alloc(), rt.stdout(), Escapes::Json, is_terminal));
+    let dumped = if is_terminal {
+        dump_on_terminal(rt.alloc(), &options, &mut input, &mut output)
+    } else {
+        dump(rt.alloc(), &options, &mut input, &mut output)
+    };
     progress.clear();
     match dumped {
         Ok(found) => end(rt, &options, &found),

@@ -16,7 +16,7 @@ use crate::make::make;
 use command_line::{
     Input, Pipe, Progress, Watched, fail, input_size, open, read_arguments, report,
 };
-use std::io::Stdout;
+use std::io::{IsTerminal, Stdout};
 use std::process::ExitCode;
 
 const PROGRAM: &str = "journal_make";
@@ -57,6 +57,10 @@ fn main(rt: HostRuntime) -> ExitCode {
         Ok(parsed) => parsed,
         Err(error) => return report(&rt, PROGRAM, &error, 2),
     };
+    if rt.stdout().is_terminal() {
+        let why = "the stream is not written to a terminal: redirect it";
+        return fail(&rt, PROGRAM, why, 2);
+    }
     match open(&rt, parsed.path) {
         Ok(input) => run_parsed(&rt, &parsed, input),
         Err(error) => fail(&rt, PROGRAM, error, 2),

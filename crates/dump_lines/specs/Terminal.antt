@@ -1,0 +1,22 @@
+-- A dump on a terminal.
+use Rattle.std.specs.Prelude.{ℕ, false, if◌then◌else◌, nat_lt, List, length, Result, Option}
+use Rattle.stream_lines.specs.declared.error.PrintError.{PrintError}
+use Rattle.stream_lines.specs.declared.report.Report.{Report}
+use Rattle.stream_lines.specs.Printing.{ArePrinted}
+use Rattle.dump_lines.specs.declared.options.Options.{Options}
+use Rattle.dump_lines.specs.Dump.{IsLong, trouble_of}
+use Rattle.dump_lines.specs.Lines.{line_of, rest_line}
+
+-- The options of the last line on a terminal, for this many bytes in no item: more than 64 are left out.
+abbrev pub rest_options : Options → ℕ → Options
+rest_options options count = if nat_lt 64 count then record options { payloads = false } else options
+
+-- The last line on a terminal.
+abbrev pub shown_rest_line : Options → ℕ → List ℕ → List ℕ
+shown_rest_line options at rest = rest_line (rest_options options (length rest)) at rest
+
+-- For the bytes that were read, the lines of their items are written, as far as the result says; the last line is that
+-- of a terminal.
+abbrev pub IsShown : Options → Result Report PrintError → List ℕ → List ℕ → Option (List ℕ) → Type 0
+IsShown options result read written left =
+    ArePrinted (line_of options) (shown_rest_line options) (IsLong options) (trouble_of options) options.version result read written left
