@@ -68,8 +68,9 @@ class Installation:
     def programs(self) -> None:
         """What the programs print, their errors and statuses."""
         given = (STREAMS / "replay").read_bytes()
+        texts = [(words, of.encode() if isinstance(of, str) else of.read_bytes()) for words, of in PRINTS]
         results = [
-            *((words, checks.Run(0, of.encode() if isinstance(of, str) else of.read_bytes(), b"")) for words, of in PRINTS),
+            *((words, checks.Run(0, text, b"")) for words, text in texts),
             *((words, checks.Run(2, b"", f"{line}\n".encode())) for words, line in ERRORS),
         ]
         for (name, *words), expected in results:

@@ -45,7 +45,13 @@ class Lister:
         return checks.run(words, stream, kibibytes=kibibytes)
 
     def in_chunks(
-        self, name: str, stream: bytes, sizes: collections.abc.Iterable[int], held: int, times: int = 1, version: int = 8
+        self,
+        name: str,
+        stream: bytes,
+        sizes: collections.abc.Iterable[int],
+        held: int,
+        times: int = 1,
+        version: int = 8,
     ) -> list[str]:
         """Lists a stream in chunks of these sizes, and returns the lines. Beyond what the program needs for an empty
         stream it has a mebibyte, 160 bytes for each chunk of the most bytes that it has to hold, and a multiple of
