@@ -4,7 +4,9 @@ use crate::cases::SpokenVersion;
 use crate::payloads::decoded;
 use crate::verdict::{Failed, Verdict, copied};
 use bytes::Bytes;
-use shared_core::encoding::{Decoder, DecodingError, Encoder, RawMessage};
+use shared_core::encoding::{
+    ConsumeNext, DecodeMessage, Decoder, DecodingError, Encoder, RawMessage,
+};
 use shared_core::messages::{RestateEncodableMessage, RestateMessage};
 use std::alloc::Global;
 
