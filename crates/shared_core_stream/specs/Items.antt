@@ -2,7 +2,7 @@
 --
 -- A version decides how many bytes belong to a header, so each of these relations takes it. Only `body_length` and
 -- `item_of` depend on it, by whether it skips unknown messages. Versions 5 to 8 read headers alike.
-use Rattle.std.specs.Prelude.{◌≡◌, ℕ, ◌+◌, ◌^◌, ◌≤◌, if◌then◌else◌, List, [], ◌∷◌, ◌++◌, length, take, drop, Option, Some, None, Result, Ok, Err}
+use Rattle.std.specs.Prelude.{◌≡◌, ℕ, ◌+◌, ◌^◌, ◌≤◌, if◌then◌else◌, List, [], ◌∷◌, ◌++◌, length, take, drop}
 use Rattle.std.specs.Option.{option_map_or}
 use Rattle.std.specs.Int.{w64, from_be_bytes}
 use Rattle.shared_core_base.specs.declared.version.Version.{Version}
@@ -10,7 +10,6 @@ use Rattle.shared_core_base.specs.MessageHeader.{header_of, word_code, word_leng
 pub use Rattle.shared_core_base.specs.Version.{skips_unknown_messages}
 use Rattle.shared_core_stream.specs.declared.encoding.item.Item.{Item}
 use Rattle.shared_core_stream.specs.declared.encoding.item.Item.TheVariants.{Message, Unknown, Skipped}
-use Rattle.shared_core_stream.specs.declared.encoding.raw_message.RawMessage.{RawMessage}
 use Rattle.shared_core_stream.specs.declared.encoding.error.PushError.{PushError}
 use Rattle.shared_core_stream.specs.declared.encoding.error.PushError.TheVariants.{OutOfMemory as NoMemory, TooLong}
 

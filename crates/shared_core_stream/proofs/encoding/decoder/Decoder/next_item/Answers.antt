@@ -1,6 +1,7 @@
-use Rattle.std.proofs.Common.{refl, sym, ◌∙◌, ap, arith, []}
+use Rattle.std.proofs.Common.{refl, sym, ◌∙◌, ap, arith, [], length, length-append}
 use Rattle.std.proofs.lemmas.Result.{err_from_is_err_and}
 use Rattle.shared_core_stream.specs.declared.encoding.announced.Announced.TheVariants.{Message, Skipped, Unknown}
+use Rattle.shared_core_stream.specs.Unread.{held_bytes}
 use Rattle.shared_core_stream.proofs.Borrowed.{announces_at}
 use Rattle.shared_core_stream.proofs.Items.{none_partial, takes_announced}
 use Rattle.shared_core_stream.proofs.encoding.decoder.Decoder.next_item.Goals as goal
@@ -28,6 +29,7 @@ returns-in_default-taken-clause-taken c =
       none_partial _ _ _ _ _ c.in-Some.ensures.held.1 (sym (ap (λ u. u.bytes) c.self.view_is) ∙ c.in-Some.ensures.held.2) c.from_be_bytes.ensures
           (Message c.in-Message.header) says (rw c.message_length-length.ensures at none.0),
       rw (none.1, none.2) (c.hold_head.ensures.same ∙ ap (λ u. u.bytes) c.self.view_is),
+      omega (arith, length-append (held_bytes c.take_payload.new.head) c.take_payload.new.pending, ap (λ h. length (held_bytes h)) (none.1 ∙ c.in-Some.ensures.held.0), ap length none.2, none.0, c.in-Some.ensures.held.1),
     )
 
 pub returns-in-Some-taken-clause-taken : goal.returns-in-Some-taken-clause-taken
@@ -60,6 +62,7 @@ returns-in_default-skipped-clause-taken c =
       none_partial _ _ _ _ _ c.in-Some.ensures.held.1 (sym (ap (λ u. u.bytes) c.self.view_is) ∙ c.in-Some.ensures.held.2) c.from_be_bytes.ensures
           (Skipped c.in-Skipped.unknown c.in-Skipped.length) says none.0,
       rw (none.1, none.2) (c.hold_head.ensures.same ∙ ap (λ u. u.bytes) c.self.view_is),
+      omega (arith, length-append (held_bytes c.take_payload-in-Skipped.new.head) c.take_payload-in-Skipped.new.pending, ap (λ h. length (held_bytes h)) (none.1 ∙ c.in-Some.ensures.held.0), ap length none.2, none.0, c.in-Some.ensures.held.1),
     )
 
 pub returns-in-Some-skipped-clause-taken : goal.returns-in-Some-skipped-clause-taken
@@ -72,5 +75,5 @@ returns-in-Some-skipped-clause-taken c =
 pub returns-in-Unknown-clause-taken : goal.returns-in-Unknown-clause-taken
 returns-in-Unknown-clause-taken c =
     let says = announces_at _ _ _ _ _ c.self.view_is c.in-Unknown.ensures in
-    takes_announced _ _ _ _ _ c.in-Some.ensures.held.1 (sym (ap (λ u. u.bytes) c.self.view_is) ∙ c.in-Some.ensures.held.2) c.from_be_bytes.ensures
-    (Unknown c.in-Unknown.unknown) [] _ says (omega arith) refl refl
+    rw c.code-in-Unknown.ensures (takes_announced _ _ _ _ _ c.in-Some.ensures.held.1 (sym (ap (λ u. u.bytes) c.self.view_is) ∙ c.in-Some.ensures.held.2) c.from_be_bytes.ensures
+    (Unknown c.in-Unknown.unknown) [] _ says (omega arith) refl refl)
