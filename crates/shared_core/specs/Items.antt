@@ -26,8 +26,3 @@ abbrev pub TakesEight : List ℕ → Result (Option RawMessage) DecodingError �
 TakesEight old (Ok None) new = Unit {0}
 TakesEight old (Err OutOfMemory) new = Unit {0}
 TakesEight old returned new = length new + 8 ≤ length old
-
--- A rejected chunk is returned unchanged, and is too long only if the bytes would be 2 ^ 64 or more.
-abbrev pub PushFails : List ℕ → List ℕ → PushError → Type 0
-PushFails old chunk (NoMemory back) = back ≡ chunk
-PushFails old chunk (TooLong back) = (back ≡ chunk) × (2 ^ 64 ≤ length old + length chunk)
