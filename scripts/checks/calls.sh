@@ -160,7 +160,8 @@ same "the folders of tests/ and tests/README.md" "$work/values" "$work/lines"
 # Each public call of shared_core is in the tests of the public API. Those that it does not pass on, and those of
 # the private module pending_bytes, are none of it.
 grep -hoE '^ *pub fn [a-z_0-9]+' crates/shared_core/src/*.rt crates/shared_core/src/encoding/*.rt \
-  crates/shared_core/src/messages/*.rt crates/shared_core_errors/src/*.rt crates/shared_core_parts/src/conversions.rt \
+  crates/shared_core/src/messages/*.rt crates/shared_core_stream/src/*.rt crates/shared_core_stream/src/encoding/*.rt \
+  crates/shared_core_errors/src/*.rt crates/shared_core_parts/src/conversions.rt \
   crates/shared_core_parts/src/notification.rt crates/shared_core_base/src/error.rt crates/shared_core_base/src/header.rt \
   crates/shared_core_base/src/message_header.rt crates/shared_core_base/src/type_kinds.rt \
   crates/shared_core_base/src/values.rt crates/shared_core_base/src/version.rt |

@@ -3,9 +3,9 @@ use Rattle.std.proofs.Common.{◌≡◌, ℕ, ◌+◌, ◌*◌, ◌<◌, List, [
 use Rattle.std.proofs.lemmas.List.{take-append-drop, drop-drop}
 use Rattle.std.proofs.Math.Seq.{take-add}
 use Rattle.shared_core_base.specs.declared.version.Version.{Version}
-use Rattle.shared_core.specs.declared.encoding.item.Item.{Item}
-use Rattle.shared_core.specs.Items.{IsItem, NoItemBegins, TakesItem}
-use Rattle.shared_core.proofs.Items.{item_is_long}
+use Rattle.shared_core_stream.specs.declared.encoding.item.Item.{Item}
+use Rattle.shared_core_stream.specs.Items.{IsItem, NoItemBegins, TakesItem}
+use Rattle.shared_core_stream.proofs.Items.{item_is_long}
 use Rattle.bench_ffi.specs.Chunks.{Chunked, AreNeeded, TakesInChunks, arrived_after, untaken}
 
 abbrev stream_of : Version → List ℕ → List ℕ → ℕ → Chunked

@@ -5,10 +5,10 @@ use Rattle.shared_core_base.specs.declared.version.Version.{Version}
 use Rattle.shared_core_base.specs.declared.message_header.MessageHeader.{MessageHeader}
 use Rattle.shared_core_base.specs.declared.header.MessageType.{MessageType}
 use Rattle.shared_core_base.specs.MessageHeader.{header_of}
-use Rattle.shared_core.specs.declared.encoding.item.Item.{Item}
-use Rattle.shared_core.specs.declared.encoding.item.Item.TheVariants.{Message, Unknown, Skipped}
-use Rattle.shared_core.specs.Items.{IsItem, TakesItem, IsItemsThen, body_length, front_word, item_of, skips_unknown_messages}
-use Rattle.shared_core.proofs.Items.{then_takes}
+use Rattle.shared_core_stream.specs.declared.encoding.item.Item.{Item}
+use Rattle.shared_core_stream.specs.declared.encoding.item.Item.TheVariants.{Message, Unknown, Skipped}
+use Rattle.shared_core_stream.specs.Items.{IsItem, TakesItem, IsItemsThen, body_length, front_word, item_of, skips_unknown_messages}
+use Rattle.shared_core_stream.proofs.Items.{then_takes}
 use Rattle.journal_c_api.specs.declared.outcome.CallError.{CallError}
 use Rattle.journal_c_api.specs.declared.outcome.CallError.TheVariants.{Malformed, OutOfMemory}
 use Rattle.bench_ffi.specs.Streams.{item_word, HasWord, count_with, one_with, Decodes, AllDecode, DecodesItem, DecodesAll}

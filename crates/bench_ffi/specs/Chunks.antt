@@ -1,8 +1,8 @@
 -- A stream that comes in chunks.
 use Rattle.std.specs.Prelude.{◌≡◌, ℕ, ◌*◌, ◌-◌, ◌^◌, ◌<◌, List, [], ◌++◌, take, drop, Option, Some, None, ◌==◌, if◌then◌else◌}
 use Rattle.shared_core_base.specs.declared.version.Version.{Version}
-use Rattle.shared_core.specs.declared.encoding.item.Item.{Item}
-use Rattle.shared_core.specs.Items.{NoItemBegins, TakesItem}
+use Rattle.shared_core_stream.specs.declared.encoding.item.Item.{Item}
+use Rattle.shared_core_stream.specs.Items.{NoItemBegins, TakesItem}
 
 -- A stream as contracts see it: its version, its pending bytes, those that are still to come, and how many of these a
 -- chunk has.

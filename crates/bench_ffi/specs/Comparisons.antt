@@ -1,9 +1,9 @@
 -- The result of the call on commands.
 use Rattle.std.specs.Prelude.{◌≡◌, ℕ, ◌*◌, ◌^◌, ◌≤◌, List, Option, Result, Ok, Err}
 use Rattle.shared_core_base.specs.declared.version.Version.{Version}
-use Rattle.shared_core.specs.declared.encoding.item.Item.{Item}
-use Rattle.shared_core.specs.declared.encoding.item.Item.TheVariants.{Message}
-use Rattle.shared_core.specs.Items.{IsItemsThen, SplitsInto}
+use Rattle.shared_core_stream.specs.declared.encoding.item.Item.{Item}
+use Rattle.shared_core_stream.specs.declared.encoding.item.Item.TheVariants.{Message}
+use Rattle.shared_core_stream.specs.Items.{IsItemsThen, SplitsInto}
 use Rattle.shared_core.specs.Visiting.{command_schema}
 use Rattle.journal_c_api.specs.declared.outcome.CallError.{CallError}
 use Rattle.journal_c_api.specs.declared.outcome.CallError.TheVariants.{Malformed, OutOfMemory, TooLong}

@@ -10,7 +10,7 @@ ghost use Rattle.bench_ffi.specs.Comparisons.{ComparesItem, ComparesPayload, Hol
 use crate::chunked_stream::ChunkedStream;
 use bytes::Bytes;
 use journal_c_api::outcome::{CallError, version_of};
-use shared_core::encoding::{Item, RawMessage};
+use shared_core::encoding::{DecodeMessage, Item, RawMessage};
 use shared_core::messages::{
     CommandMessage, CommandMessageHeaderEq, CommandVisitor, visit_command,
 };

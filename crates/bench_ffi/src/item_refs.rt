@@ -2,7 +2,7 @@
 
 ghost use Rattle.std.specs.Prelude.{◌≡◌, ◌≤◌};
 ghost use Rattle.shared_core_base.specs.Version.{version_number};
-ghost use Rattle.shared_core.specs.Borrowed.{item_borrowed};
+ghost use Rattle.shared_core_stream.specs.Borrowed.{item_borrowed};
 ghost use Rattle.bench_ffi.specs.Streams.{HasWord, ReturnsItems, WritesWords, item_word};
 
 use crate::rounds::repeated;

@@ -5,7 +5,7 @@ ghost use Rattle.shared_core_message.specs.Messages.{message_schema};
 ghost use Rattle.bench_ffi.specs.Streams.{DecodesPayload};
 
 use journal_c_api::outcome::CallError;
-use shared_core::encoding::RawMessage;
+use shared_core::encoding::{DecodeMessage, RawMessage};
 use shared_core::messages::{MessageVisitor, RestateEncodableMessage, visit_message};
 use std::alloc::Global;
 use std::fmt::Debug;

@@ -1,8 +1,8 @@
 -- What is written when a dump ends.
 use Rattle.std.specs.Prelude.{◌≡◌, ℕ, Bool, true, if◌then◌else◌, List, Result, Option, Some, None}
 use Rattle.shared_core_base.specs.MessageType.{code_of}
-use Rattle.shared_core.specs.declared.encoding.item.Item.{Item}
-use Rattle.shared_core.specs.declared.encoding.item.Item.TheVariants.{Message, Unknown, Skipped}
+use Rattle.shared_core_stream.specs.declared.encoding.item.Item.{Item}
+use Rattle.shared_core_stream.specs.declared.encoding.item.Item.TheVariants.{Message, Unknown, Skipped}
 use Rattle.shared_core.specs.Visiting.{schema_at}
 use Rattle.shared_core_wire.specs.Acceptance.{accepts_payload}
 use Rattle.shared_core_codec.specs.Table as schema

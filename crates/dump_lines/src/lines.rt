@@ -8,7 +8,7 @@ ghost use Rattle.dump_lines.specs.Spread.{AreGood, tokens_text};
 ghost use Rattle.json.specs.Token.{key, number, boolean, end_object};
 ghost use Rattle.json.specs.Token as token;
 ghost use Rattle.json.specs.Tree.{json_tokens, members_tokens};
-ghost use Rattle.shared_core.specs.declared.encoding.item.Item.TheVariants as variant;
+ghost use Rattle.shared_core_stream.specs.declared.encoding.item.Item.TheVariants as variant;
 ghost use Rattle.shared_core_base.specs.MessageType.{debug_name_of};
 ghost use Rattle.dump_lines.specs.Canonical.{IsLongFor};
 ghost use Rattle.dump_lines.specs.declared.lines.Form.TheVariants.{Encoded};

@@ -5,10 +5,10 @@ use Rattle.std.proofs.lemmas.List.{length-take-le}
 use Rattle.shared_core_base.specs.declared.message_header.MessageHeader.{MessageHeader}
 use Rattle.shared_core_base.specs.declared.version.Version.{Version}
 use Rattle.shared_core_base.specs.MessageHeader.{ack_bit, header_of}
-use Rattle.shared_core.specs.declared.encoding.item_ref.ItemRef.{ItemRef}
-use Rattle.shared_core.specs.Borrowed.{IsAtFront, IsMissing, item_borrowed, missing_bytes}
-use Rattle.shared_core.specs.Items.{front_word, skips_unknown_messages, body_length, item_of}
-use Rattle.shared_core.proofs.Items.{front_word_more}
+use Rattle.shared_core_stream.specs.declared.encoding.item_ref.ItemRef.{ItemRef}
+use Rattle.shared_core_stream.specs.Borrowed.{IsAtFront, IsMissing, item_borrowed, missing_bytes}
+use Rattle.shared_core_stream.specs.Items.{front_word, skips_unknown_messages, body_length, item_of}
+use Rattle.shared_core_stream.proofs.Items.{front_word_more}
 use Rattle.journal_c_api.specs.Outcomes.{written_over}
 use Rattle.journal_c_api.specs.Items.{item_kind, item_code, item_ack, item_payload, item_numbers, FindsItem}
 

@@ -3,10 +3,10 @@ use Rattle.std.specs.Prelude.{◌≡◌, ℕ, ◌-◌, ◌<◌, ◌≤◌, List,
 use Rattle.shared_core_base.specs.declared.version.Version.{Version}
 use Rattle.shared_core_base.specs.MessageHeader.{ack_bit}
 use Rattle.shared_core_base.specs.MessageType.{code_of}
-use Rattle.shared_core.specs.declared.encoding.item.Item.{Item}
-use Rattle.shared_core.specs.declared.encoding.item.Item.TheVariants.{Message, Unknown as UnknownCode, Skipped}
-use Rattle.shared_core.specs.Items.{front_word, IsItem, NoItemBegins}
-use Rattle.shared_core.specs.Borrowed.{missing_bytes}
+use Rattle.shared_core_stream.specs.declared.encoding.item.Item.{Item}
+use Rattle.shared_core_stream.specs.declared.encoding.item.Item.TheVariants.{Message, Unknown as UnknownCode, Skipped}
+use Rattle.shared_core_stream.specs.Items.{front_word, IsItem, NoItemBegins}
+use Rattle.shared_core_stream.specs.Borrowed.{missing_bytes}
 use Rattle.journal_c_api.specs.declared.outcome.CallError.{CallError}
 use Rattle.journal_c_api.specs.declared.outcome.CallError.TheVariants.{NoRoom, Unknown}
 use Rattle.journal_c_api.specs.Outcomes.{supported_version, written_over}

@@ -1,7 +1,7 @@
 //! The items of a stream, as numbers.
 
 ghost use Rattle.std.specs.Prelude.{◌≡◌, ◌+◌, ◌∷◌, [], length};
-ghost use Rattle.shared_core.specs.Borrowed.{item_borrowed};
+ghost use Rattle.shared_core_stream.specs.Borrowed.{item_borrowed};
 ghost use Rattle.journal_c_api.specs.Items.{FindsItem, WritesNext, item_ack, item_code, item_kind};
 
 use crate::outcome::{CallError, version_of, write_over};

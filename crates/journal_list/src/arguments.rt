@@ -7,7 +7,7 @@ use crate::options::options;
 use clap::error::ErrorKind;
 use clap::{Command, Error};
 use command_line::{operand, protocol_of, protocol_option};
-use shared_core::version::Version;
+use shared_core_base::version::Version;
 use std::alloc::{AllocError, Global};
 
 /// The parsed command line.

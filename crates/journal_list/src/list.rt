@@ -9,8 +9,8 @@ ghost use Rattle.journal_list.specs.Listing.{ack_text, line_of, IsListed};
 ghost use Rattle.journal_list.specs.Listing as text;
 
 use crate::error::ListError;
-use shared_core::encoding::{Decoder, Item};
-use shared_core::version::Version;
+use shared_core_base::version::Version;
+use shared_core_stream::encoding::{Decoder, Item};
 use std::alloc::{AllocError, Global};
 use std::io::{Read, Write};
 use stream_lines::{LinePrinter, PrintError, Trouble, print_lines};

@@ -5,7 +5,7 @@ ghost use Rattle.shared_core_base.specs.Version.{version_number};
 ghost use Rattle.shared_core_base.specs.declared.version.Version.{Version as AnyVersion};
 ghost use Rattle.journal_list.specs.Options.{IsChunkSize, AreOptions};
 
-use shared_core::version::Version;
+use shared_core_base::version::Version;
 
 const DEFAULT_CHUNK_SIZE: usize = 4096;
 

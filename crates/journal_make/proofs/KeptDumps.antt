@@ -14,11 +14,11 @@ use Rattle.shared_core_codec.specs.Table.{table}
 use Rattle.shared_core_codec.specs.Payloads.{payload_meaning}
 use Rattle.shared_core_codec.specs.Canonicity.{IsCanonical}
 use Rattle.shared_core_json_reader.proofs.LawOfJson.{back_bytes}
-use Rattle.shared_core.specs.declared.encoding.item.Item.{Item}
-use Rattle.shared_core.specs.declared.encoding.item.Item.TheVariants.{Unknown, Skipped}
+use Rattle.shared_core_stream.specs.declared.encoding.item.Item.{Item}
+use Rattle.shared_core_stream.specs.declared.encoding.item.Item.TheVariants.{Unknown, Skipped}
 use Rattle.shared_core.specs.Visiting.{schema_at}
 use Rattle.dump_lines.specs.declared.options.Options.{Options}
-use Rattle.shared_core.specs.Items.{front_word, item_of, IsItem, AreItems}
+use Rattle.shared_core_stream.specs.Items.{front_word, item_of, IsItem, AreItems}
 use Rattle.stream_lines.specs.Printing.{item_size, items_size, lines as printed_lines, all_lines}
 use Rattle.dump_lines.specs.Lines.{line_of, rest_line}
 use Rattle.journal_make.specs.Made.{AreLines, both}

@@ -18,11 +18,11 @@ use Rattle.shared_core_base.specs.MessageType.{type_of}
 use Rattle.shared_core_json.specs.Form.{byte_string_json}
 use Rattle.shared_core_json_reader.proofs.LawOfJson.{back_bytes}
 use Rattle.shared_core_json_reader.proofs.ScalarsBack.{byte_string_back, byte_string_there}
-use Rattle.shared_core.specs.declared.encoding.item.Item.{Item}
-use Rattle.shared_core.specs.declared.encoding.item.Item.TheVariants.{Message, Unknown, Skipped}
+use Rattle.shared_core_stream.specs.declared.encoding.item.Item.{Item}
+use Rattle.shared_core_stream.specs.declared.encoding.item.Item.TheVariants.{Message, Unknown, Skipped}
 use Rattle.shared_core.specs.Visiting.{schema_at}
 use Rattle.dump_lines.specs.declared.options.Options.{Options}
-use Rattle.shared_core.specs.Items.{front_word, item_of, IsItem, AreItems}
+use Rattle.shared_core_stream.specs.Items.{front_word, item_of, IsItem, AreItems}
 use Rattle.stream_lines.specs.Printing.{item_size, items_size, lines}
 use Rattle.dump_lines.specs.Lines.{item_json, item_code, is_selected, json_line, line_of, rest_members, rest_line}
 use Rattle.journal_make.specs.Lines.{line_made}
@@ -32,7 +32,7 @@ use Rattle.journal_make.proofs.LineMembers.{rest_is, no_rest_is}
 use Rattle.journal_make.proofs.ItemsBack.{bytes_there}
 use Rattle.journal_make.proofs.LineTexts.{rest_texts}
 use Rattle.journal_make.proofs.ItemLines.{MadeLine, as_made, item_made, typed_item, other_item, other_length_of}
-use Rattle.shared_core.proofs.Items.{front_word_more}
+use Rattle.shared_core_stream.proofs.Items.{front_word_more}
 use Rattle.journal_make.proofs.LineSplits.{Means, nothing_means, line_means}
 
 -- ---- lines

@@ -3,7 +3,7 @@
 
 use anyhow::Result;
 use bytes::Bytes;
-use shared_core::encoding::{Decoder, Encoder, Item};
+use shared_core::encoding::{DecodeMessage, Decoder, Encoder, Item};
 use shared_core::header::MessageType;
 use shared_core::messages::{EndMessage, SetStateCommandMessage, Value};
 use shared_core::version::Version;

@@ -2,7 +2,7 @@
 use Rattle.std.proofs.Common.{◌≡◌, ℕ, ◌+◌, Bool, true, false, List, [], ◌∷◌, Option, Some, None, Ok, Err, refl, inl, inr}
 use Rattle.std.specs.Prelude.{MatchOption, is_some}
 use Rattle.shared_core_base.specs.declared.version.Version.{Version}
-use Rattle.shared_core.specs.declared.encoding.raw_message.RawMessage.{RawMessage}
+use Rattle.shared_core_stream.specs.declared.encoding.raw_message.RawMessage.{RawMessage}
 use Rattle.replay_bench.specs.declared.mismatches.Found.{Found}
 use Rattle.replay_bench.specs.declared.verdicts.Verdict.{Verdict}
 use Rattle.replay_bench.specs.declared.verdicts.BenchError.{BenchError}

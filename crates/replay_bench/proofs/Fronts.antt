@@ -2,11 +2,11 @@
 use Rattle.std.proofs.Common.{◌≡◌, ℕ, List, [], ◌∷◌, ◌++◌, Option, Some, None, refl, sym, ap, ◌∙◌, subst, append_assoc, append-nil}
 use Rattle.std.specs.Io.KnownBytes.{IsAtEnd, prepend_known}
 use Rattle.shared_core_base.specs.declared.version.Version.{Version}
-use Rattle.shared_core.specs.declared.encoding.item.Item.{Item}
-use Rattle.shared_core.specs.declared.encoding.raw_message.RawMessage.{RawMessage}
-use Rattle.shared_core.specs.Items.{NoItemBegins, TakesItem}
-use Rattle.shared_core.proofs.Items.{takes_more, split_of}
-use Rattle.shared_core.proofs.Splits.{none_is_all_rest, taken_comes_first}
+use Rattle.shared_core_stream.specs.declared.encoding.item.Item.{Item}
+use Rattle.shared_core_stream.specs.declared.encoding.raw_message.RawMessage.{RawMessage}
+use Rattle.shared_core_stream.specs.Items.{NoItemBegins, TakesItem}
+use Rattle.shared_core_stream.proofs.Items.{takes_more, split_of}
+use Rattle.shared_core_stream.proofs.Splits.{none_is_all_rest, taken_comes_first}
 use Rattle.replay_bench.specs.Journals.{IsJournal, command_of, commands_among, with_first}
 use Rattle.replay_bench.specs.Taking.{GivesChunk, HasNoCommand, LeadsTo, TakesFirst}
 

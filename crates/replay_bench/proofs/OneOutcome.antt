@@ -19,11 +19,11 @@ use Rattle.shared_core_message.specs.Messages.{message_schema}
 use Rattle.shared_core_compare.specs.Differences.{difference}
 use Rattle.shared_core_compare.specs.Erasure.{erased}
 use Rattle.shared_core_errors.specs.Mismatch.{command_type_mismatch_text}
-use Rattle.shared_core.specs.declared.encoding.item.Item.{Item}
-use Rattle.shared_core.specs.declared.encoding.item.Item.TheVariants.{Message, Unknown, Skipped}
-use Rattle.shared_core.specs.declared.encoding.raw_message.RawMessage.{RawMessage}
+use Rattle.shared_core_stream.specs.declared.encoding.item.Item.{Item}
+use Rattle.shared_core_stream.specs.declared.encoding.item.Item.TheVariants.{Message, Unknown, Skipped}
+use Rattle.shared_core_stream.specs.declared.encoding.raw_message.RawMessage.{RawMessage}
 use Rattle.shared_core.specs.Errors.{command_mismatch_text}
-use Rattle.shared_core.proofs.Items.{split_is_unique}
+use Rattle.shared_core_stream.proofs.Items.{split_is_unique}
 use Rattle.replay_bench.specs.declared.verdicts.Side.{Side}
 use Rattle.replay_bench.specs.declared.verdicts.Side.TheVariants.{Recorded, Replayed}
 use Rattle.replay_bench.specs.Outcomes.{Outcome, SameCommands, RecordedEnds, ReplayedEnds, OtherType, OtherCommand, NotWellFormed}

@@ -12,7 +12,7 @@ use Rattle.shared_core_message.specs.Messages.{message_schema}
 use Rattle.shared_core_compare.specs.Differences.{difference, differing_fields}
 use Rattle.shared_core_compare.specs.Erasure.{AreSame, erased}
 use Rattle.shared_core_errors.specs.Mismatch.{command_type_mismatch_text}
-use Rattle.shared_core.specs.declared.encoding.raw_message.RawMessage.{RawMessage}
+use Rattle.shared_core_stream.specs.declared.encoding.raw_message.RawMessage.{RawMessage}
 use Rattle.shared_core.specs.Errors.{command_mismatch_text}
 use Rattle.shared_core.specs.Typed.{MeansParts}
 use Rattle.replay_bench.specs.declared.fields.FieldDifference.{FieldDifference}

@@ -6,11 +6,11 @@ use Rattle.std.proofs.KnownBytes.{Consumes-nil, Consumes-trans}
 use Rattle.shared_core_base.specs.declared.version.Version.{Version}
 use Rattle.shared_core_base.specs.declared.command_type.CommandType.{CommandType}
 use Rattle.shared_core_base.specs.CommandType.{command_type_of}
-use Rattle.shared_core.specs.declared.encoding.item.Item.{Item}
-use Rattle.shared_core.specs.declared.encoding.item.Item.TheVariants.{Message, Unknown, Skipped}
-use Rattle.shared_core.specs.declared.encoding.raw_message.RawMessage.{RawMessage}
-use Rattle.shared_core.specs.Items.{IsItemsThen, NoItemBegins, SplitsInto, TakesItem}
-use Rattle.shared_core.proofs.Items.{then_more, then_start, then_takes}
+use Rattle.shared_core_stream.specs.declared.encoding.item.Item.{Item}
+use Rattle.shared_core_stream.specs.declared.encoding.item.Item.TheVariants.{Message, Unknown, Skipped}
+use Rattle.shared_core_stream.specs.declared.encoding.raw_message.RawMessage.{RawMessage}
+use Rattle.shared_core_stream.specs.Items.{IsItemsThen, NoItemBegins, SplitsInto, TakesItem}
+use Rattle.shared_core_stream.proofs.Items.{then_more, then_start, then_takes}
 use Rattle.stream_lines.specs.Printing.{items_size}
 use Rattle.stream_lines.proofs.Progress.{then_long}
 use Rattle.stream_survey.specs.declared.totals.Survey.{Survey}

@@ -2,8 +2,8 @@
 use Rattle.std.specs.Prelude.{◌≡◌, ℕ, ◌<◌, ◌^◌, Bool, true, false, List, [], length, count_by, Option, Some, None}
 use Rattle.std.specs.Io.KnownBytes.{Consumes, IsAtEnd}
 use Rattle.shared_core_base.specs.declared.version.Version.{Version}
-use Rattle.shared_core.specs.declared.encoding.item.Item.{Item}
-use Rattle.shared_core.specs.Items.{IsItemsThen, NoItemBegins}
+use Rattle.shared_core_stream.specs.declared.encoding.item.Item.{Item}
+use Rattle.shared_core_stream.specs.Items.{IsItemsThen, NoItemBegins}
 use Rattle.stream_survey.specs.declared.totals.Survey.{Survey}
 use Rattle.stream_survey.specs.Survey.{IsSurvey, is_command, last_command, survey_of}
 use Rattle.replay_bench.specs.declared.verdicts.Side.{Side}

@@ -10,7 +10,7 @@ use Rattle.shared_core_message.specs.Messages.{message_schema}
 use Rattle.shared_core_compare.specs.Differences.{difference}
 use Rattle.shared_core_compare.specs.Erasure.{AreSame}
 use Rattle.shared_core_errors.specs.Mismatch.{command_type_mismatch_text}
-use Rattle.shared_core.specs.declared.encoding.raw_message.RawMessage.{RawMessage}
+use Rattle.shared_core_stream.specs.declared.encoding.raw_message.RawMessage.{RawMessage}
 use Rattle.shared_core.specs.Errors.{command_mismatch_text}
 use Rattle.replay_bench.specs.declared.verdicts.Side.{Side}
 use Rattle.replay_bench.specs.declared.verdicts.Side.TheVariants.{Recorded, Replayed}

@@ -5,7 +5,7 @@ ghost use Rattle.std.specs.Prelude.{is_none, is_some, if◌then◌else◌};
 ghost use Rattle.std.specs.Prelude.{length, IfErr, IfOk, IfSome, MatchOption, OnOk, IsErrOf, None};
 ghost use Rattle.std.specs.Io.KnownBytes.{prepend_known};
 ghost use Rattle.shared_core_base.specs.Version.{version_number};
-ghost use Rattle.shared_core.specs.Items.{NoItemBegins};
+ghost use Rattle.shared_core_stream.specs.Items.{NoItemBegins};
 ghost use Rattle.replay_bench.specs.Journals.{command_of, IsCommand};
 ghost use Rattle.replay_bench.specs.Reading.{HasItems, HasRead, HasReadOn, HasReadSome, IsKnownSurvey, IsNew};
 ghost use Rattle.replay_bench.specs.Taking.{known_length, HasNoCommand, LeadsTo};

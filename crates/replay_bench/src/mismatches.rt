@@ -9,7 +9,7 @@ ghost use Rattle.replay_bench.specs.Verdicts.{ReturnsPair, IsPair, bench_error_o
 
 use crate::fields::{FieldDifference, list_fields};
 use crate::verdicts::{BenchError, Side, Verdict};
-use shared_core::encoding::RawMessage;
+use shared_core::encoding::{DecodeMessage, RawMessage};
 use shared_core::errors::{CommandMismatchError, CommandTypeMismatchError};
 use shared_core::messages::{CommandMessage, CommandVisitor, schema_at, visit_command};
 use shared_core::version::Version;

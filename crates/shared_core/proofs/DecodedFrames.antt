@@ -19,14 +19,14 @@ use Rattle.shared_core_runtime.specs.Versions.{proposal_form, suspension_form}
 use Rattle.shared_core_runtime.proofs.FlattenedFits.{flattened_fits, flattened_levels}
 use Rattle.shared_core.specs.declared.encoding.error.DecodingError.{DecodingError}
 use Rattle.shared_core.specs.declared.encoding.error.DecodingError.TheVariants.{UnknownMessageType, SkippedMessage, OutOfMemory}
-use Rattle.shared_core.specs.declared.encoding.item.Item.{Item}
-use Rattle.shared_core.specs.declared.encoding.item.Item.TheVariants.{Message, Unknown, Skipped}
-use Rattle.shared_core.specs.declared.encoding.raw_message.RawMessage.{RawMessage}
+use Rattle.shared_core_stream.specs.declared.encoding.item.Item.{Item}
+use Rattle.shared_core_stream.specs.declared.encoding.item.Item.TheVariants.{Message, Unknown, Skipped}
+use Rattle.shared_core_stream.specs.declared.encoding.raw_message.RawMessage.{RawMessage}
 use Rattle.shared_core.specs.Decoded.{ReturnsWritten, DecodesTo, FrameEncodes, IsFrameOf, requested_ack_of}
 use Rattle.shared_core.specs.Items.{ReturnsNext, IsItem, TakesItem}
 use Rattle.shared_core.specs.Typed.{IsCanonical}
 use Rattle.shared_core.specs.Written.{item_written}
-use Rattle.shared_core.proofs.Items.{one_item as items_are_prefix_free}
+use Rattle.shared_core_stream.proofs.Items.{one_item as items_are_prefix_free}
 use Rattle.shared_core.proofs.Frames.{frame_is_item}
 use Rattle.shared_core.proofs.TypedPayloads.{written_means}
 

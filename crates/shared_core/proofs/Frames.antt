@@ -14,7 +14,7 @@ use Rattle.shared_core_base.proofs.Types.{type_of_code}
 use Rattle.shared_core_message.specs.Frames.{WireForm, wire_payload, wire_frame, header_of_payload}
 use Rattle.shared_core.specs.Items.{IsItem, AreItems, IsItemsThen, front_word, item_of}
 use Rattle.shared_core.specs.Written.{header_read, item_written, joined_frames, items_written, AreFrames}
-use Rattle.shared_core.proofs.Items.{announces_message, front_word_head, drop_exact}
+use Rattle.shared_core_stream.proofs.Items.{announces_message, front_word_head, drop_exact}
 
 -- a word by its three numbers
 word_parts : (code ack size : ℕ) → ack < 2 → size < 2 ^ 32 → ((code * 2 ^ 48 + ack * 2 ^ 47 + size) / 2 ^ 48 ≡ code) × ((code * 2 ^ 48 + ack * 2 ^ 47 + size) / 2 ^ 47 % 2 ≡ ack) × ((code * 2 ^ 48 + ack * 2 ^ 47 + size) % 2 ^ 32 ≡ size)

@@ -1,9 +1,4 @@
-pub mod Items
-pub mod Borrowed
-pub mod Segments
-pub mod Equality
 pub mod TypedPayloads
 pub mod Frames
 pub mod Views
 pub mod DecodedFrames
-pub mod Splits

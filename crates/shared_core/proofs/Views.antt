@@ -21,7 +21,7 @@ use Rattle.shared_core_message.specs.Messages.{message_schema}
 use Rattle.shared_core_parts.specs.declared.notification.Notification.{Notification}
 use Rattle.shared_core_parts.specs.contracts.notification_template.IdOneOf.TheImpl as ids
 use Rattle.shared_core_parts.specs.contracts.notification_template.ResultOneOf.TheImpl as results
-use Rattle.shared_core.specs.declared.encoding.raw_message.RawMessage.{RawMessage}
+use Rattle.shared_core_stream.specs.declared.encoding.raw_message.RawMessage.{RawMessage}
 use Rattle.shared_core.specs.declared.encoding.error.DecodingError.{DecodingError}
 use Rattle.shared_core.specs.declared.encoding.error.DecodingError.TheVariants.{DecodeMessage, OutOfMemory}
 use Rattle.shared_core.specs.TemplateParts.{template_parts}

@@ -8,9 +8,9 @@ use Rattle.shared_core_codec.specs.Payloads.{IsReadBack}
 use Rattle.shared_core_message.specs.Frames.{WireForm, wire_frame, wire_payload}
 use Rattle.shared_core.specs.declared.encoding.error.DecodingError.{DecodingError}
 use Rattle.shared_core.specs.declared.encoding.error.DecodingError.TheVariants.{OutOfMemory}
-use Rattle.shared_core.specs.declared.encoding.raw_message.RawMessage.{RawMessage}
-use Rattle.shared_core.specs.declared.encoding.item.Item.{Item}
-use Rattle.shared_core.specs.declared.encoding.item.Item.TheVariants.{Message}
+use Rattle.shared_core_stream.specs.declared.encoding.raw_message.RawMessage.{RawMessage}
+use Rattle.shared_core_stream.specs.declared.encoding.item.Item.{Item}
+use Rattle.shared_core_stream.specs.declared.encoding.item.Item.TheVariants.{Message}
 use Rattle.shared_core.specs.Items.{ReturnsNext, IsItem}
 use Rattle.shared_core.specs.Typed.{IsCanonical, MeansParts}
 use Rattle.shared_core.specs.Written.{item_written}

@@ -4,13 +4,10 @@ use Rattle.std.specs.Fmt.{digits, signed_decimal}
 use Rattle.shared_core_base.specs.declared.header.MessageType.{MessageType}
 use Rattle.shared_core_base.specs.CommandType.{message_type_text}
 use Rattle.shared_core_base.specs.MessageType.{debug_name_of, unknown_type_text}
+-- Re-exported, so that a caller cites them by this crate's name.
+pub use Rattle.shared_core_stream.specs.Errors.{push_error_text, pieces_error_text, missing_bytes_text}
 use Rattle.shared_core_errors.specs.Mismatch.{mismatch_head, command_type_mismatch_text}
 use Rattle.shared_core.specs.declared.encoding.error.DecodingError.{DecodingError}
-use Rattle.shared_core.specs.declared.encoding.error.PiecesError.{PiecesError}
-use Rattle.shared_core.specs.declared.encoding.error.PiecesError.TheVariants as chunks
-use Rattle.shared_core.specs.declared.encoding.error.PushError.{PushError}
-use Rattle.shared_core.specs.declared.encoding.error.PushError.TheVariants as push
-use Rattle.shared_core.specs.declared.encoding.item_ref.MissingBytes.{MissingBytes}
 use Rattle.shared_core.specs.declared.encoding.error.DecodingError.TheVariants.{DecodeMessage, UnexpectedMessageType, MissingField, UnknownMessageType, SkippedMessage, OutOfMemory}
 
 -- The text of a mismatch of two commands of a type at a command index, with their difference.
@@ -43,18 +40,3 @@ decoding_error_code (MissingField expected field) = 500
 decoding_error_code (UnknownMessageType unknown) = 500
 decoding_error_code (SkippedMessage code payload) = 500
 decoding_error_code OutOfMemory = 500
-
--- The text of the error of a rejected chunk.
-abbrev pub push_error_text : PushError → List ℕ
-push_error_text (push.OutOfMemory back) = codes "out of memory"
-push_error_text (push.TooLong back) = codes "more than 2^64 - 1 bytes are pending"
-
--- The text of the error of chunks that were not decoded.
-abbrev pub pieces_error_text : PiecesError → List ℕ
-pieces_error_text chunks.TooLong = codes "the chunks have more than 2^64 - 1 bytes"
-pieces_error_text chunks.OutOfMemory = codes "out of memory"
-
--- The text of the error of bytes that do not begin with a whole item.
-abbrev pub missing_bytes_text : MissingBytes → List ℕ
-missing_bytes_text missing =
-    codes "at least " ++ (decimal missing.count ++ codes " bytes are missing of an item")

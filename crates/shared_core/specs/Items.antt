@@ -1,89 +1,14 @@
--- The items of a stream: which bytes encode an item, and how a stream splits into items and a rest.
---
--- A version decides how many bytes belong to a header, so each of these relations takes it. Only `body_length` and
--- `item_of` depend on it, by whether it skips unknown messages. Versions 5 to 8 read headers alike.
-use Rattle.std.specs.Prelude.{◌≡◌, ℕ, ◌+◌, ◌^◌, ◌≤◌, if◌then◌else◌, List, [], ◌∷◌, ◌++◌, length, take, drop, Option, Some, None, Result, Ok, Err}
-use Rattle.std.specs.Option.{option_map_or}
-use Rattle.std.specs.Int.{w64, from_be_bytes}
+-- What `consume_next` returns, over the items of a stream.
+use Rattle.std.specs.Prelude.{◌≡◌, ℕ, ◌+◌, ◌≤◌, List, length, Option, Some, None, Result, Ok, Err}
 use Rattle.shared_core_base.specs.declared.version.Version.{Version}
-use Rattle.shared_core_base.specs.MessageHeader.{header_of, word_code, word_length}
-pub use Rattle.shared_core_base.specs.Version.{skips_unknown_messages}
-use Rattle.shared_core.specs.declared.encoding.item.Item.{Item}
-use Rattle.shared_core.specs.declared.encoding.item.Item.TheVariants.{Message, Unknown, Skipped}
-use Rattle.shared_core.specs.declared.encoding.item.Taken.{Taken}
-use Rattle.shared_core.specs.declared.encoding.item.Taken.TheVariants as taken
-use Rattle.shared_core.specs.declared.encoding.raw_message.RawMessage.{RawMessage}
+use Rattle.shared_core_stream.specs.declared.encoding.item.Item.TheVariants.{Message, Unknown, Skipped}
+use Rattle.shared_core_stream.specs.declared.encoding.raw_message.RawMessage.{RawMessage}
+-- Re-exported, so that a caller cites the definitions of items by this crate's name.
+pub use Rattle.shared_core_stream.specs.Items.{skips_unknown_messages, front_word, body_length, item_of}
+pub use Rattle.shared_core_stream.specs.Items.{IsItem, AreItems, TakesItem, NoItemBegins, IsItemsThen, SplitsInto}
+pub use Rattle.shared_core_stream.specs.Items.{BeginsWithWritten, HasPayload, PayloadIsNext, PushFails}
 use Rattle.shared_core.specs.declared.encoding.error.DecodingError.{DecodingError}
 use Rattle.shared_core.specs.declared.encoding.error.DecodingError.TheVariants.{UnknownMessageType, SkippedMessage, OutOfMemory}
-use Rattle.shared_core.specs.declared.encoding.error.PushError.{PushError}
-use Rattle.shared_core.specs.declared.encoding.error.PushError.TheVariants.{OutOfMemory as NoMemory, TooLong}
-
--- The number that the first eight bytes encode, the first byte highest.
-unfoldable pub front_word : List ℕ → ℕ
-front_word bytes = from_be_bytes w64 (take 8 bytes)
-
--- The number of bytes of an item after its first eight: the length in its header; for a code that is no type's, the
--- length in its word if the version skips such a message, otherwise 0.
-unfoldable pub body_length : Version → ℕ → ℕ
-body_length version word =
-    option_map_or (λ header. header.length) (header_of word) (if skips_unknown_messages version then word_length word else 0)
-
--- The item that a word and the bytes after it are: a message with its payload; or a code that is no type's, with its
--- payload if the version skips such a message, otherwise alone.
-unfoldable pub item_of : Version → ℕ → List ℕ → Item
-item_of version word body =
-    option_map_or (λ header. Message (record { header = header; payload = body })) (header_of word)
-    (if skips_unknown_messages version then Skipped (word_code word) body else Unknown (word_code word))
-
--- The item that a decoder has taken.
-abbrev pub item_taken : Taken → Item
-item_taken (taken.Message message) = Message message
-item_taken (taken.Unknown unknown) = Unknown unknown.0
-item_taken (taken.Skipped code payload) = Skipped code payload
-
--- The bytes encode the item: eight whose word says what it is, and as many after them as that word says.
-pub record IsItem (version : Version) (bytes : List ℕ) (item : Item) : Type 0 where
-  pub whole : length bytes ≡ 8 + body_length version (front_word bytes)
-  pub means : item ≡ item_of version (front_word bytes) (drop 8 bytes)
-
--- The bytes are encodings of these items, one after the other.
-abbrev pub AreItems : Version → List ℕ → List Item → Type 0
-AreItems version bytes [] = bytes ≡ []
-AreItems version bytes (item ∷ items) =
-    (first : List ℕ) × (others : List ℕ) × IsItem version first item × AreItems version others items × (bytes ≡ first ++ others)
-
--- An item is at the front of the old bytes, and the new bytes are those after it.
-abbrev pub TakesItem : Version → List ℕ → Item → List ℕ → Type 0
-TakesItem version old item new = (first : List ℕ) × IsItem version first item × (old ≡ first ++ new)
-
--- No whole item is at the front of the bytes.
-abbrev pub NoItemBegins : Version → List ℕ → Type 0
-NoItemBegins version bytes = (item : Item) (rest : List ℕ) → TakesItem version bytes item rest → ⊥
-
--- The stream is encodings of these items, and after them these bytes.
-pub record IsItemsThen (version : Version) (stream : List ℕ) (items : List Item) (rest : List ℕ) : Type 0 where
-  pub front : List ℕ
-  pub encoded : AreItems version front items
-  pub whole : stream ≡ front ++ rest
-
--- The stream splits into these items and a rest that no item begins.
-pub record SplitsInto (version : Version) (stream : List ℕ) (items : List Item) (rest : List ℕ) : Type 0 where
-  pub items_then : IsItemsThen version stream items rest
-  pub no_more : NoItemBegins version rest
-
--- Whatever items were written at the front of the stream, and whatever follows them, the list begins with them.
-abbrev pub BeginsWithWritten : Version → List ℕ → List Item → Type 0
-BeginsWithWritten version stream items =
-    (written : List Item) (rest : List ℕ) → IsItemsThen version stream written rest → (others : List Item) × (items ≡ written ++ others)
-
--- The item has a payload, which may be empty.
-abbrev pub HasPayload : Item → Type 0
-HasPayload (Unknown code) = ⊥
-HasPayload item = Unit {0}
-
--- A whole item with a payload is next.
-abbrev pub PayloadIsNext : Version → List ℕ → Type 0
-PayloadIsNext version bytes = (item : Item) × (rest : List ℕ) × TakesItem version bytes item rest × HasPayload item
 
 -- What a result says of the bytes before the call, and which bytes are left: the next message is taken; no item is
 -- whole; an unknown code's eight bytes are taken; a skipped message is taken; or an allocation failed for a whole
@@ -101,8 +26,3 @@ abbrev pub TakesEight : List ℕ → Result (Option RawMessage) DecodingError �
 TakesEight old (Ok None) new = Unit {0}
 TakesEight old (Err OutOfMemory) new = Unit {0}
 TakesEight old returned new = length new + 8 ≤ length old
-
--- A rejected chunk is returned unchanged, and is too long only if the bytes would be 2 ^ 64 or more.
-abbrev pub PushFails : List ℕ → List ℕ → PushError → Type 0
-PushFails old chunk (NoMemory back) = back ≡ chunk
-PushFails old chunk (TooLong back) = (back ≡ chunk) × (2 ^ 64 ≤ length old + length chunk)

@@ -1,8 +1,4 @@
-pub mod Unread
 pub mod Items
-pub mod Borrowed
-pub mod Iteration
-pub mod Segments
 pub mod Errors
 pub mod Typed
 pub mod Written
@@ -20,6 +16,10 @@ pub use Rattle.shared_core_base.specs.MessageHeader
 pub use Rattle.shared_core_base.specs.MessageType
 pub use Rattle.shared_core_base.specs.Values
 pub use Rattle.shared_core_base.specs.Version
+pub use Rattle.shared_core_stream.specs.Borrowed
+pub use Rattle.shared_core_stream.specs.Iteration
+pub use Rattle.shared_core_stream.specs.Segments
+pub use Rattle.shared_core_stream.specs.Unread
 pub use Rattle.shared_core_wire.specs.Acceptance
 pub use Rattle.shared_core_wire.specs.Canonical
 pub use Rattle.shared_core_wire.specs.Encoding
@@ -50,6 +50,7 @@ pub use Rattle.shared_core_errors.specs.Mismatch
 pub use Rattle.shared_core_errors.specs.Uncompleted
 -- The types of the crates below that are called by this one.
 pub use Rattle.shared_core_base.specs.declared as base_types
+pub use Rattle.shared_core_stream.specs.declared as stream_types
 pub use Rattle.shared_core_wire.specs.declared as wire_types
 pub use Rattle.shared_core_codec.specs.declared as codec_types
 pub use Rattle.shared_core_parts.specs.declared as parts_types

@@ -8,7 +8,7 @@ use Rattle.shared_core_wire.specs.Laws.{IsWritable}
 use Rattle.shared_core_codec.specs.Table.{table}
 use Rattle.shared_core_codec.specs.Payloads.{IsAccepted, payload_meaning}
 use Rattle.shared_core_errors.specs.declared.command_type_mismatch.CommandTypeMismatchError.{CommandTypeMismatchError}
-use Rattle.shared_core.specs.declared.encoding.raw_message.RawMessage.{RawMessage}
+use Rattle.shared_core_stream.specs.declared.encoding.raw_message.RawMessage.{RawMessage}
 use Rattle.shared_core.specs.declared.encoding.error.DecodingError.{DecodingError}
 use Rattle.shared_core.specs.declared.encoding.error.DecodingError.TheVariants.{DecodeMessage, UnexpectedMessageType, OutOfMemory}
 

@@ -5,8 +5,8 @@ use Rattle.shared_core_base.specs.declared.message_header.MessageHeader.{Message
 use Rattle.shared_core_base.specs.MessageType.{allows_ack, IsNamed}
 use Rattle.shared_core_base.specs.MessageHeader.{ack_bit}
 use Rattle.shared_core_message.specs.Frames.{WireForm, wire_payload, wire_size, wire_frame}
-use Rattle.shared_core.specs.declared.encoding.item.Item.{Item}
-use Rattle.shared_core.specs.declared.encoding.item.Item.TheVariants.{Message}
+use Rattle.shared_core_stream.specs.declared.encoding.item.Item.{Item}
+use Rattle.shared_core_stream.specs.declared.encoding.item.Item.TheVariants.{Message}
 
 -- The header that is read from a frame: its flag is read where the type allows one.
 abbrev pub header_read : MessageType → WireForm → MessageHeader

@@ -1,23 +1,16 @@
-//! Streams of frames: the decoder, which takes a stream in chunks; its items and messages; the items of a slice; and
-//! the encoder.
+//! Streams of frames: the decoder, which takes a stream in chunks; its items and messages, and messages decoded; the
+//! items of a slice; and the encoder.
 
-mod announced;
-mod chunks;
-mod decoder;
+mod consume_next;
+mod decode_message;
 mod encoder;
 mod error;
-mod item;
-mod item_ref;
-mod item_refs;
-mod items;
-mod raw_message;
 
-pub use crate::encoding::chunks::decode_pieces;
-pub use crate::encoding::decoder::Decoder;
+pub use crate::encoding::consume_next::ConsumeNext;
+pub use crate::encoding::decode_message::DecodeMessage;
 pub use crate::encoding::encoder::Encoder;
-pub use crate::encoding::error::{DecodingError, PiecesError, PushError};
-pub use crate::encoding::item::Item;
-pub use crate::encoding::item_ref::{ItemKind, ItemRef, MissingBytes};
-pub use crate::encoding::item_refs::ItemRefs;
-pub use crate::encoding::items::Items;
-pub use crate::encoding::raw_message::RawMessage;
+pub use crate::encoding::error::DecodingError;
+pub use shared_core_stream::encoding::{
+    Decoder, Item, ItemKind, ItemRef, ItemRefs, Items, MissingBytes, PiecesError, PushError,
+    RawMessage, decode_pieces,
+};

@@ -8,7 +8,6 @@ pub mod errors;
 pub mod fmt;
 pub mod laws;
 pub mod messages;
-mod pending_bytes;
 pub mod wire;
 
 pub use shared_core_base::command_type::CommandType;

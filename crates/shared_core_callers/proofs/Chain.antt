@@ -5,7 +5,7 @@ use Rattle.shared_core.specs.base_types.version.Version.{Version}
 use Rattle.shared_core.specs.Canonical.{levels}
 use Rattle.shared_core.specs.Frames.{WireForm}
 use Rattle.shared_core.specs.declared.encoding.error.DecodingError.{DecodingError}
-use Rattle.shared_core.specs.declared.encoding.raw_message.RawMessage.{RawMessage}
+use Rattle.shared_core.specs.stream_types.encoding.raw_message.RawMessage.{RawMessage}
 use Rattle.shared_core.specs.Decoded.{ReturnsWritten}
 use Rattle.shared_core.specs.Items.{ReturnsNext}
 use Rattle.shared_core.specs.Unread.{Unread}

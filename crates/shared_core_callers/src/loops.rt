@@ -1,6 +1,6 @@
 //! A caller's loop over the messages that have come.
 
-use shared_core::encoding::{Decoder, DecodingError};
+use shared_core::encoding::{ConsumeNext, Decoder, DecodingError};
 use std::alloc::Global;
 
 /// Takes all messages that are whole, and returns the lengths of their payloads. It ends, since each message takes

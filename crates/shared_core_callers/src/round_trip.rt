@@ -7,7 +7,9 @@ ghost use Rattle.shared_core.specs.Canonical.{levels};
 ghost use Rattle.shared_core.specs.Frames.{wire_size};
 
 use shared_core::Version;
-use shared_core::encoding::{Decoder, DecodingError, Encoder, PushError};
+use shared_core::encoding::{
+    ConsumeNext, DecodeMessage, Decoder, DecodingError, Encoder, PushError,
+};
 use shared_core::messages::{EncodingError, RestateEncodableMessage};
 use std::alloc::Global;
 

@@ -3,14 +3,14 @@ use Rattle.std.proofs.Common.{ℕ, ◌+◌, ◌-◌, ◌<◌, ◌≤◌, drop, S
 use Rattle.std.specs.Io.KnownBytes.{Appends, Consumes, IsAtEnd}
 use Rattle.std.proofs.KnownBytes.{Appends-nil, Appends-trans, Consumes-nil, Consumes-trans, Consumes-kept}
 use Rattle.shared_core_base.specs.declared.version.Version.{Version}
-use Rattle.shared_core.specs.declared.encoding.item.Item.{Item}
+use Rattle.shared_core_stream.specs.declared.encoding.item.Item.{Item}
 use Rattle.std.specs.Option.{option_map_or}
 use Rattle.shared_core_base.specs.declared.message_header.MessageHeader.{MessageHeader}
 use Rattle.shared_core_base.specs.MessageHeader.{header_of, word_code, word_length}
-use Rattle.shared_core.specs.declared.encoding.item.Item.TheVariants.{Message, Unknown, Skipped}
-use Rattle.shared_core.specs.Items.{AreItems, NoItemBegins, IsItem, IsItemsThen, SplitsInto, front_word, body_length, item_of, skips_unknown_messages}
+use Rattle.shared_core_stream.specs.declared.encoding.item.Item.TheVariants.{Message, Unknown, Skipped}
+use Rattle.shared_core_stream.specs.Items.{AreItems, NoItemBegins, IsItem, IsItemsThen, SplitsInto, front_word, body_length, item_of, skips_unknown_messages}
 use Rattle.std.proofs.lemmas.List.{drop-drop}
-use Rattle.shared_core.proofs.Items.{drop_exact, front_word_more, item_is_long, nothing_begins_with_none, then_start, then_join, then_more, split_of, split_begins}
+use Rattle.shared_core_stream.proofs.Items.{drop_exact, front_word_more, item_is_long, nothing_begins_with_none, then_start, then_join, then_more, split_of, split_begins}
 use Rattle.std.specs.Option.{option_or}
 use Rattle.stream_lines.specs.declared.report.Report.{Report}
 use Rattle.stream_lines.specs.declared.report.Trouble.{Trouble}

@@ -1,13 +1,13 @@
 //! The trait of printers, which make the lines of items.
 
 ghost use Rattle.std.specs.Prelude.{◌≡◌, ◌++◌, ℕ, List, Option, IfErr, OnOk};
-ghost use Rattle.shared_core.specs.declared.encoding.item.Item.{Item as AnyItem};
+ghost use Rattle.shared_core_stream.specs.declared.encoding.item.Item.{Item as AnyItem};
 ghost use Rattle.stream_lines.specs.Printing.{IsLack};
 ghost use Rattle.stream_lines.specs.declared.report.Trouble.{Trouble as AnyTrouble};
 
 use crate::error::PrintError;
 use crate::report::Trouble;
-use shared_core::encoding::{Decoder, Item};
+use shared_core_stream::encoding::{Decoder, Item};
 use std::alloc::{AllocError, Global};
 
 /// Makes the lines of items.

@@ -4,8 +4,8 @@ ghost use Rattle.std.specs.Prelude.{◌≡◌, ◌+◌, ◌<◌, ◌≤◌, ◌-
 ghost use Rattle.std.specs.Prelude.{MatchOption};
 ghost use Rattle.std.specs.Io.KnownBytes.{Appends, Consumes};
 ghost use Rattle.shared_core_base.specs.Version.{version_number};
-ghost use Rattle.shared_core.specs.Items.{front_word, NoItemBegins, SplitsInto, TakesItem};
-ghost use Rattle.shared_core.specs.declared.encoding.item.Item.{Item as AnyItem};
+ghost use Rattle.shared_core_stream.specs.Items.{front_word, NoItemBegins, SplitsInto, TakesItem};
+ghost use Rattle.shared_core_stream.specs.declared.encoding.item.Item.{Item as AnyItem};
 ghost use Rattle.std.specs.Option.{option_or};
 ghost use Rattle.stream_lines.specs.Printing.{lines, most_pending, ArePrinted, IsLack, IsLongIn, IsRead};
 ghost use Rattle.stream_lines.specs.Printing.{trouble_at, first_trouble};
@@ -15,8 +15,8 @@ use crate::line_printer::LinePrinter;
 use crate::output::write_whole;
 use crate::report::{Report, Trouble};
 use bytes::Bytes;
-use shared_core::encoding::{Decoder, Item, PushError};
-use shared_core::version::Version;
+use shared_core_base::version::Version;
+use shared_core_stream::encoding::{Decoder, Item, PushError};
 use std::alloc::{AllocError, Global};
 use std::io::{Read, Write};
 

@@ -1,6 +1,6 @@
 //! The report on a stream.
 
-use shared_core::header::MessageType;
+use shared_core_base::header::MessageType;
 
 /// What is wrong with an item.
 #[derive(Clone, Copy, Debug, PartialEq, Eq, Drop)]

@@ -4,9 +4,9 @@ use Rattle.shared_core_base.specs.declared.version.Version.{Version}
 use Rattle.shared_core_base.specs.CommandType.{command_type_of}
 use Rattle.shared_core_wire.specs.Acceptance.{accepts_payload}
 use Rattle.shared_core_codec.specs.Table.{table}
-use Rattle.shared_core.specs.declared.encoding.item.Item.{Item}
-use Rattle.shared_core.specs.declared.encoding.item.Item.TheVariants.{Message, Unknown, Skipped}
-use Rattle.shared_core.specs.Items.{SplitsInto}
+use Rattle.shared_core_stream.specs.declared.encoding.item.Item.{Item}
+use Rattle.shared_core_stream.specs.declared.encoding.item.Item.TheVariants.{Message, Unknown, Skipped}
+use Rattle.shared_core_stream.specs.Items.{SplitsInto}
 use Rattle.shared_core.specs.Visiting.{schema_at}
 use Rattle.stream_survey.specs.declared.faults.Fault.{Fault}
 use Rattle.stream_survey.specs.declared.faults.FaultReason.TheVariants.{UnknownHeader, Malformed, Rest}

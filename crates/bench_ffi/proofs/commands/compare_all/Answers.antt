@@ -1,6 +1,6 @@
 use Rattle.std.proofs.Common.{◌∙◌, ◌++◌, ◌∷◌, [], arith}
 use Rattle.std.proofs.lemmas.Result.{err_from_is_err_and}
-use Rattle.shared_core.proofs.Items.{then_takes}
+use Rattle.shared_core_stream.proofs.Items.{then_takes}
 use Rattle.shared_core.specs.Visiting.{command_schema}
 use Rattle.bench_ffi.specs.Chunks.{untaken}
 use Rattle.bench_ffi.proofs.Comparing.{comparisons_more, item_compared, item_rejected}

@@ -1,6 +1,6 @@
 use Rattle.std.proofs.Common.{◌≡◌, ◌*◌, List, length}
-use Rattle.shared_core.specs.declared.encoding.item.Item.{Item}
-use Rattle.shared_core.specs.Items.{IsItemsThen}
+use Rattle.shared_core_stream.specs.declared.encoding.item.Item.{Item}
+use Rattle.shared_core_stream.specs.Items.{IsItemsThen}
 use Rattle.shared_core.specs.Visiting.{command_schema}
 use Rattle.bench_ffi.specs.Chunks.{untaken}
 use Rattle.bench_ffi.specs.Streams.{AllDecode, count_with}

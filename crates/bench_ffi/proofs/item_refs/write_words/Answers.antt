@@ -1,7 +1,7 @@
 use Rattle.std.proofs.Common.{◌∙◌, ◌++◌, ◌∷◌, [], arith, ◌<◌, length, length-set, subst}
-use Rattle.shared_core.specs.Borrowed.{item_borrowed}
-use Rattle.shared_core.specs.Items.{NoItemBegins, TakesItem}
-use Rattle.shared_core.proofs.Items.{then_takes}
+use Rattle.shared_core_stream.specs.Borrowed.{item_borrowed}
+use Rattle.shared_core_stream.specs.Items.{NoItemBegins, TakesItem}
+use Rattle.shared_core_stream.proofs.Items.{then_takes}
 use Rattle.bench_ffi.proofs.Counting.{word_written, length_more, taken_has_word}
 use Rattle.bench_ffi.proofs.item_refs.write_words.Goals as goal
 

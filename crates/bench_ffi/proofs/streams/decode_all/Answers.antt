@@ -1,6 +1,6 @@
 use Rattle.std.proofs.Common.{◌∙◌, ◌++◌, ◌∷◌, [], arith}
 use Rattle.std.proofs.lemmas.Result.{err_from_is_err_and}
-use Rattle.shared_core.proofs.Items.{item_is_long, then_takes}
+use Rattle.shared_core_stream.proofs.Items.{item_is_long, then_takes}
 use Rattle.shared_core_message.specs.Messages.{message_schema}
 use Rattle.bench_ffi.proofs.Counting.{all_decode_more, count_more, item_counts, item_decoded, item_rejected}
 use Rattle.bench_ffi.proofs.Chunks.{none_of_all, one_taken, same_version, taken_of_all}

@@ -1,5 +1,5 @@
 use Rattle.std.proofs.Common.{◌∙◌, ◌++◌, ◌∷◌, [], arith, ◌<◌, length, length-set}
-use Rattle.shared_core.proofs.Items.{then_takes}
+use Rattle.shared_core_stream.proofs.Items.{then_takes}
 use Rattle.bench_ffi.proofs.Counting.{word_written, length_more, taken_has_word}
 use Rattle.bench_ffi.proofs.Chunks.{none_of_all, one_taken, same_version, taken_of_all}
 use Rattle.bench_ffi.specs.Chunks.{untaken}

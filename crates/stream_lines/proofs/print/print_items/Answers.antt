@@ -1,6 +1,6 @@
 use Rattle.std.proofs.Common.{◌≡◌, ℕ, ◌-◌, ◌+◌, length, ap, ◌∙◌, arith, length-append}
 use Rattle.std.proofs.lemmas.Result.{err_from_is_err_and}
-use Rattle.shared_core.proofs.Items.{then_takes}
+use Rattle.shared_core_stream.proofs.Items.{then_takes}
 use Rattle.stream_lines.specs.Printing.{items_size}
 use Rattle.stream_lines.proofs.Progress.{lack_in, next_lines, next_trouble, rest_after, then_long}
 use Rattle.stream_lines.proofs.print.print_items.Goals as goal

@@ -1,6 +1,6 @@
 use Rattle.std.proofs.Common.{◌≡◌, ◌-◌, ◌≤◌, List, length}
-use Rattle.shared_core.specs.declared.encoding.item.Item.{Item}
-use Rattle.shared_core.specs.Items.{IsItemsThen}
+use Rattle.shared_core_stream.specs.declared.encoding.item.Item.{Item}
+use Rattle.shared_core_stream.specs.Items.{IsItemsThen}
 use Rattle.std.specs.Option.{option_or}
 use Rattle.stream_lines.specs.Printing.{first_trouble, lines}
 use Rattle.stream_lines.proofs.print.print_items.Given as goal

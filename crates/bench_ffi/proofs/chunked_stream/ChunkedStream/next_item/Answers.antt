@@ -1,6 +1,6 @@
 use Rattle.std.proofs.Common.{◌+◌, ap, sym, ◌∙◌, arith, eqb-true, length-append}
 use Rattle.std.proofs.lemmas.List.{nil_from_length}
-use Rattle.shared_core.proofs.Items.{item_is_long}
+use Rattle.shared_core_stream.proofs.Items.{item_is_long}
 use Rattle.bench_ffi.proofs.Chunks.{all_arrived, needed_more, next_arrived, next_awaited, same_stream}
 use Rattle.bench_ffi.proofs.chunked_stream.ChunkedStream.next_item.Goals as goal
 

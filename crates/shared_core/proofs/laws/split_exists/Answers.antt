@@ -1,5 +1,0 @@
-use Rattle.shared_core.proofs.Items.{split_of}
-use Rattle.shared_core.proofs.laws.split_exists.Goals as goal
-
-pub returns : goal.returns
-returns c = split_of

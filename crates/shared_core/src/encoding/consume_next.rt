@@ -1,0 +1,53 @@
+//! The messages of a decoder, one after the other.
+
+ghost use Rattle.std.specs.Prelude.{◌≡◌, ◌≤◌, length, None, Ok};
+ghost use Rattle.shared_core_stream.specs.Unread.{Unread};
+ghost use Rattle.shared_core.specs.Items.{ReturnsNext, TakesEight};
+
+use crate::encoding::DecodingError;
+use shared_core_base::header::MessageType;
+use shared_core_stream::encoding::{Decoder, Item, RawMessage};
+
+/// The messages that a decoder holds, where an item of another kind is an error. `Decoder` implements it.
+pub trait ConsumeNext {
+    /// The version and the pending bytes.
+    ghost unread: { Self → Unread };
+
+    /// The next message, or `None` if and only if the pending bytes begin with no whole item; then at most
+    /// 4,294,967,302 bytes are pending, a header and all but one byte of its payload.
+    ///
+    /// A payload within one chunk shares its memory; one that straddles chunks is joined, once. If the next header's
+    /// code is no type's, the result depends on the version: before V9 it is `UnknownMessageType`, and exactly the
+    /// eight bytes of the header are taken; from V9 on it is `SkippedMessage` once the payload has come, and the header
+    /// and the payload are taken. `OutOfMemory` comes only if a whole payload would be taken, and takes nothing: a
+    /// later call returns as if this one had not been made.
+    fn consume_next(&mut self) -> Result<Option<RawMessage>, DecodingError>
+        ensures next { ReturnsNext (unread self.old).version (unread self.old).bytes result (unread self.new).bytes }
+        ensures version { (unread self.new).version ≡ (unread self.old).version }
+        ensures short { result ≡ Ok None → length (unread self.new).bytes ≤ 4294967302 }
+        // what is taken is eight bytes at least, so a loop over the messages ends
+        ensures shorter { TakesEight (unread self.old).bytes result (unread self.new).bytes };
+}
+
+impl ConsumeNext for Decoder {
+    ghost unread = { λ decoder. decoder };
+
+    fn consume_next(&mut self) -> Result<Option<RawMessage>, DecodingError> {
+        let Ok(found) = self.next_item() else {
+            return Err(DecodingError::OutOfMemory);
+        };
+        let Some(item) = found else {
+            return Ok(None);
+        };
+        match item {
+            Item::Message(message) => Ok(Some(message)),
+            Item::Unknown(code) => {
+                let Err(unknown) = MessageType::try_from(code) else {
+                    unreachable!()
+                };
+                Err(DecodingError::UnknownMessageType(unknown))
+            }
+            Item::Skipped(code, payload) => Err(DecodingError::SkippedMessage(code, payload)),
+        }
+    }
+}
