@@ -130,7 +130,12 @@ def read_journal(words, path, source, most):
     that of the rest. `most` items are kept; the others are counted."""
     lines, last, items, characters, is_full = [], None, 0, 0, False
     words = [*words, "--", source]
-    with subprocess.Popen(words, stdin=subprocess.DEVNULL, stdout=subprocess.PIPE, encoding="utf-8") as dump:
+    with (
+        tempfile.TemporaryFile("w+", encoding="utf-8", errors="replace") as notes,
+        subprocess.Popen(
+            words, stdin=subprocess.DEVNULL, stdout=subprocess.PIPE, stderr=notes, encoding="utf-8"
+        ) as dump,
+    ):
         for line in dump.stdout:
             if last is not None:
                 items += 1
@@ -140,11 +145,16 @@ def read_journal(words, path, source, most):
                     lines.append(kept)
                     characters += len(kept)
             last = line.rstrip("\n")
-    if dump.returncode != 0 or last is None:
-        raise Failure(f"view: {path}: journal_dump ended with the status {dump.returncode}", dump.returncode or 1)
-    rest = json.loads(last)
-    if items == 0 and rest["rest"] > 0:
+        dump.wait()
+        notes.seek(0)
+        said = notes.read()
+    rest = json.loads(last) if dump.returncode == 0 and last is not None else None
+    if rest is not None and items == 0 and rest["rest"] > 0:
+        # what journal_dump says of these bytes would say the same once more
         raise Failure(f"view: {path}: no message in it; is it a journal of version {words[2]}?")
+    sys.stderr.write(said)
+    if rest is None:
+        raise Failure(f"view: {path}: journal_dump ended with the status {dump.returncode}", dump.returncode or 1)
     return {
         "name": shown(path),
         "items": items,
