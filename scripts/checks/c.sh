@@ -2,7 +2,7 @@
 # The library for C: installed, its constants and examples, a million adversarial calls.
 #
 # scripts/install.sh puts it into a folder and takes it away again, and both libraries show the calls of
-# include/pendratsoa.h alone. The examples in C and Python list streams alike, and as list_stream.awk does; and
+# include/pendratsoa.h alone. The examples in C and Python list streams alike, and as list_stream.py does; and
 # tests/c/hostile_calls.c makes a million adversarial calls. It takes the proved static library, which
 # scripts/static_library.sh builds over what rt ci has proved.
 set -u
@@ -103,7 +103,7 @@ python=
 listed() {
   "$work/static" "$3" < "$2" > "$work/out" 2> "$work/err"
   outcome "$1 at $3" $?
-  od -An -v -t u1 "$2" | awk -v version="$3" -f scripts/checks/list_stream.awk proto/types.txt - > "$work/listing"
+  python3 -B scripts/checks/list_stream.py "$3" < "$2" > "$work/listing"
   sed 's/^\([A-Z][A-Za-z]*CallCommand\|CallCommand\) \([0-9]*\) .*/\1 \2/' "$work/out" > "$work/short"
   same "$1 at $3, beside the lister" "$work/listing" "$work/short"
   LD_LIBRARY_PATH=$prefix/lib "$work/shared" "$3" < "$2" > "$work/again" 2> "$work/err"
@@ -131,7 +131,7 @@ awk 'BEGIN { while (i++ < 200) a = a "a"; for (i = 0; i < 20000; i++) b = b "b"
   printf "CallCommand 20207 \"%s\" \"%s\"\nrest 0\n", a, b }' > "$work/wanted"
 same 'the names of a call with long names' "$work/wanted" "$work/out"
 for kind in random mixed skipped; do
-  LC_ALL=C awk -v kind=$kind -v size=200000 -v seed=7 -f scripts/checks/write_stream.awk proto/types.txt > "$work/$kind"
+  python3 -B scripts/checks/write_stream.py $kind 200000 7 > "$work/$kind"
   version=8
   [ $kind != skipped ] || version=9
   listed "a $kind stream" "$work/$kind" $version

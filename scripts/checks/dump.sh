@@ -337,7 +337,7 @@ status=$?
 [ "$status" -eq 0 ] && cmp -s "$work/large.lines" "$out" && [ ! -s "$err" ]
 outcome 'a payload of 17 MiB' $?
 for kind in random mixed skipped; do
-  LC_ALL=C awk -v kind=$kind -v size=200000 -v seed=7 -f scripts/checks/write_stream.awk proto/types.txt > "$work/$kind"
+  python3 -B scripts/checks/write_stream.py $kind 200000 7 > "$work/$kind"
   version=8
   [ $kind != skipped ] || version=9
   "$program" --protocol $version "$work/$kind" > "$work/$kind.lines" 2> "$err"
