@@ -31,7 +31,7 @@ use Rattle.shared_core_json_reader.proofs.ScalarsBack.{u32_back, bytes_back, byt
 use Rattle.shared_core_json_reader.proofs.TreeBack.{same_bytes, message_back}
 use Rattle.shared_core.specs.Visiting.{schema_at}
 use Rattle.journal_make.specs.declared.error.LineReason.TheVariants.{Json as Wrong, OtherType, NoSchema, NoFlag, OtherCode, OtherFlag, NoSuchPayload, TooLong}
-use Rattle.journal_make.specs.Errors.{LineFault, at}
+use Rattle.journal_make.specs.Errors.{LineFault, at as fault_at}
 use Rattle.journal_make.specs.MadeAgain.{payload_again}
 use Rattle.dump_lines.specs.Lines.{payload_members, header_members}
 use Rattle.journal_make.specs.Lines.{then_read, read_map, unless, code_below, code_read, name_read, is_name_of, code_if, code_said, has_flag, flag_said, nothing_if, bytes_said, message_fault, message_read, message_said, word as said_word, word_fault, with_size, word_given, checked_given, header_given, header_said, value_made}
@@ -41,19 +41,19 @@ use Rattle.journal_make.proofs.LineMembers.{Says, header_if, message_line, unkno
 -- ---- codes, bytes and flags
 
 pub bytes_there : (name : List ℕ) (b : Json) (payload : List ℕ) → bytes_read b ≡ Some payload → bytes_said name b ≡ Ok payload
-bytes_there name b payload read = ap (λ (o : Option (List ℕ)). ok_or o (at name (Wrong (bytes_reason b)))) read
+bytes_there name b payload read = ap (λ (o : Option (List ℕ)). ok_or o (fault_at name (Wrong (bytes_reason b)))) read
 
 code_back : (n : ℕ) → n < 65536 → code_read (number (decimal n)) ≡ Ok n
 code_back n h =
-    ap (λ (o : Option ℕ). then_read code_below (ok_or o (at (codes "code") (Wrong (number_reason (number (decimal n))))))) (u32_back n (omega arith))
-    ∙ ap (λ (b : Bool). cond b (Ok n) (Err (at (codes "code") (Wrong OutOfRange)))) (lt-ltb n 65536 h)
+    ap (λ (o : Option ℕ). then_read code_below (ok_or o (fault_at (codes "code") (Wrong (number_reason (number (decimal n))))))) (u32_back n (omega arith))
+    ∙ ap (λ (b : Bool). cond b (Ok n) (Err (fault_at (codes "code") (Wrong OutOfRange)))) (lt-ltb n 65536 h)
 
 typed_back : (n : ℕ) (ty : MessageType) → n < 65536 → type_of n ≡ Some ty → code_said (Some (string (debug_name_of ty))) (Some (number (decimal n))) ≡ Ok n
 typed_back n ty h typed =
     let name = debug_name_of ty in
     ap (then_read (λ (m : ℕ). then_read (code_if m) (name_read (string name)))) (code_back n h)
-    ∙ ap (λ (o : Option MessageType). cond (is_name_of o name) (Ok n) (Err (at (codes "type") OtherType))) typed
-    ∙ ap (λ (b : Bool). cond b (Ok n) (Err (at (codes "type") OtherType))) (same_bytes name)
+    ∙ ap (λ (o : Option MessageType). cond (is_name_of o name) (Ok n) (Err (fault_at (codes "type") OtherType))) typed
+    ∙ ap (λ (b : Bool). cond b (Ok n) (Err (fault_at (codes "type") OtherType))) (same_bytes name)
 
 -- the flag of a header, and whether it requests an acknowledgement
 abbrev pub flag_of : MessageType → ℕ → Option Bool
@@ -70,7 +70,7 @@ flag_back n word ty name typed = by_test (allows_ack ty) refl
     by_test false e = refl
     by_test true e =
         let has : has_flag (type_of n) ≡ true = ap has_flag typed ∙ e in
-        ap (λ (b : Bool). cond b (Ok (eqb (word / 140737488355328 % 2) 1)) (Err (at name NoFlag))) has
+        ap (λ (b : Bool). cond b (Ok (eqb (word / 140737488355328 % 2) 1)) (Err (fault_at name NoFlag))) has
 
 flag_bit : (flag : Option Bool) → cond (requests flag) 140737488355328 0 ≡ ack_bit flag * 140737488355328
 flag_bit None = omega arith
@@ -86,7 +86,7 @@ bit_again (suc (suc n)) h = absurd (omega arith)
 
 -- the fault of a word, by whether its code and its flag are those of the line
 abbrev as_fault : Bool → Bool → Option LineFault
-as_fault code flag = cond code (cond flag None (Some (at (codes "header") OtherFlag))) (Some (at (codes "header") OtherCode))
+as_fault code flag = cond code (cond flag None (Some (fault_at (codes "header") OtherFlag))) (Some (fault_at (codes "header") OtherCode))
 
 typed_agrees : (word : ℕ) (ty : MessageType) → type_of (word / 281474976710656) ≡ Some ty → word_fault (word / 281474976710656) (requests (flag_of ty word)) word ≡ None
 typed_agrees word ty typed =
@@ -126,17 +126,17 @@ module _ (bytes : List ℕ) (word : ℕ) (headed : Headed bytes word) where
 
   -- the same, as it is read
   abbrev read_length : ℕ → Result (List ℕ) LineFault
-  read_length size = cond (ltb size 4294967296) (Ok (take 4 bytes ++ to_be_bytes w32 size)) (Err (at [] TooLong))
+  read_length size = cond (ltb size 4294967296) (Ok (take 4 bytes ++ to_be_bytes w32 size)) (Err (fault_at [] TooLong))
 
   length_made : (size : ℕ) (payload : List ℕ) → result_ok (read_map (λ h. h ++ payload) (read_length size)) ≡ option_map (λ h. h ++ payload) (with_length size)
   length_made size payload = by_test (ltb size 4294967296)
     where
-      by_test : (b : Bool) → result_ok (read_map (λ (h : List ℕ). h ++ payload) (cond b (Ok (take 4 bytes ++ to_be_bytes w32 size)) (Err (at [] TooLong)))) ≡ option_map (λ (h : List ℕ). h ++ payload) (cond b (Some (take 4 bytes ++ to_be_bytes w32 size)) None)
+      by_test : (b : Bool) → result_ok (read_map (λ (h : List ℕ). h ++ payload) (cond b (Ok (take 4 bytes ++ to_be_bytes w32 size)) (Err (fault_at [] TooLong)))) ≡ option_map (λ (h : List ℕ). h ++ payload) (cond b (Some (take 4 bytes ++ to_be_bytes w32 size)) None)
       by_test true = refl
       by_test false = refl
 
   sized_back : (size : ℕ) → with_size size (to_be_bytes w64 word) ≡ read_length size
-  sized_back size = ap (λ (xs : List ℕ). cond (ltb size 4294967296) (Ok (xs ++ to_be_bytes w32 size)) (Err (at [] TooLong))) (four_of_word bytes word headed)
+  sized_back size = ap (λ (xs : List ℕ). cond (ltb size 4294967296) (Ok (xs ++ to_be_bytes w32 size)) (Err (fault_at [] TooLong))) (four_of_word bytes word headed)
 
   given_again : (version : Version) (code size : ℕ) (f alone : Bool) → word_fault code f word ≡ None
       → then_read (header_given version code f size alone) (bytes_said (codes "header") (string (encode_of standard (to_be_bytes w64 word)))) ≡ word_given version alone size word (to_be_bytes w64 word)
@@ -148,7 +148,7 @@ module _ (bytes : List ℕ) (word : ℕ) (headed : Headed bytes word) where
   header_back : (version : Version) (written code size : ℕ) (f : Bool) → word_fault code f word ≡ None → (word ≡ written → said_word code f size ≡ word / 4294967296 * 4294967296 + size) → header_said version code f size false (option_map string (header_text word written)) ≡ read_length size
   header_back version written code size f a same = by_test (eqb word written) refl
     where
-      by_size : (b : Bool) → ltb size 4294967296 ≡ b → word ≡ written → cond b (Ok (to_be_bytes w64 (said_word code f size))) (Err (at [] TooLong)) ≡ cond b (Ok (take 4 bytes ++ to_be_bytes w32 size)) (Err (at [] TooLong))
+      by_size : (b : Bool) → ltb size 4294967296 ≡ b → word ≡ written → cond b (Ok (to_be_bytes w64 (said_word code f size))) (Err (fault_at [] TooLong)) ≡ cond b (Ok (take 4 bytes ++ to_be_bytes w32 size)) (Err (fault_at [] TooLong))
       by_size true l e = ap (λ (xs : List ℕ). Ok xs) (other_length bytes word headed (said_word code f size) size (same e) (ltb-true size 4294967296 l))
       by_size false l e = refl
 
@@ -166,7 +166,7 @@ module _ (bytes : List ℕ) (word : ℕ) (headed : Headed bytes word) where
           ap (λ (n : ℕ). Ok (to_be_bytes w64 n)) same ∙ ap (λ (xs : List ℕ). Ok xs) (word_bytes bytes word headed)
       by_test false e =
           given_again version code 0 false true a
-          ∙ ap (λ (b : Bool). cond (b && not (eqb (word_length word) 0)) (Err (at (codes "header") NoSuchPayload)) (Ok (to_be_bytes w64 word))) keeps
+          ∙ ap (λ (b : Bool). cond (b && not (eqb (word_length word) 0)) (Err (fault_at (codes "header") NoSuchPayload)) (Ok (to_be_bytes w64 word))) keeps
           ∙ ap (λ (xs : List ℕ). Ok xs) (word_bytes bytes word headed)
 
   pub body_is_bytes : IsBytes (drop 8 bytes)
@@ -223,8 +223,8 @@ module _ (bytes : List ℕ) (word : ℕ) (headed : Headed bytes word) where
           let v = payload_meaning s (drop 8 bytes) in
           let is = accepted_means s (drop 8 bytes) a body_is_bytes in
           let m = json_with texts s v in
-          ap (λ (o : Option MessageType). then_read (message_read m) (ok_or (option_and_then (schema_at version) o) (at (codes "message") NoSchema))) typed
-          ∙ ap (λ (o : Option ℕ). then_read (message_read m) (ok_or o (at (codes "message") NoSchema))) e
+          ap (λ (o : Option MessageType). then_read (message_read m) (ok_or (option_and_then (schema_at version) o) (fault_at (codes "message") NoSchema))) typed
+          ∙ ap (λ (o : Option ℕ). then_read (message_read m) (ok_or o (fault_at (codes "message") NoSchema))) e
           ∙ ap (λ (o : Option Parts). ok_or (option_map (canonical_payload table s) o) (message_fault (value_error s m))) (message_back texts 100 s v is.fits is.low is.bytes)
 
       pub message_line_back : (schema : Option ℕ) → schema_at version ty ≡ schema → value_made version (line_with (payload_members texts schema (drop 8 bytes))) ≡ made_of (payload_again schema (drop 8 bytes))

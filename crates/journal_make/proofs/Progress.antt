@@ -32,6 +32,16 @@ abbrev pub HasEnded : Version → Option (List ℕ) → Option (List ℕ) → Op
 HasEnded version first start left out result =
     (read : List ℕ) × (written : List ℕ) × Consumes first left read × Appends start out written × IsMade version result read written left
 
+-- an allocation fails before anything is read
+pub out_at_once : (version : Version) (first start : Option (List ℕ)) → HasEnded version first start first start (Err OutOfMemory)
+out_at_once version first start = (
+  [],
+  [],
+  Consumes-nil first,
+  Appends-nil start,
+  record { lines = []; rest = []; split = record { begins = none_yet []; unended = refl }; stands = ([], ([], refl), refl) },
+)
+
 module _ (version : Version) (first start : Option (List ℕ)) where
   starts : GoesOn version first start first start [] 0
   starts = record {

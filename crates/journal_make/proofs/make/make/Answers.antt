@@ -1,7 +1,12 @@
 use Rattle.std.proofs.Common.{◌<◌, length, refl, rules}
 use Rattle.std.proofs.lemmas.Result.{err_from_is_err_and}
-use Rattle.journal_make.proofs.Progress.{started, ended_input, ended_finish, ended_step, goes_on}
+use Rattle.journal_make.proofs.Progress.{out_at_once, started, ended_input, ended_finish, ended_step, goes_on}
 use Rattle.journal_make.proofs.make.make.Goals as goal
+
+pub returns-in_err-buffer : goal.returns-in_err-buffer
+returns-in_err-buffer g c =
+    let from = err_from_is_err_and c.from_residual.result c.from_residual.ensures.1 in
+    rw (from.1, from.2) (out_at_once c.args.version _ _)
 
 pub loop-init : goal.loop-init
 loop-init g c = record {
