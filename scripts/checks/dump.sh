@@ -222,7 +222,7 @@ refused "no type has the name 'Nothing'; names are those of a dump, as InputComm
   --type Nothing replay
 refused "no type has the name 'input'; did you mean InputCommand?" --type input replay
 refused "no type has the name 'Strat'; did you mean Start?" --type Strat replay
-refused "no type has the name 'SetStatCommandMessage'; did you mean SetStateCommand, " --type SetStatCommandMessage replay
+refused "no type has the name 'SetStatCommandMessage'; did you mean SetStateCommand?" --type SetStatCommandMessage replay
 for name in CustomEntry 'CustomEntry(64513' 'CustomEntry(64513) ' ''; do
   refused "no type has the name '$name'" --type "$name" replay
 done
