@@ -9,11 +9,16 @@ cd "$(dirname "$0")/.." || exit 1
 
 all='layout table calls pages words generated tests run list streams diff dump make terminal waiting sweep view conformance install package c json arm64 python node rust go ruby refusals prost'
 
+# file_of NAME: the file of a check, which is Python, or shell that finds what its Python beside it takes
+file_of() {
+  if [ -e "scripts/checks/$1.sh" ]; then echo "scripts/checks/$1.sh"; else echo "scripts/checks/$1.py"; fi
+}
+
 case ${1-} in
   '')
     for name in $all; do
       # the second line of a check says what it shows
-      printf '%-12s %s\n' "$name" "$(sed -n '2s/^\("""\|# \)//p' "scripts/checks/$name".*)"
+      printf '%-12s %s\n' "$name" "$(sed -n '2s/^\("""\|# \)//p' "$(file_of "$name")")"
     done
     exit 0
     ;;
@@ -39,10 +44,10 @@ done
 
 . scripts/checks/lib.sh
 for name in "$@"; do
-  if [ -e "scripts/checks/$name.py" ]; then
-    stage python3 -B "scripts/checks/$name.py"
-  else
-    stage sh "scripts/checks/$name.sh"
-  fi
+  file=$(file_of "$name")
+  case $file in
+    *.py) stage python3 -B "$file" ;;
+    *) stage sh "$file" ;;
+  esac
 done
 finish
