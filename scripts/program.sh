@@ -4,8 +4,8 @@
 # The proved program is crates/CRATE/out/CRATE; to prove every crate below it takes more than an hour of processor time.
 # With --unproved it takes that one if it is up to date, and otherwise builds crates/CRATE/out/unproved/CRATE without
 # the proofs, in one to two minutes of processor time: half of them for the program, and half for a check beside it of
-# what the compiler refuses. That program has an address sanitizer, which stops it at a bad access, and is a thousand
-# times slower; rt try has no other way. The status is 2 where there is no rt.
+# what the compiler refuses. That program has an address sanitizer, which stops it at a bad access, and is hundreds
+# of times slower; rt try has no other way. The status is 2 where there is no rt.
 set -eu
 cd "$(dirname "$0")/.."
 . scripts/keeping_kit.sh

@@ -14,8 +14,8 @@
 #   scripts/run.sh list|diff|dump|make|view --help
 #       what docs/PROGRAMS.md says of the program
 #
-# The first run without the proofs builds the program, in one to two minutes of processor time, and keeps it; it is a
-# thousand times slower than the proved one. With --proved every crate below the program is proved first, which takes
+# The first run without the proofs builds the program, in one to two minutes of processor time, and keeps it; it is
+# hundreds of times slower than the proved one. With --proved every crate below the program is proved first, which takes
 # more than an hour of processor time. The program checks its arguments; the status is its own, and 2 if it is not run.
 set -eu
 
@@ -69,7 +69,7 @@ fi
 program=$(sh "$top/scripts/program.sh" $how "journal_$command") || exit 2
 case $program in
   */unproved/*)
-    echo 'run.sh: built without the proofs: it checks each access, and is a thousand times slower than with --proved' >&2
+    echo 'run.sh: built without the proofs: it checks each access, and is hundreds of times slower than with --proved' >&2
     ;;
 esac
 exec "$program" "$@"

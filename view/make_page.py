@@ -111,7 +111,7 @@ def program(name, unproved):
         raise Failure(f"view: journal_{name} cannot be built")
     path = built.stdout.strip()
     if "/unproved/" in path:
-        slow = "is built without the proofs: it checks each access, and is a thousand times slower than with --proved"
+        slow = "is built without the proofs: it checks each access, and is hundreds of times slower than with --proved"
         print(f"view: journal_{name} {slow}", file=sys.stderr)
     return path
 

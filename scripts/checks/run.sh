@@ -93,7 +93,7 @@ fi
 
 # Built without the proofs: the next run builds nothing, unless a source is newer.
 rm -r "$work"/tree/crates/*/out
-unproved='run.sh: built without the proofs: it checks each access, and is a thousand times slower than with --proved'
+unproved='run.sh: built without the proofs: it checks each access, and is hundreds of times slower than with --proved'
 run_sh list
 sed -e '1s/^program.sh: building journal_list without the proofs, .*/begins/' \
   -e 's/^program.sh: [0-9]* seconds$/waits/' "$err" | uniq > "$work/steps"
