@@ -19,13 +19,13 @@ mod message_dispatch;
 mod message_visitor;
 mod record_dispatch;
 mod record_visitor;
-mod schemas;
 
 pub use shared_core_base::error::ErrorBehavior;
 pub use shared_core_compare::difference::{CommandMessageHeaderDiff, DifferenceForm};
 pub use shared_core_compare::equality::CommandMessageHeaderEq;
 pub use shared_core_compare::name::NamedCommandMessage;
 pub use shared_core_message::restate_message::{RestateEncodableMessage, RestateMessage};
+pub use shared_core_message::schemas::schema_at;
 pub use shared_core_parts::notification::{CANCEL_SIGNAL_ID, CompletionId, Notification, NotificationId, NotificationResult};
 pub use shared_core_codec::error::EncodingError;
 
@@ -41,7 +41,6 @@ pub use message_dispatch::visit_message;
 pub use message_visitor::MessageVisitor;
 pub use record_dispatch::visit_record;
 pub use record_visitor::RecordVisitor;
-pub use schemas::schema_at;
 """
 
 
@@ -138,7 +137,7 @@ def type_schemas():
     )
     return (
         "//! The schemas of messages.\n\nghost use Rattle.std.specs.Prelude.{◌≡◌, ◌<◌, IfSome};\n"
-        "ghost use Rattle.shared_core_codec.specs.Table.{schema_count};\nghost use Rattle.shared_core.specs.Visiting.{schema_at};\n\n"
+        "ghost use Rattle.shared_core_codec.specs.Table.{schema_count};\nghost use Rattle.shared_core_message.specs.Schemas.{schema_at};\n\n"
         "use shared_core_base::header::MessageType;\nuse shared_core_base::version::Version;\n\n"
         + comment(
             "The number of the schema that a type's payloads have at a version: its place in the table of the "
@@ -157,7 +156,7 @@ def texts():
         f"{FOLDER}/messages/command_dispatch.rt": command_dispatch(),
         f"{FOLDER}/messages/message_dispatch.rt": message_dispatch(),
         f"{FOLDER}/messages/record_dispatch.rt": record_dispatch(),
-        f"{FOLDER}/messages/schemas.rt": type_schemas(),
+        "crates/shared_core_message/src/schemas.rt": type_schemas(),
     }
 
 

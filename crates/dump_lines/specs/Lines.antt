@@ -13,7 +13,7 @@ use Rattle.shared_core_codec.specs.Table as schema
 use Rattle.shared_core_codec.specs.Payloads.{payload_meaning}
 use Rattle.shared_core_stream.specs.declared.encoding.item.Item.{Item}
 use Rattle.shared_core_stream.specs.declared.encoding.item.Item.TheVariants.{Message, Unknown, Skipped}
-use Rattle.shared_core.specs.Visiting.{schema_at}
+use Rattle.shared_core_message.specs.Schemas.{schema_at}
 use Rattle.shared_core_json.specs.Form.{byte_string_json, json_with}
 use Rattle.dump_lines.specs.declared.options.Options.{Options}
 use Rattle.dump_lines.specs.Spread.{json_text}

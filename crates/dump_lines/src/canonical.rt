@@ -5,7 +5,7 @@ ghost use Rattle.std.specs.Result.{IsErrOf};
 ghost use Rattle.shared_core_codec.specs.Payloads.{IsAccepted, payload_meaning};
 ghost use Rattle.shared_core_json.specs.Payloads.{IsEncoding, IsTooLong};
 ghost use Rattle.shared_core_json.specs.declared.error.JsonError.TheVariants.{Malformed, TooLong};
-ghost use Rattle.shared_core.specs.Visiting.{schema_at};
+ghost use Rattle.shared_core_message.specs.Schemas.{schema_at};
 ghost use Rattle.dump_lines.specs.Canonical.{ReturnsEncoding};
 
 use bytes::Bytes;

@@ -14,7 +14,7 @@ ghost use Rattle.dump_lines.specs.Canonical.{IsLongFor};
 ghost use Rattle.dump_lines.specs.declared.lines.Form.TheVariants.{Encoded};
 ghost use Rattle.stream_lines.specs.Printing.{IsLack};
 ghost use Rattle.dump_lines.specs.Dump.{HasLongPayload, is_well_formed_for, wrong_of};
-ghost use Rattle.shared_core.specs.Visiting.{schema_at};
+ghost use Rattle.shared_core_message.specs.Schemas.{schema_at};
 ghost use Rattle.shared_core_json.specs.Form.{byte_string_json};
 ghost use Rattle.dump_lines.specs.Lines.{payload_members, ack_tokens, header_tokens, item_members, item_json};
 ghost use Rattle.dump_lines.specs.Lines.{number_member, rest_members, skipped_members, unknown_members};

@@ -4,7 +4,7 @@ use Rattle.std.specs.Option.{ok_or}
 use Rattle.shared_core_base.specs.declared.version.Version.{Version}
 use Rattle.shared_core_base.specs.declared.header.MessageType.{MessageType}
 use Rattle.shared_core_base.specs.MessageType.{IsNamed, code_of, debug_name_of, type_of, variant_name_of}
-use Rattle.shared_core.specs.Visiting.{schema_at}
+use Rattle.shared_core_message.specs.Schemas.{schema_at}
 use Rattle.journal_c_api.specs.declared.outcome.CallError.{CallError}
 use Rattle.journal_c_api.specs.declared.outcome.CallError.TheVariants.{Unknown}
 use Rattle.journal_c_api.specs.Outcomes.{supported_version}

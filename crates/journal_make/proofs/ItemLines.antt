@@ -14,7 +14,7 @@ use Rattle.shared_core_base.proofs.Types.{code_of_type}
 use Rattle.shared_core_json.specs.Form.{byte_string_json}
 use Rattle.shared_core_stream.specs.declared.encoding.item.Item.{Item}
 use Rattle.shared_core_stream.specs.declared.encoding.item.Item.TheVariants.{Message, Unknown, Skipped}
-use Rattle.shared_core.specs.Visiting.{schema_at}
+use Rattle.shared_core_message.specs.Schemas.{schema_at}
 use Rattle.dump_lines.specs.declared.options.Options.{Options}
 use Rattle.shared_core_stream.specs.Items.{front_word, body_length, item_of, IsItem}
 use Rattle.dump_lines.specs.Lines.{payload_members, ack_members, header_members, item_json, written_word}

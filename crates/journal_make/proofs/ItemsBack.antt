@@ -29,7 +29,7 @@ use Rattle.shared_core_json_reader.proofs.LawOfJson.{back_bytes}
 use Rattle.shared_core_json_reader.proofs.Meanings.{accepted_means}
 use Rattle.shared_core_json_reader.proofs.ScalarsBack.{u32_back, bytes_back, byte_string_back, byte_string_there}
 use Rattle.shared_core_json_reader.proofs.TreeBack.{same_bytes, message_back}
-use Rattle.shared_core.specs.Visiting.{schema_at}
+use Rattle.shared_core_message.specs.Schemas.{schema_at}
 use Rattle.journal_make.specs.declared.error.LineReason.TheVariants.{Json as Wrong, OtherType, NoSchema, NoFlag, OtherCode, OtherFlag, NoSuchPayload, TooLong}
 use Rattle.journal_make.specs.Errors.{LineFault, at as fault_at}
 use Rattle.journal_make.specs.MadeAgain.{payload_again}

@@ -20,7 +20,7 @@ use Rattle.shared_core_json_reader.proofs.LawOfJson.{back_bytes}
 use Rattle.shared_core_json_reader.proofs.ScalarsBack.{byte_string_back, byte_string_there}
 use Rattle.shared_core_stream.specs.declared.encoding.item.Item.{Item}
 use Rattle.shared_core_stream.specs.declared.encoding.item.Item.TheVariants.{Message, Unknown, Skipped}
-use Rattle.shared_core.specs.Visiting.{schema_at}
+use Rattle.shared_core_message.specs.Schemas.{schema_at}
 use Rattle.dump_lines.specs.declared.options.Options.{Options}
 use Rattle.shared_core_stream.specs.Items.{front_word, item_of, IsItem, AreItems}
 use Rattle.stream_lines.specs.Printing.{item_size, items_size, lines}

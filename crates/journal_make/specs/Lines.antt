@@ -11,7 +11,7 @@ use Rattle.shared_core_base.specs.declared.version.Version.{Version}
 use Rattle.shared_core_base.specs.Version.{skips_unknown_messages}
 use Rattle.shared_core_base.specs.MessageHeader.{word_code, word_length}
 use Rattle.shared_core_base.specs.MessageType.{code_of, type_of, type_in, named_types, allows_ack, debug_name_of}
-use Rattle.shared_core.specs.Visiting.{schema_at}
+use Rattle.shared_core_message.specs.Schemas.{schema_at}
 use Rattle.shared_core_json_reader.specs.declared.error.Reason.{Reason}
 use Rattle.shared_core_json_reader.specs.declared.error.Reason.TheVariants.{WrongKind, OutOfRange}
 use Rattle.shared_core_json_reader.specs.Scalars.{unsigned_read, bytes_read}

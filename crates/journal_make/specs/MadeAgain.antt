@@ -11,7 +11,7 @@ use Rattle.shared_core_codec.specs.Table.{table}
 use Rattle.shared_core_codec.specs.Payloads.{payload_meaning}
 use Rattle.shared_core_stream.specs.declared.encoding.item.Item.{Item}
 use Rattle.shared_core_stream.specs.declared.encoding.item.Item.TheVariants.{Message, Unknown, Skipped}
-use Rattle.shared_core.specs.Visiting.{schema_at}
+use Rattle.shared_core_message.specs.Schemas.{schema_at}
 use Rattle.dump_lines.specs.declared.options.Options.{Options}
 use Rattle.shared_core_stream.specs.Items.{front_word, IsItem, SplitsInto}
 use Rattle.stream_lines.specs.Printing.{item_size, all_lines}

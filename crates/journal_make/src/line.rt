@@ -3,7 +3,7 @@
 ghost use Rattle.std.specs.Prelude.{◌≡◌, ◌++◌, length, Some, None, option_and_then, Ok, IfOk, IfErr, OnOk, MatchResult};
 ghost use Rattle.json.specs.Value.{value_view as json_view};
 ghost use Rattle.shared_core_base.specs.MessageType.{type_of};
-ghost use Rattle.shared_core.specs.Visiting.{schema_at};
+ghost use Rattle.shared_core_message.specs.Schemas.{schema_at};
 ghost use Rattle.journal_make.specs.Errors.{lack};
 ghost use Rattle.journal_make.specs.Lines.{code_read, name_read, code_named, is_name_of, code_if, line_code};
 ghost use Rattle.journal_make.specs.Lines.{bytes_said, bytes_name, message_said, nothing_said, line_payload};

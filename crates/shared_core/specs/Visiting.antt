@@ -6,8 +6,7 @@ use Rattle.shared_core_base.specs.declared.header.MessageType.TheVariants.{Suspe
 use Rattle.shared_core_base.specs.declared.version.Version.{Version}
 use Rattle.shared_core_base.specs.CommandType.{command_type_of}
 use Rattle.shared_core_wire.specs.Value.{Parts}
-use Rattle.shared_core_base.specs.Version.{version_number}
-use Rattle.shared_core_codec.specs.Table.{schemas, suspension, suspension_v6}
+use Rattle.shared_core_codec.specs.Table.{schemas}
 use Rattle.shared_core_message.specs.Frames.{WireForm, plain_form}
 use Rattle.shared_core_message.specs.Messages.{message_schema}
 use Rattle.shared_core_runtime.specs.Versions.{suspension_form, proposal_form}
@@ -37,8 +36,3 @@ abbrev pub written_form : MessageType → ℕ → Version → Parts → WireForm
 written_form Suspension schema version v = suspension_form v version
 written_form ProposeRunCompletion schema version v = proposal_form v version
 written_form ty schema version v = plain_form schema v
-
--- The schema of a type's payloads at a version: a suspension has another one before V7; a custom entry has none.
-abbrev pub schema_at : Version → MessageType → Option ℕ
-schema_at version Suspension = Some (if nat_lt (version_number version) 7 then suspension_v6 else suspension)
-schema_at version ty = message_schema ty

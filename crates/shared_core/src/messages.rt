@@ -7,7 +7,6 @@ mod message_dispatch;
 mod message_visitor;
 mod record_dispatch;
 mod record_visitor;
-mod schemas;
 
 pub use shared_core_base::error::ErrorBehavior;
 pub use shared_core_codec::error::EncodingError;
@@ -15,6 +14,7 @@ pub use shared_core_compare::difference::{CommandMessageHeaderDiff, DifferenceFo
 pub use shared_core_compare::equality::CommandMessageHeaderEq;
 pub use shared_core_compare::name::NamedCommandMessage;
 pub use shared_core_message::restate_message::{RestateEncodableMessage, RestateMessage};
+pub use shared_core_message::schemas::schema_at;
 pub use shared_core_parts::notification::{
     CANCEL_SIGNAL_ID, CompletionId, Notification, NotificationId, NotificationResult,
 };
@@ -82,4 +82,3 @@ pub use message_dispatch::visit_message;
 pub use message_visitor::MessageVisitor;
 pub use record_dispatch::visit_record;
 pub use record_visitor::RecordVisitor;
-pub use schemas::schema_at;

@@ -4,3 +4,4 @@
 
 pub mod frame;
 pub mod restate_message;
+pub mod schemas;

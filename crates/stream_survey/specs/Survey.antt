@@ -7,7 +7,7 @@ use Rattle.shared_core_codec.specs.Table.{table}
 use Rattle.shared_core_stream.specs.declared.encoding.item.Item.{Item}
 use Rattle.shared_core_stream.specs.declared.encoding.item.Item.TheVariants.{Message, Unknown, Skipped}
 use Rattle.shared_core_stream.specs.Items.{SplitsInto}
-use Rattle.shared_core.specs.Visiting.{schema_at}
+use Rattle.shared_core_message.specs.Schemas.{schema_at}
 use Rattle.stream_survey.specs.declared.faults.Fault.{Fault}
 use Rattle.stream_survey.specs.declared.faults.FaultReason.TheVariants.{UnknownHeader, Malformed, Rest}
 use Rattle.stream_survey.specs.declared.totals.Survey.{Survey}

@@ -1,7 +1,7 @@
 //! What may be wrong with a stream.
 
 ghost use Rattle.std.specs.Prelude.{◌≡◌};
-ghost use Rattle.shared_core.specs.Visiting.{schema_at};
+ghost use Rattle.shared_core_message.specs.Schemas.{schema_at};
 ghost use Rattle.stream_survey.specs.Survey.{fault_at};
 ghost use Rattle.stream_survey.specs.Survey.{is_malformed as found_malformed, is_well_formed as accepts};
 

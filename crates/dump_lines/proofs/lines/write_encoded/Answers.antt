@@ -8,7 +8,7 @@ use Rattle.shared_core_json.specs.Form.{byte_string_json, json_with}
 use Rattle.shared_core_json.specs.Payloads.{IsEncoding, WritesJson}
 use Rattle.shared_core_json.specs.declared.error.JsonError.TheVariants.{Malformed}
 use Rattle.dump_lines.specs.Canonical.{ReturnsEncoding}
-use Rattle.shared_core.specs.Visiting.{schema_at}
+use Rattle.shared_core_message.specs.Schemas.{schema_at}
 use Rattle.dump_lines.proofs.Tokens.{then_tokens, shown_message, shown_malformed}
 use Rattle.dump_lines.proofs.lines.write_encoded.Goals as goal
 

@@ -5,7 +5,7 @@ use Rattle.json.specs.Json.{no_members}
 use Rattle.json.specs.Tree.{members_tokens}
 use Rattle.shared_core_base.specs.MessageType.{code_of, debug_name_of}
 use Rattle.shared_core_base.specs.MessageHeader.{word_of}
-use Rattle.shared_core.specs.Visiting.{schema_at}
+use Rattle.shared_core_message.specs.Schemas.{schema_at}
 use Rattle.dump_lines.specs.Lines.{ack_tokens, header_tokens, payload_members}
 use Rattle.shared_core_json.proofs.Walk.{if_both}
 use Rattle.dump_lines.proofs.Tokens.{head_with_header}

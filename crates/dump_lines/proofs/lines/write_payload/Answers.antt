@@ -6,7 +6,7 @@ use Rattle.json.specs.Tree.{json_tokens, members_tokens}
 use Rattle.shared_core_codec.specs.Payloads.{IsAccepted, payload_meaning}
 use Rattle.shared_core_codec.specs.Canonicity.{IsCanonical}
 use Rattle.shared_core_json.specs.Form.{json_with}
-use Rattle.shared_core.specs.Visiting.{schema_at}
+use Rattle.shared_core_message.specs.Schemas.{schema_at}
 use Rattle.dump_lines.proofs.Tokens.{then_tokens, shown_message}
 use Rattle.dump_lines.proofs.lines.write_payload.Goals as goal
 

@@ -3,7 +3,7 @@
 
 ghost use Rattle.std.specs.Prelude.{◌≡◌, ◌<◌, IfSome};
 ghost use Rattle.shared_core_codec.specs.Table.{schema_count};
-ghost use Rattle.shared_core.specs.Visiting.{schema_at};
+ghost use Rattle.shared_core_message.specs.Schemas.{schema_at};
 
 use shared_core_base::header::MessageType;
 use shared_core_base::version::Version;
