@@ -183,10 +183,6 @@ agree true t f g = sym (f refl)
 agree false true f g = g refl
 agree false false f g = refl
 
--- A test that decides whether values are equal is the test of values.
-pub parts_test_is : (t : Bool) (a b : Parts) → DecidesEquality t a b → t ≡ parts_equal a b
-parts_test_is t a b h = agree t (parts_equal a b) (λ k. (parts_equal_decides a b).complete (h.sound k)) (λ k. h.complete ((parts_equal_decides a b).sound k))
-
 -- A test that decides whether parts are equal is the test of parts.
 pub part_test_is : (t : Bool) (a b : Part) → DecidesEquality t a b → t ≡ part_equal a b
 part_test_is t a b h = agree t (part_equal a b) (λ k. rw (h.sound k) (part_equal_refl b)) (λ k. h.complete (part_equal_sound a b k))

@@ -176,8 +176,8 @@ pub trait WireRecord: Sized + Drop + PartialEq {
     }
 }
 
-/// Merges the bytes of a message into a record, one occurrence after the other. After an error those before the failing
-/// one are merged, and nothing that the record held is lost.
+/// Merges the bytes of a message into a record, one occurrence after the other. After an error those up to some one are
+/// merged, and nothing that the record held is lost.
 pub(crate) fn merge_occurrences<M: WireRecord>(
     target: &mut M,
     message: &MessageBytes<'_>,
@@ -200,10 +200,10 @@ pub(crate) fn merge_occurrences<M: WireRecord>(
 /// moving the record. The errors are those of `decode`.
 ///
 /// After an error nothing that the record held is lost: lists have their elements at their front, messages hold what
-/// they held, and a field that was present is present. Numbers, texts, bytes and the members of oneofs may have been
-/// replaced by what the records of the payload before the failing one say, since these are merged. The failing record
-/// may have changed its own field alone: it replaces no number, text or bytes, but a message or a list may have part of
-/// it, an absent field may be present, and a oneof may hold the empty member of its number.
+/// they held, and a field that was present is present. The payload's records are merged up to some one of them: numbers,
+/// texts, bytes and the members of oneofs may have been replaced by what these say. The next record may have changed
+/// its own field alone: it replaces no number, text or bytes, but a message or a list may have part of it, an absent
+/// field may be present, and a oneof may hold the empty member of its number.
 #[tactic(auto, using(crate::proofs::MergingRecords::computed_accepted, crate::proofs::MergingRecords::computed_merged, crate::proofs::MergingRecords::computed_rejected))]
 pub fn merge_payload<M: WireRecord>(
     target: &mut M,
