@@ -14,11 +14,7 @@ CRATE = "shared_core_compare"
 ABOUT = "How commands are compared and printed, in Rattle."
 SOURCE = "proto/journal.proto"
 
-HEADING = "Commands compared: their names, whether two are the same but for what replay may change, and how they differ."
-
-# Modules that are written by hand, and whether other crates see them. What is written holds impls alone, which need no
-# name.
-BY_HAND = {"difference": True, "equality": True, "laws": True, "name": True, "printed": False}
+HEADING = "The impls of each command and of each oneof that a difference prints: other modules need no name of theirs."
 
 # The function that writes a field in which two commands differ, by its presence and its kind.
 WRITERS = {
@@ -285,7 +281,7 @@ def write_command(command, shared):
 
 def chained_fields(command):
     """The proof that a command's fields follow each other."""
-    path = f"Rattle.{CRATE}.proofs.{command.module}.{command.message.name}CommandMessageHeaderDiff.write_fields.Goals"
+    path = f"Rattle.{CRATE}.proofs.commands.{command.module}.{command.message.name}CommandMessageHeaderDiff.write_fields.Goals"
     counts = {}
     steps = ""
     rows = command.printed()
@@ -312,9 +308,9 @@ def texts():
     """The files of the crate by their paths, not yet laid out."""
     crates = {name: CRATES[name][1] for name in COMMAND_CRATES}
     table = {message.name: message for message in messages()}
-    sources = f"crates/{CRATE}/src"
+    sources = f"crates/{CRATE}/src/commands"
     found = {}
-    modules = dict(BY_HAND)
+    modules = set()
     homes = {}
     for crate in crates:
         for module, enum, _, oneof, users in shared_oneofs(crate, table):
@@ -324,21 +320,21 @@ def texts():
     for command in commands(crates, table):
         shared = homes.get(command.message.name, {})
         found[f"{sources}/{command.module}.rt"] = write_command(command, shared)
-        modules[command.module] = False
+        modules.add(command.module)
         for row in command.printed():
             if row.name in shared:
                 crate, module, enum, oneof = shared[row.name]
                 printed[module] = (f"{crate}::{module}", enum), oneof
         if command.printed():
-            proofs = f"crates/{CRATE}/proofs/{command.module}/{command.message.name}CommandMessageHeaderDiff/write_fields"
+            proofs = f"crates/{CRATE}/proofs/commands/{command.module}/{command.message.name}CommandMessageHeaderDiff/write_fields"
             found[f"{proofs}/Answers.antt"] = chained_fields(command)
     for module, (path, oneof) in printed.items():
         source = Source(f"`{path[1]}` printed.")
         write_printed_oneof(source, path, oneof)
         found[f"{sources}/{module}.rt"] = source.text()
-        modules[module] = False
-    declared = "".join(f"{'pub ' if seen else ''}mod {module};\n" for module, seen in sorted(modules.items()))
-    found[f"{sources}/lib.rt"] = f"//! {HEADING}\n#![tactic(auto)]\n\n{declared}"
+        modules.add(module)
+    declared = "".join(f"mod {module};\n" for module in sorted(modules))
+    found[f"{sources}.rt"] = f"//! {HEADING}\n\n{declared}"
     return found
 
 
