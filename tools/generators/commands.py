@@ -280,7 +280,8 @@ def write_command(command, shared):
 
 
 def chained_fields(command):
-    """The proof that a command's fields follow each other."""
+    """The proof that a command's fields follow each other, which the prover does not find by itself beyond six, or through definitions that it
+    must not open."""
     path = f"Rattle.{CRATE}.proofs.commands.{command.module}.{command.message.name}CommandMessageHeaderDiff.write_fields.Goals"
     counts = {}
     steps = ""

@@ -161,6 +161,7 @@ class Source:
         return f"{name} {value}".rstrip()
 
     def result(self):
+        """The standard library's `Result`, where an enum of a oneof has that name, as prost gives it."""
         return "result::Result" if self.shadowed else "Result"
 
     def lines(self, presence, number, name):
