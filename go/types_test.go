@@ -2,8 +2,8 @@ package pendratsoa
 
 import (
 	"bytes"
-	"fmt"
 	"errors"
+	"fmt"
 	"math"
 	"regexp"
 	"strconv"
