@@ -68,7 +68,8 @@ def whole(name, path, content):
     """A file's bytes, its first line with them."""
     suffix = pathlib.PurePath(path).suffix or pathlib.PurePath(path).name
     data = content if isinstance(content, bytes) else content.encode()
-    if suffix not in COMMENTS:
+    # a hand-written file in which only the numbers are made says nothing of it
+    if suffix not in COMMENTS or not getattr(generator(name), "IS_WHOLE", True):
         return data
     return f"{COMMENTS[suffix]} {MARK} {name} from {generator(name).SOURCE}. Do not edit.\n".encode() + data
 

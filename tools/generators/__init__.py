@@ -31,6 +31,7 @@ NAMES = (
     "lists",
     "bindings",
     "records",
+    "numbered",
     "dispatch",
     "commands",
     "json_names",

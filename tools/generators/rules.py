@@ -45,6 +45,7 @@ def check(found, described):
     problems.end()
     check_cycles(problems, found)
     check_hand_written(problems, known)
+    check_flat_suspension(problems, known)
     check_commands(problems, found)
     check_template(problems, found, known)
     problems.end()
@@ -266,6 +267,20 @@ def check_hand_written(problems, known):
                 problems.say(f"{path} is hand-written, and has no {field.name} that is a {held_type(field)}", field.line)
         for other in sorted(set(written) - set(fields)):
             problems.say(f"{path} is hand-written, and has a field {other}, which {name} has not", known[name].line)
+
+
+def check_flat_suspension(problems, known):
+    """Rejects another order of the three lists of a suspension before version 7, which flat_suspension.rt writes in this one."""
+    message = known.get("SuspensionMessageV6")
+    order = ["waiting_completions", "waiting_signals", "waiting_named_signals"]
+    if message is None:
+        problems.say("there is no message SuspensionMessageV6, for which there is hand-written code", 1)
+    elif [field.name for field in sorted(fields_of(message), key=lambda field: field.number)] != order:
+        problems.say(
+            f"{message.name} has to have {', '.join(order)}, with numbers in this order: flat_suspension.rt of shared_core_runtime "
+            "is hand-written for it",
+            message.line,
+        )
 
 
 def check_commands(problems, found):
