@@ -78,9 +78,16 @@ def is_read_alike(field, other):
 
 
 def code_of(message):
-    """The code that the comment above a message says, or None."""
-    found = CODE.search(message.comment)
-    return int(found[1], 0) + int(found[2] or "0", 0) if found else None
+    """The code that the comment above a message says, in the last place where it says one, or None."""
+    found = [*CODE.finditer(message.comment)]
+    return int(found[-1][1], 0) + int(found[-1][2] or "0", 0) if found else None
+
+
+def kind_of(code):
+    """What kind of type has a code, or None."""
+    if code is None or code >= NOTIFICATIONS.stop:
+        return None
+    return "a command" if code in COMMANDS else "a notification" if code in NOTIFICATIONS else "the core's"
 
 
 def about(described, other):
@@ -124,6 +131,10 @@ class Adoption:
         self.lines = proto.PROTO.read_text(encoding="utf-8").split("\n")
         self.renames = renames
         self.rows, self.decide, self.added = [], [], []
+        # the messages and the fields that are only here
+        self.alone = []
+        # the types of which no comment says the code
+        self.uncoded = []
         self.numbers = {}
         self.codes = {}
         self.pairs = self.paired()
@@ -174,8 +185,8 @@ class Adoption:
         for name, message in self.ours.items():
             other = self.pairs.get(name)
             if other is None:
-                self.say(name, "a message", "", OURS, "it stays")
-                self.person(f"{name} is no message there: it stays as it is here")
+                self.say(name, f"a message, fields: {len(message.fields)}", "", OURS, "it stays")
+                self.alone.append(name)
             self.fields(message, other)
             self.code(message, other)
         self.enums()
@@ -241,6 +252,10 @@ class Adoption:
             here = f"{field.number} {shape(field)}"
             if theirs is None:
                 self.field_alone(message, field, where, here, taken, other)
+            elif theirs.kind == "map" and self.is_entry(field, theirs):
+                self.take(field, theirs.number)
+                said = SAME if field.number == theirs.number else RENUMBERED
+                self.say(where, here, f"{theirs.number} {shape(theirs)}", said, "a map there, which has the same bytes; in JSON it is a list")
             elif not is_same_shape(field, theirs, self.names):
                 self.other_kind(message, field, theirs, where, here, taken)
             else:
@@ -253,6 +268,14 @@ class Adoption:
                 self.say(where, here, f"{theirs.number} {shape(theirs)}", said, more)
         if other is not None:
             self.further_fields(message, other, matched)
+
+    def is_entry(self, field, theirs):
+        """Whether a list of messages has the bytes of their map: each entry of one is a message with a key at 1 and a value
+        at 2. A message that they do not have keeps its numbers."""
+        entry = self.ours.get(field.type_name) if field.label == "repeated" else None
+        if entry is None or entry.name in self.pairs:
+            return False
+        return theirs.type_name == f"map<{', '.join(part.kind for part in entry.fields)}>" and [part.number for part in entry.fields] == [1, 2]
 
     def take(self, field, number):
         self.numbers[field.line] = (field.name, number)
@@ -270,9 +293,10 @@ class Adoption:
             number = next(free for free in range(1, 19000) if free not in used)
         taken.add(number)
         self.take(field, number)
-        self.say(where, here, "", OURS, f"at {number}")
+        if other is not None or number != field.number:
+            self.say(where, here, "", OURS, f"at {number}")
         if other is not None:
-            self.person(f"{where} is no field there: it stays, at {number}; nothing of theirs fills it")
+            self.alone.append(where)
 
     def other_kind(self, message, field, theirs, where, here, taken):
         """A field that is of another kind there: theirs is taken where no code is written for ours."""
@@ -373,7 +397,9 @@ class Adoption:
         theirs = code_of(other)
         if theirs is None:
             if message.name != FLAT:
-                self.person(f"{message.name}: no comment there says its code ('Type: 0x0400 + 2'): 0x{ours:04X} stays")
+                self.uncoded.append(message.name)
+        elif kind_of(theirs) != kind_of(ours):
+            self.person(f"{message.name} is {kind_of(ours)} here, with the code 0x{ours:04X}, and 0x{theirs:04X} there is none of these: ours stays")
         elif theirs != ours:
             self.codes[message.name] = theirs
             at = next(at for at in range(message.line - 1, message.end) if "option (code)" in self.lines[at])
@@ -483,7 +509,7 @@ class Adoption:
 
     def checked(self):
         """The description that the library has forms for: what it has none for is left out, with the reason."""
-        for _ in range(len(self.added) + 1):
+        for _ in range(2 * len(self.added) + 1):
             self.leave_out_unused()
             self.number_lines()
             text, owners = self.text()
@@ -496,7 +522,11 @@ class Adoption:
                 if not lines:
                     raise
                 for one, why in lines:
-                    if one.row.more == "":
+                    if "no form yet that prints" in why and one.lines[-1].endswith("];"):
+                        # it is read and written all the same
+                        one.lines[-1] = re.sub(r" \[\(printed\) = \d+\];$", " [(not_compared) = true];", one.lines[-1])
+                        self.person(f"{one.row.name} is only there, and not compared: {why}")
+                    elif one.row.more == "":
                         one.row.more = f"left out: {why}"
                         self.person(f"{one.row.name} is only there, and is left out: {why}")
         raise Refused(["the description is not found"])
@@ -561,6 +591,10 @@ class Adoption:
         for one in self.added:
             if not one.row.more and one.within in self.ours and any("printed)" in line for line in one.lines):
                 self.person(f"{one.row.name} is compared, and printed last in a difference: say so, or (not_compared)")
+        if self.alone:
+            self.person(f"only here, and nothing of theirs fills them: {', '.join(self.alone)}: they stay")
+        if self.uncoded:
+            self.person(f"no comment there says the code ('Type: 0x0400 + 2') of {', '.join(self.uncoded)}: ours stay")
         if self.decide:
             said += ["", f"{len(self.decide)} points for a person:", *(f"- {text}" for text in self.decide)]
         return "\n".join(said)

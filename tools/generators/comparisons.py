@@ -89,13 +89,23 @@ def rows_of(command):
 def new_rows(command):
     """The rows of a command that no table has."""
     actual = PAIRS.get(command, ({}, {}, None))[0]
-    return [row for row in rows_of(command) if row.name not in actual]
+    return [row for row in rows_of(command) if row.name not in actual or not fits(row, actual[row.name])]
+
+
+def fits(row, value):
+    """Whether a row can have a value, by its kind."""
+    if isinstance(row, OneOf):
+        return isinstance(value, tuple)
+    if row.presence == "repeated":
+        return isinstance(value, list)
+    return isinstance(value, {"message": dict, "text": str, "bytes": bytes}.get(row.kind, int))
 
 
 def printed_fields(command):
     """The fields that a difference prints, in order."""
     added = sorted((row.printed, row.name) for row in new_rows(command) if row.printed is not None)
-    return PRINTED.get(command, "").split() + [name for _, name in added]
+    known = [name for name in PRINTED.get(command, "").split() if name not in {row.name for row in new_rows(command)}]
+    return known + [name for _, name in added]
 
 
 def never_compared(command):
@@ -168,10 +178,16 @@ def record(field, value):
     return varint(8 * field.number) + varint(value)
 
 
+class OtherKind(Exception):
+    """A field is of another kind than the value that is written here has, so that the case is left out."""
+
+
 def row_payload(row, value):
     """The records of a row, of which None is absent."""
     if value is None:
         return b""
+    if not fits(row, value):
+        raise OtherKind
     if isinstance(row, OneOf):
         member, content = value
         return record(next(field for field in row.members if field.name == member), content)
@@ -346,6 +362,14 @@ def question(command, actual, expected):
 def case(about, command, actual, expected, verdicts=None, text=None, encoded=(None, None)):
     """The line of two commands, and above it what it is. Verdicts and text that are given are hand-written. A
     payload that is not canonical is given too."""
+    try:
+        return made_case(about, command, actual, expected, verdicts, text, encoded)
+    except OtherKind:
+        return ""
+
+
+def made_case(about, command, actual, expected, verdicts, text, encoded):
+    """The same, where each field is of the kind of the value that is written here."""
     found = [sameness(command, actual, expected, ignore_payloads) for ignore_payloads in (False, True)]
     lines = difference(command, actual, expected)
     if verdicts is not None and found != verdicts.split():
@@ -1000,7 +1024,7 @@ def comparisons():
     parts = [HEAD]
     for maker in MAKERS:
         for part in maker():
-            parts.append(part if part.endswith("\n") else f"\n# {part}\n\n")
+            parts.append(part if part.endswith("\n") or not part else f"\n# {part}\n\n")
     return "".join(parts)
 
 
