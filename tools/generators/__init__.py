@@ -12,14 +12,26 @@ import tempfile
 
 ROOT = pathlib.Path(__file__).resolve().parents[2]
 
+
+
+class Refused(SystemExit):
+    """What is wrong with what is read, a line each. Where nobody catches it the program ends, and shows these lines."""
+
+    def __init__(self, problems):
+        super().__init__("\n".join(f"generate.py: {problem}" for problem in problems))
+        self.problems = problems
+
+
 # The generators, each a module of the package, in the order in which they take from each other.
 NAMES = (
+    "description",
     "message_types",
     "tables",
     "row_table",
     "lists",
     "bindings",
     "records",
+    "numbered",
     "dispatch",
     "commands",
     "json_names",

@@ -2,7 +2,7 @@
 contracts of shared_core_json cite, and that of the program, which is proved to be the same.
 """
 from . import laid_out
-from .proto import fields_of, schemas
+from .proto import fields_of, json_name, schemas
 from .records import missing  # noqa: F401
 
 ABOUT = "The names of fields in JSON, for contracts and for the program."
@@ -24,12 +24,6 @@ use crate::names::Name;
 
 /// The number and the name in JSON of each field of each schema.
 """
-
-
-def json_name(name):
-    """A field's name in lower camel case."""
-    first, *others = name.split("_")
-    return first + "".join(word[:1].upper() + word[1:] for word in others)
 
 
 def texts():

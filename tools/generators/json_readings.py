@@ -4,9 +4,8 @@ The results are hand-written, but for those of each field, which follow from its
 part.
 """
 from . import missing  # noqa: F401
-from .json_names import json_name
 from .long_vectors import lengthy, varint
-from .proto import OneOf, schemas
+from .proto import OneOf, json_name, schemas
 
 ABOUT = "Test vectors of JSON that is read."
 SOURCE = "tools/generators/json_readings.py and proto/journal.proto"

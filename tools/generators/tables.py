@@ -3,7 +3,7 @@ what of a command is compared and printed. And the list of types for the scripts
 """
 from . import laid_out
 from .commands import Entry, name_number
-from .proto import TEMPLATE, OneOf, earlier, fields_of, messages, refuse, schema_name, schemas, typed
+from .proto import TEMPLATE, OneOf, earlier, fields_of, messages, schema_name, schemas, typed
 from .records import KINDS, missing  # noqa: F401
 
 ABOUT = "The tables of schemas, of message types and of compared commands, for contracts."
@@ -101,16 +101,12 @@ def table():
 def part_fields():
     """The numbers of the fields of messages without a code, by their names."""
     parts = [FIELDS]
-    known = {}
     for message in schemas():
         if message.code is not None:
             continue
         for field in fields_of(message):
             name = f"{schema_name(message.name)}_{field.name}"
-            if name in known:
-                refuse(f"{field.name} of {message.name} and {known[name]} have one name in the table of fields, {name}")
-            known[name] = f"{field.name} of {message.name}"
-            parts.append(f"\n-- The number of {known[name]}.\nabbrev pub {name} : ℕ\n{name} = {field.number}\n")
+            parts.append(f"\n-- The number of {field.name} of {message.name}.\nabbrev pub {name} : ℕ\n{name} = {field.number}\n")
     return "".join(parts)
 
 
