@@ -30,15 +30,18 @@ def generated():
 
 def is_generated(folder, made):
     """Whether all files of a folder are generated."""
-    files = [path.relative_to(ROOT).as_posix() for path in (ROOT / folder).rglob("*") if path.is_file()]
+    files = (path.relative_to(ROOT).as_posix() for path in (ROOT / folder).rglob("*") if path.is_file())
     return all(path in made for path in files)
 
 
 def pattern(path, made):
     """The widest pattern that names a generated file and generated ones alone: a folder of them, or the file."""
-    folders = [folder.as_posix() for folder in PurePosixPath(path).parents][::-1]
-    whole = next((folder for folder in folders if is_generated(folder, made)), None)
-    return f"{whole}/**" if whole else path
+    widest = path
+    for folder in PurePosixPath(path).parents:
+        if not is_generated(folder, made):
+            break
+        widest = f"{folder}/**"
+    return widest
 
 
 def files():
