@@ -119,6 +119,20 @@ def shortened(text):
     return "\n".join(lines)
 
 
+def bracketed(elements):
+    """A list in brackets, which is an element of a list of a definition: in a line or, if it is too long, in several."""
+    words = [*(f"{element} ∷" for element in elements), "[]"]
+    line = " ".join(words)
+    if len(f"    ∷ ({line})") <= WIDTH:
+        return f"({line})"
+    rows = [""]
+    for word in words:
+        if rows[-1] and len(f"      {rows[-1]} {word}") > WIDTH:
+            rows.append("")
+        rows[-1] = f"{rows[-1]} {word}".lstrip()
+    return "(\n" + "".join(f"      {row}\n" for row in rows) + "    )"
+
+
 def laid_out(texts):
     """Files in the layout of `rt fmt`, by their paths. It takes files whose names end with `.rt` alone."""
     with tempfile.TemporaryDirectory() as work:

@@ -3,6 +3,9 @@
 //! The lines of a chunk are made in one text, which is reused. If an allocation fails among them, none of them is
 //! written, so that what is written is whole lines; the last line too is whole before any of it is written. A chunk is
 //! copied out of the read buffer once, into bytes of its own size, so that a short read keeps no whole buffer alive.
+//!
+//! What calls `print_lines` has its own lines of contract on what is read and written, each of its own reader and
+//! writer. `ArePrinted` takes the four definitions of a printer one by one, since those below it take one or two.
 
 ghost use Rattle.std.specs.Prelude.{◌≡◌, ◌+◌, ◌<◌, ◌≤◌, ◌-◌, ◌++◌, ℕ, List, length, IfOk, IfErr, IfSome, OnOk};
 ghost use Rattle.std.specs.Prelude.{MatchOption};
