@@ -1,5 +1,7 @@
 -- Rules by which a test on fields decides whether their parts are equal; the search for the equality law of a record
 -- uses them.
+-- They are in specs, since a law of an impl may cite the specs of its own crate alone. The parts of an enum are an
+-- injection of all integers, those out of its range too, since in a law an integer has no range.
 use Rattle.std.specs.Prelude.{ℕ, ℤ, pos, negsuc, ◌≡◌, ◌+◌, ◌-◌, ◌*◌, ◌^◌, ◌<◌, ◌≤◌, Bool, true, false, ◌&&◌, List, [], ◌∷◌, Option, Some, None, String, string_bytes, string_eq, refl}
 use Rattle.std.specs.Cmp.{IsEquivalence, IsPartialEquivalence, partial_equiv_from_equiv, on_equiv}
 use Rattle.std.specs.Option.{option_eq}

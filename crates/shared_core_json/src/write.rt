@@ -27,8 +27,7 @@ use base64::encoded_len;
 use base64::engine::general_purpose::STANDARD;
 use json::Writer;
 use shared_core_codec::canonical::{
-    NextField, is_default, is_written_number, is_written_run, may_recur, next_field,
-    written_size,
+    NextField, is_default, is_written_number, is_written_run, may_recur, next_field, written_size,
 };
 use shared_core_codec::rows::{Kind, rows_of};
 use shared_core_codec::size::Size;
