@@ -1,7 +1,7 @@
 #!/usr/bin/env python3
 """Descriptions are refused with what is wrong with them, and another .proto is taken as its table says.
 
-Each of the descriptions is the one of proto/journal.proto with an edit, and tools/generators has to refuse it with these
+Each of the descriptions is the one of proto/journal.proto with an edit, and tools/generators has to reject it with these
 words, at the line of the edit. tests/adopt/other.proto is what a runtime may have: scripts/adopt.sh says of it what
 tests/adopt/other.txt has, and each message that protoc makes with that file has, by the description that comes of it,
 the fields that it was made of. Nothing is generated or built. It needs protoc.
