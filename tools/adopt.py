@@ -139,7 +139,7 @@ class Adoption:
         self.codes = {}
         self.pairs = self.paired()
         # the name here of what is called otherwise there
-        self.names = {other.name: name for name, other in self.pairs.items()}
+        self.names = {other.name: name for name, other in reversed(self.pairs.items())}
 
     def flattened(self, theirs):
         """Their messages by their names; one within another that is called as a third has that one's name before its."""
@@ -185,9 +185,12 @@ class Adoption:
         for name, message in self.ours.items():
             other = self.pairs.get(name)
             if other is None:
-                self.say(name, f"a message, fields: {len(message.fields)}", "", OURS, "it stays")
+                self.say(name, f"a message, fields: {len(message.fields)}", "", OURS)
                 self.alone.append(name)
             self.fields(message, other)
+            if other is None:
+                moved = [f"{field.name} at {self.numbers[field.line][1]}" for field in message.fields if self.numbers[field.line][1] != field.number]
+                self.rows[-1].more = ", ".join(["it stays", *moved])
             self.code(message, other)
         self.enums()
         self.further_messages()
@@ -238,6 +241,11 @@ class Adoption:
                 for field in message.fields:
                     if others[field.name]:
                         found.setdefault(field.number, others[field.name].number)
+        # what none of theirs has keeps its number, or gets one that is free
+        for field in template.fields:
+            if field.number not in found:
+                used = set(found.values())
+                found[field.number] = next(free for free in [field.number, *range(1, 19000)] if free not in used)
         return found
 
     def fields(self, message, other):
@@ -293,9 +301,8 @@ class Adoption:
             number = next(free for free in range(1, 19000) if free not in used)
         taken.add(number)
         self.take(field, number)
-        if other is not None or number != field.number:
-            self.say(where, here, "", OURS, f"at {number}")
         if other is not None:
+            self.say(where, here, "", OURS, f"at {number}")
             self.alone.append(where)
 
     def other_kind(self, message, field, theirs, where, here, taken):

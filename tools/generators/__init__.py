@@ -15,7 +15,7 @@ ROOT = pathlib.Path(__file__).resolve().parents[2]
 
 
 class Refused(SystemExit):
-    """What is wrong with what is read, a line each. Where nobody catches it the program ends, and shows these lines."""
+    """What is wrong with what is read, a line each. A program that does not catch it ends, and shows these lines."""
 
     def __init__(self, problems):
         super().__init__("\n".join(f"generate.py: {problem}" for problem in problems))

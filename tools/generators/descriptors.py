@@ -86,7 +86,7 @@ class Record:
 
 @dataclasses.dataclass
 class Named:
-    """What has a name, a line on which it begins, one on which it ends, the comment above it or else behind it, and
+    """What has a name, a line on which it begins, one on which it ends, the comment before it or else after it, and
     options by their names."""
 
     name: str
@@ -128,7 +128,7 @@ class Message(Named):
 
 @dataclasses.dataclass
 class Description:
-    """A file: what it is written in, its package, and its messages and enums, those within messages behind these."""
+    """A file: what it is written in, its package, and its messages and enums, those within messages after these."""
 
     syntax: str = "proto2"
     package: str = ""

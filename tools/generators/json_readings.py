@@ -4,7 +4,7 @@ The results are hand-written, but for those of each field, which follow from its
 part.
 """
 from . import missing  # noqa: F401
-from .long_vectors import lengthy, varint
+from .payloads import lengthy, varint
 from .proto import OneOf, json_name, schemas
 
 ABOUT = "Test vectors of JSON that is read."

@@ -70,7 +70,8 @@ class Message(Options):
         self.comment = comment
         self.within = ""
         for option in ("command", "also_sent_for"):
-            if value := getattr(self, option):
+            value = getattr(self, option)
+            if value is not None:
                 setattr(self, option, CommandType(value.get("name", name.removesuffix("CommandMessage")), value.get("text", "")))
 
     def type_name(self):

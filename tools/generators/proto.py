@@ -56,20 +56,24 @@ def digest():
     return hashlib.sha256(PROTO.read_bytes() + OPTIONS.read_bytes()).hexdigest()
 
 
+def read(path, folders=()):
+    """What protoc reads in a text of the description, or its words, which say the line and the column."""
+    try:
+        return descriptors.read(path, folders)
+    except Refused as refused:
+        raise Refused([problem.replace(f"protoc: {PROTO.name}:", f"{SOURCE}:") for problem in refused.problems]) from None
+
+
 @functools.cache
 def description():
     """The description as protoc reads it; without protoc as it was read last, if it is still the same."""
     lacks = without_protoc()
     if lacks is None:
-        try:
-            return descriptors.read(PROTO)
-        except Refused as refused:
-            # protoc says the file, the line and the column
-            raise Refused([problem.replace(f"protoc: {PROTO.name}:", f"{SOURCE}:") for problem in refused.problems]) from None
-    read = json.loads(READ.read_text(encoding="utf-8")) if READ.exists() else {}
-    if read.get("of") != digest():
+        return read(PROTO)
+    known = json.loads(READ.read_text(encoding="utf-8")) if READ.exists() else {}
+    if known.get("of") != digest():
         raise Refused([f"{SOURCE} is another one than {READ.relative_to(ROOT)} was read from, and {lacks}"])
-    return descriptors.from_json(read["description"])
+    return descriptors.from_json(known["description"])
 
 
 def of_text(text):
@@ -77,7 +81,7 @@ def of_text(text):
     with tempfile.TemporaryDirectory() as work:
         place = pathlib.Path(work) / PROTO.name
         place.write_text(text, encoding="utf-8")
-        return checked(descriptors.read(place, [OPTIONS.parent]))
+        return checked(read(place, [OPTIONS.parent]))
 
 
 @functools.cache

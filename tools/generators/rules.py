@@ -1,4 +1,4 @@
-"""What a description of the protocol has to be, so that all files can be made of it: what is checked is here, and nothing else refuses one.
+"""What a description of the protocol has to be, so that all files can be made of it: all that is checked is here.
 
 protoc has read it, so numbers of fields, types and options are what proto3 allows. All that is wrong is said at once.
 """
