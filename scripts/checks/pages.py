@@ -59,8 +59,6 @@ VERSIONS = (
     ("ruby/README.md", r"pendratsoa-"),
     ("ruby/lib/pendratsoa/functions.rb", r'The version of the library, as "'),
     ("ruby/lib/pendratsoa/version.rb", r'VERSION = "'),
-    ("scripts/checks/diff.sh", r"'journal_diff "),
-    ("scripts/checks/dump.sh", r"'journal_dump "),
 )
 
 

@@ -1,15 +1,24 @@
-"""Lines that journal_make takes, and lines that it rejects: make_lines.py PROGRAM
+#!/usr/bin/env python3
+"""journal_make on lines that it takes and that it rejects; the streams of conformance/ and random ones, made again.
 
 Each row is a case, of which the program's output, the whole of its standard error and its status are compared. A line
 is rejected between two that are taken, of which the first one's frame is written. There is a row for each reason but
-TooLong, which a payload of 4 GiB has. The last line is 'N passed, M failed'.
+TooLong, which a payload of 4 GiB has. failures.py has wrong arguments, and inputs and outputs that fail.
 """
-import subprocess
+from __future__ import annotations
+
+import base64
 import sys
+
+import checks
+from programs import Program, go_to_streams
 
 END = '{"type":"End","message":{}}'
 END_FRAME = "0003000000000000"
 INPUT_FRAME = "0400000000000009 72070a05696e707574"
+
+# How many random streams are dumped and made again.
+RANDOM = "10000"
 
 # What is written for lines: hexadecimal digits, the lines, and the version if it is not the program's own.
 TAKEN = [
@@ -123,32 +132,27 @@ REJECTED = [
 ]
 
 
-def ended(program, lines, version):
-    """The status of the program, its output and its standard error."""
-    options = [] if version is None else ["--protocol", str(version)]
-    run = subprocess.run([program, *options], input=lines.encode(), capture_output=True)
-    return run.returncode, run.stdout.hex(), run.stderr.decode()
-
-
-def cases():
-    """The lines, the version, and how the program has to end, for each row."""
+def main(check: checks.Check) -> None:
+    make = Program(check, "journal_make")
+    go_to_streams(check, {"lines": b'{"type":"Start"}'})
     for frames, lines, *version in TAKEN:
-        yield lines, *(version or [None]), (0, frames.replace(" ", ""), "")
+        words = "".join(f"--protocol {number}" for number in version)
+        make.ends(words, bytes.fromhex(frames), given=lines.encode(), what=lines)
     for why, line, *version in REJECTED:
-        yield f"{END}\n{line}\n{END}", *(version or [None]), (1, END_FRAME, f"journal_make: -:2: {why}\n")
+        words = "".join(f"--protocol {number}" for number in version)
+        lines = f"{END}\n{line}\n{END}".encode()
+        make.ends(words, bytes.fromhex(END_FRAME), f"journal_make: -:2: {why}\n", 1, given=lines, what=line)
+    make.ends("lines", "", "journal_make: lines:1: no message and no bytes\n", 1)
 
+    content = bytes(17 << 20)
+    line = b'{"type":"InputCommand","message":{"value":{"content":"' + base64.b64encode(content) + b'"}}}\n'
+    large = b"\x04\0\0\0\x01\x10\0\nr\x85\x80\xc0\x08\n\x80\x80\xc0\x08" + content
+    make.ends("", large, given=line, what="of a line of 24 MiB")
 
-def main():
-    passed = failed = 0
-    for lines, version, wanted in cases():
-        found = ended(sys.argv[1], lines, version)
-        if found == wanted:
-            passed += 1
-        else:
-            failed += 1
-            print(f"failed: {lines!r} at version {version}: {found}, and not {wanted}")
-    print(f"{passed} passed, {failed} failed")
+    words = [sys.executable, "-B", checks.ROOT / "scripts/checks/made_streams.py", check.program("journal_dump"), make.path]
+    told = check.counted("streams made again", [*words, RANDOM])
+    print(f"make: streams made again: {told.out.decode().splitlines()[-2]}")
 
 
 if __name__ == "__main__":
-    main()
+    checks.perform(main)
