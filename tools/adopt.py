@@ -71,12 +71,6 @@ def is_same_shape(field, other, names):
     return (field.label, field.kind) == (other.label, other.kind) and plain(field.type_name) == plain(type_name)
 
 
-def is_read_alike(field, other):
-    """Whether the bytes of one field are read as the other's."""
-    lists = (field.label == "repeated", other.label == "repeated")
-    return lists[0] == lists[1] and WIRE.get(field.kind) == WIRE.get(other.kind, "another") and "message" not in (field.kind, other.kind)
-
-
 def code_of(message):
     """The code that the comment above a message says, in the last place where it says one, or None."""
     found = [*CODE.finditer(message.comment)]
@@ -233,20 +227,26 @@ class Adoption:
         found = {}
         matched = self.other_fields(template, self.pairs.get(forms.TEMPLATE))
         for field in template.fields:
-            if matched[field.name]:
+            if self.is_taken(field, matched[field.name]):
                 found[field.number] = matched[field.name].number
+        used = {field.number for field in self.pairs[forms.TEMPLATE].fields} if forms.TEMPLATE in self.pairs else set()
         for name, message in self.ours.items():
-            if self.is_notification(name):
-                others = self.other_fields(message, self.pairs.get(name))
+            if self.is_notification(name) and name in self.pairs:
+                used |= {field.number for field in self.pairs[name].fields}
+                others = self.other_fields(message, self.pairs[name])
                 for field in message.fields:
-                    if others[field.name]:
+                    if self.is_taken(field, others[field.name]):
                         found.setdefault(field.number, others[field.name].number)
         # what none of theirs has keeps its number, or gets one that is free
         for field in template.fields:
             if field.number not in found:
-                used = set(found.values())
+                used |= set(found.values())
                 found[field.number] = next(free for free in [field.number, *range(1, 19000)] if free not in used)
         return found
+
+    def is_taken(self, field, theirs):
+        """Whether a field gets the number of theirs, since the bytes are read alike."""
+        return theirs is not None and (is_same_shape(field, theirs, self.names) or self.is_read_alike(field, theirs))
 
     def fields(self, message, other):
         """The numbers of a message's fields, and what is said of each."""
@@ -276,6 +276,15 @@ class Adoption:
                 self.say(where, here, f"{theirs.number} {shape(theirs)}", said, more)
         if other is not None:
             self.further_fields(message, other, matched)
+
+    def is_read_alike(self, field, other):
+        """Whether the bytes of one field are read as the other's: messages if one of them has no field."""
+        if (field.label == "repeated") != (other.label == "repeated"):
+            return False
+        if (field.kind, other.kind) == ("message", "message"):
+            held = self.theirs[other.type_name].fields if other.type_name in self.theirs else ()
+            return not (self.ours[field.type_name].fields and held)
+        return WIRE.get(field.kind) == WIRE.get(other.kind, "another") and "message" not in (field.kind, other.kind)
 
     def is_entry(self, field, theirs):
         """Whether a list of messages has the bytes of their map: each entry of one is a message with a key at 1 and a value
@@ -313,10 +322,9 @@ class Adoption:
             has_form = False
         if theirs.kind == "message" and self.names.get(theirs.type_name) is None:
             has_form = False
-        if has_form and self.is_command(message.name):
-            presence = theirs.label or ("message" if theirs.kind == "message" else "plain")
-            kind = theirs.kind if theirs.kind in ("enum", "message") else forms.SCALARS[theirs.kind]
-            has_form = (presence, kind) in forms.WRITERS
+        # of a command it has to be printed, and not each message has a text
+        if theirs.kind == "message" and self.is_command(message.name):
+            has_form = False
         is_free = has_form and not field.oneof and not theirs.oneof and not used_by_hand(field.name)
         if is_free:
             self.take(field, theirs.number)
@@ -327,12 +335,14 @@ class Adoption:
             )
             self.say(where, here, there, KIND, "theirs is taken")
             self.person(f"{where} is {shape(field)} here and {shape(theirs)} there: theirs is taken, which changes its record")
-        elif is_read_alike(field, theirs):
+        elif self.is_read_alike(field, theirs):
             self.take(field, theirs.number)
             self.say(where, here, there, KIND, "ours stays, with their number")
             self.person(f"{where} is {shape(field)} here and {shape(theirs)} there: ours stays, with their number, since the bytes are read alike")
         else:
             number = next(free for free in [field.number, *range(1, 19000)] if free not in taken)
+            if self.is_notification(message.name) or message.name == forms.TEMPLATE:
+                number = self.template.get(field.number, number)
             taken.add(number)
             self.take(field, number)
             self.say(where, here, there, KIND, f"ours stays, at {number}: theirs is skipped")
@@ -383,6 +393,9 @@ class Adoption:
         self.added.append(Added(oneof, [*lines, "  }"], before, row, tuple(self.type_of(field) for field in fields), name))
 
     def add(self, name, field, lines, before, row):
+        if field.kind == "group":
+            row.more = "left out: a group"
+            self.person(f"{row.name} is only there, and is left out: it is a group, which the library lacks")
         self.added.append(Added(field.name, lines, before, row, (self.type_of(field),), name))
 
     def type_of(self, field):
@@ -808,7 +821,7 @@ def read(asked):
     if bad := [name for name in asked.programs.split(",") if name not in PROGRAMS]:
         fail(f"there is no program {bad[0]}; there are {', '.join(PROGRAMS)}")
     proto.messages()
-    theirs = descriptors.read(asked.theirs)
+    theirs = descriptors.read(asked.theirs, with_imports=True)
     adoption = Adoption(proto.description(), theirs, dict(word.split("=") for word in asked.rename))
     if not adoption.pairs:
         fail(f"no message of {asked.theirs} is called as one of {proto.SOURCE}; --rename says which are the same")

@@ -69,12 +69,23 @@ REFUSED = [
     ("no text", '{ text: "handler input" }', "{ }", "a command of InputCommandMessage has no text"),
     ("a command without a name", "string entry_name = 12;", "string entry_name = 13;", "SendSignalCommandMessage has no text 12, its name"),
     ("a compared field that is not printed", "string awakeable_id = 1 [(printed) = 1];", "string awakeable_id = 1;", "awakeable_id of CompleteAwakeableCommandMessage is compared, and so has to be printed"),
+    ("a list that no difference prints", "string awakeable_id = 1 [(printed) = 1];", "string awakeable_id = 1 [(printed) = 1];\n  // More.\n  repeated Value more = 9 [(printed) = 3];", "there is no form yet that prints more of CompleteAwakeableCommandMessage, a list of Value"),
+    ("a message that no difference prints", "string awakeable_id = 1 [(printed) = 1];", "string awakeable_id = 1 [(printed) = 1];\n  // More.\n  StateEntry more = 9 [(printed) = 3];", "there is no form yet that prints more of CompleteAwakeableCommandMessage: StateEntry has no text"),
     ("a gap among the printed", "string awakeable_id = 1 [(printed) = 1];", "string awakeable_id = 1 [(printed) = 4];", "the lines that CompleteAwakeableCommandMessage prints are 2, 4"),
     ("an option of commands elsewhere", "bytes content = 1;", "bytes content = 1 [(payload) = true];", "content of Value has an option of the fields of commands, and is in none"),
     ("a row that the template lacks", "StateKeys state_keys = 17;\n}", "StateKeys state_keys = 18;\n}", "state_keys of GetLazyStateKeysCompletionNotificationMessage is a StateKeys at 18"),
     ("another field of Future", "repeated Future nested_futures = 4;", "repeated Future nested = 4;", "future.rt is hand-written, and has no nested that is a Vec<Future>"),
     ("another order of lists", "repeated uint32 waiting_signals = 2;\n  // The signals that are awaited, by their names.\n  repeated string waiting_named_signals = 3;\n}", "repeated uint32 waiting_signals = 4;\n  // The signals that are awaited, by their names.\n  repeated string waiting_named_signals = 3;\n}", "SuspensionMessageV6 has to have waiting_completions, waiting_signals, waiting_named_signals"),
 ]
+
+# A field of a command of each kind, as differences print them.
+EACH_KIND = "string awakeable_id = 1 [(printed) = 1];\n" + "".join(
+    f"// A field.\n{label} {kind} field_{at} = {at + 20} [(printed) = {at + 3}];\n"
+    for at, (label, kind) in enumerate(
+        [(label, kind) for label in ("", "optional") for kind in ("uint32", "uint64", "bool", "ErrorBehavior", "string", "bytes", "Value")]
+        + [("repeated", kind) for kind in ("uint32", "string", "bytes", "Header")]
+    )
+)
 
 # What is accepted, since it changes no byte and no name.
 ACCEPTED = [
@@ -85,6 +96,7 @@ ACCEPTED = [
     ("packed numbers that say so", "repeated uint32 waiting_signals = 2;", "repeated uint32 waiting_signals = 2 [packed = true];"),
     ("a value in hex digits with an option", "PAUSE = 1;", "PAUSE = 0x1 [deprecated = true];"),
     ("a declaration of two lines", "bytes content = 1;", "bytes\n  content = 1;"),
+    ("a field of each kind that is printed", "string awakeable_id = 1 [(printed) = 1];", EACH_KIND),
     ("members called as locals", "uint32 idx = 2;\n    // The name of the signal.\n    string name = 3;", "uint32 size = 2;\n    // The name of the signal.\n    string out = 3;"),
 ]
 

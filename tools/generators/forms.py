@@ -12,19 +12,20 @@ NOT_REPEATED = {"u64": "uint64", "bool": "bool", "enum": "an enum"}
 # The types of values in Rattle, by kind.
 TYPES = {"u32": "u32", "u64": "u64", "bool": "bool", "enum": "i32", "text": "String", "bytes": "Bytes"}
 
-# The function that writes a field in which two commands differ, by its presence and its kind.
+# The functions of `difference` that write a field in which two commands differ, by its presence and its kind.
 WRITERS = {
     ("plain", "u32"): "write_number",
     ("plain", "text"): "write_text",
     ("plain", "bytes"): "write_bytes",
     ("optional", "text"): "write_optional_text",
     ("message", "message"): "write_message",
+    ("optional", "message"): "write_message",
 }
 
-# The kinds of the members of oneofs that are printed, beside messages.
-PRINTED_MEMBERS = ("u32", "text")
+# Those of `values`, by the presence, which take any kind but messages.
+ANY_KIND = {"plain": "write_value", "optional": "write_optional", "repeated": "write_list"}
 
-# The messages of which lists are printed, each with what writes one.
+# The messages of which lists are printed, each with the function of `difference` that writes one.
 PRINTED_LISTS = {"Header": "write_headers"}
 
 # Words that no field of a struct and no module can be named by, in Rattle or in a clause.
@@ -65,6 +66,15 @@ INNER = {PARTS_CRATE: ["escape"]}
 
 # The versions before which a type may have another message: all but the first that is supported.
 LATER_VERSIONS = range(6, 10)
+
+
+def writer(row):
+    """The module and the function that write a field in which two commands differ, or None."""
+    if row.presence == "repeated" and row.message in PRINTED_LISTS:
+        return "difference", PRINTED_LISTS[row.message]
+    if (row.presence, row.kind) in WRITERS:
+        return "difference", WRITERS[row.presence, row.kind]
+    return ("values", ANY_KIND[row.presence]) if row.kind != "message" else None
 
 
 def bound(member):

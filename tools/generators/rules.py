@@ -323,7 +323,9 @@ def name_of(message, number):
 
 def has_payload_form(row):
     """Whether there is code that compares a payload in this row."""
-    return isinstance(row, OneOf) or row.presence == "message" or (row.presence, row.kind) == ("plain", "bytes")
+    if isinstance(row, OneOf):
+        return all(member.message for member in row.members if member.payload)
+    return row.presence != "repeated" and bool(row.message) or (row.presence, row.kind) == ("plain", "bytes")
 
 
 def check_printed(problems, message, printed):
@@ -335,17 +337,11 @@ def check_printed(problems, message, printed):
     for row in rows:
         for field in members_of(row):
             at = f"{field.name} of {message.name}"
-            if isinstance(row, OneOf):
-                if field.kind != "message" and field.kind not in forms.PRINTED_MEMBERS:
-                    problems.say(f"there is no form yet that prints {at}, a {field.type_name} in a oneof", field.line)
+            if not isinstance(row, OneOf) and forms.writer(row) is None:
+                problems.say(f"there is no form yet that prints {at}, a list of {field.type_name}", field.line)
             elif field.presence == "repeated":
-                if field.type_name not in forms.PRINTED_LISTS:
-                    problems.say(f"there is no form yet that prints {at}, a list of {field.type_name}", field.line)
                 continue
-            elif (field.presence, field.kind) not in forms.WRITERS:
-                label = "an optional" if field.presence == "optional" else "a"
-                problems.say(f"there is no form yet that prints {at}, {label} {field.type_name}", field.line)
-            if field.message and field.message not in printed:
+            elif field.message and field.message not in printed:
                 problems.say(
                     f"there is no form yet that prints {at}: {field.message} has no text in printed.rt and specs/Differences.antt of "
                     "shared_core_compare",

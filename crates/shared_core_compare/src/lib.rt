@@ -28,3 +28,4 @@ mod run_command_message;
 mod send_signal_command_message;
 mod set_state_command_message;
 mod sleep_command_message;
+mod values;
