@@ -141,12 +141,14 @@ class Description:
 
 
 class Reader:
-    """Reads the last file of a descriptor set; the others are those that it imports, whose messages and enums are read too
-    if that is asked for."""
+    """Reads the last file of a descriptor set; the others are those that it imports, whose messages and enums are read
+    too if that is asked for."""
 
     def __init__(self, data, with_imports=False):
         files = Record(data).records(1)
-        self.files = [file for file in files if file is files[-1] or with_imports and file.text(1) != OPTIONS_OF_PROTOBUF]
+        self.files = [
+            file for file in files if file is files[-1] or with_imports and file.text(1) != OPTIONS_OF_PROTOBUF
+        ]
         self.file = files[-1]
         self.known = {}
         self.extensions = {}
@@ -244,19 +246,23 @@ class Reader:
         if kind == "message":
             held = record.record(number)
             parts = self.known[field.text(6)].records(FIELDS)
-            return {part.text(1): self.value(part, held, part.number(3)) for part in parts if part.number(3) in held.fields}
+            return {
+                part.text(1): self.value(part, held, part.number(3)) for part in parts if part.number(3) in held.fields
+            }
         if kind == "string":
             return record.text(number)
         return bool(record.number(number)) if kind == "bool" else record.number(number)
 
 
 def read(path, folders=(), with_imports=False):
-    """The description in a file, by protoc; what it imports is looked for in these folders too, and read if that is asked
-    for."""
+    """The description in a file, by protoc; what it imports is looked for in these folders too, and read if that is
+    asked for."""
     path = pathlib.Path(path)
     with tempfile.NamedTemporaryFile() as written:
         searched = [f"--proto_path={folder}" for folder in (path.parent, *folders)]
-        words = ["protoc", *searched, "--include_source_info", "--include_imports", f"--descriptor_set_out={written.name}"]
+        words = [
+            "protoc", *searched, "--include_source_info", "--include_imports", f"--descriptor_set_out={written.name}"
+        ]
         ended = subprocess.run([*words, path.name], capture_output=True, text=True)
         if ended.returncode != 0:
             raise Refused([f"protoc: {line}" for line in ended.stderr.strip().splitlines()])

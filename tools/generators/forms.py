@@ -1,4 +1,4 @@
-"""What the library has a form for, and what it is called: the kinds of fields, what prints them, and the names that generated code cannot have."""
+"""What the library has a form for: the kinds of fields, what prints them, and the names that generated code cannot have."""
 import re
 
 from . import ROOT
@@ -33,15 +33,18 @@ RESERVED = set(
     "as break const continue crate dyn else enum extern false fn for if impl in let loop match mod move mut pub ref "
     "return self static struct super trait true type unsafe use where while async await abstract become box do final "
     "macro override priv try typeof unsized virtual yield ghost requires ensures data record deriving module package "
-    "open unfoldable abbrev axiom unfold unfolding ruleset mutual infix infixl infixr elim coe fcoe tcoe hcom com".split()
+    "open unfoldable abbrev axiom unfold unfolding ruleset mutual infix infixl infixr elim coe fcoe tcoe hcom "
+    "com".split()
 )
 
 # Names of types that generated code uses, so that no message and no enum of a oneof can have them. Of a oneof `result`
 # is handled.
 TYPE_NAMES = set(
-    "Self String Vec Option Some None Result Ok Err Box Bytes BytesMut Size Global Occurrence Record WireRecord WireError OneOf "
+    "Self String Vec Option Some None Result Ok Err Box Bytes BytesMut Size Global Occurrence Record WireRecord "
+    "WireError OneOf "
     "FieldKind MessageType MessageHeader RestateMessage RestateEncodableMessage Version EncodingError Formatter "
-    "CommandMessageHeaderDiff CommandMessageHeaderEq NamedCommandMessage DifferenceForm PrintedMessage PrintedOneOf".split()
+    "CommandMessageHeaderDiff CommandMessageHeaderEq NamedCommandMessage DifferenceForm PrintedMessage "
+    "PrintedOneOf PrintedValue".split()
 )
 
 # What functions of generated code call their own values, so that a member of a oneof is bound by another name there.

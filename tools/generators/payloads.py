@@ -29,7 +29,9 @@ def value(field, held):
         held = payload(field.message, **held)
     if isinstance(held, str):
         held = held.encode()
-    return lengthy(field.number, held) if isinstance(held, bytes) else varint(8 * field.number) + varint(held % (1 << 64))
+    return lengthy(
+        field.number, held
+    ) if isinstance(held, bytes) else varint(8 * field.number) + varint(held % (1 << 64))
 
 
 def record(message, name, held):
@@ -38,7 +40,7 @@ def record(message, name, held):
 
 
 def payload(message, /, **values):
-    """The canonical payload of a message of which these fields are present: the least number first, a oneof at its least."""
+    """The canonical payload of a message of which these fields are present, the rows in the order of their numbers."""
     out = b""
     for row in TABLE[message].rows:
         for field in row.members if isinstance(row, OneOf) else [row]:
