@@ -104,8 +104,8 @@ class Row:
 
 @dataclasses.dataclass
 class Added:
-    """Lines that are added to the description: what they declare, before which line, the row that speaks of it, the types
-    that it holds, and what it is in."""
+    """Lines that are added to the description: what they declare, before which line, the row that speaks of it, the
+    types that it holds, and what it is in."""
 
     name: str
     lines: list
@@ -137,7 +137,7 @@ class Adoption:
         self.names = {other.name: name for name, other in reversed(self.pairs.items())}
 
     def flattened(self, theirs):
-        """Their messages by their names; one that is called as another has the name of the message that it is in before."""
+        """Their messages by their names; the name of one that is called as another begins with what it is in."""
         found = {}
         for message in theirs.messages:
             name = message.name

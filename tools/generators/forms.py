@@ -1,4 +1,4 @@
-"""What the library has a form for: the kinds of fields, what prints them, and the names that generated code cannot have."""
+"""What the library has a form for: the kinds of fields, what prints them, and the names that code cannot have."""
 import re
 
 from . import ROOT

@@ -59,7 +59,7 @@ class CommandType:
 
 
 class Message(Options):
-    """A message: its name, its rows (fields and oneofs), the comment above it, the message that it is in, its options."""
+    """A message: its name, its rows (fields and oneofs), its comment, the message that it is in, and its options."""
 
     OPTIONS = ("schema", "code", "before_version", "differs_by_version", "command", "also_sent_for")
 

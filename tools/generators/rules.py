@@ -230,7 +230,8 @@ def check_types(problems, found):
     for message in found:
         if message.before_version is not None and message.code is not None and message.code not in last:
             problems.say(
-                f"{message.name} is of versions before {message.before_version}, and no message has its code from there on",
+                f"{message.name} is of versions before {message.before_version}, and no message has its code from "
+                "there on",
                 message.line,
             )
 
