@@ -47,7 +47,8 @@ WIRE = {
     "message": "a message",
 }
 
-# The field that names a command, and the messages of a suspension, of which the earlier one may be within the later one.
+# The field that names a command, and the messages of a suspension, of which the earlier one may be within the later
+# one.
 NAME = "name"
 SUSPENSION, FLAT = "SuspensionMessage", "SuspensionMessageV6"
 
@@ -69,12 +70,6 @@ def is_same_shape(field, other, names):
     """Whether two fields are of one kind, where a message there may have another name here."""
     type_name = names.get(other.type_name, other.type_name)
     return (field.label, field.kind) == (other.label, other.kind) and plain(field.type_name) == plain(type_name)
-
-
-def is_read_alike(field, other):
-    """Whether the bytes of one field are read as the other's."""
-    lists = (field.label == "repeated", other.label == "repeated")
-    return lists[0] == lists[1] and WIRE.get(field.kind) == WIRE.get(other.kind, "another") and "message" not in (field.kind, other.kind)
 
 
 def code_of(message):
@@ -109,8 +104,8 @@ class Row:
 
 @dataclasses.dataclass
 class Added:
-    """Lines that are added to the description: what they declare, before which line, the message or field there, and the
-    row that speaks of it."""
+    """Lines that are added to the description: what they declare, before which line, the row that speaks of it, the
+    types that it holds, and what it is in."""
 
     name: str
     lines: list
@@ -142,7 +137,7 @@ class Adoption:
         self.names = {other.name: name for name, other in reversed(self.pairs.items())}
 
     def flattened(self, theirs):
-        """Their messages by their names; one within another that is called as a third has that one's name before its."""
+        """Their messages by their names; the name of one that is called as another begins with what it is in."""
         found = {}
         for message in theirs.messages:
             name = message.name
@@ -189,7 +184,11 @@ class Adoption:
                 self.alone.append(name)
             self.fields(message, other)
             if other is None:
-                moved = [f"{field.name} at {self.numbers[field.line][1]}" for field in message.fields if self.numbers[field.line][1] != field.number]
+                moved = [
+                    f"{field.name} at {self.numbers[field.line][1]}" for field in message.fields if self.numbers[
+                        field.line
+                    ][1] != field.number
+                ]
                 self.rows[-1].more = ", ".join(["it stays", *moved])
             self.code(message, other)
         self.enums()
@@ -218,7 +217,11 @@ class Adoption:
 
     def our_name(self):
         """The number of the field that names a command here."""
-        return next(field.number for message in self.ours.values() if self.is_command(message.name) for field in message.fields if field.name == NAME)
+        return next(
+            field.number for message in self.ours.values() if self.is_command(
+                message.name
+            ) for field in message.fields if field.name == NAME
+        )
 
     def is_command(self, name):
         return self.ours[name].options.get("code", -1) in COMMANDS
@@ -233,20 +236,26 @@ class Adoption:
         found = {}
         matched = self.other_fields(template, self.pairs.get(forms.TEMPLATE))
         for field in template.fields:
-            if matched[field.name]:
+            if self.is_taken(field, matched[field.name]):
                 found[field.number] = matched[field.name].number
+        used = {field.number for field in self.pairs[forms.TEMPLATE].fields} if forms.TEMPLATE in self.pairs else set()
         for name, message in self.ours.items():
-            if self.is_notification(name):
-                others = self.other_fields(message, self.pairs.get(name))
+            if self.is_notification(name) and name in self.pairs:
+                used |= {field.number for field in self.pairs[name].fields}
+                others = self.other_fields(message, self.pairs[name])
                 for field in message.fields:
-                    if others[field.name]:
+                    if self.is_taken(field, others[field.name]):
                         found.setdefault(field.number, others[field.name].number)
         # what none of theirs has keeps its number, or gets one that is free
         for field in template.fields:
             if field.number not in found:
-                used = set(found.values())
+                used |= set(found.values())
                 found[field.number] = next(free for free in [field.number, *range(1, 19000)] if free not in used)
         return found
+
+    def is_taken(self, field, theirs):
+        """Whether a field gets the number of theirs, since the bytes are read alike."""
+        return theirs is not None and (is_same_shape(field, theirs, self.names) or self.is_read_alike(field, theirs))
 
     def fields(self, message, other):
         """The numbers of a message's fields, and what is said of each."""
@@ -263,7 +272,13 @@ class Adoption:
             elif theirs.kind == "map" and self.is_entry(field, theirs):
                 self.take(field, theirs.number)
                 said = SAME if field.number == theirs.number else RENUMBERED
-                self.say(where, here, f"{theirs.number} {shape(theirs)}", said, "a map there, which has the same bytes; in JSON it is a list")
+                self.say(
+                    where,
+                    here,
+                    f"{theirs.number} {shape(theirs)}",
+                    said,
+                    "a map there, which has the same bytes; in JSON it is a list",
+                )
             elif not is_same_shape(field, theirs, self.names):
                 self.other_kind(message, field, theirs, where, here, taken)
             else:
@@ -272,31 +287,46 @@ class Adoption:
                 more = "" if theirs.name == field.name else f"called {theirs.name} there"
                 if bool(field.oneof) != bool(theirs.oneof):
                     more = f"in the oneof {field.oneof} here" if field.oneof else f"in the oneof {theirs.oneof} there"
-                    self.person(f"{where} is {more}, and in none on the other side: it stays as it is here, with their number")
+                    self.person(
+                        f"{where} is {more}, and in none on the other side: it stays as it is here, with their number"
+                    )
                 self.say(where, here, f"{theirs.number} {shape(theirs)}", said, more)
         if other is not None:
             self.further_fields(message, other, matched)
 
+    def is_read_alike(self, field, other):
+        """Whether the bytes of one field are read as the other's: messages if one of them has no field."""
+        if (field.label == "repeated") != (other.label == "repeated"):
+            return False
+        if (field.kind, other.kind) == ("message", "message"):
+            held = self.theirs[other.type_name].fields if other.type_name in self.theirs else ()
+            return not (self.ours[field.type_name].fields and held)
+        return WIRE.get(field.kind) == WIRE.get(other.kind, "another") and "message" not in (field.kind, other.kind)
+
     def is_entry(self, field, theirs):
-        """Whether a list of messages has the bytes of their map: each entry of one is a message with a key at 1 and a value
-        at 2. A message that they do not have keeps its numbers."""
+        """Whether a list of messages has the bytes of their map: each entry of one is a message with a key at 1 and a
+        value at 2. A message that they do not have keeps its numbers."""
         entry = self.ours.get(field.type_name) if field.label == "repeated" else None
         if entry is None or entry.name in self.pairs:
             return False
-        return theirs.type_name == f"map<{', '.join(part.kind for part in entry.fields)}>" and [part.number for part in entry.fields] == [1, 2]
+        return theirs.type_name == f"map<{', '.join(part.kind for part in entry.fields)}>" and [
+            part.number for part in entry.fields
+        ] == [1, 2]
 
     def take(self, field, number):
         self.numbers[field.line] = (field.name, number)
 
     def field_alone(self, message, field, where, here, taken, other):
-        """A field that they do not have: it keeps its number, or gets one that is free, or what its kind of message asks."""
+        """A field that they do not have keeps its number, or gets one that is free, or that of its kind of message."""
         if self.is_command(message.name) and field.number == self.our_name():
             number = self.name_number
         elif self.is_notification(message.name) or message.name == forms.TEMPLATE:
             number = self.template.get(field.number, field.number)
         else:
             number = field.number
-        used = taken | ({self.name_number} if self.is_command(message.name) and field.number != self.our_name() else set())
+        used = taken | (
+            {self.name_number} if self.is_command(message.name) and field.number != self.our_name() else set()
+        )
         if number in used:
             number = next(free for free in range(1, 19000) if free not in used)
         taken.add(number)
@@ -308,56 +338,84 @@ class Adoption:
     def other_kind(self, message, field, theirs, where, here, taken):
         """A field that is of another kind there: theirs is taken where no code is written for ours."""
         there = f"{theirs.number} {shape(theirs)}"
-        has_form = theirs.kind in (*forms.SCALARS, "enum", "message") and (theirs.label != "repeated" or theirs.kind in ("uint32", "string", "bytes", "message"))
+        has_form = theirs.kind in (*forms.SCALARS, "enum", "message") and (
+            theirs.label != "repeated" or theirs.kind in ("uint32", "string", "bytes", "message")
+        )
         if theirs.kind == "enum" and theirs.type_name not in self.our_enums:
             has_form = False
         if theirs.kind == "message" and self.names.get(theirs.type_name) is None:
             has_form = False
-        if has_form and self.is_command(message.name):
-            presence = theirs.label or ("message" if theirs.kind == "message" else "plain")
-            kind = theirs.kind if theirs.kind in ("enum", "message") else forms.SCALARS[theirs.kind]
-            has_form = (presence, kind) in forms.WRITERS
+        # of a command it has to be printed, and not each message has a text
+        if theirs.kind == "message" and self.is_command(message.name):
+            has_form = False
         is_free = has_form and not field.oneof and not theirs.oneof and not used_by_hand(field.name)
         if is_free:
             self.take(field, theirs.number)
             type_name = self.names.get(theirs.type_name, theirs.type_name) or theirs.kind
+            declared = f"{theirs.label} {type_name}".strip()
             self.lines[field.line - 1] = re.sub(
-                rf"^(\s*)(?:optional |repeated )?\w+ {field.name} =", rf"\g<1>{f'{theirs.label} ' if theirs.label else ''}{type_name} {field.name} =",
+                rf"^(\s*)(?:optional |repeated )?\w+ {field.name} =",
+                rf"\g<1>{declared} {field.name} =",
                 self.lines[field.line - 1],
             )
             self.say(where, here, there, KIND, "theirs is taken")
-            self.person(f"{where} is {shape(field)} here and {shape(theirs)} there: theirs is taken, which changes its record")
-        elif is_read_alike(field, theirs):
+            self.person(
+                f"{where} is {shape(field)} here and {shape(theirs)} there: theirs is taken, which changes its record"
+            )
+        elif self.is_read_alike(field, theirs):
             self.take(field, theirs.number)
             self.say(where, here, there, KIND, "ours stays, with their number")
-            self.person(f"{where} is {shape(field)} here and {shape(theirs)} there: ours stays, with their number, since the bytes are read alike")
+            self.person(
+                f"{where} is {shape(field)} here and {shape(theirs)} there: ours stays, with their number, since the "
+                f"bytes are read alike"
+            )
         else:
             number = next(free for free in [field.number, *range(1, 19000)] if free not in taken)
+            if self.is_notification(message.name) or message.name == forms.TEMPLATE:
+                number = self.template.get(field.number, number)
             taken.add(number)
             self.take(field, number)
             self.say(where, here, there, KIND, f"ours stays, at {number}: theirs is skipped")
-            self.person(f"{where} is {shape(field)} here and {shape(theirs)} there: ours stays, at the free number {number}, and theirs is skipped as unknown")
+            self.person(
+                f"{where} is {shape(field)} here and {shape(theirs)} there: ours stays, at the free number {number}, "
+                f"and theirs is skipped as unknown"
+            )
 
     # What is only there.
 
     def further_fields(self, message, other, matched):
         """The fields of a message that only they have."""
         known = {field.name for field in matched.values() if field}
-        flat = {field.name for field in self.ours[FLAT].fields} if message.name == SUSPENSION and self.pairs.get(FLAT) is other else set()
+        flat = {
+            field.name for field in self.ours[FLAT].fields
+        } if message.name == SUSPENSION and self.pairs.get(FLAT) is other else set()
         if message.name == FLAT and self.pairs.get(SUSPENSION) is other:
             return
         groups = collections.defaultdict(list)
         for field in other.fields:
             if field.name not in known and field.name not in flat:
                 groups[field.oneof].append(field)
-        printed = [one.options.get("printed", one.options.get("oneof_printed", 0)) for one in (*message.fields, *message.oneofs)]
+        printed = [
+            one.options.get(
+                "printed", one.options.get("oneof_printed", 0)
+            ) for one in (*message.fields, *message.oneofs)
+        ]
         place = max(printed, default=0)
         for oneof, fields in groups.items():
             # the oneof here that has members of theirs
-            home = next((field.oneof for field in message.fields if field.oneof and matched[field.name] and matched[field.name].oneof == oneof), None)
+            home = next(
+                (
+                    field.oneof for field in message.fields if field.oneof and matched[
+                        field.name
+                    ] and matched[field.name].oneof == oneof
+                ),
+                None
+            )
             if oneof and not home:
                 place += 1
-                self.add_oneof(message.name, other, oneof, fields, message.end, place if self.is_command(message.name) else 0)
+                self.add_oneof(
+                    message.name, other, oneof, fields, message.end, place if self.is_command(message.name) else 0
+                )
                 continue
             for field in fields:
                 row = self.say(f"{message.name}.{field.name}", "", f"{field.number} {shape(field)}", THEIRS)
@@ -379,10 +437,17 @@ class Adoption:
             lines.append(f"    option (oneof_printed) = {place};")
         for field in fields:
             lines += self.field_lines(field, "    ")
-        row = self.say(f"{name}.{oneof}", "", f"oneof of {', '.join(f'{field.number} {shape(field)}' for field in fields)}", THEIRS)
-        self.added.append(Added(oneof, [*lines, "  }"], before, row, tuple(self.type_of(field) for field in fields), name))
+        row = self.say(
+            f"{name}.{oneof}", "", f"oneof of {', '.join(f'{field.number} {shape(field)}' for field in fields)}", THEIRS
+        )
+        self.added.append(
+            Added(oneof, [*lines, "  }"], before, row, tuple(self.type_of(field) for field in fields), name)
+        )
 
     def add(self, name, field, lines, before, row):
+        if field.kind == "group":
+            row.more = "left out: a group"
+            self.person(f"{row.name} is only there, and is left out: it is a group, which the library lacks")
         self.added.append(Added(field.name, lines, before, row, (self.type_of(field),), name))
 
     def type_of(self, field):
@@ -406,7 +471,10 @@ class Adoption:
             if message.name != FLAT:
                 self.uncoded.append(message.name)
         elif kind_of(theirs) != kind_of(ours):
-            self.person(f"{message.name} is {kind_of(ours)} here, with the code 0x{ours:04X}, and 0x{theirs:04X} there is none of these: ours stays")
+            self.person(
+                f"{message.name} is {kind_of(ours)} here, with the code 0x{ours:04X}, and 0x{theirs:04X} there is none "
+                f"of these: ours stays"
+            )
         elif theirs != ours:
             self.codes[message.name] = theirs
             at = next(at for at in range(message.line - 1, message.end) if "option (code)" in self.lines[at])
@@ -416,7 +484,9 @@ class Adoption:
     def enums(self):
         """The values of enums that fields here have."""
         for name, other in self.their_enums.items():
-            enum = self.our_enums.get(name) or next((one for one in self.our_enums.values() if plain(one.name) == plain(name)), None)
+            enum = self.our_enums.get(name) or next(
+                (one for one in self.our_enums.values() if plain(one.name) == plain(name)), None
+            )
             if enum is None:
                 continue
             ours = {value: (number, line) for value, number, line in enum.values}
@@ -447,12 +517,19 @@ class Adoption:
             code = code_of(other)
             row = self.say(name, "", f"a message{f', code 0x{code:04X}' if code is not None else ''}", THEIRS)
             is_command = code is not None and code in COMMANDS
-            lines = ["", *(f"// {line}" for line in about(other, f"Of the runtime: {name}.")), f"message {name} {{", f"  option (schema) = {schema};"]
+            lines = [
+                "",
+                *(f"// {line}" for line in about(other, f"Of the runtime: {name}.")),
+                f"message {name} {{",
+                f"  option (schema) = {schema};"
+            ]
             schema += 1
             if code is not None:
                 lines.append(f"  option (code) = 0x{code:04X};")
             if is_command:
-                words = re.sub(r"(?<=[a-z0-9])(?=[A-Z])", " ", name.removesuffix("Message").removesuffix("Command")).lower()
+                words = re.sub(
+                    r"(?<=[a-z0-9])(?=[A-Z])", " ", name.removesuffix("Message").removesuffix("Command")
+                ).lower()
                 lines.append(f'  option (command) = {{ text: "{words}" }};')
             lines.append("")
             self.added.append(Added(name, [*lines, "}"], len(self.lines), row, (), "message"))
@@ -525,7 +602,9 @@ class Adoption:
                 return text
             except Refused as refused:
                 found = [(re.match(r"[^:]*:(\d+):(?:\d+:)? ?(.*)", problem), problem) for problem in refused.problems]
-                lines = [(owners.get(int(match[1])), match[2]) for match, _ in found if match and owners.get(int(match[1]))]
+                lines = [
+                    (owners.get(int(match[1])), match[2]) for match, _ in found if match and owners.get(int(match[1]))
+                ]
                 if not lines:
                     raise
                 for one, why in lines:
@@ -550,14 +629,16 @@ class Adoption:
                 if one.before == 0 and one.within in gone:
                     one.row.more = "left out with its message"
                     changed = True
-                elif one.within == "message" and not any("option (code)" in line for line in one.lines) and one.name not in held:
+                elif one.within == "message" and not any(
+                    "option (code)" in line for line in one.lines
+                ) and one.name not in held:
                     one.row.more = "left out: nothing here holds it"
                     changed = True
             if not changed:
                 return
 
     def number_lines(self):
-        """Gives the messages that are added the schemas after ours, and the lines of each command its numbers from 1 on."""
+        """Gives the messages that are added the schemas after ours, and what a command prints its places after ours."""
         schema = len(self.ours)
         for one in self.added:
             if one.within == "message" and not one.row.more:
@@ -569,7 +650,14 @@ class Adoption:
                 continue
             if one.within in self.ours:
                 message = self.ours[one.within]
-                first = max((part.options.get("printed", part.options.get("oneof_printed", 0)) for part in (*message.fields, *message.oneofs)), default=0)
+                first = max(
+                    (
+                        part.options.get(
+                            "printed", part.options.get("oneof_printed", 0)
+                        ) for part in (*message.fields, *message.oneofs)
+                    ),
+                    default=0
+                )
             else:
                 first = 0
             places[one.within] += 1
@@ -584,7 +672,14 @@ class Adoption:
         heads = Row("NAME", "HERE", "THERE", "WHAT")
         widths = [max(len(getattr(row, part)) for row in [heads, *rows]) for part in ("name", "here", "there")]
         return [
-            "  ".join([row.name.ljust(widths[0]), row.here.ljust(widths[1]), row.there.ljust(widths[2]), f"{row.said}{f': {row.more}' if row.more else ''}"]).rstrip()
+            "  ".join(
+                [
+                    row.name.ljust(widths[0]),
+                    row.here.ljust(widths[1]),
+                    row.there.ljust(widths[2]),
+                    f"{row.said}{f': {row.more}' if row.more else ''}",
+                ]
+            ).rstrip()
             for row in [heads, *rows]
         ]
 
@@ -632,7 +727,9 @@ def copied(out):
             elif path:
                 target.unlink(missing_ok=True)
     else:
-        shutil.copytree(ROOT, out, ignore=shutil.ignore_patterns("out", "target", "node_modules", "__pycache__", out.name))
+        shutil.copytree(
+            ROOT, out, ignore=shutil.ignore_patterns("out", "target", "node_modules", "__pycache__", out.name)
+        )
 
 
 def with_heading(text, theirs):
@@ -808,7 +905,7 @@ def read(asked):
     if bad := [name for name in asked.programs.split(",") if name not in PROGRAMS]:
         fail(f"there is no program {bad[0]}; there are {', '.join(PROGRAMS)}")
     proto.messages()
-    theirs = descriptors.read(asked.theirs)
+    theirs = descriptors.read(asked.theirs, with_imports=True)
     adoption = Adoption(proto.description(), theirs, dict(word.split("=") for word in asked.rename))
     if not adoption.pairs:
         fail(f"no message of {asked.theirs} is called as one of {proto.SOURCE}; --rename says which are the same")
@@ -849,7 +946,9 @@ def main():
     described = descriptors.read(asked.out / "proto" / "journal.proto")
     stream, expected = stream_of(adoption, theirs, asked.theirs, described)
     (asked.out / "theirs.stream").write_bytes(stream)
-    (asked.out / "theirs.json").write_text("".join(json.dumps({"type": name, "message": shown}) + "\n" for name, shown in expected), encoding="utf-8")
+    (asked.out / "theirs.json").write_text(
+        "".join(json.dumps({"type": name, "message": shown}) + "\n" for name, shown in expected), encoding="utf-8"
+    )
     print(f"{asked.out}/theirs.stream: {len(expected)} messages, made by protoc with {asked.theirs.name}")
     status = 0 if asked.no_build else tried(asked, expected)
     print(NEXT.format(out=asked.out))
@@ -868,7 +967,9 @@ def tried(asked, expected):
         print(f"failed: {line}")
     if not shown:
         print(told, file=sys.stderr)
-    print(f"{len(expected) - len(wrong)} passed, {len(wrong)} failed: messages of theirs whose dump has what protoc wrote")
+    print(
+        f"{len(expected) - len(wrong)} passed, {len(wrong)} failed: messages of theirs whose dump has what protoc wrote"
+    )
     if asked.stream:
         shown, told = dumped(asked.out, asked.stream)
         print(shown, end="")
@@ -882,7 +983,7 @@ Next, in {out}:
   sh scripts/run.sh dump STREAM                 a stream of theirs; without proofs it is slow
   sh scripts/check.sh table                     what hand-written tables do not say yet (new fields of commands)
   sh scripts/test.sh --quick                    what tests quote of the numbers here
-  rt all check                                  proves the library for these numbers, or says where not; more than an hour
+  rt all check                                  proves the library for these numbers, or says where not, in hours
   sh scripts/install.sh DIR                     installs the proved programs"""
 
 

@@ -1,10 +1,10 @@
 """How the commands of proto/journal.proto are compared, and how their differences are printed.
 
-One file a command, one for each oneof that several commands share, the root file of the crate, and for a command with printed fields
+One file a command, one for each oneof that several commands share, the module of these, and for a command with printed fields
 the proof that they follow each other.
 """
 from . import laid_out
-from .forms import PRINTED_LISTS, WRITERS, bound
+from .forms import bound, writer
 from .proto import OneOf, camel, fields_of, messages, numbers, snake
 from .records import COMMAND_CRATES, CRATES, missing, shared_oneofs  # noqa: F401
 
@@ -133,14 +133,13 @@ def same(source, command, row):
             return test
         return f"if ignore_payload_equality {{ same_but_payload{lent} }} else {{ {test} }}"
     if command.is_payload(row):
-        if row.presence == "message":
+        if row.message:
             return f"if ignore_payload_equality {{ {both[0]}.is_some() == {both[1]}.is_some() }} else {{ {equal} }}"
         return f"(ignore_payload_equality || {equal})"
-    if row.presence == "message":
-        return source.use("crate::equality", "same_message") + lent
     if row.presence == "repeated":
-        return source.use("crate::equality", "same_messages") + lent
-    return equal
+        module, function = ("equality", "same_messages") if row.message else ("values", "same_list")
+        return source.use(f"crate::{module}", function) + lent
+    return source.use("crate::equality", "same_message") + lent if row.message else equal
 
 
 def write_equality(source, command):
@@ -176,8 +175,11 @@ def write_printed_oneof(source, path, oneof):
         if member.kind == "message":
             source.use("crate::printed", "PrintedMessage")
             print_member = f"{local}.write_message(f)"
-        else:
+        elif member.kind in ("u32", "text"):
             print_member = f'write!(f, "{{{local}}}")'
+        else:
+            source.use("crate::values", "PrintedValue")
+            print_member = f"{local}.write_text(f)"
         arms += f"            {enum}::{camel(member.name)}({local}) => {print_member},\n"
     source.body.append(
         f"impl PrintedOneOf for {enum} {{\n"
@@ -186,11 +188,9 @@ def write_printed_oneof(source, path, oneof):
     )
 
 
-def writer(row):
-    """The function that writes a field in which two commands differ."""
-    if isinstance(row, OneOf):
-        return "write_oneof"
-    return PRINTED_LISTS[row.message] if row.presence == "repeated" else WRITERS[row.presence, row.kind]
+def writing(row):
+    """The module and the function that write a field in which two commands differ."""
+    return ("difference", "write_oneof") if isinstance(row, OneOf) else writer(row)
 
 
 def write_difference(source, command):
@@ -201,8 +201,9 @@ def write_difference(source, command):
     source.ghost("std.specs.Prelude", "refl")
     calls = []
     for row in command.printed():
-        by = "" if writer(row) == "write_number" else "&"
-        function = source.use("crate::difference", writer(row))
+        module, name = writing(row)
+        by = "" if name == "write_number" else "&"
+        function = source.use(f"crate::{module}", name)
         calls.append(f'{function}(form, out, "{row.name}", {by}self.{row.name}, {by}expected.{row.name})')
     unused = "" if calls else "_"
     lines = "".join(f"        {call}?;\n" for call in calls[:-1]) + f"        {calls[-1] if calls else 'Ok(())'}\n"
@@ -243,7 +244,7 @@ def chained_fields(command):
     steps = ""
     rows = command.printed()
     for at, row in enumerate(rows, 1):
-        call = writer(row)
+        _, call = writing(row)
         counts[call] = counts.get(call, 0) + 1
         if counts[call] > 1:
             call += f"-{counts[call]}"

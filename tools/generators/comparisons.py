@@ -9,6 +9,8 @@ not have yet is taken as the description says; the check 'table' names it.
 import re
 
 from . import ROOT, Refused, missing  # noqa: F401
+from .payloads import field_of, lengthy, unknown, varint
+from .payloads import record as record_of
 from .proto import OneOf, members_of, messages
 
 ABOUT = "Test vectors of commands compared."
@@ -153,20 +155,6 @@ def pairs():
 # Payloads. A message is a dictionary of what is present, a oneof the name of its member and what that holds.
 
 
-def varint(number):
-    """The shortest encoding of a number."""
-    out = bytearray()
-    while number >= 128:
-        out.append(number % 128 + 128)
-        number //= 128
-    return bytes(out) + bytes([number])
-
-
-def lengthy(number, content):
-    """A record of a field with a length."""
-    return varint(8 * number + 2) + varint(len(content)) + content
-
-
 def record(field, value):
     """A record of a field."""
     if field.kind == "message":
@@ -191,6 +179,8 @@ def row_payload(row, value):
     if isinstance(row, OneOf):
         member, content = value
         return record(next(field for field in row.members if field.name == member), content)
+    if row.presence == "repeated" and row.kind == "u32":
+        return lengthy(row.number, b"".join(map(varint, value))) if value else b""
     if row.presence == "repeated":
         return b"".join(record(row, element) for element in value)
     if row.presence == "plain" and not value:
@@ -311,6 +301,10 @@ def element_text(field, value):
         if field.message not in MESSAGE_TEXTS:
             refuse(f"there is no text of {field.message}")
         return MESSAGE_TEXTS[field.message](value)
+    if field.kind == "bool":
+        return "true" if value else "false"
+    if field.kind == "enum":
+        return str(value % (1 << 32))
     return bytes_text(value) if field.kind == "bytes" else str(value)
 
 
@@ -392,7 +386,35 @@ def made_case(about, command, actual, expected, verdicts, text, encoded):
 
 def malformed(about, command, actual, expected):
     """The line of two payloads of which one is no command."""
-    return f"# {command}: {about}\n{question(command, bytes.fromhex(actual), bytes.fromhex(expected))} = malformed\n"
+    return f"# {command}: {about}\n{question(command, actual, expected)} = malformed\n"
+
+
+def records(command, *fields):
+    """The records of fields, each a name and a value, in this order; a message is given as the dictionary of its fields."""
+    out = b""
+    for name, held in fields:
+        field = field_of(f"{command}CommandMessage", name)
+        out += record(field, held) if isinstance(held, dict) else record_of(f"{command}CommandMessage", name, held)
+    return out
+
+
+def number_of(command, name):
+    return field_of(f"{command}CommandMessage", name).number
+
+
+def number_key(command, name):
+    """The key of a record with a number."""
+    return varint(8 * number_of(command, name))
+
+
+def value_key(command, name):
+    """The key of a record with a length."""
+    return varint(8 * number_of(command, name) + 2)
+
+
+def unknown_number(command):
+    """A number that no field of a command has."""
+    return unknown(99, f"{command}CommandMessage")
 
 
 def value(content):
@@ -970,37 +992,48 @@ def encoding_cases():
     sleep = {"wake_up_time": 300, "result_completion_id": 1, "name": "a"}
     yield case(
         "the fields in another order, and longer numbers", "Sleep", sleep, sleep,
-        encoded=(None, bytes.fromhex("62016158810008ac8200")),
+        encoded=(
+            None,
+            records("Sleep", ("name", "a"))
+            + number_key("Sleep", "result_completion_id") + b"\x81\x00"
+            + number_key("Sleep", "wake_up_time") + b"\xac\x82\x00",
+        ),
     )
     run = {"result_completion_id": 2, "name": "a"}
     canonical = payload(rows_of("Run"), run)
     yield case(
-        "a field twice, of which the last counts", "Run", run, run, encoded=(bytes.fromhex("5801") + canonical, None)
+        "a field twice, of which the last counts", "Run", run, run, encoded=(records("Run", ("result_completion_id", 1)) + canonical, None)
     )
-    yield case(
-        "fields that no command has", "Run", run, run, encoded=(bytes.fromhex("9806079b0608019c06") + canonical, None)
-    )
-    yield case("defaults that are written", "ClearState", {}, {}, encoded=(bytes.fromhex("0a006200"), None))
+    number = unknown_number("Run")
+    further = varint(8 * number) + b"\x07" + varint(8 * number + 3) + b"\x08\x01" + varint(8 * number + 4)
+    yield case("fields that no command has", "Run", run, run, encoded=(further + canonical, None))
+    empty = records("ClearState", ("key", b""), ("name", ""))
+    yield case("defaults that are written", "ClearState", {}, {}, encoded=(empty, None))
     failed = {"result": ("failure", failure(5, "x"))}
     yield case(
         "the last member of a oneof counts, and its records are joined", "Output", failed, failed,
-        encoded=(bytes.fromhex("72030a01787a0208057a03120178"), None),
+        encoded=(
+            records("Output", ("value", value(b"x")), ("failure", {"code": 5}), ("failure", {"message": "x"})), None
+        ),
     )
     yield case(
         "a value in two records", "SetState", {"key": b"a", "value": value(b"y")}, {"key": b"a", "value": value(b"x")},
-        encoded=(bytes.fromhex("0a01611a030a01781a030a0179"), None),
+        encoded=(records("SetState", ("key", b"a"), ("value", value(b"x")), ("value", value(b"y"))), None),
     )
 
 
 def malformed_cases():
     yield "Payloads that are not well-formed: then nothing is compared."
-    yield malformed("the recorded one is cut off", "Run", "5801620161"[:-2], "5801620161")
-    yield malformed("the made one is cut off", "Run", "5801620161", "5801620161"[:-2])
-    yield malformed("both are", "Run", "58", "58")
-    yield malformed("where nothing is compared, too", "Input", "72", "")
-    yield malformed("a name that is not UTF-8", "ClearAllState", "6201ff", "6201ff")
-    yield malformed("a number where bytes are expected", "GetEagerStateKeys", "7001", "7001")
-    yield malformed("an end of a group that did not begin", "SendSignal", "", "9c06")
+    run = records("Run", ("result_completion_id", 1), ("name", "a"))
+    yield malformed("the recorded one is cut off", "Run", run[:-1], run)
+    yield malformed("the made one is cut off", "Run", run, run[:-1])
+    yield malformed("both are", "Run", number_key("Run", "result_completion_id"), number_key("Run", "result_completion_id"))
+    yield malformed("where nothing is compared, too", "Input", value_key("Input", "value"), b"")
+    name = records("ClearAllState", ("name", b"\xff"))
+    yield malformed("a name that is not UTF-8", "ClearAllState", name, name)
+    number = number_key("GetEagerStateKeys", "value") + b"\x01"
+    yield malformed("a number where bytes are expected", "GetEagerStateKeys", number, number)
+    yield malformed("an end of a group that did not begin", "SendSignal", b"", varint(8 * unknown_number("SendSignal") + 4))
 
 
 MAKERS = (

@@ -19,6 +19,9 @@ KINDS = {
 }
 REPEATED = 3
 
+# The file that declares the options, with many messages.
+OPTIONS_OF_PROTOBUF = "google/protobuf/descriptor.proto"
+
 # protobuf's own options that say something of bytes or of JSON, by their numbers.
 FIELD_OPTIONS = {2: "packed"}
 ENUM_OPTIONS = {2: "allow_alias"}
@@ -138,12 +141,15 @@ class Description:
 
 
 class Reader:
-    """Reads the last file of a descriptor set; the others are those that it imports."""
+    """Reads the last file of a descriptor set; the others are those that it imports, whose messages and enums are read
+    too if that is asked for."""
 
-    def __init__(self, data):
+    def __init__(self, data, with_imports=False):
         files = Record(data).records(1)
+        self.files = [
+            file for file in files if file is files[-1] or with_imports and file.text(1) != OPTIONS_OF_PROTOBUF
+        ]
         self.file = files[-1]
-        self.places = {place.packed(1): place for place in self.file.record(9).records(1)}
         self.known = {}
         self.extensions = {}
         for file in files:
@@ -162,12 +168,20 @@ class Reader:
             self.know(name, nested)
 
     def described(self):
+        for file in reversed(self.files):
+            self.file = file
+            self.places = {place.packed(1): place for place in file.record(9).records(1)}
+            self.describe()
+        return self.found
+
+    def describe(self):
+        """Reads one file."""
         for at, message in enumerate(self.file.records(MESSAGES)):
             self.message((MESSAGES, at), message, "")
         for at, enum in enumerate(self.file.records(ENUMS)):
             self.enum((ENUMS, at), enum, "")
-        self.found.services = [self.named(Named, (SERVICES, at), one) for at, one in enumerate(self.file.records(SERVICES))]
-        return self.found
+        for at, one in enumerate(self.file.records(SERVICES)):
+            self.found.services.append(self.named(Named, (SERVICES, at), one))
 
     def named(self, kind, path, record, **parts):
         """What has a name, with its place and its comment."""
@@ -232,22 +246,27 @@ class Reader:
         if kind == "message":
             held = record.record(number)
             parts = self.known[field.text(6)].records(FIELDS)
-            return {part.text(1): self.value(part, held, part.number(3)) for part in parts if part.number(3) in held.fields}
+            return {
+                part.text(1): self.value(part, held, part.number(3)) for part in parts if part.number(3) in held.fields
+            }
         if kind == "string":
             return record.text(number)
         return bool(record.number(number)) if kind == "bool" else record.number(number)
 
 
-def read(path, folders=()):
-    """The description in a file, by protoc; what it imports is looked for in these folders too."""
+def read(path, folders=(), with_imports=False):
+    """The description in a file, by protoc; what it imports is looked for in these folders too, and read if that is
+    asked for."""
     path = pathlib.Path(path)
     with tempfile.NamedTemporaryFile() as written:
         searched = [f"--proto_path={folder}" for folder in (path.parent, *folders)]
-        words = ["protoc", *searched, "--include_source_info", "--include_imports", f"--descriptor_set_out={written.name}"]
+        words = [
+            "protoc", *searched, "--include_source_info", "--include_imports", f"--descriptor_set_out={written.name}"
+        ]
         ended = subprocess.run([*words, path.name], capture_output=True, text=True)
         if ended.returncode != 0:
             raise Refused([f"protoc: {line}" for line in ended.stderr.strip().splitlines()])
-        return Reader(pathlib.Path(written.name).read_bytes()).described()
+        return Reader(pathlib.Path(written.name).read_bytes(), with_imports).described()
 
 
 def to_json(described):

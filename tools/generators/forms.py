@@ -1,4 +1,4 @@
-"""What the library has a form for, and what it is called: the kinds of fields, what prints them, and the names that generated code cannot have."""
+"""What the library has a form for: the kinds of fields, what prints them, and the names that code cannot have."""
 import re
 
 from . import ROOT
@@ -12,19 +12,20 @@ NOT_REPEATED = {"u64": "uint64", "bool": "bool", "enum": "an enum"}
 # The types of values in Rattle, by kind.
 TYPES = {"u32": "u32", "u64": "u64", "bool": "bool", "enum": "i32", "text": "String", "bytes": "Bytes"}
 
-# The function that writes a field in which two commands differ, by its presence and its kind.
+# The functions of `difference` that write a field in which two commands differ, by its presence and its kind.
 WRITERS = {
     ("plain", "u32"): "write_number",
     ("plain", "text"): "write_text",
     ("plain", "bytes"): "write_bytes",
     ("optional", "text"): "write_optional_text",
     ("message", "message"): "write_message",
+    ("optional", "message"): "write_message",
 }
 
-# The kinds of the members of oneofs that are printed, beside messages.
-PRINTED_MEMBERS = ("u32", "text")
+# Those of `values`, by the presence, which take any kind but messages.
+ANY_KIND = {"plain": "write_value", "optional": "write_optional", "repeated": "write_list"}
 
-# The messages of which lists are printed, each with what writes one.
+# The messages of which lists are printed, each with the function of `difference` that writes one.
 PRINTED_LISTS = {"Header": "write_headers"}
 
 # Words that no field of a struct and no module can be named by, in Rattle or in a clause.
@@ -32,15 +33,18 @@ RESERVED = set(
     "as break const continue crate dyn else enum extern false fn for if impl in let loop match mod move mut pub ref "
     "return self static struct super trait true type unsafe use where while async await abstract become box do final "
     "macro override priv try typeof unsized virtual yield ghost requires ensures data record deriving module package "
-    "open unfoldable abbrev axiom unfold unfolding ruleset mutual infix infixl infixr elim coe fcoe tcoe hcom com".split()
+    "open unfoldable abbrev axiom unfold unfolding ruleset mutual infix infixl infixr elim coe fcoe tcoe hcom "
+    "com".split()
 )
 
 # Names of types that generated code uses, so that no message and no enum of a oneof can have them. Of a oneof `result`
 # is handled.
 TYPE_NAMES = set(
-    "Self String Vec Option Some None Result Ok Err Box Bytes BytesMut Size Global Occurrence Record WireRecord WireError OneOf "
+    "Self String Vec Option Some None Result Ok Err Box Bytes BytesMut Size Global Occurrence Record WireRecord "
+    "WireError OneOf "
     "FieldKind MessageType MessageHeader RestateMessage RestateEncodableMessage Version EncodingError Formatter "
-    "CommandMessageHeaderDiff CommandMessageHeaderEq NamedCommandMessage DifferenceForm PrintedMessage PrintedOneOf".split()
+    "CommandMessageHeaderDiff CommandMessageHeaderEq NamedCommandMessage DifferenceForm PrintedMessage "
+    "PrintedOneOf PrintedValue".split()
 )
 
 # What functions of generated code call their own values, so that a member of a oneof is bound by another name there.
@@ -65,6 +69,15 @@ INNER = {PARTS_CRATE: ["escape"]}
 
 # The versions before which a type may have another message: all but the first that is supported.
 LATER_VERSIONS = range(6, 10)
+
+
+def writer(row):
+    """The module and the function that write a field in which two commands differ, or None."""
+    if row.presence == "repeated" and row.message in PRINTED_LISTS:
+        return "difference", PRINTED_LISTS[row.message]
+    if (row.presence, row.kind) in WRITERS:
+        return "difference", WRITERS[row.presence, row.kind]
+    return ("values", ANY_KIND[row.presence]) if row.kind != "message" else None
 
 
 def bound(member):

@@ -93,7 +93,7 @@ def chains_of_futures():
 
     yield "# Numbers, texts and empty messages of fields are accepted on the last level as on any other."
     innermost = future(
-        waiting_completions=[1, 2], waiting_signals=[17], waiting_named_signals=["a"], combinator_type=(1 << 64) - 1
+        waiting_completions=[1, 2], waiting_signals=[17], waiting_named_signals=["a"], combinator_type=-1
     )
     empty = future(nested_futures=[b""])
     yield payload("SuspensionMessage", suspension(chain(100, innermost)), suspension(chain(100, innermost)))

@@ -59,7 +59,7 @@ class CommandType:
 
 
 class Message(Options):
-    """A message: its name, its rows (fields and oneofs), the comment above it, the message in which it is, and its options."""
+    """A message: its name, its rows (fields and oneofs), its comment, the message that it is in, and its options."""
 
     OPTIONS = ("schema", "code", "before_version", "differs_by_version", "command", "also_sent_for")
 
@@ -72,7 +72,11 @@ class Message(Options):
         for option in ("command", "also_sent_for"):
             value = getattr(self, option)
             if value is not None:
-                setattr(self, option, CommandType(value.get("name", name.removesuffix("CommandMessage")), value.get("text", "")))
+                setattr(
+                    self,
+                    option,
+                    CommandType(value.get("name", name.removesuffix("CommandMessage")), value.get("text", "")),
+                )
 
     def type_name(self):
         """The name of the type whose message it is."""

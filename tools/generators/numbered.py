@@ -1,7 +1,8 @@
-"""The numbers of fields in files that are written by hand: the record Future, which holds itself, the suspension before version 7 as it is
-written, their definitions and proofs, and planted bugs that quote generated lines. All else of these files is written by hand.
+"""The numbers of fields in files that are written by hand: the record Future, which holds itself, the suspension before
+version 7 as it is written, their definitions and proofs, and planted bugs that quote generated lines.
 
-The numbers are found by the text around them, in which the name of a field in braces is where its number is.
+All else of these files is written by hand. The numbers are found by the text around them, in which the name of a field
+in braces is where its number is.
 """
 import re
 
@@ -44,7 +45,14 @@ NUMBERED = {
     ],
     f"{PARTS}/proofs/future/+measure_future/Answers.antt": [NESTED],
     f"{PARTS}/proofs/future/+encode_future/Answers.antt": [
-        ("Future", ["future_part {nested_futures} (Message future)", "(Repeated {nested_futures} (Message future))", "message_before {nested_futures} future"])
+        (
+            "Future",
+            [
+                "future_part {nested_futures} (Message future)",
+                "(Repeated {nested_futures} (Message future))",
+                "message_before {nested_futures} future",
+            ],
+        )
     ],
     f"{RUNTIME}/src/flat_suspension.rt": [
         (
@@ -85,7 +93,8 @@ NUMBERED = {
                 "measured_message {waiting_signals} signals",
                 "run_measured {waiting_completions} (awaited_list Completions",
                 "run_measured {waiting_signals} (awaited_list Signals",
-                "ap length (no_row {waiting_completions} nil (run_shows nil tt) refl), ap length (no_row {waiting_signals} nil",
+                "ap length (no_row {waiting_completions} nil (run_shows nil tt) refl), ap length (no_row "
+                "{waiting_signals} nil",
             ],
         )
     ],
@@ -106,13 +115,79 @@ NUMBERED = {
 }
 
 
+# By planted bug: the message whose generated record it is in, and its texts. `+1` after a name is the next number, `~`
+# one whose key has another length.
+PLANTED = {
+    f"{PARTS}/mutants/another_number.edit": (
+        "Future",
+        ["old: write_length(out, start, {nested_futures},", "new: write_length(out, start, {nested_futures+1},"],
+    ),
+    f"{PARTS}/mutants/arm_missing.edit": ("Value", ["old: {content} => plain::", "new: {content+1} => plain::"]),
+    f"{PARTS}/mutants/fields_swapped.edit": (
+        "StateEntry",
+        [
+            "old: let end = plain::write(out, end, {value}, &self.value)",
+            "new: let end = plain::write(out, end, {value}, &self.key)",
+            "old:         plain::write(out, end, {key}, &self.key)",
+            "new:         plain::write(out, end, {key}, &self.value)",
+        ],
+    ),
+    f"{PARTS}/mutants/fields_written_in_another_order.edit": (
+        "Header", ["out, end, {key}, &self.key)", "out, end, {value}, &self.value)"]
+    ),
+    f"{PARTS}/mutants/keys_replaced.edit": ("StateKeys", ["{keys} => "]),
+    f"{PARTS}/mutants/members_confused.edit": ("NotificationTemplate", ["{completion_id} => *oneof"]),
+    f"{PARTS}/mutants/metadata_skipped.edit": ("Failure", ["{metadata} => "]),
+    f"{PARTS}/mutants/optional_as_plain.edit": ("WorkflowTarget", ["out, end, {scope}, "]),
+    f"{PARTS}/mutants/overwritten_text_not_checked.edit": ("Header", ["old: {key} => ", "new: {key} => "]),
+    f"{PARTS}/mutants/value_into_the_key.edit": ("Header", ["old: {value} => ", "new: {value} => "]),
+    f"{RUNTIME}/mutants/elements_replaced.edit": ("SuspensionMessageV6", ["{waiting_completions} => "]),
+    f"{RUNTIME}/mutants/id_not_written.edit": ("ProposeRunCompletionAckMessage", ["out, end, {completion_id}, "]),
+    f"{RUNTIME}/mutants/measured_under_another_number.edit": (
+        "ProposeRunCompletionAckMessage", [
+            "old:         plain::measure(size, {completion_id},", "new:         plain::measure(size, {completion_id~},"
+        ]
+    ),
+    f"{RUNTIME}/mutants/message_replaced.edit": (
+        "SuspensionMessage", ["old: {awaiting_on} => ", "new: {awaiting_on} => "]
+    ),
+    f"{RUNTIME}/mutants/names_of_another_number.edit": (
+        "SuspensionMessageV6", [
+            "old: repeated::write(names, ends.names, {waiting_named_signals},",
+            "new: repeated::write(names, ends.names, {waiting_named_signals+1},",
+        ]
+    ),
+    f"{RUNTIME}/mutants/oneof_of_another_number.edit": (
+        "GetStateEphemeralNotificationMessage", [
+            "old: void.write_value(out, end, {void})", "new: void.write_value(out, end, {void+1})"
+        ]
+    ),
+    f"{RUNTIME}/mutants/written_under_another_number.edit": (
+        "ProposeRunCompletionAckMessage", [
+            "old: plain::write(out, end, {completion_id},", "new: plain::write(out, end, {completion_id+1},"
+        ]
+    ),
+    "crates/shared_core_json/mutants/name_of_another_field.edit": ("StartMessage", ["Name({debug_id}, "]),
+}
+
+
+def written_number(number, how):
+    """A number, the next one, or one whose key has another length."""
+    return number + 1 if how == "+1" else (16 if number < 16 else 1) if how == "~" else number
+
+
 def with_numbers(path, text, name, patterns):
     """A text in which the numbers of a message's fields are those of the description."""
-    numbers = {field.name: field.number for message in messages() if message.name == name for field in fields_of(message)}
+    numbers = {
+        field.name: field.number for message in messages() if message.name == name for field in fields_of(message)
+    }
     for pattern in patterns:
-        parts = re.split(r"\{(\w+)\}", pattern)
+        parts = re.split(r"\{(\w+(?:\+1|~)?)\}", pattern)
         found = "".join(r"\d+" if at % 2 else re.escape(part) for at, part in enumerate(parts))
-        written = "".join(str(numbers[part]) if at % 2 else part for at, part in enumerate(parts))
+        for at in range(1, len(parts), 2):
+            name_of_field, how = re.fullmatch(r"(\w+)(.*)", parts[at]).groups()
+            parts[at] = str(written_number(numbers[name_of_field], how))
+        written = "".join(parts)
         text, count = re.subn(rf"(?<!\d){found}", lambda _, written=written: written, text)
         if not count:
             raise Refused([f"numbered: {path} has no text {pattern}, in which the number is that of {name}"])
@@ -121,7 +196,9 @@ def with_numbers(path, text, name, patterns):
 
 def in_order(text):
     """The record Future with its fields merged, measured and written in the order of their numbers."""
-    numbers = {field.name: field.number for message in messages() if message.name == "Future" for field in fields_of(message)}
+    numbers = {
+        field.name: field.number for message in messages() if message.name == "Future" for field in fields_of(message)
+    }
 
     def number(line):
         return next(numbers[name] for name in re.findall(r"future\.(\w+)", line) if name in numbers)
@@ -146,12 +223,12 @@ def in_order(text):
 
 
 def paths():
-    return list(NUMBERED)
+    return [*NUMBERED, *PLANTED]
 
 
 def files():
     found = {}
-    for path, numbered in NUMBERED.items():
+    for path, numbered in {**NUMBERED, **{path: [planted] for path, planted in PLANTED.items()}}.items():
         text = (ROOT / path).read_text(encoding="utf-8")
         for name, patterns in numbered:
             text = with_numbers(path, text, name, patterns)

@@ -24,10 +24,14 @@ def field_of(message, name):
 
 
 def value(field, held):
-    """The record of one value; a message is given as its payload, and the value of an enum as one of 64 bits."""
+    """The record of one value; a message is given as its payload or by its fields. Negative numbers have 64 bits."""
+    if isinstance(held, dict):
+        held = payload(field.message, **held)
     if isinstance(held, str):
         held = held.encode()
-    return lengthy(field.number, held) if isinstance(held, bytes) else varint(8 * field.number) + varint(held)
+    return lengthy(
+        field.number, held
+    ) if isinstance(held, bytes) else varint(8 * field.number) + varint(held % (1 << 64))
 
 
 def record(message, name, held):
@@ -35,8 +39,8 @@ def record(message, name, held):
     return value(field_of(message, name), held)
 
 
-def payload(message, **values):
-    """The canonical payload of a message of which these fields are present: the least number first, a oneof at its least."""
+def payload(message, /, **values):
+    """The canonical payload of a message of which these fields are present, the rows in the order of their numbers."""
     out = b""
     for row in TABLE[message].rows:
         for field in row.members if isinstance(row, OneOf) else [row]:

@@ -1,5 +1,5 @@
-"""The messages of proto/journal.proto, the one description of the protocol: with their fields, in order, the comments above them, and their
-options, which proto/options.proto declares.
+"""The messages of proto/journal.proto, the one description of the protocol: with their fields, in order, the comments
+above them, and their options, which proto/options.proto declares.
 
 protoc reads the file. What it read last is in proto/journal.json, for a machine without protoc.
 """
@@ -61,7 +61,9 @@ def read(path, folders=()):
     try:
         return descriptors.read(path, folders)
     except Refused as refused:
-        raise Refused([problem.replace(f"protoc: {PROTO.name}:", f"{SOURCE}:") for problem in refused.problems]) from None
+        raise Refused(
+            [problem.replace(f"protoc: {PROTO.name}:", f"{SOURCE}:") for problem in refused.problems]
+        ) from None
 
 
 @functools.cache
@@ -126,7 +128,16 @@ def field_of(described):
     kind = described.kind if described.kind in ("enum", "message") else SCALARS.get(described.kind, "other")
     presence = described.label or ("message" if kind == "message" else "plain")
     type_name = described.type_name or described.kind
-    field = Field(described.name, kind, type_name, described.number, presence, described.comment, described.line, described.options)
+    field = Field(
+        described.name,
+        kind,
+        type_name,
+        described.number,
+        presence,
+        described.comment,
+        described.line,
+        described.options,
+    )
     if described.json_name != json_name(described.name):
         field.json_name = described.json_name
     return field
@@ -148,7 +159,10 @@ def schemas():
 @functools.cache
 def typed():
     """The messages of the types, by their codes: of each type the one that the last version has."""
-    return sorted((message for message in messages() if message.code is not None and message.before_version is None), key=lambda message: message.code)
+    return sorted(
+        (message for message in messages() if message.code is not None and message.before_version is None),
+        key=lambda message: message.code
+    )
 
 
 @functools.cache
@@ -160,7 +174,8 @@ def earlier():
 
 @functools.cache
 def command_types():
-    """The command types in the order of the file, each with the message that it is sent as; last those that no message has."""
+    """The command types in the order of the file, each with the message that it is sent as; last those that no message
+    has."""
     found = {}
     for message in messages():
         if message.command is not None:

@@ -69,7 +69,9 @@ def check_enums(problems, described):
             if number < 0:
                 problems.say(f"{name} of {enum.name} is {number}: values with names are 0 or more", line)
             if number in numbered:
-                problems.say(f"{name} of {enum.name} has the number of {numbered[number]}: each value has one name", line)
+                problems.say(
+                    f"{name} of {enum.name} has the number of {numbered[number]}: each value has one name", line
+                )
             numbered.setdefault(number, name)
 
 
@@ -91,7 +93,10 @@ def check_names(problems, found):
             problems.say(f"a message cannot be called {name}: the code of the library has that name", message.line)
         if place in forms.TABLE_NAMES | forms.RESERVED or place in places:
             other = places.get(place, "the table of schemas or the language")
-            problems.say(f"{name} cannot have its place in the table of schemas under {place}, since {other} has it", message.line)
+            problems.say(
+                f"{name} cannot have its place in the table of schemas under {place}, since {other} has it",
+                message.line,
+            )
         places.setdefault(place, name)
 
 
@@ -104,7 +109,9 @@ def check_message(problems, message):
     for row in message.rows:
         for one in [row, *row.members] if isinstance(row, OneOf) else [row]:
             if one.name in forms.RESERVED or not re.fullmatch(r"[a-z][a-z0-9_]*", one.name):
-                problems.say(f"the name {one.name} in {name} is a word of the language, or not in lower_snake_case", one.line)
+                problems.say(
+                    f"the name {one.name} in {name} is a word of the language, or not in lower_snake_case", one.line
+                )
             if not one.comment:
                 problems.say(f"{one.name} of {name} has no comment, which its record would have", one.line)
         if isinstance(row, OneOf):
@@ -116,13 +123,18 @@ def check_oneof(problems, message, oneof, variants):
     enum = camel(oneof.name)
     held = {field.message for field in fields_of(message)} | {message.name} | forms.TYPE_NAMES - {"Result"}
     if enum in held or enum in variants:
-        problems.say(f"the oneof {oneof.name} of {message.name} cannot have an enum {enum}: that is another type there", oneof.line)
+        problems.say(
+            f"the oneof {oneof.name} of {message.name} cannot have an enum {enum}: that is another type there",
+            oneof.line,
+        )
     variants[enum] = oneof
     seen = {}
     for member in oneof.members:
         variant = camel(member.name)
         if variant in seen:
-            problems.say(f"{member.name} and {seen[variant]} of {message.name} would both be the variant {variant}", member.line)
+            problems.say(
+                f"{member.name} and {seen[variant]} of {message.name} would both be the variant {variant}", member.line
+            )
         seen.setdefault(variant, member.name)
 
 
@@ -133,20 +145,29 @@ def check_fields(problems, message, known):
         at = f"{field.name} of {name}"
         if field.kind == "other":
             lists = "a list of " if field.presence == "repeated" else "a "
-            problems.say(f"{at} is {lists}{field.type_name}: the library has {', '.join(forms.SCALARS)}, enums and messages", field.line)
+            problems.say(
+                f"{at} is {lists}{field.type_name}: the library has {', '.join(forms.SCALARS)}, enums and messages",
+                field.line,
+            )
         elif field.message and field.message not in known:
             problems.say(f"{at} is a {field.message}, and there is no such message in {SOURCE}", field.line)
         elif field.presence == "repeated" and field.kind in forms.NOT_REPEATED:
             problems.say(
-                f"{at} is a list of {forms.NOT_REPEATED[field.kind]}: the library has lists of uint32, string, bytes and messages",
+                f"{at} is a list of {forms.NOT_REPEATED[field.kind]}: the library has lists of uint32, string, bytes "
+                f"and messages",
                 field.line,
             )
         elif field.message and known[field.message].code is not None:
-            problems.say(f"{at} is a {field.message}, which is the message of a type: fields hold messages without a code", field.line)
+            problems.say(
+                f"{at} is a {field.message}, which is the message of a type: fields hold messages without a code",
+                field.line,
+            )
         if field.packed == 0 and field.presence == "repeated":
             problems.say(f"{at} is not packed: the library writes numbers in one record", field.line)
         if field.json_name is not None:
-            problems.say(f"{at} is called {field.json_name} in JSON: the library has {json_name(field.name)} for it", field.line)
+            problems.say(
+                f"{at} is called {field.json_name} in JSON: the library has {json_name(field.name)} for it", field.line
+            )
 
 
 def check_schemas(problems, found):
@@ -154,11 +175,18 @@ def check_schemas(problems, found):
     seen = {}
     for message in found:
         if message.schema is None:
-            problems.say(f"{message.name} has no option (schema), the number of its place: behind the last one if it is new", message.line)
+            problems.say(
+                f"{message.name} has no option (schema), the number of its place: behind the last one if it is new",
+                message.line,
+            )
         elif message.schema in seen:
             problems.say(f"{message.name} has the schema {message.schema} of {seen[message.schema]}", message.line)
         elif message.schema >= len(found):
-            problems.say(f"{message.name} has the schema {message.schema}, and the {len(found)} messages have those below {len(found)}", message.line)
+            problems.say(
+                f"{message.name} has the schema {message.schema}, and the {len(found)} messages have those below "
+                f"{len(found)}",
+                message.line,
+            )
         seen.setdefault(message.schema, message.name)
 
 
@@ -169,7 +197,10 @@ def check_part_names(problems, found):
         for field in fields_of(message) if message.code is None else ():
             name = f"{schema_name(message.name)}_{field.name}"
             if name in seen:
-                problems.say(f"{field.name} of {message.name} and {seen[name]} have one name in the table of fields, {name}", field.line)
+                problems.say(
+                    f"{field.name} of {message.name} and {seen[name]} have one name in the table of fields, {name}",
+                    field.line,
+                )
             seen.setdefault(name, f"{field.name} of {message.name}")
 
 
@@ -192,11 +223,16 @@ def check_types(problems, found):
         if message.command is not None:
             other = commands.setdefault(message.command.name, message)
             if other.command.text != message.command.text:
-                problems.say(f"{message.name} has another text than {other.name}, which is of the same command type", message.line)
+                problems.say(
+                    f"{message.name} has another text than {other.name}, which is of the same command type",
+                    message.line,
+                )
     for message in found:
         if message.before_version is not None and message.code is not None and message.code not in last:
             problems.say(
-                f"{message.name} is of versions before {message.before_version}, and no message has its code from there on", message.line
+                f"{message.name} is of versions before {message.before_version}, and no message has its code from "
+                "there on",
+                message.line,
             )
 
 
@@ -204,17 +240,27 @@ def check_type(problems, message):
     """Rejects a message whose name or whose options are not those of its code."""
     name, code = message.name, f"0x{message.code:04X}"
     if message.code >= NOTIFICATIONS.stop:
-        problems.say(f"{name} has the code {code}, where the codes of types end at 0x{NOTIFICATIONS.stop - 1:04X}", message.line)
+        problems.say(
+            f"{name} has the code {code}, where the codes of types end at 0x{NOTIFICATIONS.stop - 1:04X}", message.line
+        )
         return
     if message.before_version is not None:
         if message.before_version not in forms.LATER_VERSIONS:
-            problems.say(f"{name} is of versions before {message.before_version}, which is none of {forms.LATER_VERSIONS[0]} to {forms.LATER_VERSIONS[-1]}", message.line)
+            problems.say(
+                f"{name} is of versions before {message.before_version}, which is none of {forms.LATER_VERSIONS[0]} to "
+                f"{forms.LATER_VERSIONS[-1]}",
+                message.line,
+            )
         return
-    end = "CommandMessage" if message.is_command() else "NotificationMessage" if message.is_notification() else "Message"
+    kind = "Command" if message.is_command() else "Notification" if message.is_notification() else ""
+    end = f"{kind}Message"
     if not name.endswith(end) or name == end:
         problems.say(f"{name} has the code {code}, and so its name has to end with {end}", message.line)
     if message.is_command() != (message.command is not None):
-        problems.say(f"{name} has {'no' if message.is_command() else 'an'} option (command), against its code {code}", message.line)
+        problems.say(
+            f"{name} has {'no' if message.is_command() else 'an'} option (command), against its code {code}",
+            message.line,
+        )
 
 
 def check_cycles(problems, found):
@@ -237,7 +283,8 @@ def check_cycles(problems, found):
             said |= set(way)
             problems.say(
                 f"{name} holds itself ({' in '.join([name, *reversed(way)])}): its record has functions that call "
-                "themselves, which the generic ones of other records cannot; hand-write it as future.rt of shared_core_parts, "
+                "themselves, which the generic ones of other records cannot; hand-write it as future.rt of "
+                "shared_core_parts, "
                 "and list it in HAND_WRITTEN of tools/generators/forms.py",
                 lines[name],
             )
@@ -264,20 +311,23 @@ def check_hand_written(problems, known):
         fields = {field.name: field for field in fields_of(known[name])}
         for field in fields.values():
             if written.get(field.name) != held_type(field):
-                problems.say(f"{path} is hand-written, and has no {field.name} that is a {held_type(field)}", field.line)
+                problems.say(
+                    f"{path} is hand-written, and has no {field.name} that is a {held_type(field)}", field.line
+                )
         for other in sorted(set(written) - set(fields)):
             problems.say(f"{path} is hand-written, and has a field {other}, which {name} has not", known[name].line)
 
 
 def check_flat_suspension(problems, known):
-    """Rejects another order of the three lists of a suspension before version 7, which flat_suspension.rt writes in this one."""
+    """Rejects another order of the three lists of a suspension before version 7 than that of flat_suspension.rt."""
     message = known.get("SuspensionMessageV6")
     order = ["waiting_completions", "waiting_signals", "waiting_named_signals"]
     if message is None:
         problems.say("there is no message SuspensionMessageV6, for which there is hand-written code", 1)
     elif [field.name for field in sorted(fields_of(message), key=lambda field: field.number)] != order:
         problems.say(
-            f"{message.name} has to have {', '.join(order)}, with numbers in this order: flat_suspension.rt of shared_core_runtime "
+            f"{message.name} has to have {', '.join(order)}, with numbers in this order: flat_suspension.rt of "
+            f"shared_core_runtime "
             "is hand-written for it",
             message.line,
         )
@@ -286,7 +336,11 @@ def check_flat_suspension(problems, known):
 def check_commands(problems, found):
     """Rejects commands of which a field is compared and has no form in which it is printed."""
     commands = [message for message in found if message.is_command()]
-    named = [(row.number, message) for message in commands for row in message.rows if row.name == "name" and not isinstance(row, OneOf)]
+    named = [
+        (
+            row.number, message
+        ) for message in commands for row in message.rows if row.name == "name" and not isinstance(row, OneOf)
+    ]
     if not named:
         problems.say("no command has a text name", 1)
         return
@@ -301,7 +355,9 @@ def check_commands(problems, found):
             is_compared = not any(member.not_compared for member in members_of(row))
             if is_compared and row is not name and row.printed is None:
                 problems.say(
-                    f"{row.name} of {message.name} is compared, and so has to be printed: it lacks (printed), or (not_compared)", row.line
+                    f"{row.name} of {message.name} is compared, and so has to be printed: it lacks (printed), or "
+                    "(not_compared)",
+                    row.line,
                 )
             if any(member.payload for member in members_of(row)) and not has_payload_form(row):
                 problems.say(f"there is no form yet that compares {row.name} of {message.name} as a payload", row.line)
@@ -310,7 +366,9 @@ def check_commands(problems, found):
             continue
         for row in message.rows:
             if row.printed is not None or any(member.not_compared or member.payload for member in members_of(row)):
-                problems.say(f"{row.name} of {message.name} has an option of the fields of commands, and is in none", row.line)
+                problems.say(
+                    f"{row.name} of {message.name} has an option of the fields of commands, and is in none", row.line
+                )
 
 
 def name_of(message, number):
@@ -323,7 +381,9 @@ def name_of(message, number):
 
 def has_payload_form(row):
     """Whether there is code that compares a payload in this row."""
-    return isinstance(row, OneOf) or row.presence == "message" or (row.presence, row.kind) == ("plain", "bytes")
+    if isinstance(row, OneOf):
+        return all(member.message for member in row.members if member.payload)
+    return row.presence != "repeated" and bool(row.message) or (row.presence, row.kind) == ("plain", "bytes")
 
 
 def check_printed(problems, message, printed):
@@ -331,23 +391,21 @@ def check_printed(problems, message, printed):
     rows = sorted((row for row in message.rows if row.printed is not None), key=lambda row: row.printed)
     if [row.printed for row in rows] != list(range(1, len(rows) + 1)):
         listed = ", ".join(str(row.printed) for row in rows)
-        problems.say(f"the lines that {message.name} prints are {listed}: they are numbered from 1 on by (printed), each once", message.line)
+        problems.say(
+            f"the lines that {message.name} prints are {listed}: they are numbered from 1 on by (printed), each once",
+            message.line,
+        )
     for row in rows:
         for field in members_of(row):
             at = f"{field.name} of {message.name}"
-            if isinstance(row, OneOf):
-                if field.kind != "message" and field.kind not in forms.PRINTED_MEMBERS:
-                    problems.say(f"there is no form yet that prints {at}, a {field.type_name} in a oneof", field.line)
+            if not isinstance(row, OneOf) and forms.writer(row) is None:
+                problems.say(f"there is no form yet that prints {at}, a list of {field.type_name}", field.line)
             elif field.presence == "repeated":
-                if field.type_name not in forms.PRINTED_LISTS:
-                    problems.say(f"there is no form yet that prints {at}, a list of {field.type_name}", field.line)
                 continue
-            elif (field.presence, field.kind) not in forms.WRITERS:
-                label = "an optional" if field.presence == "optional" else "a"
-                problems.say(f"there is no form yet that prints {at}, {label} {field.type_name}", field.line)
-            if field.message and field.message not in printed:
+            elif field.message and field.message not in printed:
                 problems.say(
-                    f"there is no form yet that prints {at}: {field.message} has no text in printed.rt and specs/Differences.antt of "
+                    f"there is no form yet that prints {at}: {field.message} has no text in printed.rt and "
+                    f"specs/Differences.antt of "
                     "shared_core_compare",
                     field.line,
                 )
@@ -378,11 +436,17 @@ def check_notification(problems, message, template, homes):
             if other is None or held != (other.message or other.kind):
                 there = "none" if other is None else f"{other.name}, a {other.message or other.kind}"
                 problems.say(
-                    f"{field.name} of {message.name} is a {held} at {field.number}, and the field of {template.name} at "
+                    f"{field.name} of {message.name} is a {held} at {field.number}, and the field of {template.name} "
+                    f"at "
                     f"that number is {there}; the rows of a notification are rows of it",
                     field.line,
                 )
             elif taken.setdefault(row.name, home) != home:
-                problems.say(f"{row.name} of {message.name} has members of both {taken[row.name]} and {home} of {template.name}", row.line)
+                problems.say(
+                    f"{row.name} of {message.name} has members of both {taken[row.name]} and {home} of {template.name}",
+                    row.line,
+                )
         if home is not None and list(taken.values()).count(home) > 1:
-            problems.say(f"{row.name} of {message.name} is a second row with numbers of {home} of {template.name}", row.line)
+            problems.say(
+                f"{row.name} of {message.name} is a second row with numbers of {home} of {template.name}", row.line
+            )

@@ -115,7 +115,7 @@ pub trait CommandMessageHeaderDiff: WireRecord {
 }
 
 /// Writes a field, unless the two are equal.
-fn write_unless<T, F: DifferenceForm<T>, A: Display + Drop, E: Display + Drop>(
+pub(crate) fn write_unless<T, F: DifferenceForm<T>, A: Display + Drop, E: Display + Drop>(
     form: &F,
     out: &mut T,
     same: bool,

@@ -7,3 +7,4 @@ pub mod equality;
 pub mod laws;
 pub mod name;
 mod printed;
+mod values;
