@@ -31,7 +31,7 @@ import textwrap
 
 sys.dont_write_bytecode = True
 
-from generators import ROOT, Refused, descriptors, forms, proto  # noqa: E402
+from generators import ROOT, Refused, descriptors, forms, proto, renumbered  # noqa: E402
 from generators.model import COMMANDS, NOTIFICATIONS, json_name, snake  # noqa: E402
 
 PROGRAMS = ("dump", "list", "diff", "make")
@@ -756,6 +756,19 @@ def adopt_frames(out, adoption):
     place.write_text(text, encoding="utf-8")
 
 
+def adopt_vectors(out, described):
+    """The hand-written test vectors with their numbers; the number of lines that are others now."""
+    renumbering = renumbered.Renumbering(proto.description(), described)
+    count = 0
+    for place in sorted((out / "conformance").glob("*.txt")):
+        text = place.read_text(encoding="utf-8")
+        if not text.startswith("# @generated"):
+            changed = renumbering.text(text)
+            count += sum(old != new for old, new in zip(text.split("\n"), changed.split("\n")))
+            place.write_text(changed, encoding="utf-8")
+    return count
+
+
 # A stream of theirs.
 
 
@@ -936,14 +949,15 @@ def main():
         fail(f"{asked.out} exists already: name another folder")
     copied(asked.out)
     (asked.out / "proto" / "journal.proto").write_text(with_heading(text, asked.theirs), encoding="utf-8")
+    described = descriptors.read(asked.out / "proto" / "journal.proto")
     adopt_frames(asked.out, adoption)
+    print(f"{adopt_vectors(asked.out, described)} hand-written test vectors have other numbers")
     print(f"\n{asked.out}: the copy, with its description; generating what repeats it", flush=True)
     ended = subprocess.run([sys.executable, "-B", "tools/generate.py"], cwd=asked.out, capture_output=True, text=True)
     if ended.returncode != 0:
         print(f"adopt: tools/generate.py fails there:\n{ended.stdout[-2000:]}{ended.stderr.strip()}", file=sys.stderr)
         return 1
     print(f"{ended.stdout.count('wrote ')} files generated", flush=True)
-    described = descriptors.read(asked.out / "proto" / "journal.proto")
     stream, expected = stream_of(adoption, theirs, asked.theirs, described)
     (asked.out / "theirs.stream").write_bytes(stream)
     (asked.out / "theirs.json").write_text(

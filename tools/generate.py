@@ -6,9 +6,9 @@
     tools/generate.py --check ..    writes nothing; names each file that is not what would be written
     tools/generate.py --list        the generators, with what each makes, from what, and its files
 
-A file says in its first line that it is generated, and from what, where it can have a comment; .gitattributes marks
-each. What needs a tool that is not there is not made, which is said. The last line of --check is 'N passed, M failed',
-of files.
+All that is wrong with the description is said, and then nothing is written. A file says in its first line that it is
+generated, and from what, where it can have a comment; .gitattributes marks each. What needs a tool that is not there is
+not made, which is said. The last line of --check is 'N passed, M failed', of files.
 """
 import importlib
 import pathlib

@@ -387,7 +387,7 @@ def fields(shown: object) -> list[str]:
 def adopted(check: Check) -> None:
     """What comes of tests/adopt/other.proto."""
     import adopt
-    from generators import descriptors, proto
+    from generators import descriptors, proto, renumbered
     from generators.model import json_name
 
     path = ROOT / "tests" / "adopt" / "other.proto"
@@ -412,6 +412,12 @@ def adopted(check: Check) -> None:
         named = [json_name(field) for field in re.findall(r"^ *([a-z]\w*)(?::| \{)", said, re.M)]
         check.case(f"{name} of other.proto", sorted(named) == fields(shown), f"{said} is not {shown}")
     check.case("the whole stream", at == len(stream) and bool(expected))
+    # the numbers of a test vector are changed to theirs, and back
+    there = renumbered.Renumbering(proto.description(), described)
+    back = renumbered.Renumbering(described, proto.description())
+    vectors = (ROOT / "conformance" / "merging.txt").read_text(encoding="utf-8")
+    check.case("vectors with other numbers", there.text(vectors) != vectors)
+    check.same("vectors with these numbers again", vectors, back.text(there.text(vectors)))
 
 
 def body(check: Check) -> None:
