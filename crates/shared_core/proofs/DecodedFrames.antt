@@ -1,6 +1,31 @@
 -- What was written decodes to what was written.
-use Rattle.std.proofs.Common.{◌≡◌, ◌≢◌, ℕ, List, ◌++◌, Option, Result, Ok, Err, OnOk, ◌^◌, ◌<◌, ◌≤◌, Bool, true, false,
-    Some, None, cond, eqb, refl, sym, ap, subst, arith}
+use Rattle.std.proofs.Common.{
+  ◌≡◌,
+  ◌≢◌,
+  ℕ,
+  List,
+  ◌++◌,
+  Option,
+  Result,
+  Ok,
+  Err,
+  OnOk,
+  ◌^◌,
+  ◌<◌,
+  ◌≤◌,
+  Bool,
+  true,
+  false,
+  Some,
+  None,
+  cond,
+  eqb,
+  refl,
+  sym,
+  ap,
+  subst,
+  arith,
+}
 use Rattle.shared_core_base.specs.declared.header.MessageType.{MessageType}
 use Rattle.shared_core_base.specs.declared.header.MessageType.TheVariants.{ProposeRunCompletion, Suspension}
 use Rattle.shared_core_base.specs.declared.version.Version.{Version}
@@ -19,8 +44,11 @@ use Rattle.shared_core_base.specs.Version.{has_flat_suspensions, requests_acknow
 use Rattle.shared_core_runtime.specs.Versions.{proposal_form, suspension_form}
 use Rattle.shared_core_runtime.proofs.FlattenedFits.{flattened_fits, flattened_levels}
 use Rattle.shared_core.specs.declared.encoding.error.DecodingError.{DecodingError}
-use Rattle.shared_core.specs.declared.encoding.error.DecodingError.TheVariants.{UnknownMessageType, SkippedMessage,
-    OutOfMemory}
+use Rattle.shared_core.specs.declared.encoding.error.DecodingError.TheVariants.{
+  UnknownMessageType,
+  SkippedMessage,
+  OutOfMemory,
+}
 use Rattle.shared_core_stream.specs.declared.encoding.item.Item.{Item}
 use Rattle.shared_core_stream.specs.declared.encoding.item.Item.TheVariants.{Message, Unknown, Skipped}
 use Rattle.shared_core_stream.specs.declared.encoding.raw_message.RawMessage.{RawMessage}
@@ -50,7 +78,7 @@ frame_is_read_back form fits small low = canonical_is_read_back form.schema form
 frame_comes_out : (version : Version) (ty : MessageType) (form : WireForm) (bytes : List ℕ) → IsNamed ty → WireFits form
     → wire_size form < 2 ^ 32 → bytes ≡ wire_frame ty form → levels form.parts ≤ 100
     → (rest new : List ℕ) (returned : Result (Option RawMessage) DecodingError) → ReturnsNext version (bytes ++ rest)
-        returned new → ReturnsWritten ty form (bytes ++ rest) returned rest new
+    returned new → ReturnsWritten ty form (bytes ++ rest) returned rest new
 frame_comes_out version ty form bytes named fits small is low rest new returned = by_result returned
   where
     written : IsItem version bytes (item_written ty form) × DecodesTo ty form.schema form.parts (item_written ty form)
@@ -60,7 +88,7 @@ frame_comes_out version ty form bytes named fits small is low rest new returned 
         (new ≡ rest)
     comes item (first, encoded, joined) =
         let same = items_are_prefix_free version bytes first rest new (item_written ty form) item written.0 encoded
-            joined in
+        joined in
         (subst (DecodesTo ty form.schema form.parts) same.1 written.1, sym same.2)
 
     by_result : (returned : Result (Option RawMessage) DecodingError) → ReturnsNext version (bytes ++ rest) returned new
@@ -69,7 +97,7 @@ frame_comes_out version ty form bytes named fits small is low rest new returned 
     by_result (Ok None) = λ returns. returns.0 (item_written ty form) rest (bytes, written.0, refl)
     by_result (Err error) =
         elim error as (λ error. ReturnsNext version (bytes ++ rest) (Err error) new → ReturnsWritten ty form
-            (bytes ++ rest) (Err error) rest new) [
+        (bytes ++ rest) (Err error) rest new) [
           | UnknownMessageType unknown ↦ λ taken. absurd (comes (Unknown unknown.0) taken).0
           | SkippedMessage code payload ↦ λ taken. absurd (comes (Skipped code payload) taken).0
           | OutOfMemory ↦ λ returns. (refl, returns.0)
@@ -98,17 +126,17 @@ appended_is_frame_of (Err e) version ty form named fits small = small
 pub suspension_decodes : (version : Version) (suspension : Parts) → has_flat_suspensions version ≡ true → Fits table
     suspension (table tables.suspension) → wire_size (suspension_form suspension version) < 2 ^ 32
     → FrameEncodes version Suspension (suspension_form suspension version)
-        (DecodesTo Suspension tables.suspension_v6 (flattened suspension))
+    (DecodesTo Suspension tables.suspension_v6 (flattened suspension))
 suspension_decodes version suspension before fits =
     let flat = flattened suspension in
     let form : suspension_form suspension version ≡ plain_form tables.suspension_v6 flat = ap
-        (λ (b : Bool). cond b (plain_form tables.suspension_v6 flat) (plain_form tables.suspension suspension)) before
-        in
+    (λ (b : Bool). cond b (plain_form tables.suspension_v6 flat) (plain_form tables.suspension suspension)) before
+    in
     let low : levels flat ≤ 100 = let none = flattened_levels suspension fits in omega (arith, none) in
     subst (λ (form : WireForm). wire_size form < 2 ^ 32 → FrameEncodes version Suspension form
-        (DecodesTo Suspension tables.suspension_v6 flat)) (sym form)
+    (DecodesTo Suspension tables.suspension_v6 flat)) (sym form)
     (λ small. form_decodes version Suspension (plain_form tables.suspension_v6 flat) tt small
-        (flattened_fits suspension fits) low)
+    (flattened_fits suspension fits) low)
 
 flag_read : (requests : Bool) → Some (eqb (ack_bit (cond requests (Some true) None)) 1) ≡ Some requests
 flag_read true = refl
@@ -117,11 +145,13 @@ flag_read false = refl
 -- the header of a proposal requests an acknowledgement from V7 on
 pub proposal_asks : (version : Version) (proposal : Parts) → wire_size (proposal_form proposal version) < 2 ^ 32
     → FrameEncodes version ProposeRunCompletion (proposal_form proposal version)
-        (λ item. requested_ack_of item ≡ Some (requests_acknowledgement version))
+    (λ item. requested_ack_of item ≡ Some (requests_acknowledgement version))
 proposal_asks version proposal small =
-    let form = proposal_form proposal version in
-    (frame_is_item version ProposeRunCompletion form (wire_frame ProposeRunCompletion form) tt small refl, flag_read
-        (requests_acknowledgement version))
+    let form = proposal_form proposal version in (
+      frame_is_item version ProposeRunCompletion form (wire_frame ProposeRunCompletion form) tt small refl,
+      flag_read
+          (requests_acknowledgement version),
+    )
 
 no_flag : (ty : MessageType) → ty ≢ ProposeRunCompletion → allows_ack ty ≡ false
 no_flag ty = elim ty as (λ ty. ty ≢ ProposeRunCompletion → allows_ack ty ≡ false) [

@@ -1,6 +1,34 @@
 -- A frame encodes one item.
-use Rattle.std.proofs.Common.{◌≡◌, ℕ, ◌+◌, ◌*◌, ◌/◌, ◌%◌, ◌^◌, ◌<◌, List, [], ◌∷◌, ◌++◌, length, Option, Some, None,
-    Bool, true, false, cond, eqb, ltb, refl, sym, ap, ◌∙◌, arith, length-append}
+use Rattle.std.proofs.Common.{
+  ◌≡◌,
+  ℕ,
+  ◌+◌,
+  ◌*◌,
+  ◌/◌,
+  ◌%◌,
+  ◌^◌,
+  ◌<◌,
+  List,
+  [],
+  ◌∷◌,
+  ◌++◌,
+  length,
+  Option,
+  Some,
+  None,
+  Bool,
+  true,
+  false,
+  cond,
+  eqb,
+  ltb,
+  refl,
+  sym,
+  ap,
+  ◌∙◌,
+  arith,
+  length-append,
+}
 use Rattle.std.specs.Int.{w64, to_be_bytes}
 use Rattle.std.specs.Option.{option_map}
 use Rattle.std.proofs.lemmas.Nat.{from_be_bytes-to_be_bytes_8}
@@ -70,7 +98,7 @@ frame_is_item version ty form bytes named fits is =
     let eight : length head ≡ 8 = refl in
     let again = read_again ty form.requested_ack (length payload) named fits in
     let reads : front_word (head ++ payload) ≡ word = front_word_head head payload eight ∙ from_be_bytes-to_be_bytes_8
-        word again.1 in
+    word again.1 in
     let typed : header_of (front_word (head ++ payload)) ≡ Some (header_read ty form) = ap header_of reads ∙ again.0 in
     let announced = announces_message version (front_word (head ++ payload)) (header_read ty form) typed in
     rw is (record {
@@ -94,5 +122,9 @@ frames_are_items version (message ∷ messages) are = (
 -- the same, whatever follows the frames
 pub frames_then : (version : Version) (messages : List (MessageType × WireForm)) (rest : List ℕ) → AreFrames messages →
     IsItemsThen version (joined_frames messages ++ rest) (items_written messages) rest
-frames_then version messages rest are = record { front = joined_frames messages; encoded = frames_are_items version
-    messages are; whole = refl }
+frames_then version messages rest are = record {
+  front = joined_frames messages;
+  encoded = frames_are_items version
+      messages are;
+  whole = refl;
+}

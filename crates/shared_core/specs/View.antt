@@ -1,6 +1,22 @@
 -- The view of a notification, whatever its type.
-use Rattle.std.specs.Prelude.{◌≡◌, ◌≢◌, ◌⊎◌, ℕ, Bool, List, Option, Some, None, Result, Ok, Err, true, codes, nat_eq,
-    if◌then◌else◌}
+use Rattle.std.specs.Prelude.{
+  ◌≡◌,
+  ◌≢◌,
+  ◌⊎◌,
+  ℕ,
+  Bool,
+  List,
+  Option,
+  Some,
+  None,
+  Result,
+  Ok,
+  Err,
+  true,
+  codes,
+  nat_eq,
+  if◌then◌else◌,
+}
 use Rattle.std.specs.List.{list_any}
 use Rattle.shared_core_wire.specs.Schema.{OneOf, includes, all_numbers, numbers}
 use Rattle.shared_core_wire.specs.Overlay.{payload_records}
@@ -36,7 +52,7 @@ LacksField field parts =
 abbrev pub RejectsNotification : RawMessage → DecodingError → Type 0
 RejectsNotification message (MissingField expected missing) =
     (expected ≡ message.header.ty) × (parts : Parts) × MeansParts notification_template message.payload parts ×
-        LacksField missing.now parts
+    LacksField missing.now parts
 RejectsNotification message error = RejectsPayload notification_template message error
 
 -- The numbers of an id in the template.
