@@ -1,31 +1,6 @@
 -- What was written decodes to what was written.
-use Rattle.std.proofs.Common.{
-  ◌≡◌,
-  ◌≢◌,
-  ℕ,
-  List,
-  ◌++◌,
-  Option,
-  Result,
-  Ok,
-  Err,
-  OnOk,
-  ◌^◌,
-  ◌<◌,
-  ◌≤◌,
-  Bool,
-  true,
-  false,
-  Some,
-  None,
-  cond,
-  eqb,
-  refl,
-  sym,
-  ap,
-  subst,
-  arith,
-}
+use Rattle.std.proofs.Common.{◌≡◌, ◌≢◌, ℕ, List, ◌++◌, Option, Result, Ok, Err, OnOk, ◌^◌, ◌<◌, ◌≤◌, Bool, true, false}
+use Rattle.std.proofs.Common.{Some, None, cond, eqb, refl, sym, ap, subst, arith}
 use Rattle.shared_core_base.specs.declared.header.MessageType.{MessageType}
 use Rattle.shared_core_base.specs.declared.header.MessageType.TheVariants.{ProposeRunCompletion, Suspension}
 use Rattle.shared_core_base.specs.declared.version.Version.{Version}
@@ -44,11 +19,8 @@ use Rattle.shared_core_base.specs.Version.{has_flat_suspensions, requests_acknow
 use Rattle.shared_core_runtime.specs.Versions.{proposal_form, suspension_form}
 use Rattle.shared_core_runtime.proofs.FlattenedFits.{flattened_fits, flattened_levels}
 use Rattle.shared_core.specs.declared.encoding.error.DecodingError.{DecodingError}
-use Rattle.shared_core.specs.declared.encoding.error.DecodingError.TheVariants.{
-  UnknownMessageType,
-  SkippedMessage,
-  OutOfMemory,
-}
+use Rattle.shared_core.specs.declared.encoding.error.DecodingError.TheVariants.{UnknownMessageType, SkippedMessage}
+use Rattle.shared_core.specs.declared.encoding.error.DecodingError.TheVariants.{OutOfMemory}
 use Rattle.shared_core_stream.specs.declared.encoding.item.Item.{Item}
 use Rattle.shared_core_stream.specs.declared.encoding.item.Item.TheVariants.{Message, Unknown, Skipped}
 use Rattle.shared_core_stream.specs.declared.encoding.raw_message.RawMessage.{RawMessage}

@@ -1,32 +1,7 @@
 -- The view of a notification agrees with the notification's own type, and lacks a field if and only if no record has
 -- it.
-use Rattle.std.proofs.Common.{
-  ◌≡◌,
-  ◌≤◌,
-  ℕ,
-  leb,
-  List,
-  [],
-  ◌∷◌,
-  Option,
-  Some,
-  None,
-  Result,
-  Ok,
-  Err,
-  Bool,
-  true,
-  false,
-  cond,
-  ◌||◌,
-  inl,
-  inr,
-  refl,
-  sym,
-  ap,
-  subst,
-  ◌∙◌,
-}
+use Rattle.std.proofs.Common.{◌≡◌, ◌≤◌, ℕ, leb, List, [], ◌∷◌, Option, Some, None, Result, Ok, Err, Bool, true, false}
+use Rattle.std.proofs.Common.{cond, ◌||◌, inl, inr, refl, sym, ap, subst, ◌∙◌}
 use Rattle.std.specs.List.{list_any}
 use Rattle.std.proofs.lemmas.Bool.{le-leb}
 use Rattle.std.specs.Prelude.{codes}
@@ -52,16 +27,8 @@ use Rattle.shared_core.specs.declared.encoding.error.DecodingError.{DecodingErro
 use Rattle.shared_core.specs.declared.encoding.error.DecodingError.TheVariants.{DecodeMessage, OutOfMemory}
 use Rattle.shared_core.specs.TemplateParts.{template_parts}
 use Rattle.shared_core.specs.Typed.{MeansParts, RejectsPayload}
-use Rattle.shared_core.specs.View.{
-  IsOfNotification,
-  AgreesWithType,
-  ReturnsLacking,
-  IsMissing,
-  has_record,
-  id_numbers,
-  lacking_field,
-  result_numbers,
-}
+use Rattle.shared_core.specs.View.{IsOfNotification, AgreesWithType, ReturnsLacking, IsMissing, has_record, id_numbers}
+use Rattle.shared_core.specs.View.{lacking_field, result_numbers}
 
 -- whether the schema, if there is one, has rows of the template
 within : Option ℕ → Bool

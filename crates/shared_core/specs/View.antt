@@ -1,22 +1,6 @@
 -- The view of a notification, whatever its type.
-use Rattle.std.specs.Prelude.{
-  ◌≡◌,
-  ◌≢◌,
-  ◌⊎◌,
-  ℕ,
-  Bool,
-  List,
-  Option,
-  Some,
-  None,
-  Result,
-  Ok,
-  Err,
-  true,
-  codes,
-  nat_eq,
-  if◌then◌else◌,
-}
+use Rattle.std.specs.Prelude.{◌≡◌, ◌≢◌, ◌⊎◌, ℕ, Bool, List, Option, Some, None, Result, Ok, Err, true, codes, nat_eq}
+use Rattle.std.specs.Prelude.{if◌then◌else◌}
 use Rattle.std.specs.List.{list_any}
 use Rattle.shared_core_wire.specs.Schema.{OneOf, includes, all_numbers, numbers}
 use Rattle.shared_core_wire.specs.Overlay.{payload_records}

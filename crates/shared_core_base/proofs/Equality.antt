@@ -31,8 +31,8 @@ use Rattle.shared_core_base.specs.declared.values.Value.{Value}
 use Rattle.shared_core_base.specs.declared.values.Value.TheVariants as value
 use Rattle.shared_core_base.specs.declared.values.CommandRelationship.{CommandRelationship}
 use Rattle.shared_core_base.specs.declared.values.CommandRelationship.TheVariants as relationship
-use Rattle.shared_core_base.specs.Values.{failure_parts, value_parts, relationship_parts, Success, Failure, StateKeys,
-    InvocationId}
+use Rattle.shared_core_base.specs.Values.{failure_parts, value_parts, relationship_parts, Success, Failure, StateKeys}
+use Rattle.shared_core_base.specs.Values.{InvocationId}
 use Rattle.shared_core_base.specs.Error.{command_parts, notification_parts, error_parts, RelatedToCommand, Awakeable}
 
 -- a test of two optional values decides as the test of two values does
@@ -80,7 +80,7 @@ commands_decide a b = (
   λ same.
       and_from _ _ (eq-eqb a.index b.index (ap (λ p. p.index) same))
       (and_from _ _ (types_same a.ty b.ty (ap (λ p. p.ty) same))
-          ((names_decide a.name b.name).1 (ap (λ p. p.name) same))),
+      ((names_decide a.name b.name).1 (ap (λ p. p.name) same))),
 )
 
 -- notifications' metadata
@@ -117,8 +117,11 @@ behaviors_decide a b = (λ is. cc, λ same. cc)
 optional_delays_decide : (a b : Option Duration) → Decides (option_eq (λ x y. eqb x.secs y.secs && eqb x.nanos y.nanos)
     a b) (a ≡ b)
 optional_delays_decide None None = (λ is. refl, λ same. refl)
-optional_delays_decide (Some x) (Some y) = (λ is. ap Some ((delays_decide x y).0 is), λ same. (delays_decide x y).1
-    (cc))
+optional_delays_decide (Some x) (Some y) = (
+  λ is. ap Some ((delays_decide x y).0 is),
+  λ same. (delays_decide x y).1
+      (cc),
+)
 optional_delays_decide a b = (λ is. cc, λ same. cc)
 
 -- errors
@@ -128,9 +131,9 @@ errors_decide a b = (
       let with_code = and_parts (eqb a.code b.code) _ is in
       let with_message = and_parts (pointwise eqb (cow_str_bytes a.message) (cow_str_bytes b.message)) _ with_code.1 in
       let with_command = and_parts (option_eq commands.eq-value.it a.related_command b.related_command) _ with_message.1
-          in
+      in
       let with_delay = and_parts (option_eq (λ x y. eqb x.secs y.secs && eqb x.nanos y.nanos) a.next_retry_delay
-          b.next_retry_delay) _ with_command.1 in
+      b.next_retry_delay) _ with_command.1 in
       let code_is = eqb-true a.code b.code with_code.0 in
       let message_is = (bytes_decides (cow_str_bytes a.message) (cow_str_bytes b.message)).0 with_message.0 in
       let command_is = (options_decide commands_decide a.related_command b.related_command).0 with_command.0 in
@@ -141,9 +144,9 @@ errors_decide a b = (
       and_from _ _ (eq-eqb a.code b.code (ap (λ p. p.code) same))
       (and_from _ _ ((bytes_decides (cow_str_bytes a.message) (cow_str_bytes b.message)).1 (ap (λ p. p.message) same))
       (and_from _ _ ((options_decide commands_decide a.related_command b.related_command).1
-          (ap (λ p. p.related_command) same))
+      (ap (λ p. p.related_command) same))
       (and_from _ _ ((optional_delays_decide a.next_retry_delay b.next_retry_delay).1
-          (ap (λ p. p.next_retry_delay) same))
+      (ap (λ p. p.next_retry_delay) same))
       ((behaviors_decide a.behavior b.behavior).1 (ap (λ p. p.behavior) same))))),
 )
 
@@ -182,10 +185,16 @@ failures_decide a b = (
 -- values
 pub values_decide : (a b : Value) → Decides (values.eq-value.it a b) (value_parts a ≡ value_parts b)
 values_decide value.Void value.Void = (λ is. refl, λ same. refl)
-values_decide (value.Success x) (value.Success y) = (λ is. ap Success ((bytes_decides x y).0 is), λ same.
-    (bytes_decides x y).1 (cc))
-values_decide (value.Failure x) (value.Failure y) = (λ is. ap Failure ((failures_decide x y).0 is), λ same.
-    (failures_decide x y).1 (cc))
+values_decide (value.Success x) (value.Success y) = (
+  λ is. ap Success ((bytes_decides x y).0 is),
+  λ same.
+      (bytes_decides x y).1 (cc),
+)
+values_decide (value.Failure x) (value.Failure y) = (
+  λ is. ap Failure ((failures_decide x y).0 is),
+  λ same.
+      (failures_decide x y).1 (cc),
+)
 values_decide (value.StateKeys x) (value.StateKeys y) = (
   λ is. ap StateKeys ((lists_decide texts_decide x.items y.items).0 is),
   λ same. (lists_decide texts_decide x.items y.items).1 (cc),

@@ -44,7 +44,7 @@ pub type_of_name : (name : List ℕ) (ty : MessageType) → (type_in named_types
 type_of_name name ty = (
   λ is.
       let found : find (λ t. bytes_eq (variant_name_of t) name) named_types ≡ Some ty = sym
-          (type_in-find named_types name) ∙ is in
+      (type_in-find named_types name) ∙ is in
       let both = found_passes (λ t. bytes_eq (variant_name_of t) name) is_named named_types ty all_named found in
       (named_from ty both.1, (bytes_eq-Decides (variant_name_of ty) name).0 both.0),
   λ named. ap (type_in named_types) (sym named.1) ∙ found_by_name ty named.0,

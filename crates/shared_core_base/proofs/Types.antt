@@ -1,6 +1,6 @@
 -- Codes and types convert back to each other, and types and headers that are found equal are the same.
-use Rattle.std.proofs.Common.{◌≡◌, ℕ, List, [], ◌∷◌, Some, None, Bool, true, false, cond, eqb, inl, inr, refl, sym, ap,
-    ◌∙◌}
+use Rattle.std.proofs.Common.{◌≡◌, ℕ, List, [], ◌∷◌, Some, None, Bool, true, false, cond, eqb, inl, inr, refl, sym, ap}
+use Rattle.std.proofs.Common.{◌∙◌}
 use Rattle.std.specs.Prelude.{find, bit_and, ◌≢◌, ◌↔◌, ◌⊎◌, Option, not, ◌||◌}
 use Rattle.std.specs.Bool.{beq}
 use Rattle.std.specs.List.{list_all}
@@ -76,7 +76,7 @@ pub code_of_type : (code : ℕ) (ty : MessageType) → type_of code ≡ Some ty 
 unfolding type_of named_type
 code_of_type code ty is =
     (elim (named_type code) as (λ found. named_type code ≡ found → option_or found (custom_entry code) ≡ Some ty →
-        code_of ty ≡ code) [
+    code_of ty ≡ code) [
       | Some named ↦ λ found chosen. let same : named ≡ ty = cc in (named_type_found code ty (found ∙ ap Some same)).0
       | None ↦ λ found chosen. custom_entry_code code ty chosen
     ]) refl is
@@ -88,11 +88,14 @@ unfolding type_of named_type is_named
 type_of_custom code = (
   λ is.
       (elim (named_type code) as (λ found. named_type code ≡ found → option_or found (custom_entry code) ≡ Some
-          (CustomEntry code) → (named_type code ≡ None) × (bit_and code 0xFC00 ≢ 0)) [
+      (CustomEntry code) → (named_type code ≡ None) × (bit_and code 0xFC00 ≢ 0)) [
         | Some named ↦ λ found chosen. absurd (both_ways _ refl
             (named_type_found code (CustomEntry code) (found ∙ chosen)).1)
-        | None ↦ λ found chosen. (found, λ zero_bits. none-some (CustomEntry code)
-            (sym (ap (λ n. cond (eqb n 0) None (Some (CustomEntry code))) zero_bits) ∙ chosen))
+        | None ↦ λ found chosen. (
+          found,
+          λ zero_bits. none-some (CustomEntry code)
+              (sym (ap (λ n. cond (eqb n 0) None (Some (CustomEntry code))) zero_bits) ∙ chosen),
+        )
       ]) refl is,
   λ is. ap (λ found. option_or found (custom_entry code)) is.0
       ∙ ap (λ b. cond b None (Some (CustomEntry code))) (ne_eqb _ _ is.1),
@@ -124,10 +127,10 @@ named_equal : (a b : MessageType) → is_named a ≡ true → is_named b ≡ tru
 unfolding agrees
 named_equal a b named other is =
     let tested = named_passes (agrees a) (named_passes (λ t. list_all (agrees t) named_types) all_agree a named) b other
-        in
+    in
     let codes_are : code_of a ≡ code_of b = eqb-true _ _ (agrees_is _ _ tested is) in
     let types_are : Some a ≡ Some b = sym (named_type_of_code a named) ∙ ap named_type codes_are ∙ named_type_of_code b
-        other in
+    other in
     cc
 
 custom_on_the_left : (code : ℕ) (b : MessageType) → is_named b ≡ true → types.eq-value.it (CustomEntry code) b ≡ false
@@ -206,4 +209,4 @@ pub headers_same : (a b : MessageHeader) → a ≡ b → headers.eq-value.it a b
 headers_same a b same =
     ap (headers.eq-value.it a) (sym same)
     ∙ and_from _ _ (types_same a.ty a.ty refl) (and_from _ _ (eq-eqb a.length a.length refl)
-        (flag_to_itself a.requested_ack))
+    (flag_to_itself a.requested_ack))

@@ -1,13 +1,13 @@
 -- The versions of the protocol, and the content types that name them.
-use Rattle.std.specs.Prelude.{◌≡◌, ◌≢◌, ◌==◌, ℕ, Bool, List, [], ◌∷◌, ◌++◌, codes, decimal, true, false, Option, Result,
-    Ok, Err, nat_eq, nat_le, nat_lt, find}
+use Rattle.std.specs.Prelude.{◌≡◌, ◌≢◌, ◌==◌, ℕ, Bool, List, [], ◌∷◌, ◌++◌, codes, decimal, true, false, Option, Result}
+use Rattle.std.specs.Prelude.{Ok, Err, nat_eq, nat_le, nat_lt, find}
 use Rattle.std.specs.List.{starts_with}
 use Rattle.std.specs.String.{string_bytes}
 use Rattle.shared_core_base.specs.declared.version.Version.{Version}
 use Rattle.shared_core_base.specs.declared.version.Version.TheVariants.{V1, V2, V3, V4, V5, V6, V7, V8, V9}
 use Rattle.shared_core_base.specs.declared.version.ContentTypeError.{ContentTypeError}
-use Rattle.shared_core_base.specs.declared.version.ContentTypeError.TheVariants.{RestateContentType, OtherContentType,
-    OutOfMemory}
+use Rattle.shared_core_base.specs.declared.version.ContentTypeError.TheVariants.{RestateContentType, OtherContentType}
+use Rattle.shared_core_base.specs.declared.version.ContentTypeError.TheVariants.{OutOfMemory}
 
 -- A version's number.
 abbrev pub version_number : Version → ℕ
@@ -80,6 +80,5 @@ content_type_error_text (RestateContentType kept) = codes "unsupported protocol 
 content_type_error_text (OtherContentType kept) =
     codes "unrecognized content-type '"
     ++ (string_bytes kept
-    ++ codes "', this is not a restate protocol content type. Make sure you're invoking the service though
-        restate-server, rather than directly.")
+    ++ codes "', this is not a restate protocol content type. Make sure you're invoking the service though restate-server, rather than directly.")
 content_type_error_text OutOfMemory = codes "out of memory"

@@ -1,15 +1,16 @@
 -- Writing from the back.
-use Rattle.std.proofs.Common.{◌≡◌, ℕ, ◌+◌, ◌-◌, ◌/◌, ◌%◌, ◌<◌, ◌≤◌, List, ◌∷◌, ◌++◌, length, drop, set, get_or, subst,
-    append_assoc, append-nil, length-append, length-set, refl, ap, sym, ◌∙◌, arith, true, false}
+use Rattle.std.proofs.Common.{◌≡◌, ℕ, ◌+◌, ◌-◌, ◌/◌, ◌%◌, ◌<◌, ◌≤◌, List, ◌∷◌, ◌++◌, length, drop, set, get_or, subst}
+use Rattle.std.proofs.Common.{append_assoc, append-nil, length-append, length-set, refl, ap, sym, ◌∙◌, arith, true}
+use Rattle.std.proofs.Common.{false}
 use Rattle.std.proofs.lemmas.List.{drop-set, drop_all}
-use Rattle.shared_core_codec.proofs.Measuring.{from_end, from_index, from_next, from_shorter, from_start, packed_all,
-    packed_end, packed_from, packed_at, packed_shorter}
-use Rattle.shared_core_codec.proofs.RowBytes.{bytes_value_bytes, message_bytes, no_packed, number_value_bytes,
-    payload_size, plain_default, plain_value, some_packed, written_before}
+use Rattle.shared_core_codec.proofs.Measuring.{from_end, from_index, from_next, from_shorter, from_start, packed_all}
+use Rattle.shared_core_codec.proofs.Measuring.{packed_end, packed_from, packed_at, packed_shorter}
+use Rattle.shared_core_codec.proofs.RowBytes.{bytes_value_bytes, message_bytes, no_packed, number_value_bytes}
+use Rattle.shared_core_codec.proofs.RowBytes.{payload_size, plain_default, plain_value, some_packed, written_before}
 use Rattle.shared_core_codec.specs.Equality.{is_present}
 use Rattle.shared_core_codec.specs.FieldParts.{elements_part}
-use Rattle.shared_core_codec.specs.RowEncoding.{before_row, before_rows, length_record, row_bytes, row_size, rows_size,
-    unpacked, value_bytes, varint_record, varints_of}
+use Rattle.shared_core_codec.specs.RowEncoding.{before_row, before_rows, length_record, row_bytes, row_size, rows_size}
+use Rattle.shared_core_codec.specs.RowEncoding.{unpacked, value_bytes, varint_record, varints_of}
 use Rattle.shared_core_codec.specs.Table.{table}
 use Rattle.shared_core_wire.proofs.Shortest.{shortest_large, shortest_small}
 use Rattle.shared_core_wire.specs.Canonical.{canonical_payload, is_default, written_number}
@@ -36,7 +37,7 @@ pub two_bytes_before : (xs : List ℕ) (i end n : ℕ) → 128 ≤ n → n < 163
     → drop i (set (set xs (i + 1) (n / 128)) i (n % 128 + 128)) ≡ shortest_varint n ++ drop end xs
 two_bytes_before xs i end n large small h e =
     more_before (drop end xs) (set xs (i + 1) (n / 128)) i (i + 1) n large (simp length-set (omega arith)) refl
-        (one_before xs (i + 1) end (n / 128) (omega arith) h (omega arith))
+    (one_before xs (i + 1) end (n / 128) (omega arith) h (omega arith))
 
 pub two_bytes_size : (n : ℕ) → 128 ≤ n → n < 16384 → length (shortest_varint n) ≡ 2
 two_bytes_size n large small = rw (shortest_large n large, shortest_small (n / 128) (omega arith)) refl
@@ -120,7 +121,7 @@ pub message_before : (at s start end : ℕ) (ps : Parts) (after mid now : List �
 message_before at s start end ps after mid now e l f =
     let z : end - start ≡ length (canonical_payload table s ps) = omega (arith, payload_size s ps) in
     rw (message_bytes at s ps) (record_before at (canonical_payload table s ps) after mid now (rw z at e)
-        (f ∙ written_before s ps after))
+    (f ∙ written_before s ps after))
 
 -- ---- one element after the other, the last one first
 
@@ -131,9 +132,11 @@ IsAfter bytes end start after now = (start + length bytes ≡ end) × (now ≡ b
 after_step : (more bytes : List ℕ) (end old start : ℕ) (after mid now : List ℕ) → start + length more ≡ old → now ≡ more
     ++ mid
     → IsAfter bytes end old after mid → IsAfter (more ++ bytes) end start after now
-after_step more bytes end old start after mid now l w h =
-    (omega (arith, l, h.0, length-append more bytes), w ∙ ap (λ (t : List ℕ). more ++ t) h.1 ∙ sym
-        (append_assoc more bytes after))
+after_step more bytes end old start after mid now l w h = (
+  omega (arith, l, h.0, length-append more bytes),
+  w ∙ ap (λ (t : List ℕ). more ++ t) h.1 ∙ sym
+      (append_assoc more bytes after),
+)
 
 pub after_start : {M : Type 0} (view : M → Part) (at : ℕ) (k : Kind) (xs : List M) (i end : ℕ) (after : List ℕ) → length
     xs ≤ i → IsAfter (from_index view at k xs i) end end after after
@@ -143,28 +146,34 @@ pub after_next : {M : Type 0} (view : M → Part) (at : ℕ) (k : Kind) (xs : Li
     (after mid now : List ℕ) → 0 < i → i ≤ length xs → x ≡ get_or xs (i - 1) x
     → start + length (value_bytes at k (view x)) ≡ old → now ≡ value_bytes at k (view x) ++ mid
     → IsAfter (from_index view at k xs i) end old after mid → IsAfter (from_index view at k xs (i - 1)) end start after
-        now
+    now
 after_next view at k xs i x end old start after mid now z h e l w b =
     let n : i - 1 + 1 ≡ i = omega arith in
     rw (from_next view at k xs (i - 1) x (omega arith) e, n)
-        (after_step (value_bytes at k (view x)) (from_index view at k xs i) end old start after mid now l w b)
+    (after_step (value_bytes at k (view x)) (from_index view at k xs i) end old start after mid now l w b)
 
 pub after_room : {M : Type 0} (view : M → Part) (at : ℕ) (k : Kind) (xs : List M) (i : ℕ) (x : M) (end start : ℕ) → 0 <
     i → i ≤ length xs → x ≡ get_or xs (i - 1) x → unpacked k ≡ true
     → start + length (from_index view at k xs i) ≡ end → row_size (Repeated at k) (elements_part view xs) ≤ end → length
-        (value_bytes at k (view x)) ≤ start
+    (value_bytes at k (view x)) ≤ start
 after_room view at k xs i x end start z h e u w r =
     let n : i - 1 + 1 ≡ i = omega arith in
     let a = ap length (from_next view at k xs (i - 1) x (omega arith) e) in
     let b : length (from_index view at k xs (i - 1)) ≡ length (value_bytes at k (view x) ++ from_index view at k xs i) =
-        rw n at a in
-    omega (arith, b, length-append (value_bytes at k (view x)) (from_index view at k xs i), from_shorter view at k xs
-        (i - 1), ap length (from_start view at k xs u))
+    rw n at a in
+    omega (
+      arith,
+      b,
+      length-append (value_bytes at k (view x)) (from_index view at k xs i),
+      from_shorter view at k xs
+          (i - 1),
+      ap length (from_start view at k xs u),
+    )
 
 pub after_all : {M : Type 0} (view : M → Part) (at : ℕ) (k : Kind) (xs : List M) (i end start : ℕ) (after now : List ℕ)
     → i ≡ 0 → unpacked k ≡ true
     → IsAfter (from_index view at k xs i) end start after now → IsAfter
-        (row_bytes (Repeated at k) (elements_part view xs)) end start after now
+    (row_bytes (Repeated at k) (elements_part view xs)) end start after now
 after_all view at k xs i end start after now z u b =
     subst (λ (t : List ℕ). IsAfter t end start after now) (ap (from_index view at k xs) z ∙ from_start view at k xs u) b
 
@@ -181,7 +190,7 @@ pub packed_after : (ns : List ℕ) (i n d end old start : ℕ) (after mid now : 
 packed_after ns i n d end old start after mid now z h e l w b =
     let k : i - 1 + 1 ≡ i = omega arith in
     rw (packed_at ns (i - 1) n d (omega arith) e, k) (after_step (shortest_varint n) (packed_from ns i) end old start
-        after mid now l w b)
+    after mid now l w b)
 
 pub packed_room : (ns : List ℕ) (i n d end start : ℕ) → 0 < i → i ≤ length ns → n ≡ get_or ns (i - 1) d → start + length
     (packed_from ns i) ≡ end → length (varints_of ns) ≤ end
@@ -190,8 +199,14 @@ packed_room ns i n d end start z h e w r =
     let k : i - 1 + 1 ≡ i = omega arith in
     let a = ap length (packed_at ns (i - 1) n d (omega arith) e) in
     let b : length (packed_from ns (i - 1)) ≡ length (shortest_varint n ++ packed_from ns i) = rw k at a in
-    omega (arith, b, length-append (shortest_varint n) (packed_from ns i), packed_shorter ns (i - 1), ap length
-        (packed_all ns))
+    omega (
+      arith,
+      b,
+      length-append (shortest_varint n) (packed_from ns i),
+      packed_shorter ns (i - 1),
+      ap length
+          (packed_all ns),
+    )
 
 pub packed_after_all : (ns : List ℕ) (i end start : ℕ) (after now : List ℕ) → i ≡ 0 → IsAfter (packed_from ns i) end
     start after now → IsAfter (varints_of ns) end start after now

@@ -1,7 +1,7 @@
 -- A payload that passes the check of canonical payloads is the canonical payload of a value.
-use Rattle.std.proofs.Common.{◌≡◌, ℕ, zero, suc, ◌+◌, ◌-◌, ◌*◌, ◌/◌, ◌%◌, ◌^◌, ◌<◌, ◌≤◌, List, [], ◌∷◌, ◌++◌, map,
-    length, get_or, Bool, true, false, cond, not, ◌&&◌, ◌||◌, Option, Some, None, Result, refl, sym, ap, subst, ◌∙◌,
-    length-append, arith, eqb, eq-eqb, ltb, inl, inr}
+use Rattle.std.proofs.Common.{◌≡◌, ℕ, zero, suc, ◌+◌, ◌-◌, ◌*◌, ◌/◌, ◌%◌, ◌^◌, ◌<◌, ◌≤◌, List, [], ◌∷◌, ◌++◌, map}
+use Rattle.std.proofs.Common.{length, get_or, Bool, true, false, cond, not, ◌&&◌, ◌||◌, Option, Some, None, Result}
+use Rattle.std.proofs.Common.{refl, sym, ap, subst, ◌∙◌, length-append, arith, eqb, eq-eqb, ltb, inl, inr}
 use Rattle.std.proofs.lemmas.Bool.{eqb-true, ne_eqb, lt-ltb, le-ltb, ltb-true, ltb-false, cases_lt}
 use Rattle.std.proofs.lemmas.List.Folds.{list_all-append}
 use Rattle.std.proofs.Math.Bool.{and-false}
@@ -10,23 +10,25 @@ use Rattle.std.specs.List.{list_all}
 use Rattle.std.specs.Str.{is_utf8, chars}
 use Rattle.std.specs.Option.{option_or}
 use lib.Utf8.{encode}
-use Rattle.shared_core_wire.specs.Grammar.{RecordValue, Varint, Fixed64, Length, Group, Fixed32, FieldRecord, IsBase128,
-    IsVarint, IsKey, IsRecordBody, IsGroupContent, IsRecordWithin, IsRecordListWithin, IsSequence, wire_type}
+use Rattle.shared_core_wire.specs.Grammar.{RecordValue, Varint, Fixed64, Length, Group, Fixed32, FieldRecord, IsBase128}
+use Rattle.shared_core_wire.specs.Grammar.{IsVarint, IsKey, IsRecordBody, IsGroupContent, IsRecordWithin}
+use Rattle.shared_core_wire.specs.Grammar.{IsRecordListWithin, IsSequence, wire_type}
 use Rattle.shared_core_wire.specs.Reader.{◌>>=◌, varint_at, sequence_past, record_at, record_list}
 use Rattle.shared_core_wire.specs.ReadRecords.{PlacedRecord, records_past, read_records}
 use Rattle.shared_core_wire.specs.declared.error.WireError.{WireError}
 use Rattle.shared_core_wire.specs.Encoding.{shortest_varint, key_bytes, record_bytes, record_list_bytes}
-use Rattle.shared_core_wire.specs.Schema.{Kind, Row, U32, U64, Boolean, Enumeration, Text, ByteString, Message, Plain,
-    Optional, Repeated, OneOf, numbers, includes, member_kind, table_of}
+use Rattle.shared_core_wire.specs.Schema.{Kind, Row, U32, U64, Boolean, Enumeration, Text, ByteString, Message, Plain}
+use Rattle.shared_core_wire.specs.Schema.{Optional, Repeated, OneOf, numbers, includes, member_kind, table_of}
 use Rattle.shared_core_wire.specs.Value.{Part, Parts, Absent, Number, Bytes, Nested, Elements, Member, nil, cons}
-use Rattle.shared_core_wire.specs.Canonical.{written_number, is_default, number_bytes, packed_values, kind_of,
-    row_records, part_values, element_values, message_records, canonical_payload, part_levels, levels}
+use Rattle.shared_core_wire.specs.Canonical.{written_number, is_default, number_bytes, packed_values, kind_of}
+use Rattle.shared_core_wire.specs.Canonical.{row_records, part_values, element_values, message_records}
+use Rattle.shared_core_wire.specs.Canonical.{canonical_payload, part_levels, levels}
 use Rattle.shared_core_wire.specs.Fitting.{is_single, has_shape, NumberFits, PartFits, ElementsFit, Fits}
 use Rattle.shared_core_wire.specs.Acceptance.{NestedAcceptance, some_passes, accepts_payload}
 use Rattle.shared_core_wire.proofs.Shortest.{shortest_small, shortest_large, fewest}
 use Rattle.shared_core_wire.proofs.Runs.{and_split, and_join}
-use Rattle.shared_core_wire.proofs.Readers.{BeginsWith, varint_again, bind_some, passed, not_stopped, some_is,
-    varint_reads, varint_pos}
+use Rattle.shared_core_wire.proofs.Readers.{BeginsWith, varint_again, bind_some, passed, not_stopped, some_is}
+use Rattle.shared_core_wire.proofs.Readers.{varint_reads, varint_pos}
 use Rattle.shared_core_wire.proofs.RecordLists.{records_reads}
 use Rattle.shared_core_wire.proofs.Sequences.{IsReader, all_reads, all_more, all_stop, all_nil}
 use Rattle.shared_core_codec.specs.Table.{schemas, table}
@@ -35,9 +37,11 @@ use Rattle.shared_core_wire.proofs.ReadBackLevels.{canonical_back}
 use Rattle.shared_core_wire.specs.Overlay.{meaning}
 use Rattle.shared_core_codec.specs.ProgramRows.{field_in_row, member_numbered}
 use Rattle.shared_core_codec.specs.RowEncoding.{unpacked}
-use Rattle.shared_core_codec.specs.Canonicity.{IsCanonical, is_written_value, low_varint_at, is_written_run,
-    is_written_element, is_default_value, is_plain, is_written_field, may_recur, found_or, next_field, rows_after_field,
-    rows_after, written_size, Coming, coming_after, all_come, all_come_read, is_canonical_message, is_canonical_payload}
+use Rattle.shared_core_codec.specs.Canonicity.{IsCanonical, is_written_value, low_varint_at, is_written_run}
+use Rattle.shared_core_codec.specs.Canonicity.{is_written_element, is_default_value, is_plain, is_written_field}
+use Rattle.shared_core_codec.specs.Canonicity.{may_recur, found_or, next_field, rows_after_field, rows_after}
+use Rattle.shared_core_codec.specs.Canonicity.{written_size, Coming, coming_after, all_come, all_come_read}
+use Rattle.shared_core_codec.specs.Canonicity.{is_canonical_message, is_canonical_payload}
 
 -- ---- bytes
 
@@ -59,7 +63,7 @@ tight_large b c bs n high byte le e large short later =
     let up : n / 128 ≡ high = omega (arith, e, byte) in
     let low : n % 128 + 128 ≡ b = omega (arith, e, le, byte) in
     let whole : shortest_varint n ≡ b ∷ shortest_varint high = shortest_large n large ∙ ap
-        (λ (m : ℕ). (n % 128 + 128) ∷ shortest_varint m) up ∙ ap (λ (m : ℕ). m ∷ shortest_varint high) low in
+    (λ (m : ℕ). (n % 128 + 128) ∷ shortest_varint m) up ∙ ap (λ (m : ℕ). m ∷ shortest_varint high) low in
     let long : length (shortest_varint n) ≡ length (b ∷ shortest_varint high) = ap length whole in
     let tail : length (c ∷ bs) ≤ length (shortest_varint high) = omega (arith, short, long) in
     ap (λ (t : List ℕ). b ∷ t) (later tail) ∙ sym whole
@@ -152,7 +156,7 @@ read_value n (Fixed64 bs) key body a k b = read_other (record { number = n; valu
     (varint_pos key _ k.encoding)
 read_value n (Length bs) key body a k b =
     let g = read_length n bs key b.0 (ap (λ (x : List ℕ). are_bytes (key ++ x)) (sym b.2) ∙ a) k.encoding.encoding b.1
-        in
+    in
     subst (λ (x : List ℕ). ReadOne (key ++ x) (record { number = n; value = Length bs })) (sym b.2) g
 read_value n (Group bs) key body a k b = read_other (record { number = n; value = Group bs }) key body refl refl
     (varint_pos key _ k.encoding)
@@ -162,7 +166,7 @@ read_value n (Fixed32 bs) key body a k b = read_other (record { number = n; valu
 read_one : (first : List ℕ) (r : FieldRecord) → are_bytes first ≡ true → IsRecordWithin 0 first r → ReadOne first r
 read_one first r a h =
     subst (λ (x : List ℕ). ReadOne x r) (sym h.parts) (read_value r.number r.value h.key h.body
-        (ap are_bytes (sym h.parts) ∙ a) h.keyed h.valued)
+    (ap are_bytes (sym h.parts) ∙ a) h.keyed h.valued)
 
 -- bytes that a record list was read from
 record ReadList (bytes : List ℕ) (rs : List FieldRecord) : Type 0 where
@@ -200,24 +204,28 @@ unfolding low_varint_at
 low_again text rest n h =
     let f = fewest n text h.is.encoding in
     let long : length (shortest_varint n) + length rest ≡ length (text ++ rest) = omega
-        (arith, f, h.tight, length-append text rest) in
+    (arith, f, h.tight, length-append text rest) in
     rw (varint_again text rest n h.is, lt-ltb n 4294967296 h.low, eq-eqb _ _ long) refl
 
 low_reads : (bytes : List ℕ) (x : ℕ × List ℕ) → low_varint_at bytes ≡ Some x → BeginsWith IsLow bytes x
 unfolding low_varint_at
 low_reads bytes x e =
     let v = bind_some (varint_at bytes) (λ y. cond (ltb y.0 4294967296 && eqb
-        (length (shortest_varint y.0) + length y.1) (length bytes)) (Some y) None) x e in
+    (length (shortest_varint y.0) + length y.1) (length bytes)) (Some y) None) x e in
     let w = passed (ltb v.0.0 4294967296 && eqb (length (shortest_varint v.0.0) + length v.0.1) (length bytes))
-        (Some v.0) x v.2 in
+    (Some v.0) x v.2 in
     let t = varint_reads bytes v.0 v.1 in
     let s = and_split _ _ w.0 in
     let long = eqb-true _ _ s.1 in
     subst (BeginsWith IsLow bytes) (some_is v.0 x w.1) (record {
       text = t.text;
       parts = t.parts;
-      is = record { is = t.is; tight = omega (arith, long, ap length t.parts, length-append t.text v.0.1); low =
-          ltb-true _ _ s.0 };
+      is = record {
+        is = t.is;
+        tight = omega (arith, long, ap length t.parts, length-append t.text v.0.1);
+        low =
+            ltb-true _ _ s.0;
+      };
     })
 
 pub reader_low : IsReader IsLow low_varint_at
@@ -358,8 +366,8 @@ module _ (nested : NestedAcceptance) (left : ℕ) (nested_sound : (t : ℕ) (b :
             let m : ℕ = n - 18446744069414584320 in
             let high : ltb (n - 18446744069414584320) 2147483648 ≡ false = le-ltb _ _ (omega (arith, above)) in
             single_number Enumeration n (n - 18446744069414584320) (omega (arith, above, r))
-                (rw high (omega (arith, above))) (ne_eqb _ _ (λ z. omega (arith, above, z)) ∙ sym
-                (ne_eqb n 0 (λ z. omega (arith, above, z))))
+            (rw high (omega (arith, above))) (ne_eqb _ _ (λ z. omega (arith, above, z)) ∙ sym
+            (ne_eqb n 0 (λ z. omega (arith, above, z))))
       ]
 
   single_bytes : (k : Kind) (b : List ℕ) → PartFits table (Bytes b) k → Single k (Length b)
@@ -468,7 +476,7 @@ module _ (nested : NestedAcceptance) (left : ℕ) (nested_sound : (t : ℕ) (b :
   unfolding with_number
   put_optional n k w rows rs x y =
       front (Optional n k) rows x.p (with_number n w ∷ []) rs (single_shape n k x.p x.single) x.fits x.low
-          (rw x.is refl) y
+      (rw x.is refl) y
 
   put_member : (members : List (ℕ × Kind)) (n : ℕ) (w : RecordValue) (rows : List Row) (rs : List FieldRecord) →
       includes (numbers (OneOf members)) n ≡ true → Single (member_kind members n) w → Value rows rs
@@ -476,16 +484,16 @@ module _ (nested : NestedAcceptance) (left : ℕ) (nested_sound : (t : ℕ) (b :
   unfolding with_number PartFits part_values levels
   put_member members n w rows rs h x y =
       front (OneOf members) rows (Member n x.p) (with_number n w ∷ []) rs (and_join _ _ h x.single) x.fits x.low
-          (rw x.is refl) y
+      (rw x.is refl) y
 
   put_run : (n : ℕ) (run : List ℕ) (rows : List Row) (rs : List FieldRecord) → eqb (length run) 0 ≡ false → LowRun run →
       Value rows rs → Value (Repeated n U32 ∷ rows) (with_number n (Length run) ∷ rs)
   unfolding with_number PartFits part_values levels
   put_run n run rows rs h x y =
       front (Repeated n U32) rows (Elements x.ps) (with_number n (Length run) ∷ []) rs refl x.fits
-          (omega (arith, x.flat))
+      (omega (arith, x.flat))
       (ap (map (λ w. record { number = n; value = w })) (sym
-          (packed_some (element_values table x.ps U32) run x.bytes h))) y
+      (packed_some (element_values table x.ps U32) run x.bytes h))) y
 
   -- values of an unpacked kind are written one by one
   as_they_are : (k : Kind) (ws : List RecordValue) → unpacked k ≡ true → packed_values k ws ≡ ws
@@ -500,7 +508,7 @@ module _ (nested : NestedAcceptance) (left : ℕ) (nested_sound : (t : ℕ) (b :
   put_element : (n : ℕ) (k : Kind) (w : RecordValue) (rows : List Row) (rs : List FieldRecord) → unpacked k ≡ true →
       Single k w
       → (v : Parts) → Fits table v (Repeated n k ∷ rows) → levels v ≤ left → rs ≡ message_records table v
-          (Repeated n k ∷ rows) → Value (Repeated n k ∷ rows) (with_number n w ∷ rs)
+      (Repeated n k ∷ rows) → Value (Repeated n k ∷ rows) (with_number n w ∷ rs)
   unfolding with_number PartFits part_values levels
   put_element n k w rows rs u x nil f l e = absurd f
   put_element n k w rows rs u x (cons (Elements qs) ps) f l e = record {
@@ -509,14 +517,14 @@ module _ (nested : NestedAcceptance) (left : ℕ) (nested_sound : (t : ℕ) (b :
     low = omega (arith, x.low, l);
     is =
         let old : map (λ z. with_number n z) (packed_values k (element_values table qs k)) ≡ map (λ z. with_number n z)
-            (element_values table qs k) = ap (map (λ z. with_number n z)) (as_they_are k (element_values table qs k) u)
-            in
+        (element_values table qs k) = ap (map (λ z. with_number n z)) (as_they_are k (element_values table qs k) u)
+        in
         let new = ap (map (λ z. with_number n z)) (as_they_are k (part_values table x.p k ++ element_values table qs k)
-            u) in
+        u) in
         ap (λ (t : List FieldRecord). with_number n w ∷ t) (e ∙ ap
-            (λ (t : List FieldRecord). t ++ message_records table ps rows) old)
+        (λ (t : List FieldRecord). t ++ message_records table ps rows) old)
         ∙ ap (λ (t : List RecordValue). map (λ z. with_number n z) (t ++ element_values table qs k) ++ message_records
-            table ps rows) (sym x.is)
+        table ps rows) (sym x.is)
         ∙ ap (λ (t : List FieldRecord). t ++ message_records table ps rows) (sym new);
   }
   put_element n k w rows rs u x (cons p ps) f l e = absurd (cc f.0)
@@ -524,7 +532,7 @@ module _ (nested : NestedAcceptance) (left : ℕ) (nested_sound : (t : ℕ) (b :
   put_repeated : (n : ℕ) (k : Kind) (w : RecordValue) (rows next : List Row) (rs : List FieldRecord) → readable w ≡ true
       → is_written_element nested k w ≡ true
       → (if_more : (unpacked k ≡ true → next ≡ Repeated n k ∷ rows)) → (unpacked k ≡ false → next ≡ rows) → Value next
-          rs → Value (Repeated n k ∷ rows) (with_number n w ∷ rs)
+      rs → Value (Repeated n k ∷ rows) (with_number n w ∷ rs)
   put_repeated n U32 (Length run) rows next rs r h more last x =
       let e = and_split _ _ h in
       put_run n run rows rs (not_false _ e.0) (run_read run r e.1) (subst (λ (t : List Row). Value t rs) (last refl) x)
@@ -550,7 +558,7 @@ module _ (nested : NestedAcceptance) (left : ℕ) (nested_sound : (t : ℕ) (b :
   row_sound : (row : Row) (rows next : List Row) (n : ℕ) (w : RecordValue) (rs : List FieldRecord) (f : Kind × Bool) →
       may_be_empty row ≡ true → readable w ≡ true
       → field_in_row row n ≡ Some f → is_written_field nested (is_plain row) f w ≡ true → cond (may_recur f)
-          (row ∷ rows) rows ≡ next → Value next rs → Value (row ∷ rows) (with_number n w ∷ rs)
+      (row ∷ rows) rows ≡ next → Value next rs → Value (row ∷ rows) (with_number n w ∷ rs)
   row_sound (Plain m k) rows next n w rs f h r e g q x =
       let t = passed (eqb n m) (Some (k, false)) f e in
       let same : (k, false) ≡ f = some_is (k, false) f t.1 in
@@ -559,7 +567,7 @@ module _ (nested : NestedAcceptance) (left : ℕ) (nested_sound : (t : ℕ) (b :
       let rest = ap (λ z. cond (may_recur z) (Plain m k ∷ rows) rows) same ∙ q in
       subst (λ z. Value (Plain m k ∷ rows) (with_number z w ∷ rs)) (sym number)
       (put_plain m k w rows rs (not_false _ h) (not_false _ written.1) (written_single k w r written.0)
-          (subst (λ (z : List Row). Value z rs) (sym rest) x))
+      (subst (λ (z : List Row). Value z rs) (sym rest) x))
   row_sound (Optional m k) rows next n w rs f h r e g q x =
       let t = passed (eqb n m) (Some (k, false)) f e in
       let same : (k, false) ≡ f = some_is (k, false) f t.1 in
@@ -574,29 +582,29 @@ module _ (nested : NestedAcceptance) (left : ℕ) (nested_sound : (t : ℕ) (b :
       let number : n ≡ m = eqb-true n m t.0 in
       let written = ap (λ z. is_written_field nested false z w) same ∙ g in
       let rest : cond (unpacked k) (Repeated m k ∷ rows) rows ≡ next = ap
-          (λ z. cond (may_recur z) (Repeated m k ∷ rows) rows) same ∙ q in
+      (λ z. cond (may_recur z) (Repeated m k ∷ rows) rows) same ∙ q in
       subst (λ z. Value (Repeated m k ∷ rows) (with_number z w ∷ rs)) (sym number)
       (put_repeated m k w rows next rs r written (λ u. sym rest ∙ ap (λ b. cond b (Repeated m k ∷ rows) rows) u)
-          (λ u. sym rest ∙ ap (λ b. cond b (Repeated m k ∷ rows) rows) u) x)
+      (λ u. sym rest ∙ ap (λ b. cond b (Repeated m k ∷ rows) rows) u) x)
   row_sound (OneOf members) rows next n w rs f h r e g q x =
       let t = member_found members n f e in
       let k = member_kind members n in
       let written = and_split (is_written_value nested k w) _ (ap (λ z. is_written_field nested false z w) t.1 ∙ g) in
       let rest = ap (λ z. cond (may_recur z) (OneOf members ∷ rows) rows) t.1 ∙ q in
       put_member members n w rows rs t.0 (written_single k w r written.0)
-          (subst (λ (z : List Row). Value z rs) (sym rest) x)
+      (subst (λ (z : List Row). Value z rs) (sym rest) x)
 
   found_sound : (row : Row) (rows next : List Row) (r : FieldRecord) (rs : List FieldRecord) → may_be_empty row ≡ true →
       readable r.value ≡ true
       → (rows_after nested rows r ≡ Some next → Value rows (r ∷ rs))
       → (o : Option (Kind × Bool)) → field_in_row row r.number ≡ o →
-          (found_or row rows (next_field rows r.number) o >>= rows_after_field nested r.value) ≡ Some next → Value next
-          rs → Value (row ∷ rows) (r ∷ rs)
+      (found_or row rows (next_field rows r.number) o >>= rows_after_field nested r.value) ≡ Some next → Value next
+      rs → Value (row ∷ rows) (r ∷ rs)
   unfolding with_number
   found_sound row rows next r rs h c later None i g x = skip row rows (r ∷ rs) h (later g)
   found_sound row rows next r rs h c later (Some f) i g x =
       let t = passed (is_written_field nested (is_plain row) f r.value) (Some (cond (may_recur f) (row ∷ rows) rows))
-          next g in
+      next g in
       row_sound row rows next r.number r.value rs f h c i t.0 (some_is _ next t.1) x
 
   recur_empty : (row : Row) (rows next : List Row) → list_all may_be_empty (row ∷ rows) ≡ true → (b : Bool) → cond b
@@ -607,11 +615,11 @@ module _ (nested : NestedAcceptance) (left : ℕ) (nested_sound : (t : ℕ) (b :
   found_empty : (row : Row) (rows next : List Row) (r : FieldRecord) → list_all may_be_empty (row ∷ rows) ≡ true →
       (rows_after nested rows r ≡ Some next → list_all may_be_empty next ≡ true)
       → (o : Option (Kind × Bool)) → (found_or row rows (next_field rows r.number) o >>= rows_after_field nested
-          r.value) ≡ Some next → list_all may_be_empty next ≡ true
+      r.value) ≡ Some next → list_all may_be_empty next ≡ true
   found_empty row rows next r h later None g = later g
   found_empty row rows next r h later (Some f) g =
       let t = passed (is_written_field nested (is_plain row) f r.value) (Some (cond (may_recur f) (row ∷ rows) rows))
-          next g in
+      next g in
       recur_empty row rows next h (may_recur f) (some_is _ next t.1)
 
   after_sound : (rows : List Row) (r : FieldRecord) (next : List Row) (rs : List FieldRecord) → list_all may_be_empty
@@ -622,7 +630,7 @@ module _ (nested : NestedAcceptance) (left : ℕ) (nested_sound : (t : ℕ) (b :
   after_sound (row ∷ rows) r next rs h c e x =
       let s = and_split _ _ h in
       found_sound row rows next r rs s.0 c (λ g. after_sound rows r next rs s.1 c g x) (field_in_row row r.number) refl
-          e x
+      e x
 
   after_empty : (rows : List Row) (r : FieldRecord) (next : List Row) → list_all may_be_empty rows ≡ true → rows_after
       nested rows r ≡ Some next → list_all may_be_empty next ≡ true
@@ -643,18 +651,20 @@ module _ (nested : NestedAcceptance) (left : ℕ) (nested_sound : (t : ℕ) (b :
       by_next : ((rows : List Row) (room : ℕ) → list_all may_be_empty rows ≡ true → list_all (λ r. readable r.value) rs
           ≡ true → all_come nested (rows, room) rs ≡ true → Come rows room rs)
           → (o : Option Coming) → coming_after nested (rows, room) r ≡ o →
-              (elim o [ None ↦ false | Some next ↦ all_come nested next rs ]) ≡ true → Come rows room (r ∷ rs)
+          (elim o [ None ↦ false | Some next ↦ all_come nested next rs ]) ≡ true → Come rows room (r ∷ rs)
       by_next later None i g = absurd cc
       by_next later (Some next) i g =
           let s = and_split _ _ c in
           let t = bind_some (rows_after nested rows r) (λ (z : List Row). cond (ltb room (written_size r)) None
-              (Some (z, room - written_size r))) next i in
+          (Some (z, room - written_size r))) next i in
           let u = not_stopped (ltb room (written_size r)) (Some (t.0, room - written_size r)) next t.2 in
           let same : (t.0, room - written_size r) ≡ next = some_is _ next u.1 in
           let x = later t.0 (room - written_size r) (after_empty rows r t.0 h t.1) s.1
-              (ap (λ z. all_come nested z rs) same ∙ g) in
-          record { value = after_sound rows r t.0 rs h s.0 t.1 x.value; size = omega (arith, ltb-false _ _ u.0, x.size)
-              }
+          (ap (λ z. all_come nested z rs) same ∙ g) in
+          record {
+            value = after_sound rows r t.0 rs h s.0 t.1 x.value;
+            size = omega (arith, ltb-false _ _ u.0, x.size);
+          }
 
   level_sound : (s : ℕ) (bytes : List ℕ) → list_all may_be_empty (table s) ≡ true → are_bytes bytes ≡ true → some_passes
       (all_come nested (table s, length bytes)) (record_list 0 bytes) ≡ true → Canon left s bytes
@@ -694,7 +704,7 @@ payload_sound zero s bytes a e = level_sound (is_canonical_message zero) zero (�
     (rows_may_be_empty s) a e
 payload_sound (suc left) s bytes a e =
     level_sound (is_canonical_message (suc left)) (suc left) (λ t b c f. deeper left t b (payload_sound left t b c f)) s
-        bytes (rows_may_be_empty s) a e
+    bytes (rows_may_be_empty s) a e
 
 pub sound : (s : ℕ) (bytes : List ℕ) → ((i : ℕ) → get_or bytes i 0 < 256) → length bytes < 2 ^ 32 → is_canonical_payload
     100 s bytes ≡ true → IsCanonical s bytes
@@ -717,7 +727,7 @@ module _ (one : List ℕ → Option (FieldRecord × List ℕ)) (nested : NestedA
       (rs : Option (List FieldRecord)) (o : Option Coming) → coming_after nested s r ≡ o
       → ((next : Coming) → all_come_read nested next items ≡ some_passes (all_come nested next) rs)
       → (elim o [ None ↦ false | Some next ↦ all_come_read nested next items ]) ≡ some_passes (all_come nested s)
-          (rs >>= λ xs. Some (r ∷ xs))
+      (rs >>= λ xs. Some (r ∷ xs))
   come_over s r items None None e later = refl
   come_over s r items None (Some next) e later = later next
   come_over s r items (Some xs) None e later = rw (e, all_come) refl
@@ -725,15 +735,15 @@ module _ (one : List ℕ → Option (FieldRecord × List ℕ)) (nested : NestedA
 
   come_first : (b : ℕ) (bs : List ℕ) (found : Option (FieldRecord × List ℕ)) (s : Coming) → one (b ∷ bs) ≡ found
       → ((past : ℕ) (next : Coming) → all_come_read nested next (records_past one end past bs) ≡ some_passes
-          (all_come nested next) (sequence_past one past bs))
+      (all_come nested next) (sequence_past one past bs))
       → all_come_read nested s (records_past one end 0 (b ∷ bs)) ≡ some_passes (all_come nested s)
-          (sequence_past one 0 (b ∷ bs))
+      (sequence_past one 0 (b ∷ bs))
   unfolding records_past sequence_past
   come_first b bs None s e later = rw (e, records_past, sequence_past) refl
   come_first b bs (Some r) s e later =
       rw (e, records_past, sequence_past) (come_over s r.0 (records_past one end (length bs - length r.1) bs)
-          (sequence_past one (length bs - length r.1) bs) (coming_after nested s r.0) refl
-          (later (length bs - length r.1)))
+      (sequence_past one (length bs - length r.1) bs) (coming_after nested s r.0) refl
+      (later (length bs - length r.1)))
 
   pub come_past : (bytes : List ℕ) (past : ℕ) (s : Coming) → all_come_read nested s (records_past one end past bytes) ≡
       some_passes (all_come nested s) (sequence_past one past bytes)

@@ -1,16 +1,16 @@
 -- Checking the records of a payload one after the other.
-use Rattle.std.proofs.Common.{◌≡◌, ℕ, zero, suc, ◌-◌, ◌<◌, ◌≤◌, List, [], ◌∷◌, length, map, get_or, Bool, true, false,
-    cond, ◌&&◌, ◌||◌, Option, Some, None, refl, sym, ap, ◌∙◌, eqb, arith}
+use Rattle.std.proofs.Common.{◌≡◌, ℕ, zero, suc, ◌-◌, ◌<◌, ◌≤◌, List, [], ◌∷◌, length, map, get_or, Bool, true, false}
+use Rattle.std.proofs.Common.{cond, ◌&&◌, ◌||◌, Option, Some, None, refl, sym, ap, ◌∙◌, eqb, arith}
 use Rattle.std.specs.List.{list_all}
 use Rattle.std.specs.Option.{option_or, is_some}
 use Rattle.std.proofs.lemmas.List.{length-append}
 use Rattle.shared_core_wire.specs.Grammar.{FieldRecord, RecordValue}
 use Rattle.shared_core_wire.specs.Reader.{◌>>=◌, sequence_past, varint_at, packed_numbers, record_at, record_list}
 use Rattle.shared_core_wire.specs.ReadRecords.{records_past, read_records}
-use Rattle.shared_core_wire.specs.Schema.{Kind, Row, Plain, Optional, Repeated, OneOf, table_of, numbers, includes,
-    member_kind, are_distinct, all_numbers}
-use Rattle.shared_core_wire.specs.Acceptance.{NestedAcceptance, some_passes, accepts_value, accepts_element,
-    accepts_in_row, accepts_record, accepts_message, accepts_payload}
+use Rattle.shared_core_wire.specs.Schema.{Kind, Row, Plain, Optional, Repeated, OneOf, table_of, numbers, includes}
+use Rattle.shared_core_wire.specs.Schema.{member_kind, are_distinct, all_numbers}
+use Rattle.shared_core_wire.specs.Acceptance.{NestedAcceptance, some_passes, accepts_value, accepts_element}
+use Rattle.shared_core_wire.specs.Acceptance.{accepts_in_row, accepts_record, accepts_message, accepts_payload}
 use Rattle.shared_core_wire.proofs.Runs.{and_split}
 use Rattle.shared_core_wire.proofs.ReadBack.{or_split, includes-append, distinct_back, distinct_other}
 use Rattle.shared_core_wire.proofs.Readers.{varint_pos, varint_reads}
@@ -37,7 +37,7 @@ passes_next test false c r (Some rs) t e = rw t refl
 module _ (one : List ℕ → Option (FieldRecord × List ℕ)) (test : FieldRecord → Bool) (end : ℕ) where
   read_first : (b : ℕ) (bs : List ℕ) (found : Option (FieldRecord × List ℕ)) → one (b ∷ bs) ≡ found
       → ((past : ℕ) → all_read test (records_past one end past bs) ≡ some_passes (list_all test)
-          (sequence_past one past bs))
+      (sequence_past one past bs))
       → all_read test (records_past one end 0 (b ∷ bs)) ≡ some_passes (list_all test) (sequence_past one 0 (b ∷ bs))
   unfolding records_past sequence_past
   read_first b bs None e later = rw (e, records_past, sequence_past) refl
@@ -87,7 +87,7 @@ module _ (nested : NestedAcceptance) (w : RecordValue) (n : ℕ) where
           (option_or (member_numbered members n) o) w ≡ accepts_value nested (member_kind members n) w)
           → (b || includes (numbers (OneOf members)) n) ≡ true
           → accepts_found nested (option_or (option_or (cond b (Some (m.1, false)) None) (member_numbered members n)) o)
-              w ≡ accepts_value nested (cond b m.1 (member_kind members n)) w
+          w ≡ accepts_value nested (cond b m.1 (member_kind members n)) w
       by_test true later g = refl
       by_test false later g = later g
 
@@ -122,7 +122,7 @@ module _ (nested : NestedAcceptance) (r : FieldRecord) where
   others_allow [] h = refl
   others_allow (row ∷ rows) h =
       let e = or_split (includes (numbers row) r.number) (includes (all_numbers rows) r.number)
-          (sym (includes-append (numbers row) (all_numbers rows) r.number) ∙ h) in
+      (sym (includes-append (numbers row) (all_numbers rows) r.number) ∙ h) in
       rw e.0 (others_allow rows e.1)
 
   pub field_accepts : (rows : List Row) → are_distinct (all_numbers rows) ≡ true → accepts_found nested
@@ -134,11 +134,11 @@ module _ (nested : NestedAcceptance) (r : FieldRecord) where
       by_test : (b : Bool) → includes (numbers row) r.number ≡ b → accepts_found nested (field_numbered rows r.number)
           r.value ≡ accepts_record nested rows r
           → accepts_found nested (option_or (field_in_row row r.number) (field_numbered rows r.number)) r.value ≡
-              (cond b (accepts_in_row nested row r) true && accepts_record nested rows r)
+          (cond b (accepts_in_row nested row r) true && accepts_record nested rows r)
       by_test true e later =
           row_finds row (field_numbered rows r.number) e
           ∙ sym (with_true (accepts_in_row nested row r) (accepts_record nested rows r)
-              (others_allow rows (distinct_other (numbers row) (all_numbers rows) r.number d e)))
+          (others_allow rows (distinct_other (numbers row) (all_numbers rows) r.number d e)))
       by_test false e later = ap (λ (o : Option (Kind × Bool)). accepts_found nested o r.value)
           (row_lacks row r.number (field_numbered rows r.number) e) ∙ later
 

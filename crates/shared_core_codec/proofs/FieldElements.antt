@@ -1,6 +1,6 @@
 -- Fields, by their kinds.
-use Rattle.std.proofs.Common.{◌≡◌, ℕ, ◌%◌, List, [], ◌∷◌, ◌++◌, map, Bool, true, false, Option, Some, None, Result, Ok,
-    Err, refl, sym, ap, ◌∙◌, append-nil}
+use Rattle.std.proofs.Common.{◌≡◌, ℕ, ◌%◌, List, [], ◌∷◌, ◌++◌, map, Bool, true, false, Option, Some, None, Result, Ok}
+use Rattle.std.proofs.Common.{Err, refl, sym, ap, ◌∙◌, append-nil}
 use Rattle.std.specs.Prelude.{OnOk, IsUtf8, is_some}
 use Rattle.std.specs.Str.{is_utf8}
 use Rattle.std.specs.Result.{IsErrOf}
@@ -16,8 +16,8 @@ use Rattle.shared_core_wire.proofs.Runs.{parts_append_nil}
 use Rattle.shared_core_wire.specs.Acceptance.{NestedAcceptance, accepts_value, accepts_element}
 use Rattle.shared_core_wire.specs.Grammar.{RecordValue, Length}
 use Rattle.shared_core_wire.specs.Schema.{Kind, U32, U64, Boolean, Enumeration, Text, ByteString, Message}
-use Rattle.shared_core_wire.specs.Overlay.{NestedOverlay, low_numbers, packed_elements, singular_of, elements_of,
-    all_elements}
+use Rattle.shared_core_wire.specs.Overlay.{NestedOverlay, low_numbers, packed_elements, singular_of, elements_of}
+use Rattle.shared_core_wire.specs.Overlay.{all_elements}
 use Rattle.shared_core_codec.specs.Table.{table}
 use Rattle.shared_core_wire.specs.Reader.{packed_numbers, ◌>>=◌}
 use Rattle.shared_core_wire.specs.Value.{Part, Parts, Absent, Number, Nested, cons, nil, one_part, empty_value, ◌+++◌}
@@ -50,9 +50,11 @@ parts_join (x ∷ xs) ys = ap (cons (Number x)) (parts_join xs ys)
 onto : (old new : List ℕ) (o : Option (List ℕ)) → (o >>= λ ns. Some (old ++ map low ns)) ≡ Some new → (is_some o ≡ true)
     × (parts_of Number new ≡ parts_of Number old +++ (packed_elements o +++ nil))
 onto old new None e = absurd cc
-onto old new (Some ns) e =
-    (refl, ap (parts_of Number) (sym (some_is _ _ e)) ∙ parts_join old (map low ns) ∙ ap
-        (λ ps. parts_of Number old +++ ps) (parts_low ns ∙ sym (parts_append_nil (low_numbers ns))))
+onto old new (Some ns) e = (
+  refl,
+  ap (parts_of Number) (sym (some_is _ _ e)) ∙ parts_join old (map low ns) ∙ ap
+      (λ ps. parts_of Number old +++ ps) (parts_low ns ∙ sym (parts_append_nil (low_numbers ns))),
+)
 
 not_onto : (old : List ℕ) (o : Option (List ℕ)) → (o >>= λ ns. Some (old ++ map low ns)) ≡ None → is_some o ≡ false
 not_onto old None e = refl
@@ -103,7 +105,7 @@ message_element _ _ _ _ _ h e = cc
 element : (nested : NestedOverlay) (accepts_nested : NestedAcceptance) (k : Kind) (w : RecordValue) (p : Part) →
     unpacked k ≡ true
     → accepts_value accepts_nested k w ≡ true → singular_of table nested k Absent w [] ≡ p →
-        (accepts_element accepts_nested k w ≡ true) × (elements_of table nested k w ≡ one_part p)
+    (accepts_element accepts_nested k w ≡ true) × (elements_of table nested k w ≡ one_part p)
 element nested accepts_nested U32 w p u h e = cc
 element nested accepts_nested U64 w p u h e = (h, ap one_part e)
 element nested accepts_nested Boolean w p u h e = (h, ap one_part e)
@@ -116,13 +118,16 @@ element nested accepts_nested (Message s) w p u h e = message_element s nested a
 pub element_appended : {T E A : Type 0} (result : Result T E) (view : A → Part) (xs ys : List A) (pushed x : A)
     (k : Kind) (nested : NestedOverlay)
     (accepts_nested : NestedAcceptance) (w : RecordValue) → unpacked k ≡ true → IsEmptyField k (view pushed) → ys ≡ xs
-        ++ x ∷ []
+    ++ x ∷ []
     → OnOk result ((accepts_value accepts_nested k w ≡ true) × (singular_of table nested k (view pushed) w [] ≡ view x))
     → OnOk result ((accepts_element accepts_nested k w ≡ true) ×
-        (parts_of view ys ≡ parts_of view xs +++ all_elements table nested k (w ∷ [])))
+    (parts_of view ys ≡ parts_of view xs +++ all_elements table nested k (w ∷ [])))
 element_appended (Ok u) view xs ys pushed x k nested accepts_nested w unpacked_kind start same h =
     let one = element nested accepts_nested k w (view x) unpacked_kind h.0
-        (from_empty nested k (view pushed) (view x) w start h.1) in
-    rw same (one.0, parts_push view xs x ∙ ap (λ (ps : Parts). parts_of view xs +++ ps)
-        (sym (parts_append_nil (elements_of table nested k w) ∙ one.1)))
+    (from_empty nested k (view pushed) (view x) w start h.1) in
+    rw same (
+      one.0,
+      parts_push view xs x ∙ ap (λ (ps : Parts). parts_of view xs +++ ps)
+          (sym (parts_append_nil (elements_of table nested k w) ∙ one.1)),
+    )
 element_appended (Err e) view xs ys pushed x k nested accepts_nested w unpacked_kind start same h = tt

@@ -1,6 +1,6 @@
 -- Which parts fit.
-use Rattle.std.proofs.Common.{◌≡◌, ℕ, suc, ◌+◌, ◌^◌, ◌<◌, ◌≤◌, ℤ, pos, negsuc, List, [], ◌∷◌, length, drop, get_or,
-    add-one, drop-cons, refl, sym, ◌∙◌, arith, true, false, Bool}
+use Rattle.std.proofs.Common.{◌≡◌, ℕ, suc, ◌+◌, ◌^◌, ◌<◌, ◌≤◌, ℤ, pos, negsuc, List, [], ◌∷◌, length, drop, get_or}
+use Rattle.std.proofs.Common.{add-one, drop-cons, refl, sym, ◌∙◌, arith, true, false, Bool}
 use Rattle.std.proofs.lemmas.List.{drop_all}
 use Rattle.std.proofs.lemmas.Bool.{lt-ltb, ne_eqb}
 use Rattle.std.specs.Prelude.{◌-◌, ◌==◌, nat_eq, FitsSigned, String, string_bytes}
@@ -10,8 +10,8 @@ use Rattle.shared_core_codec.specs.FieldParts.{elements_part, enum_number, parts
 use Rattle.shared_core_codec.specs.RowFitting.{FieldFits, FieldsFit, RowFits, ValueFits}
 use Rattle.shared_core_codec.specs.Table.{table}
 use Rattle.shared_core_wire.specs.Fitting.{ElementsFit, Fits, PartFits}
-use Rattle.shared_core_wire.specs.Schema.{Boolean, Enumeration, Kind, Message, OneOf, Optional, Plain, Repeated, Row,
-    Text, U32}
+use Rattle.shared_core_wire.specs.Schema.{Boolean, Enumeration, Kind, Message, OneOf, Optional, Plain, Repeated, Row}
+use Rattle.shared_core_wire.specs.Schema.{Text, U32}
 use Rattle.shared_core_wire.specs.Value.{Absent, Bytes, Elements, Member, Nested, Number, Part, Parts, cons, nil}
 
 pub fits_row : (row : Row) (p : Part) → FieldFits row p → RowFits row p

@@ -20,9 +20,12 @@ reading_fold : {V : Type 0} (left from : ℕ) (bytes : List ℕ) (is : List (Res
 reading_fold left from bytes [] take v w h e = ([], h, e)
 reading_fold left from bytes (Ok p ∷ is) take v w h e =
     let s = bind_some (take v p.field_record) (λ u. fold_read take u is) w e in
-    let others = reading_fold left p.to h.1 is take s.0 w h.6 s.2 in
-    (p.field_record ∷ others.0, (h.0, h.1, h.2, h.3, others.1), fold_first take v s.0 w p.field_record others.0 s.1
-        others.2)
+    let others = reading_fold left p.to h.1 is take s.0 w h.6 s.2 in (
+      p.field_record ∷ others.0,
+      (h.0, h.1, h.2, h.3, others.1),
+      fold_first take v s.0 w p.field_record others.0 s.1
+          others.2,
+    )
 reading_fold left from bytes (Err x ∷ is) take v w h e = absurd (none_some w e)
 
 pub fold_encoded : {V : Type 0} (left : ℕ) (payload : List ℕ) (take : V → FieldRecord → Option V) (v w : V) → fold_read

@@ -1,6 +1,6 @@
 -- What merging keeps.
-use Rattle.std.proofs.Common.{◌≡◌, ℕ, suc, List, [], ◌∷◌, ◌++◌, take, Bool, true, false, cond, Some, None, Result, Ok,
-    Err, refl, sym, ap, subst, ◌∙◌}
+use Rattle.std.proofs.Common.{◌≡◌, ℕ, suc, List, [], ◌∷◌, ◌++◌, take, Bool, true, false, cond, Some, None, Result, Ok}
+use Rattle.std.proofs.Common.{Err, refl, sym, ap, subst, ◌∙◌}
 use Rattle.std.specs.Prelude.{OnErr}
 use Rattle.shared_core_wire.proofs.Runs.{parts_append_nil, parts_append_assoc}
 use Rattle.shared_core_wire.specs.declared.error.WireError.{WireError}
@@ -11,13 +11,13 @@ use Rattle.shared_core_wire.specs.Places.{EachLies}
 use Rattle.shared_core_wire.specs.ReadRecords.{PlacedRecord}
 use Rattle.shared_core_wire.specs.Reader.{◌>>=◌}
 use Rattle.shared_core_wire.specs.Schema.{Row, numbers, includes}
-use Rattle.shared_core_wire.specs.Value.{Part, Parts, Absent, Number, Bytes, Nested, Elements, Member, nil, cons,
-    one_part, ◌+++◌}
+use Rattle.shared_core_wire.specs.Value.{Part, Parts, Absent, Number, Bytes, Nested, Elements, Member, nil, cons}
+use Rattle.shared_core_wire.specs.Value.{one_part, ◌+++◌}
 use Rattle.shared_core_codec.proofs.FieldElements.{parts_push}
 use Rattle.shared_core_codec.specs.FieldParts.{parts_of}
 use Rattle.shared_core_codec.specs.Folding.{fold_read}
-use Rattle.shared_core_codec.specs.Kept.{BeginsWith, PartKept, PartsKept, PartAfter, RowAfter, RowsAfter,
-    IsPartlyMerged}
+use Rattle.shared_core_codec.specs.Kept.{BeginsWith, PartKept, PartsKept, PartAfter, RowAfter, RowsAfter}
+use Rattle.shared_core_codec.specs.Kept.{IsPartlyMerged}
 use Rattle.shared_core_codec.specs.Occurrences.{merged_with}
 use Rattle.shared_core_codec.specs.Table.{table}
 
@@ -104,8 +104,11 @@ row_kept false p q ok h = part_equal p q h
 
 -- After one record nothing is lost.
 pub rows_kept : (rows : List Row) (n : ℕ) (v w : Parts) (ok : Bool) → RowsAfter rows n v w ok → PartsKept v w
-rows_kept (row ∷ rows) n (cons p ps) (cons q qs) ok h = (row_kept (includes (numbers row) n) p q ok h.0, rows_kept rows
-    n ps qs ok h.1)
+rows_kept (row ∷ rows) n (cons p ps) (cons q qs) ok h = (
+  row_kept (includes (numbers row) n) p q ok h.0,
+  rows_kept rows
+      n ps qs ok h.1,
+)
 rows_kept _ n v w ok h = parts_equal v w h
 
 -- A merge that changes nothing.
@@ -146,7 +149,7 @@ module _ (left s : ℕ) where
       (accepts_records table l s (t ∷ []) ≡ true) × (w ≡ overlay table l s v (t ∷ [])) → merged_with left s v r ≡ Some w
   one_merged l t r v w e f m =
       ap (λ k. merged_with k s v r) (sym e) ∙ ap (merged_with l s v) (sym f) ∙ ap
-          (λ b. cond b (Some (overlay table l s v (t ∷ []))) None) m.0 ∙ ap (λ (u : Parts). Some u) (sym m.1)
+      (λ b. cond b (Some (overlay table l s v (t ∷ []))) None) m.0 ∙ ap (λ (u : Parts). Some u) (sym m.1)
 
   -- What is left to merge after one record.
   pub fold_more : (now new : Parts) (rest later : List (Result PlacedRecord WireError)) (r : PlacedRecord) → rest ≡ Ok r
@@ -186,5 +189,7 @@ module _ (left s : ℕ) where
   pub so_far_more : (old now new : Parts) (items rest later : List (Result PlacedRecord WireError)) (r : PlacedRecord) →
       rest ≡ Ok r ∷ later → merged_with left s now r.field_record ≡ Some new
       → IsMergedSoFar old items now rest → IsMergedSoFar old items new later
-  so_far_more old now new items rest later r e m h = record { each = λ w k. h.each w
-      (subst (λ is. IsPartlyMerged left s now is w) (sym e) (fails_later now new w r later m k)) }
+  so_far_more old now new items rest later r e m h = record {
+    each = λ w k. h.each w
+        (subst (λ is. IsPartlyMerged left s now is w) (sym e) (fails_later now new w r later m k));
+  }

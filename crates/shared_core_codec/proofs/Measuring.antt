@@ -1,17 +1,18 @@
 -- What is measured and written is the canonical payload.
-use Rattle.std.proofs.Common.{◌≡◌, ℕ, zero, suc, ◌+◌, ◌<◌, ◌≤◌, ◌^◌, List, [], ◌∷◌, ◌++◌, length, length-append, drop,
-    get_or, add-one, drop-cons, refl, ap, sym, ◌∙◌, arith, true, false, inl, inr}
+use Rattle.std.proofs.Common.{◌≡◌, ℕ, zero, suc, ◌+◌, ◌<◌, ◌≤◌, ◌^◌, List, [], ◌∷◌, ◌++◌, length, length-append, drop}
+use Rattle.std.proofs.Common.{get_or, add-one, drop-cons, refl, ap, sym, ◌∙◌, arith, true, false, inl, inr}
 use Rattle.std.proofs.lemmas.Bool.{cases_lt, lt-ltb, le-ltb}
 use Rattle.std.proofs.lemmas.List.{drop_all}
 use Rattle.std.specs.Prelude.{ℤ, pos, negsuc, FitsSigned, ◌-◌}
 use Rattle.std.specs.Int.{w32, w64, cast_unsigned}
-use Rattle.shared_core_codec.proofs.RowBytes.{absent_bytes, bytes_value_bytes, each_bytes, each_cons, each_nil,
-    elements_bytes, member_bytes, message_bytes, no_member, no_packed, number_value_bytes, option_bytes, rows_cons,
-    rows_end, plain_default, plain_value, rows_nil, some_packed}
+use Rattle.shared_core_codec.proofs.RowBytes.{absent_bytes, bytes_value_bytes, each_bytes, each_cons, each_nil}
+use Rattle.shared_core_codec.proofs.RowBytes.{elements_bytes, member_bytes, message_bytes, no_member, no_packed}
+use Rattle.shared_core_codec.proofs.RowBytes.{number_value_bytes, option_bytes, rows_cons, rows_end, plain_default}
+use Rattle.shared_core_codec.proofs.RowBytes.{plain_value, rows_nil, some_packed}
 use Rattle.shared_core_codec.specs.Equality.{is_present}
 use Rattle.shared_core_codec.specs.FieldParts.{elements_part, enum_number, parts_of}
-use Rattle.shared_core_codec.specs.RowEncoding.{capped, length_record, measured_message, measured_row, measured_rows,
-    row_bytes, unpacked, value_bytes, varints_of}
+use Rattle.shared_core_codec.specs.RowEncoding.{capped, length_record, measured_message, measured_row, measured_rows}
+use Rattle.shared_core_codec.specs.RowEncoding.{row_bytes, unpacked, value_bytes, varints_of}
 use Rattle.shared_core_codec.specs.Table.{table}
 use Rattle.shared_core_wire.specs.Canonical.{canonical_payload, is_default, message_records, written_number}
 use Rattle.shared_core_wire.specs.Schema.{Enumeration, Kind, Message, OneOf, Optional, Plain, Repeated, Row, U32}
@@ -77,7 +78,7 @@ measured_rows_is (row ∷ rows) (cons p ps) n h =
     let e = measured_row_is row p n h in
     let k : measured_row row p n ≤ 2 ^ 32 = rw e (omega arith) in
     measured_rows_is rows ps (measured_row row p n) k ∙ rw (e, rows_cons p ps row rows)
-        (sym (capped_append n (row_bytes row p) (record_list_bytes (message_records table ps rows))))
+    (sym (capped_append n (row_bytes row p) (record_list_bytes (message_records table ps rows))))
 
 -- the capped size of a record
 pub size_is : (s : ℕ) (ps : Parts) → measured_rows (table s) ps 0 ≡ capped (length (canonical_payload table s ps))
@@ -88,8 +89,11 @@ size_is s ps = measured_rows_is (table s) ps 0 (omega arith) ∙ omega arith
 nested_sum : (old key content inner : ℕ) (len : ℕ → ℕ) → inner ≡ capped content → capped
     (capped (capped (old + key) + len inner) + inner) ≡ capped (old + (key + (len content + content)))
 nested_sum old key content inner len e =
-    elim (cases_lt content (2 ^ 32)) [ inr h ↦ omega arith | inl h ↦ let i : inner ≡ content = omega arith in rw i
-        (omega arith) ]
+    elim (cases_lt content (2 ^ 32)) [
+      | inr h ↦ omega arith
+      | inl h ↦ let i : inner ≡ content = omega arith in rw i
+          (omega arith)
+    ]
 
 length_record_size : (at : ℕ) (b : List ℕ) → length (length_record at b) ≡ length (key_bytes at 2) +
     (length (shortest_varint (length b)) + length b)
@@ -100,13 +104,13 @@ pub measured_bytes : (at old inner : ℕ) (b : List ℕ) → inner ≡ capped (l
 unfolding measured_message
 measured_bytes at old inner b e =
     nested_sum old _ (length b) inner (λ n. length (shortest_varint n)) e ∙ ap (λ t. capped (old + t))
-        (sym (length_record_size at b))
+    (sym (length_record_size at b))
 
 pub measured_message_is : (at old inner s : ℕ) (ps : Parts) → inner ≡ measured_rows (table s) ps 0 → measured_message at
     inner old ≡ capped (old + length (value_bytes at (Message s) (Nested ps)))
 measured_message_is at old inner s ps e =
     measured_bytes at old inner (canonical_payload table s ps) (e ∙ size_is s ps) ∙ ap
-        (λ (t : List ℕ). capped (old + length t)) (sym (message_bytes at s ps))
+    (λ (t : List ℕ). capped (old + length t)) (sym (message_bytes at s ps))
 
 -- ---- content that is written whatever it holds
 
@@ -138,7 +142,7 @@ from_end view at k xs i h = rw (drop_all i xs h) (each_nil at k)
 pub count_next : {M : Type 0} (view : M → Part) (at : ℕ) (k : Kind) (xs : List M) (i : ℕ) (x : M) (n : ℕ) → i < length
     xs → x ≡ get_or xs i x
     → capped (n + length (from_index view at k xs i)) ≡ capped
-        (capped (n + length (value_bytes at k (view x))) + length (from_index view at k xs (i + 1)))
+    (capped (n + length (value_bytes at k (view x))) + length (from_index view at k xs (i + 1)))
 count_next view at k xs i x n h e = rw (from_next view at k xs i x h e) (capped_append n _ _)
 
 pub count_from : {M : Type 0} (view : M → Part) (at : ℕ) (k : Kind) (xs : List M) (n now i : ℕ) → now ≤ 2 ^ 32 → length
@@ -147,7 +151,7 @@ pub count_from : {M : Type 0} (view : M → Part) (at : ℕ) (k : Kind) (xs : Li
     → now ≡ measured_row (Repeated at k) (elements_part view xs) n
 count_from view at k xs n now i f h u e =
     let g : now ≡ capped (n + length (from_index view at k xs 0)) = omega
-        (arith, e, ap length (from_end view at k xs i h)) in
+    (arith, e, ap length (from_end view at k xs i h)) in
     g ∙ ap (λ (t : List ℕ). capped (n + length t)) (from_start view at k xs u)
 
 pub from_shorter : {M : Type 0} (view : M → Part) (at : ℕ) (k : Kind) (xs : List M) (i : ℕ) → length
@@ -157,8 +161,13 @@ from_shorter view at k [] zero = omega arith
 from_shorter view at k [] (suc i) = omega arith
 from_shorter view at k (x ∷ xs) zero = omega arith
 from_shorter view at k (x ∷ xs) (suc i) =
-    omega (arith, from_shorter view at k xs i, ap length (each_cons at k (view x) (parts_of view xs)), length-append
-        (value_bytes at k (view x)) (each_bytes at k (parts_of view xs)))
+    omega (
+      arith,
+      from_shorter view at k xs i,
+      ap length (each_cons at k (view x) (parts_of view xs)),
+      length-append
+          (value_bytes at k (view x)) (each_bytes at k (parts_of view xs)),
+    )
 
 -- ---- packed numbers from an index on
 
@@ -192,7 +201,7 @@ packed_shorter (n ∷ ns) (suc i) = omega (arith, packed_shorter ns i, length-ap
 
 pub packed_count : (ns : List ℕ) (i n now : ℕ) → i < length ns → n ≡ get_or ns i 0
     → capped (now + length (packed_from ns i)) ≡ capped (capped (now + length (shortest_varint n)) + length
-        (packed_from ns (i + 1)))
+    (packed_from ns (i + 1)))
 packed_count ns i n now h e = rw (packed_next ns i n h e) (capped_append now _ _)
 
 pub packed_whole : (ns : List ℕ) (i first now : ℕ) → now ≤ 2 ^ 32 → length ns ≤ i → capped

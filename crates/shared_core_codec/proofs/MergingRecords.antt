@@ -1,6 +1,7 @@
 -- Merging the records of a payload one after the other is merging the whole list.
-use Rattle.std.proofs.Common.{◌≡◌, ℕ, zero, suc, ◌+◌, ◌<◌, List, [], ◌∷◌, ◌++◌, length, take, get_or, Bool, true, false,
-    cond, inl, inr, Option, Some, None, Result, Ok, Err, refl, sym, ap, ◌∙◌, append-nil, append_assoc, arith}
+use Rattle.std.proofs.Common.{◌≡◌, ℕ, zero, suc, ◌+◌, ◌<◌, List, [], ◌∷◌, ◌++◌, length, take, get_or, Bool, true, false}
+use Rattle.std.proofs.Common.{cond, inl, inr, Option, Some, None, Result, Ok, Err, refl, sym, ap, ◌∙◌, append-nil}
+use Rattle.std.proofs.Common.{append_assoc, arith}
 use Rattle.std.specs.Prelude.{OnOk, nat_lt, ◌&&◌}
 use Rattle.std.proofs.lemmas.Bool.{lt-ltb}
 use Rattle.std.specs.List.{All, concat}
@@ -17,13 +18,13 @@ use Rattle.shared_core_codec.specs.Occurrences.{is_length, merged_with}
 use Rattle.shared_core_codec.specs.Payloads.{IsAccepted, merged_payload, payload_meaning}
 use Rattle.shared_core_codec.specs.Table.{table}
 use Rattle.shared_core_wire.proofs.ReadRecords.{cases_option}
-use Rattle.shared_core_wire.proofs.Merging.{accepts_payload-append, overlay-append, overlay_bytes-append,
-    rows_over_nothing}
+use Rattle.shared_core_wire.proofs.Merging.{accepts_payload-append, overlay-append, overlay_bytes-append}
+use Rattle.shared_core_wire.proofs.Merging.{rows_over_nothing}
 use Rattle.shared_core_wire.proofs.Readers.{bind_some, none_some, passed, some_is}
 use Rattle.shared_core_wire.proofs.RecordLists.{records_again, records_reads}
 use Rattle.shared_core_wire.proofs.Runs.{and_join, and_split}
-use Rattle.shared_core_wire.specs.Acceptance.{accepts_value, accepts_message, accepts_payload, accepts_records,
-    some_passes}
+use Rattle.shared_core_wire.specs.Acceptance.{accepts_value, accepts_message, accepts_payload, accepts_records}
+use Rattle.shared_core_wire.specs.Acceptance.{some_passes}
 use Rattle.shared_core_wire.specs.Grammar.{RecordValue, Varint, Fixed64, Length, Group, Fixed32, FieldRecord}
 use Rattle.shared_core_wire.specs.Schema.{Message}
 use Rattle.shared_core_wire.specs.ReadRecords.{read_records}
@@ -47,8 +48,11 @@ module _ (left s : ℕ) where
   of_first r rs g h = and_join _ _ (and_split _ _ g).0 h
 
   listed_over : (rs : List FieldRecord) (v w : Parts) → fold_records merge v rs ≡ Some w → Done rs v w
-  listed_over [] v w e = (refl, sym (some_is v w e) ∙ sym (rows_over_nothing table (message_overlay table left)
-      (table s) v))
+  listed_over [] v w e = (
+    refl,
+    sym (some_is v w e) ∙ sym (rows_over_nothing table (message_overlay table left)
+        (table s) v),
+  )
   listed_over (r ∷ rs) v w e =
       let x = bind_some (merge v r) (λ u. fold_records merge u rs) w e in
       let t = passed (accepts_records table left s (r ∷ [])) (Some (overlay table left s v (r ∷ []))) x.0 x.1 in
@@ -63,18 +67,22 @@ module _ (left s : ℕ) where
   over_listed [] v h = (v, refl)
   over_listed (r ∷ rs) v h =
       let e = first_of r rs h in
-      let rest = over_listed rs (overlay table left s v (r ∷ [])) e.1 in
-      (rest.0, ap (λ b. cond b (Some (overlay table left s v (r ∷ []))) None >>= λ u. fold_records merge u rs) e.0 ∙
-          rest.1)
+      let rest = over_listed rs (overlay table left s v (r ∷ [])) e.1 in (
+        rest.0,
+        ap (λ b. cond b (Some (overlay table left s v (r ∷ []))) None >>= λ u. fold_records merge u rs) e.0 ∙
+            rest.1,
+      )
 
   pub fold_accepted : (payload : List ℕ) (v w : Parts) → fold_read merge v (read_records left payload) ≡ Some w →
       (accepts_payload table left s payload ≡ true) × (w ≡ overlay table left s v (or_empty (record_list left payload)))
   fold_accepted payload v w e =
       let f = fold_encoded left payload merge v w e in
       let d = listed_over f.0 v w f.2 in
-      let found = records_again left payload f.0 f.1 in
-      (ap (some_passes (accepts_records table left s)) found ∙ d.0, d.1 ∙ ap (λ o. overlay table left s v (or_empty o))
-          (sym found))
+      let found = records_again left payload f.0 f.1 in (
+        ap (some_passes (accepts_records table left s)) found ∙ d.0,
+        d.1 ∙ ap (λ o. overlay table left s v (or_empty o))
+            (sym found),
+      )
 
   not_accepted : (b : Bool) → (b ≡ true → ⊥) → b ≡ false
   not_accepted true h = absurd (h refl)
@@ -88,8 +96,8 @@ module _ (left s : ℕ) where
         | inr w ↦
             ap (some_passes (accepts_records table left s)) w.1
             ∙ not_accepted (accepts_records table left s w.0)
-                (λ h. let d = over_listed w.0 v h in none_some d.0
-                (sym e ∙ fold_again left payload merge v w.0 (records_reads left payload w.0 w.1) ∙ d.1))
+            (λ h. let d = over_listed w.0 v h in none_some d.0
+            (sym e ∙ fold_again left payload merge v w.0 (records_reads left payload w.0 w.1) ∙ d.1))
       ]
 
   -- the same of what a function returned
@@ -137,10 +145,12 @@ pub message_becomes : {X : Type 0} (below left s : ℕ) (bytes : List ℕ) (v w 
     below + 1 ≡ left
     → OnOk result (accepts_payload table below s bytes ≡ true) → OnOk result (w ≡ overlay_payload table below s v bytes)
     → OnOk result ((accepts_message table left s bytes ≡ true) ×
-        (Nested (message_overlay table left s v (bytes ++ [])) ≡ Nested w))
-message_becomes below left s bytes v w (Ok x) h a m =
-    (message_below below left s bytes h ∙ a, ap Nested (ap (message_overlay table left s v) (append-nil bytes) ∙
-        overlay_below below left s v bytes h ∙ sym m))
+    (Nested (message_overlay table left s v (bytes ++ [])) ≡ Nested w))
+message_becomes below left s bytes v w (Ok x) h a m = (
+  message_below below left s bytes h ∙ a,
+  ap Nested (ap (message_overlay table left s v) (append-nil bytes) ∙
+      overlay_below below left s v bytes h ∙ sym m),
+)
 message_becomes below left s bytes v w (Err e) h a m = tt
 
 pub message_rejected : (below left s : ℕ) (bytes : List ℕ) → below + 1 ≡ left → accepts_payload table below s bytes ≡
@@ -169,7 +179,7 @@ pub joins_cons : (s : ℕ) (first : List ℕ) (rest : List (List ℕ)) (part : L
 joins_cons s first rest part v w h g e =
     let whole : first ++ concat (rest ++ part ∷ []) ≡ (first ++ concat rest) ++ part =
     ap (λ (x : List ℕ). first ++ x) (concat-append rest (part ∷ []) ∙ ap (λ (x : List ℕ). concat rest ++ x)
-        (append-nil part)) ∙ sym (append_assoc first (concat rest) part) in (
+    (append-nil part)) ∙ sym (append_assoc first (concat rest) part) in (
       All-push (IsAccepted s) rest part h.0 g,
       rw whole (accepts_payload-append table 100 s (first ++ concat rest) part h.1 g),
       rw whole (e ∙ ap (λ u. merged_payload s u part) h.2 ∙ sym

@@ -1,17 +1,17 @@
 -- The bytes of a row, and of the rows one after the other.
-use Rattle.std.proofs.Common.{◌≡◌, ℕ, ◌<◌, List, [], ◌∷◌, ◌++◌, map, length, append_assoc, append-nil, length-append,
-    refl, ap, sym, ◌∙◌, arith, true, false, Bool}
+use Rattle.std.proofs.Common.{◌≡◌, ℕ, ◌<◌, List, [], ◌∷◌, ◌++◌, map, length, append_assoc, append-nil, length-append}
+use Rattle.std.proofs.Common.{refl, ap, sym, ◌∙◌, arith, true, false, Bool}
 use Rattle.std.specs.Prelude.{flat_map, if◌then◌else◌}
 use Rattle.std.proofs.lemmas.List.Concat.{flat_map-append}
 use Rattle.std.proofs.lemmas.List.{map-append}
 use Rattle.shared_core_codec.specs.FieldParts.{parts_of}
-use Rattle.shared_core_codec.specs.RowEncoding.{length_record, row_bytes, unpacked, value_bytes, varint_record,
-    varints_of, before_row, before_rows, row_size, rows_size}
+use Rattle.shared_core_codec.specs.RowEncoding.{length_record, row_bytes, unpacked, value_bytes, varint_record}
+use Rattle.shared_core_codec.specs.RowEncoding.{varints_of, before_row, before_rows, row_size, rows_size}
 use Rattle.shared_core_codec.specs.Table.{table}
-use Rattle.shared_core_wire.specs.Canonical.{canonical_payload, element_values, is_default, kind_of, message_records,
-    number_bytes, part_values, row_records, written_number}
-use Rattle.shared_core_wire.specs.Schema.{Boolean, ByteString, Enumeration, Kind, Message, OneOf, Optional, Plain,
-    Repeated, Row, Text, U32, U64, member_kind}
+use Rattle.shared_core_wire.specs.Canonical.{canonical_payload, element_values, is_default, kind_of, message_records}
+use Rattle.shared_core_wire.specs.Canonical.{number_bytes, part_values, row_records, written_number}
+use Rattle.shared_core_wire.specs.Schema.{Boolean, ByteString, Enumeration, Kind, Message, OneOf, Optional, Plain}
+use Rattle.shared_core_wire.specs.Schema.{Repeated, Row, Text, U32, U64, member_kind}
 use Rattle.shared_core_wire.specs.Encoding.{record_bytes, record_list_bytes, shortest_varint}
 use Rattle.shared_core_wire.specs.Value.{Absent, Bytes, Elements, Member, Nested, Number, Part, Parts, cons, nil}
 
@@ -172,8 +172,14 @@ rows_size_is [] nil = rw (rows_nil []) refl
 rows_size_is [] (cons p ps) = rw (rows_end (cons p ps)) refl
 rows_size_is (row ∷ rows) nil = rw (rows_nil (row ∷ rows)) refl
 rows_size_is (row ∷ rows) (cons p ps) =
-    omega (arith, row_size_is row p, rows_size_is rows ps, ap length (rows_cons p ps row rows), length-append
-        (row_bytes row p) (record_list_bytes (message_records table ps rows)))
+    omega (
+      arith,
+      row_size_is row p,
+      rows_size_is rows ps,
+      ap length (rows_cons p ps row rows),
+      length-append
+          (row_bytes row p) (record_list_bytes (message_records table ps rows)),
+    )
 
 pub written_before : (s : ℕ) (ps : Parts) (xs : List ℕ) → before_rows (table s) ps xs ≡ canonical_payload table s ps ++
     xs

@@ -2,8 +2,8 @@
 -- uses them.
 -- They are in specs, since a law of an impl may cite the specs of its own crate alone. The parts of an enum are an
 -- injection of all integers, those out of its range too, since in a law an integer has no range.
-use Rattle.std.specs.Prelude.{ℕ, ℤ, pos, negsuc, ◌≡◌, ◌+◌, ◌-◌, ◌*◌, ◌^◌, ◌<◌, ◌≤◌, Bool, true, false, ◌&&◌, List, [],
-    ◌∷◌, Option, Some, None, String, string_bytes, string_eq, refl}
+use Rattle.std.specs.Prelude.{ℕ, ℤ, pos, negsuc, ◌≡◌, ◌+◌, ◌-◌, ◌*◌, ◌^◌, ◌<◌, ◌≤◌, Bool, true, false, ◌&&◌, List, []}
+use Rattle.std.specs.Prelude.{◌∷◌, Option, Some, None, String, string_bytes, string_eq, refl}
 use Rattle.std.specs.Cmp.{IsEquivalence, IsPartialEquivalence, partial_equiv_from_equiv, on_equiv}
 use Rattle.std.specs.Option.{option_eq}
 use Rattle.std.specs.Ordering.{int_eq, on}
@@ -13,8 +13,8 @@ use Rattle.std.proofs.lemmas.Bool.Decides.{Decides-int_eq}
 use Rattle.std.specs.Bool.{beq}
 use lib.Pointwise.{pointwise, bytes_decides}
 use Rattle.shared_core_wire.specs.Value.{Part, Parts, Absent, Number, Bytes, Nested, Elements, Member, nil, cons}
-use Rattle.shared_core_codec.specs.FieldParts.{boolean_part, enum_number, enum_part, option_part, parts_of,
-    elements_part}
+use Rattle.shared_core_codec.specs.FieldParts.{boolean_part, enum_number, enum_part, option_part, parts_of}
+use Rattle.shared_core_codec.specs.FieldParts.{elements_part}
 use Rattle.shared_core_codec.specs.Equality.{DecidesEquality, is_present, part_equal, parts_equal}
 
 -- Numbers.
@@ -47,34 +47,61 @@ enum_below n h = rw (le-ltb n (2 ^ 31) h) refl
 -- No two integers are represented by the same number.
 enum_one : (y z : ℤ) → enum_number y ≡ enum_number z → y ≡ z
 enum_one (pos m) (pos n) e = ap pos (elim (cases_lt m (2 ^ 31)) [
-  | inl h ↦ elim (cases_lt n (2 ^ 31)) [ inl k ↦ omega (arith, e, enum_low m h, enum_low n k) | inr k ↦ omega
-      (arith, e, enum_low m h, enum_high n k) ]
-  | inr h ↦ elim (cases_lt n (2 ^ 31)) [ inl k ↦ omega (arith, e, enum_high m h, enum_low n k) | inr k ↦ omega
-      (arith, e, enum_high m h, enum_high n k) ]
+  | inl h ↦ elim (cases_lt n (2 ^ 31)) [
+    | inl k ↦ omega (arith, e, enum_low m h, enum_low n k)
+    | inr k ↦ omega
+        (arith, e, enum_low m h, enum_high n k)
+  ]
+  | inr h ↦ elim (cases_lt n (2 ^ 31)) [
+    | inl k ↦ omega (arith, e, enum_high m h, enum_low n k)
+    | inr k ↦ omega
+        (arith, e, enum_high m h, enum_high n k)
+  ]
 ])
 enum_one (negsuc m) (negsuc n) e = ap negsuc (elim (cases_lt m (2 ^ 31)) [
-  | inl h ↦ elim (cases_lt n (2 ^ 31)) [ inl k ↦ omega (arith, e, enum_minus m h, enum_minus n k) | inr k ↦ omega
-      (arith, e, enum_minus m h, enum_below n k) ]
-  | inr h ↦ elim (cases_lt n (2 ^ 31)) [ inl k ↦ omega (arith, e, enum_below m h, enum_minus n k) | inr k ↦ omega
-      (arith, e, enum_below m h, enum_below n k) ]
+  | inl h ↦ elim (cases_lt n (2 ^ 31)) [
+    | inl k ↦ omega (arith, e, enum_minus m h, enum_minus n k)
+    | inr k ↦ omega
+        (arith, e, enum_minus m h, enum_below n k)
+  ]
+  | inr h ↦ elim (cases_lt n (2 ^ 31)) [
+    | inl k ↦ omega (arith, e, enum_below m h, enum_minus n k)
+    | inr k ↦ omega
+        (arith, e, enum_below m h, enum_below n k)
+  ]
 ])
 enum_one (pos m) (negsuc n) e = absurd (elim (cases_lt m (2 ^ 31)) [
-  | inl h ↦ elim (cases_lt n (2 ^ 31)) [ inl k ↦ omega (arith, e, enum_low m h, enum_minus n k) | inr k ↦ omega
-      (arith, e, enum_low m h, enum_below n k) ]
-  | inr h ↦ elim (cases_lt n (2 ^ 31)) [ inl k ↦ omega (arith, e, enum_high m h, enum_minus n k) | inr k ↦ omega
-      (arith, e, enum_high m h, enum_below n k) ]
+  | inl h ↦ elim (cases_lt n (2 ^ 31)) [
+    | inl k ↦ omega (arith, e, enum_low m h, enum_minus n k)
+    | inr k ↦ omega
+        (arith, e, enum_low m h, enum_below n k)
+  ]
+  | inr h ↦ elim (cases_lt n (2 ^ 31)) [
+    | inl k ↦ omega (arith, e, enum_high m h, enum_minus n k)
+    | inr k ↦ omega
+        (arith, e, enum_high m h, enum_below n k)
+  ]
 ])
 enum_one (negsuc m) (pos n) e = absurd (elim (cases_lt m (2 ^ 31)) [
-  | inl h ↦ elim (cases_lt n (2 ^ 31)) [ inl k ↦ omega (arith, e, enum_minus m h, enum_low n k) | inr k ↦ omega
-      (arith, e, enum_minus m h, enum_high n k) ]
-  | inr h ↦ elim (cases_lt n (2 ^ 31)) [ inl k ↦ omega (arith, e, enum_below m h, enum_low n k) | inr k ↦ omega
-      (arith, e, enum_below m h, enum_high n k) ]
+  | inl h ↦ elim (cases_lt n (2 ^ 31)) [
+    | inl k ↦ omega (arith, e, enum_minus m h, enum_low n k)
+    | inr k ↦ omega
+        (arith, e, enum_minus m h, enum_high n k)
+  ]
+  | inr h ↦ elim (cases_lt n (2 ^ 31)) [
+    | inl k ↦ omega (arith, e, enum_below m h, enum_low n k)
+    | inr k ↦ omega
+        (arith, e, enum_below m h, enum_high n k)
+  ]
 ])
 
 -- Enums.
 pub equal_enums : (y z : ℤ) → DecidesEquality (int_eq y z) (enum_part y) (enum_part z)
-equal_enums y z = record { sound = λ h. ap enum_part ((Decides-int_eq y z).0 h); complete = λ e. (Decides-int_eq y z).1
-    (enum_one y z (cc)) }
+equal_enums y z = record {
+  sound = λ h. ap enum_part ((Decides-int_eq y z).0 h);
+  complete = λ e. (Decides-int_eq y z).1
+      (enum_one y z (cc));
+}
 
 -- Bytes.
 pub equal_bytes : (a b : List ℕ) → DecidesEquality (pointwise eqb a b) (Bytes a) (Bytes b)
@@ -148,14 +175,28 @@ pub equal_options : {X : Type 0} (eq : X → X → Bool) (f : X → Part) → ((
     ((x y : X) → DecidesEquality (eq x y) (f x) (f y))
     → (a b : Option X) → DecidesEquality (option_eq eq a b) (option_part f a) (option_part f b)
 equal_options eq f t h None None = record { sound = λ k. refl; complete = λ k. refl }
-equal_options eq f t h None (Some y) = record { sound = λ k. cc; complete = λ k. absurd (not_absent (f y) (t y) (sym k))
-    }
+equal_options eq f t h None (Some y) = record {
+  sound = λ k. cc;
+  complete = λ k. absurd (not_absent (f y) (t y) (sym k));
+}
 equal_options eq f t h (Some x) None = record { sound = λ k. cc; complete = λ k. absurd (not_absent (f x) (t x) k) }
 equal_options eq f t h (Some x) (Some y) = h x y
 
 -- The rules by which the search goes through the fields of a record.
-pub ruleset equality_rules = (equal_numbers, equal_booleans, equal_enums, equal_bytes, equal_texts, equal_fields,
-    equal_last, equal_nil, equal_messages, equal_members, equal_options, equal_elements)
+pub ruleset equality_rules = (
+  equal_numbers,
+  equal_booleans,
+  equal_enums,
+  equal_bytes,
+  equal_texts,
+  equal_fields,
+  equal_last,
+  equal_nil,
+  equal_messages,
+  equal_members,
+  equal_options,
+  equal_elements,
+)
 
 -- ---- the test of parts
 

@@ -10,8 +10,8 @@ use Rattle.shared_core_codec.specs.Table as schema
 use Rattle.shared_core_parts.specs.Texts.{headers_text}
 use Rattle.shared_core_parts.specs.declared.header.Header.{Header}
 use Rattle.shared_core_parts.specs.contracts.header.HeaderWireRecord.TheImpl as header
-use Rattle.shared_core_compare.specs.Differences.{FieldTexts, HasWrittenFields, elements_text, field_difference,
-    field_texts, kind_text}
+use Rattle.shared_core_compare.specs.Differences.{FieldTexts, HasWrittenFields, elements_text, field_difference}
+use Rattle.shared_core_compare.specs.Differences.{field_texts, kind_text}
 use Rattle.shared_core_compare.proofs.Elements.{joined_elements}
 
 -- ---- one field
@@ -40,7 +40,7 @@ pub headers_field_is : (test : Bool) (field : List ℕ) (a b : List Header)
 headers_field_is test field a b d =
     ap (λ (t : List ℕ). if test then [] else (field_texts field t (headers_text b) ∷ [])) (headers_print a)
     ∙ (ap (λ (t : List ℕ). if test then [] else (field_texts field
-        (elements_text (kind_text (Message schema.header)) (headers_part a)) t ∷ [])) (headers_print b)
+    (elements_text (kind_text (Message schema.header)) (headers_part a)) t ∷ [])) (headers_print b)
     ∙ field_is test field (elements_text (kind_text (Message schema.header))) (headers_part a) (headers_part b) d)
 
 -- What a list prints, from what each of its values prints.
@@ -51,15 +51,15 @@ list_prints part text = joined_elements part text comma_space
 -- The same of a list.
 pub list_field_is : {X : Type 0} (part : X → Part) (each : Part → List ℕ) (test : Bool) (field : List ℕ) (a b : List X)
     → ((test ≡ true → elements_part part a ≡ elements_part part b) ×
-        (elements_part part a ≡ elements_part part b → test ≡ true))
+    (elements_part part a ≡ elements_part part b → test ≡ true))
     → (if test then [] else (field_texts field (join_by (λ x. each (part x)) comma_space a)
-        (join_by (λ x. each (part x)) comma_space b) ∷ []))
+    (join_by (λ x. each (part x)) comma_space b) ∷ []))
     ≡ field_difference field (elements_text each) (elements_part part a) (elements_part part b)
 list_field_is part each test field a b d =
     ap (λ (t : List ℕ). if test then [] else (field_texts field t (join_by (λ x. each (part x)) comma_space b) ∷ []))
-        (list_prints part each a)
+    (list_prints part each a)
     ∙ (ap (λ (t : List ℕ). if test then [] else (field_texts field (elements_text each (elements_part part a)) t ∷ []))
-        (list_prints part each b)
+    (list_prints part each b)
     ∙ field_is test field (elements_text each) (elements_part part a) (elements_part part b) d)
 
 -- ---- fields that are written

@@ -16,7 +16,7 @@ module _ {W : Type 0} (took : W → List ℕ → W → Type 0) (indentation : Li
       → HasWritten took f (flat_map (field_line indentation) fields) g
   folded_lines f g [] p plain =
       subst (λ (x : Formatter W). HasWritten took f [] x) p (record
-          { wrote = writes_in_calls_nil took _; plain = plain })
+      { wrote = writes_in_calls_nil took _; plain = plain })
   folded_lines f g (field ∷ fields) p plain =
       let one = p.1 plain in
       has_written_append took f _ p.0 _ g one (folded_lines p.0 g fields p.2 one.plain)

@@ -1,18 +1,18 @@
 -- The printed difference of two commands: what values print, and the lines.
-use Rattle.std.specs.Prelude.{ℕ, Bool, true, ◌&&◌, ◌||◌, not, List, [], ◌∷◌, map, flat_map, filter, nat_eq, codes,
-    if◌then◌else◌, IsOk, Result}
+use Rattle.std.specs.Prelude.{ℕ, Bool, true, ◌&&◌, ◌||◌, not, List, [], ◌∷◌, map, flat_map, filter, nat_eq, codes}
+use Rattle.std.specs.Prelude.{if◌then◌else◌, IsOk, Result}
 use Rattle.std.specs.Fmt.{decimal, comma_space}
 use Rattle.std.specs.List.{FoldsTo, join_by, list_any}
 use Rattle.std.specs.declared.fmt.Error.{Error}
 use Rattle.shared_core_base.specs.Differences.{bytes_text, diff_line}
-use Rattle.shared_core_wire.specs.Schema.{Kind, Row, Boolean, Text, ByteString, Message, Plain, Optional, Repeated,
-    OneOf, numbers, includes, member_kind}
+use Rattle.shared_core_wire.specs.Schema.{Kind, Row, Boolean, Text, ByteString, Message, Plain, Optional, Repeated}
+use Rattle.shared_core_wire.specs.Schema.{OneOf, numbers, includes, member_kind}
 use Rattle.shared_core_wire.specs.Value.{Part, Parts, Number, Bytes, Nested, Elements, Member, nil, cons}
 use Rattle.shared_core_wire.specs.Template.{part_at}
 use Rattle.shared_core_codec.specs.Table.{table}
 use Rattle.shared_core_codec.specs.Table as schema
-use Rattle.shared_core_codec.specs.PartFields.{value_content, failure_code, failure_message, header_key, header_value,
-    state_keys_keys}
+use Rattle.shared_core_codec.specs.PartFields.{value_content, failure_code, failure_message, header_key, header_value}
+use Rattle.shared_core_codec.specs.PartFields.{state_keys_keys}
 use Rattle.shared_core_codec.specs.Equality.{is_present, part_equal}
 use Rattle.shared_core_parts.specs.Texts.{value_text, failure_text, header_text, state_keys_text}
 use Rattle.shared_core_compare.specs.Commands.{command_fields, first_part, rest_parts, name_number}
@@ -104,7 +104,7 @@ abbrev pub numbered_difference : ℕ × List ℕ → List Row → Parts → Part
 numbered_difference field [] actual expected = []
 numbered_difference field (row ∷ rows) actual expected =
     if includes (numbers row) field.0 then field_difference field.1 (row_text row) (first_part actual)
-        (first_part expected)
+    (first_part expected)
     else numbered_difference field rows (rest_parts actual) (rest_parts expected)
 
 -- The printed fields in which two commands of a schema differ, in their order.

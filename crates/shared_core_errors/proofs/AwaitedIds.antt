@@ -1,6 +1,7 @@
 -- Awaited ids in their order, which depends on the set alone.
-use Rattle.std.proofs.Common.{◌≡◌, ℕ, ◌+◌, ◌<◌, List, [], ◌∷◌, ◌++◌, length, get_or, map, codes, Bool, true, false,
-    ◌||◌, ◌==◌, if◌then◌else◌, nat_eq, Option, Some, None, ⊎_elim, refl, sym, ap, ◌∙◌, arith, rules}
+use Rattle.std.proofs.Common.{◌≡◌, ℕ, ◌+◌, ◌<◌, List, [], ◌∷◌, ◌++◌, length, get_or, map, codes, Bool, true, false}
+use Rattle.std.proofs.Common.{◌||◌, ◌==◌, if◌then◌else◌, nat_eq, Option, Some, None, ⊎_elim, refl, sym, ap, ◌∙◌, arith}
+use Rattle.std.proofs.Common.{rules}
 use Rattle.std.proofs.lemmas.Bool.{cases_Bool}
 use Rattle.std.proofs.lemmas.Cmp.{eq_by_cmp_equiv}
 use Rattle.std.proofs.lemmas.List.Folds.{flat_map-map}
@@ -68,7 +69,7 @@ less_from_sorted a b after differ = by _ refl
     by Greater e =
         let flipped = nat_list_cmp_total.antisymm (order_key b) (order_key a) in
         absurd (let no : true ≡ false = ap (λ r. is_lt (ordering_reverse r)) (sym e) ∙ ap is_lt (sym flipped) ∙ after in
-            cc)
+        cc)
 
 -- sorted ids that differ ascend strictly
 ascending : (xs : List Id) → IsSortedByKey order_key (slice_cmp nat_cmp) xs → IsDistinct id_eq xs → IsStrictlySortedBy
@@ -133,11 +134,11 @@ pub same_order : {S : Type 0} (a b : HashSet Id S) → IsSameSet id_eq a b → (
 same_order a b same xs ys of_a of_b =
     let ids_same : (id : Id) → has_id xs id ≡ has_id ys id =
     λ id. sym (list_any-IsPermutation (id_eq id) a.keys xs of_a.same) ∙ same id ∙ list_any-IsPermutation (id_eq id)
-        b.keys ys of_b.same in
+    b.keys ys of_b.same in
     let keys_of_a : BTreeSet (List ℕ) = record { keys = map order_key xs } in
     let keys_of_b : BTreeSet (List ℕ) = record { keys = map order_key ys } in
     btree_set_from_contains nat_list_cmp_total keys_of_a keys_of_b of_a.ascending of_b.ascending
-        (same_keys xs ys ids_same) exact_bytes
+    (same_keys xs ys ids_same) exact_bytes
 
 -- ---- ids in the same order make the same lines
 

@@ -1,13 +1,13 @@
 -- The field that a number finds in the rows of a schema, as JSON has it.
-use Rattle.std.proofs.Common.{◌≡◌, ℕ, List, [], ◌∷◌, ◌++◌, Option, Some, None, Bool, true, false, cond, refl, sym, ap,
-    ◌∙◌, eqb}
+use Rattle.std.proofs.Common.{◌≡◌, ℕ, List, [], ◌∷◌, ◌++◌, Option, Some, None, Bool, true, false, cond, refl, sym, ap}
+use Rattle.std.proofs.Common.{◌∙◌, eqb}
 use Rattle.std.specs.Option.{option_map, option_or}
 use Rattle.std.proofs.lemmas.Bool.{eqb-true}
 use Rattle.shared_core_wire.specs.Schema.{Kind, Row, Plain, Optional, Repeated, OneOf}
 use Rattle.shared_core_codec.specs.Table.{table}
 use Rattle.shared_core_codec.specs.ProgramRows as codec
-use Rattle.shared_core_json.specs.Fields.{NamedField, names_of, named, row_fields, fields_of_rows, schema_fields,
-    field_numbered}
+use Rattle.shared_core_json.specs.Fields.{NamedField, names_of, named, row_fields, fields_of_rows, schema_fields}
+use Rattle.shared_core_json.specs.Fields.{field_numbered}
 
 module _ (names : List (ℕ × List ℕ)) (n : ℕ) (o : Option (Kind × Bool)) (fs : List NamedField)
     (later : option_map (named names n) o ≡ field_numbered fs n) where
@@ -29,9 +29,9 @@ module _ (names : List (ℕ × List ℕ)) (n : ℕ) (o : Option (Kind × Bool)) 
     where
       by_test : (b : Bool) → eqb n m.0 ≡ b
           → option_map (named names n) (option_or (codec.member_numbered ms n) o) ≡ field_numbered
-              (row_fields names (OneOf ms) ++ fs) n
+          (row_fields names (OneOf ms) ++ fs) n
           → option_map (named names n) (option_or (option_or (cond b (Some (m.1, false)) None)
-              (codec.member_numbered ms n)) o)
+          (codec.member_numbered ms n)) o)
           ≡ cond b (Some (named names m.0 (m.1, false))) (field_numbered (row_fields names (OneOf ms) ++ fs) n)
       by_test true e rest = ap (λ (x : ℕ). Some (named names x (m.1, false))) (eqb-true n m.0 e)
       by_test false e rest = rest

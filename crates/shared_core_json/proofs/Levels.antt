@@ -1,15 +1,16 @@
 -- How deep what a payload means can be.
-use Rattle.std.proofs.Common.{◌≡◌, ℕ, zero, suc, ◌≤◌, List, [], ◌∷◌, Bool, true, false, cond, Option, Some, None, refl,
-    arith, eqb}
+use Rattle.std.proofs.Common.{◌≡◌, ℕ, zero, suc, ◌≤◌, List, [], ◌∷◌, Bool, true, false, cond, Option, Some, None, refl}
+use Rattle.std.proofs.Common.{arith, eqb}
 use Rattle.shared_core_wire.specs.Grammar.{RecordValue, Varint, Fixed64, Length, Group, Fixed32, FieldRecord}
 use Rattle.shared_core_wire.specs.Reader.{packed_numbers}
-use Rattle.shared_core_wire.specs.Schema.{Kind, Row, U32, U64, Boolean, Enumeration, Text, ByteString, Message, Plain,
-    Optional, Repeated, OneOf, member_kind}
-use Rattle.shared_core_wire.specs.Value.{Part, Parts, Absent, Number, Bytes, Nested, Elements, Member, nil, cons, ◌+++◌,
-    default_of, empty_value}
-use Rattle.shared_core_wire.specs.Overlay.{NestedOverlay, last, values, all_numbered, last_run, scalar_part, message_in,
-    low_numbers, packed_elements, member_at, singular_over, elements_of, all_elements, repeated_over, oneof_over,
-    row_over, rows_over, own_records, message_overlay, payload_records, joined_contents, meaning}
+use Rattle.shared_core_wire.specs.Schema.{Kind, Row, U32, U64, Boolean, Enumeration, Text, ByteString, Message, Plain}
+use Rattle.shared_core_wire.specs.Schema.{Optional, Repeated, OneOf, member_kind}
+use Rattle.shared_core_wire.specs.Value.{Part, Parts, Absent, Number, Bytes, Nested, Elements, Member, nil, cons, ◌+++◌}
+use Rattle.shared_core_wire.specs.Value.{default_of, empty_value}
+use Rattle.shared_core_wire.specs.Overlay.{NestedOverlay, last, values, all_numbered, last_run, scalar_part, message_in}
+use Rattle.shared_core_wire.specs.Overlay.{low_numbers, packed_elements, member_at, singular_over, elements_of}
+use Rattle.shared_core_wire.specs.Overlay.{all_elements, repeated_over, oneof_over, row_over, rows_over, own_records}
+use Rattle.shared_core_wire.specs.Overlay.{message_overlay, payload_records, joined_contents, meaning}
 use Rattle.shared_core_wire.specs.Canonical.{part_levels, levels}
 
 default_levels : (k : Kind) → part_levels (default_of k) ≡ 0
@@ -87,8 +88,11 @@ module _ (table : ℕ → List Row) (nested : NestedOverlay) (bound : ℕ)
       (singular_over table nested k p ws) ≤ suc bound
   unfolding levels
   singular_levels k p [] h = h
-  singular_levels (Message s) p (w ∷ ws) h = omega (arith, low s (message_in (empty_value (table s)) p)
-      (joined_contents (w ∷ ws)) (held_levels s p h))
+  singular_levels (Message s) p (w ∷ ws) h = omega (
+    arith,
+    low s (message_in (empty_value (table s)) p)
+        (joined_contents (w ∷ ws)) (held_levels s p h),
+  )
   singular_levels U32 p (w ∷ ws) h = omega (arith, scalar_levels U32 (last w ws))
   singular_levels U64 p (w ∷ ws) h = omega (arith, scalar_levels U64 (last w ws))
   singular_levels Boolean p (w ∷ ws) h = omega (arith, scalar_levels Boolean (last w ws))
@@ -99,8 +103,11 @@ module _ (table : ℕ → List Row) (nested : NestedOverlay) (bound : ℕ)
   element_levels : (k : Kind) (w : RecordValue) → levels (elements_of table nested k w) ≤ suc bound
   unfolding levels
   element_levels U32 (Length bytes) = omega (arith, run_levels (packed_numbers bytes))
-  element_levels (Message s) (Length bytes) = omega (arith, low s (empty_value (table s)) bytes
-      (omega (arith, empty_levels (table s))))
+  element_levels (Message s) (Length bytes) = omega (
+    arith,
+    low s (empty_value (table s)) bytes
+        (omega (arith, empty_levels (table s))),
+  )
   element_levels k w = omega (arith, scalar_levels k w)
 
   elements_levels : (k : Kind) (ws : List RecordValue) → levels (all_elements table nested k ws) ≤ suc bound
@@ -145,8 +152,11 @@ module _ (table : ℕ → List Row) (nested : NestedOverlay) (bound : ℕ)
   unfolding levels
   rows_levels [] v rs h = h
   rows_levels (row ∷ rows) nil rs h = h
-  rows_levels (row ∷ rows) (cons p ps) rs h = omega (arith, row_levels row p (own_records row rs) (omega arith),
-      rows_levels rows ps rs (omega arith))
+  rows_levels (row ∷ rows) (cons p ps) rs h = omega (
+    arith,
+    row_levels row p (own_records row rs) (omega arith),
+    rows_levels rows ps rs (omega arith),
+  )
 
 message_levels : (table : ℕ → List Row) (left s : ℕ) (v : Parts) (bytes : List ℕ) → levels v ≤ left → levels
     (message_overlay table left s v bytes) ≤ left
@@ -160,4 +170,4 @@ pub meaning_levels : (table : ℕ → List Row) (left s : ℕ) (bytes : List ℕ
     left
 meaning_levels table left s bytes =
     rows_levels table (message_overlay table left) left (message_levels table left) (table s) (empty_value (table s))
-        (payload_records left bytes) (omega (arith, empty_levels (table s)))
+    (payload_records left bytes) (omega (arith, empty_levels (table s)))

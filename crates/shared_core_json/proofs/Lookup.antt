@@ -1,10 +1,10 @@
 -- The field that a number finds, row by row.
-use Rattle.std.proofs.Common.{◌≡◌, ℕ, List, [], ◌∷◌, ◌++◌, Option, Some, Bool, true, false, cond, ◌||◌, refl, sym, ap,
-    ◌∙◌, eqb}
+use Rattle.std.proofs.Common.{◌≡◌, ℕ, List, [], ◌∷◌, ◌++◌, Option, Some, Bool, true, false, cond, ◌||◌, refl, sym, ap}
+use Rattle.std.proofs.Common.{◌∙◌, eqb}
 use Rattle.std.proofs.lemmas.Bool.{eqb-true}
 use Rattle.std.proofs.Math.Bool.{or-true}
-use Rattle.shared_core_wire.specs.Schema.{Kind, Row, Plain, Optional, Repeated, OneOf, numbers, includes, member_kind,
-    are_distinct, all_numbers}
+use Rattle.shared_core_wire.specs.Schema.{Kind, Row, Plain, Optional, Repeated, OneOf, numbers, includes, member_kind}
+use Rattle.shared_core_wire.specs.Schema.{are_distinct, all_numbers}
 use Rattle.shared_core_wire.proofs.ReadBack.{or_split, includes-append, distinct_other}
 use Rattle.shared_core_json.specs.Fields.{NamedField, named, row_fields, fields_of_rows, field_numbered}
 
@@ -82,11 +82,11 @@ pub knows_row : (fields : List NamedField) (names : List (ℕ × List ℕ)) (row
     → (n : ℕ) → includes (numbers row) n ≡ true → field_numbered fields n ≡ Some (own_field names row n)
 knows_row fields names row rows k n h =
     k n (includes-append (numbers row) (all_numbers rows) n ∙ ap (λ b. b || includes (all_numbers rows) n) h) ∙
-        finds_own names row (fields_of_rows names rows) n h
+    finds_own names row (fields_of_rows names rows) n h
 
 pub knows_rest : (fields : List NamedField) (names : List (ℕ × List ℕ)) (row : Row) (rows : List Row) → are_distinct
     (numbers row ++ all_numbers rows) ≡ true → Knows fields names (row ∷ rows) → Knows fields names rows
 knows_rest fields names row rows d k n h =
     k n (includes-append (numbers row) (all_numbers rows) n ∙ ap (λ b. includes (numbers row) n || b) h ∙ or-true
-        (includes (numbers row) n))
+    (includes (numbers row) n))
     ∙ finds_other names row (fields_of_rows names rows) n (not_before (numbers row) (all_numbers rows) n d h)

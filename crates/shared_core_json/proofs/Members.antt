@@ -1,7 +1,7 @@
 -- What is written for the records of a value is its JSON.
-use Rattle.std.proofs.Common.{◌≡◌, ℕ, zero, suc, ◌+◌, ◌-◌, ◌%◌, ◌^◌, ◌<◌, ◌≤◌, List, [], ◌∷◌, ◌++◌, map, length, Bool,
-    true, false, cond, not, Option, Some, None, Result, Ok, Err, refl, sym, ap, ◌∙◌, append_assoc, arith, eqb, ltb,
-    eq-eqb}
+use Rattle.std.proofs.Common.{◌≡◌, ℕ, zero, suc, ◌+◌, ◌-◌, ◌%◌, ◌^◌, ◌<◌, ◌≤◌, List, [], ◌∷◌, ◌++◌, map, length, Bool}
+use Rattle.std.proofs.Common.{true, false, cond, not, Option, Some, None, Result, Ok, Err, refl, sym, ap, ◌∙◌}
+use Rattle.std.proofs.Common.{append_assoc, arith, eqb, ltb, eq-eqb}
 use Rattle.std.proofs.lemmas.Bool.{eqb-true, ltb-true, lt-ltb}
 use Rattle.std.proofs.Math.Dec.{eqb-suc-zero}
 use Rattle.std.specs.Prelude.{flat_map, decimal}
@@ -14,12 +14,14 @@ use Rattle.json.specs.Tree as tree
 use Rattle.shared_core_wire.specs.Grammar.{RecordValue, Varint, Length, FieldRecord}
 use Rattle.shared_core_wire.specs.ReadRecords.{PlacedRecord, without_place}
 use Rattle.shared_core_wire.specs.declared.error.WireError.{WireError}
-use Rattle.shared_core_wire.specs.Schema.{Kind, Row, U32, U64, Boolean, Enumeration, Text, ByteString, Message, Plain,
-    Optional, Repeated, OneOf, numbers, includes, member_kind, are_distinct, all_numbers}
+use Rattle.shared_core_wire.specs.Schema.{Kind, Row, U32, U64, Boolean, Enumeration, Text, ByteString, Message, Plain}
+use Rattle.shared_core_wire.specs.Schema.{Optional, Repeated, OneOf, numbers, includes, member_kind, are_distinct}
+use Rattle.shared_core_wire.specs.Schema.{all_numbers}
 use Rattle.shared_core_wire.specs.Value.{Part, Parts, Absent, Number, Bytes, Nested, Elements, Member, nil, cons}
 use Rattle.shared_core_wire.specs.Fitting.{is_single, has_shape, NumberFits, BytesFit, PartFits, ElementsFit, Fits}
-use Rattle.shared_core_wire.specs.Canonical.{kind_of, number_of, written_number, is_default, number_bytes, row_records,
-    part_values, element_values, message_records, canonical_payload, part_levels, levels}
+use Rattle.shared_core_wire.specs.Canonical.{kind_of, number_of, written_number, is_default, number_bytes, row_records}
+use Rattle.shared_core_wire.specs.Canonical.{part_values, element_values, message_records, canonical_payload}
+use Rattle.shared_core_wire.specs.Canonical.{part_levels, levels}
 use Rattle.shared_core_wire.proofs.EncodingLaws.{encodable, encodable_value, varints_encoded}
 use Rattle.shared_core_wire.proofs.Readers.{bind_some}
 use Rattle.shared_core_wire.specs.Reader.{packed_numbers, sequence_past, varint_at, ◌>>=◌}
@@ -28,10 +30,10 @@ use Rattle.shared_core_wire.proofs.ReadBack.{or_split, includes-append, distinct
 use Rattle.shared_core_wire.proofs.Runs.{and_split, and_join}
 use Rattle.shared_core_codec.specs.Table.{table}
 use Rattle.shared_core_json.specs.Fields.{NamedField, name_of, field_numbered}
-use Rattle.shared_core_json.specs.Form.{is_present, member_if, part_json, items_json, members_json, json_with,
-    enum_digits}
-use Rattle.shared_core_json.specs.Written.{low, number_token, numbers_past, run_tokens, value_tokens, end_tokens,
-    record_tokens, next_open_list, items_tokens}
+use Rattle.shared_core_json.specs.Form.{is_present, member_if, part_json, items_json, members_json, json_with}
+use Rattle.shared_core_json.specs.Form.{enum_digits}
+use Rattle.shared_core_json.specs.Written.{low, number_token, numbers_past, run_tokens, value_tokens, end_tokens}
+use Rattle.shared_core_json.specs.Written.{record_tokens, next_open_list, items_tokens}
 use Rattle.shared_core_json.proofs.Lookup.{own_field, Knows, knows_row, knows_rest}
 
 -- ---- the walk over a record list
@@ -54,7 +56,7 @@ module _ (texts : Bool) (nested : ℕ → List ℕ → List Token) (fields : Lis
       let head : p.field_record ≡ r = cc in
       let tail : map without_place items ≡ map Ok rs = cc in
       rw head (ap (λ (ts : List Token). record_tokens texts nested open_list (field_numbered fields r.number) r.value ++
-          ts) (walk_items items rs (next_open_list open_list (field_numbered fields r.number)) tail))
+      ts) (walk_items items rs (next_open_list open_list (field_numbered fields r.number)) tail))
 
 -- ---- numbers
 
@@ -137,16 +139,16 @@ unfolding packed_numbers
 packed texts ps h =
     let r = run texts ps h in
     let ns = run_of 0 (flat_map shortest_varint (numbers_in ps)) (numbers_in ps) (varints_encoded (numbers_in ps) r.fit)
-        in
+    in
     ap (λ (bs : List ℕ). run_tokens bs) r.bytes ∙ ap (λ (xs : List ℕ). begin_array ∷
-        (map number_token xs ++ end_array ∷ [])) ns ∙ ap (λ (ts : List Token). begin_array ∷ ts) r.tokens
+    (map number_token xs ++ end_array ∷ [])) ns ∙ ap (λ (ts : List Token). begin_array ∷ ts) r.tokens
 
 -- ---- one level
 
 module _ (texts : Bool) (nested : ℕ → List ℕ → List Token) (left : ℕ)
     (back : (t : ℕ) (ps : Parts) → Fits table ps (table t) → suc (levels ps) ≤ left → length
-        (canonical_payload table t ps) < 2 ^ 64 → nested t (canonical_payload table t ps) ≡ json_tokens
-        (json_with texts t ps)) where
+    (canonical_payload table t ps) < 2 ^ 64 → nested t (canonical_payload table t ps) ≡ json_tokens
+    (json_with texts t ps)) where
   -- the one record value of a single part, and its tokens
   record Single (p : Part) (k : Kind) : Type 0 where
     w : RecordValue
@@ -158,8 +160,12 @@ module _ (texts : Bool) (nested : ℕ → List ℕ → List Token) (left : ℕ)
   single_number n U32 h = record { w = Varint (written_number U32 n); is = refl; tokens = λ s. rw (low_u32 n h) refl }
   single_number n U64 h = record { w = Varint (written_number U64 n); is = refl; tokens = λ s. refl }
   single_number n Boolean h = record { w = Varint (written_number Boolean n); is = refl; tokens = λ s. refl }
-  single_number n Enumeration h = record { w = Varint (written_number Enumeration n); is = refl; tokens = λ s. ap
-      (λ (m : ℕ). number (enum_digits m) ∷ []) (low_enum n h) }
+  single_number n Enumeration h = record {
+    w = Varint (written_number Enumeration n);
+    is = refl;
+    tokens = λ s. ap
+        (λ (m : ℕ). number (enum_digits m) ∷ []) (low_enum n h);
+  }
   single_number n Text h = absurd h
   single_number n ByteString h = absurd h
   single_number n (Message s) h = absurd h
@@ -177,8 +183,12 @@ module _ (texts : Bool) (nested : ℕ → List ℕ → List Token) (left : ℕ)
   single_message : (ps : Parts) (k : Kind) → PartFits table (Nested ps) k → suc (levels ps) ≤ left → Single (Nested ps)
       k
   unfolding part_values PartFits part_json
-  single_message ps (Message s) h l = record { w = Length (canonical_payload table s ps); is = refl; tokens = λ z. back
-      s ps h l (ltb-true _ _ z) }
+  single_message ps (Message s) h l = record {
+    w = Length (canonical_payload table s ps);
+    is = refl;
+    tokens = λ z. back
+        s ps h l (ltb-true _ _ z);
+  }
   single_message ps U32 h l = absurd h
   single_message ps U64 h l = absurd h
   single_message ps Boolean h l = absurd h
@@ -199,19 +209,19 @@ module _ (texts : Bool) (nested : ℕ → List ℕ → List Token) (left : ℕ)
   elements_tokens : (ps : Parts) (k : Kind) (rest : List Token) → ElementsFit table ps k → levels ps ≤ left → list_all
       encodable_value (element_values table ps k) ≡ true
       → flat_map (value_tokens texts nested k) (element_values table ps k) ++ (end_array ∷ rest) ≡ tree.items_tokens
-          (items_json texts ps k) ++ rest
+      (items_json texts ps k) ++ rest
   unfolding part_values PartFits levels part_json
   elements_tokens nil k rest h l s = refl
   elements_tokens (cons p ps) k rest h l s =
       let x = single p k h.0 h.1 (omega arith) in
       let low_rest : levels ps ≤ left = omega arith in
       let e = and_split _ _ (ap (λ (ws : List RecordValue). list_all encodable_value (ws ++ element_values table ps k))
-          (sym x.is) ∙ s) in
+      (sym x.is) ∙ s) in
       let later = elements_tokens ps k rest h.2 low_rest e.1 in
       ap (λ (ws : List RecordValue). flat_map (value_tokens texts nested k) (ws ++ element_values table ps k) ++
-          (end_array ∷ rest)) x.is
+      (end_array ∷ rest)) x.is
       ∙ append_assoc (value_tokens texts nested k x.w) (flat_map (value_tokens texts nested k)
-          (element_values table ps k)) (end_array ∷ rest)
+      (element_values table ps k)) (end_array ∷ rest)
       ∙ ap (λ (ts : List Token). value_tokens texts nested k x.w ++ ts) later
       ∙ ap (λ (ts : List Token). ts ++ (tree.items_tokens (items_json texts ps k) ++ rest)) (x.tokens e.0)
       ∙ sym (append_assoc (json_tokens (part_json texts p k)) (tree.items_tokens (items_json texts ps k)) rest)
@@ -224,22 +234,25 @@ module _ (texts : Bool) (nested : ℕ → List ℕ → List Token) (left : ℕ)
   single_first : (p : Part) (k : Kind) (ps : Parts) → ElementsFit table (cons p ps) k → levels (cons p ps) ≤ left →
       First k (element_values table (cons p ps) k)
   unfolding part_values PartFits levels
-  single_first p k ps h l = let x = single p k h.0 h.1 (omega arith) in record
-      { w = x.w; ws = element_values table ps k; is = ap (λ (ws : List RecordValue). ws ++ element_values table ps k)
-      x.is }
+  single_first p k ps h l = let x = single p k h.0 h.1 (omega arith) in record {
+    w = x.w;
+    ws = element_values table ps k;
+    is = ap (λ (ws : List RecordValue). ws ++ element_values table ps k)
+        x.is;
+  }
 
   module _ (fields : List NamedField) where
     elements_walk : (n : ℕ) (name : List ℕ) (k : Kind) (ws : List RecordValue) (rest : List FieldRecord)
         → field_numbered fields n ≡ Some (record { number = n; name = name; kind = k; is_element = true })
         → walk texts nested fields n (map (λ w. record { number = n; value = w }) ws ++ rest) ≡ flat_map
-            (value_tokens texts nested k) ws ++ walk texts nested fields n rest
+        (value_tokens texts nested k) ws ++ walk texts nested fields n rest
     unfolding walk
     elements_walk n name k [] rest f = refl
     elements_walk n name k (w ∷ ws) rest f =
         rw (f, eq-eqb n n refl) (ap (λ (ts : List Token). value_tokens texts nested k w ++ ts)
-            (elements_walk n name k ws rest f)
+        (elements_walk n name k ws rest f)
         ∙ sym (append_assoc (value_tokens texts nested k w) (flat_map (value_tokens texts nested k) ws)
-            (walk texts nested fields n rest)))
+        (walk texts nested fields n rest)))
 
     module _ (rest : List FieldRecord) (ms : Members) (open_list : ℕ) where
       one_written : (n : ℕ) (name : List ℕ) (k : Kind) (w : RecordValue) (j : Json)
@@ -247,30 +260,30 @@ module _ (texts : Bool) (nested : ℕ → List ℕ → List Token) (left : ℕ)
           → eqb open_list n ≡ false → value_tokens texts nested k w ≡ json_tokens j
           → walk texts nested fields 0 rest ++ end_object ∷ [] ≡ members_tokens ms
           → walk texts nested fields open_list (record { number = n; value = w } ∷ rest) ++ end_object ∷ [] ≡ end_tokens
-              open_list ++ members_tokens (member name j ms)
+          open_list ++ members_tokens (member name j ms)
       unfolding walk
       one_written n name k w j f ne t next =
           rw (f, ne) (regroup (end_tokens open_list) (key name ∷ []) (value_tokens texts nested k w)
-              (walk texts nested fields 0 rest) (end_object ∷ [])
+          (walk texts nested fields 0 rest) (end_object ∷ [])
           ∙ ap (λ (ts : List Token). end_tokens open_list ++
-              (key name ∷ (ts ++ (walk texts nested fields 0 rest ++ end_object ∷ [])))) t
+          (key name ∷ (ts ++ (walk texts nested fields 0 rest ++ end_object ∷ [])))) t
           ∙ ap (λ (ts : List Token). end_tokens open_list ++ (key name ∷ (json_tokens j ++ ts))) next)
 
       single_written : (n : ℕ) (name : List ℕ) (k : Kind) (p : Part) → Single p k
           → field_numbered fields n ≡ Some (record { number = n; name = name; kind = k; is_element = false })
           → eqb open_list n ≡ false → list_all encodable (map (λ w. record { number = n; value = w })
-              (part_values table p k)) ≡ true
+          (part_values table p k)) ≡ true
           → walk texts nested fields 0 rest ++ end_object ∷ [] ≡ members_tokens ms
           → walk texts nested fields open_list (map (λ w. record { number = n; value = w }) (part_values table p k) ++
-              rest) ++ end_object ∷ []
+          rest) ++ end_object ∷ []
           ≡ end_tokens open_list ++ members_tokens (member name (part_json texts p k) ms)
       single_written n name k p x f ne s next =
           let encodes = ap (λ (ws : List RecordValue). list_all encodable
-              (map (λ w. record { number = n; value = w }) ws)) (sym x.is) ∙ s in
+          (map (λ w. record { number = n; value = w }) ws)) (sym x.is) ∙ s in
           ap (λ (ws : List RecordValue). walk texts nested fields open_list
-              (map (λ w. record { number = n; value = w }) ws ++ rest) ++ end_object ∷ []) x.is
+          (map (λ w. record { number = n; value = w }) ws ++ rest) ++ end_object ∷ []) x.is
           ∙ one_written n name k x.w (part_json texts p k) f ne (x.tokens (and_split _ _ (and_split _ _ encodes).0).1)
-              next
+          next
 
       -- the first element of a list, and the others
       first_written : (n : ℕ) (name : List ℕ) (k : Kind) (w : RecordValue) (ws all : List RecordValue)
@@ -278,54 +291,54 @@ module _ (texts : Bool) (nested : ℕ → List ℕ → List Token) (left : ℕ)
           → eqb open_list n ≡ false → eqb n 0 ≡ false → all ≡ w ∷ ws
           → walk texts nested fields n rest ++ end_object ∷ [] ≡ end_tokens n ++ members_tokens ms
           → walk texts nested fields open_list (record { number = n; value = w } ∷
-              (map (λ v. record { number = n; value = v }) ws ++ rest)) ++ end_object ∷ []
+          (map (λ v. record { number = n; value = v }) ws ++ rest)) ++ end_object ∷ []
           ≡ end_tokens open_list ++ (key name ∷ (begin_array ∷
-              (flat_map (value_tokens texts nested k) all ++ (end_array ∷ members_tokens ms))))
+          (flat_map (value_tokens texts nested k) all ++ (end_array ∷ members_tokens ms))))
       unfolding walk
       first_written n name k w ws all f ne nz a next =
           let later = elements_walk n name k ws rest f in
           let ended : walk texts nested fields n rest ++ end_object ∷ [] ≡ end_array ∷ members_tokens ms = rw nz at next
-              in
+          in
           let values = flat_map (value_tokens texts nested k) ws in
           rw (f, ne) (ap (λ (ts : List Token). (((end_tokens open_list ++ (key name ∷ begin_array ∷ [])) ++ value_tokens
-              texts nested k w) ++ ts) ++ (end_object ∷ [])) later
+          texts nested k w) ++ ts) ++ (end_object ∷ [])) later
           ∙ regroup (end_tokens open_list) (key name ∷ begin_array ∷ []) (value_tokens texts nested k w)
-              (values ++ walk texts nested fields n rest) (end_object ∷ [])
+          (values ++ walk texts nested fields n rest) (end_object ∷ [])
           ∙ ap (λ (ts : List Token). end_tokens open_list ++
-              (key name ∷ (begin_array ∷ (value_tokens texts nested k w ++ ts))))
-              (append_assoc values (walk texts nested fields n rest) (end_object ∷ []) ∙ ap
-              (λ (ts : List Token). values ++ ts) ended)
+          (key name ∷ (begin_array ∷ (value_tokens texts nested k w ++ ts))))
+          (append_assoc values (walk texts nested fields n rest) (end_object ∷ []) ∙ ap
+          (λ (ts : List Token). values ++ ts) ended)
           ∙ ap (λ (ts : List Token). end_tokens open_list ++ (key name ∷ (begin_array ∷ ts)))
-              (sym (append_assoc (value_tokens texts nested k w) values (end_array ∷ members_tokens ms)))
+          (sym (append_assoc (value_tokens texts nested k w) values (end_array ∷ members_tokens ms)))
           ∙ ap (λ (vs : List RecordValue). end_tokens open_list ++
-              (key name ∷ (begin_array ∷ (flat_map (value_tokens texts nested k) vs ++
-              (end_array ∷ members_tokens ms))))) (sym a))
+          (key name ∷ (begin_array ∷ (flat_map (value_tokens texts nested k) vs ++
+          (end_array ∷ members_tokens ms))))) (sym a))
 
       elements_written : (n : ℕ) (name : List ℕ) (k : Kind) (p : Part) (ps : Parts)
           → field_numbered fields n ≡ Some (record { number = n; name = name; kind = k; is_element = true })
           → eqb open_list n ≡ false → eqb n 0 ≡ false → ElementsFit table (cons p ps) k → levels (cons p ps) ≤ left →
-              list_all encodable_value (element_values table (cons p ps) k) ≡ true
+          list_all encodable_value (element_values table (cons p ps) k) ≡ true
           → walk texts nested fields n rest ++ end_object ∷ [] ≡ end_tokens n ++ members_tokens ms
           → walk texts nested fields open_list (map (λ w. record { number = n; value = w })
-              (element_values table (cons p ps) k) ++ rest) ++ end_object ∷ []
+          (element_values table (cons p ps) k) ++ rest) ++ end_object ∷ []
           ≡ end_tokens open_list ++ members_tokens (member name (array (items_json texts (cons p ps) k)) ms)
       elements_written n name k p ps f ne nz h l s next =
           let x = single_first p k ps h l in
           ap (λ (ws : List RecordValue). walk texts nested fields open_list
-              (map (λ w. record { number = n; value = w }) ws ++ rest) ++ end_object ∷ []) x.is
+          (map (λ w. record { number = n; value = w }) ws ++ rest) ++ end_object ∷ []) x.is
           ∙ first_written n name k x.w x.ws (element_values table (cons p ps) k) f ne nz x.is next
           ∙ ap (λ (ts : List Token). end_tokens open_list ++ (key name ∷ (begin_array ∷ ts)))
-              (elements_tokens (cons p ps) k (members_tokens ms) h l s)
+          (elements_tokens (cons p ps) k (members_tokens ms) h l s)
 
       -- a plain field, whose default is left out
       plain_written : (n : ℕ) (name : List ℕ) (k : Kind) (p : Part) (default : Bool) → Single p k
           → field_numbered fields n ≡ Some (record { number = n; name = name; kind = k; is_element = false })
           → eqb open_list n ≡ false → list_all encodable (map (λ w. record { number = n; value = w })
-              (cond default [] (part_values table p k))) ≡ true
+          (cond default [] (part_values table p k))) ≡ true
           → walk texts nested fields open_list rest ++ end_object ∷ [] ≡ end_tokens open_list ++ members_tokens ms
           → walk texts nested fields 0 rest ++ end_object ∷ [] ≡ members_tokens ms
           → walk texts nested fields open_list (map (λ w. record { number = n; value = w })
-              (cond default [] (part_values table p k)) ++ rest) ++ end_object ∷ []
+          (cond default [] (part_values table p k)) ++ rest) ++ end_object ∷ []
           ≡ end_tokens open_list ++ members_tokens (member_if (not default) name (part_json texts p k) ms)
       plain_written n name k p true x f ne s stay next = stay
       plain_written n name k p false x f ne s stay next = single_written n name k p x f ne s next
@@ -344,36 +357,36 @@ module _ (texts : Bool) (nested : ℕ → List ℕ → List Token) (left : ℕ)
           → walk texts nested fields open_list rest ++ end_object ∷ [] ≡ end_tokens open_list ++ members_tokens ms
           → walk texts nested fields 0 rest ++ end_object ∷ [] ≡ members_tokens ms
           → ((n : ℕ) → includes (numbers row) n ≡ true → walk texts nested fields n rest ++ end_object ∷ [] ≡ end_tokens
-              n ++ members_tokens ms)
+          n ++ members_tokens ms)
           → walk texts nested fields open_list (row_records row p (part_values table p (kind_of row p)) ++ rest) ++
-              end_object ∷ []
+          end_object ∷ []
           ≡ end_tokens open_list ++ members_tokens (member_if (is_present row p) (name_of names (number_of row p))
-              (part_json texts p (kind_of row p)) ms)
+          (part_json texts p (kind_of row p)) ms)
       unfolding part_values PartFits levels part_json
       row_written names (Plain n k) Absent f b z i h l s stay next nextn = absurd cc
       row_written names (Plain n k) (Elements ps) f b z i h l s stay next nextn = absurd cc
       row_written names (Plain n k) (Member m p) f b z i h l s stay next nextn = absurd cc
       row_written names (Plain n k) (Number m) f b z i h l s stay next nextn =
           plain_written n (name_of names n) k (Number m) (is_default (Number m)) (single (Number m) k i h l)
-              (f n (own_number n)) (other_number (n ∷ []) open_list n b (own_number n)) s stay next
+          (f n (own_number n)) (other_number (n ∷ []) open_list n b (own_number n)) s stay next
       row_written names (Plain n k) (Bytes bytes) f b z i h l s stay next nextn =
           plain_written n (name_of names n) k (Bytes bytes) (is_default (Bytes bytes)) (single (Bytes bytes) k i h l)
-              (f n (own_number n)) (other_number (n ∷ []) open_list n b (own_number n)) s stay next
+          (f n (own_number n)) (other_number (n ∷ []) open_list n b (own_number n)) s stay next
       row_written names (Plain n k) (Nested ps) f b z i h l s stay next nextn =
           plain_written n (name_of names n) k (Nested ps) false (single (Nested ps) k i h l) (f n (own_number n))
-              (other_number (n ∷ []) open_list n b (own_number n)) s stay next
+          (other_number (n ∷ []) open_list n b (own_number n)) s stay next
       row_written names (Optional n k) Absent f b z i h l s stay next nextn = stay
       row_written names (Optional n k) (Elements ps) f b z i h l s stay next nextn = absurd cc
       row_written names (Optional n k) (Member m p) f b z i h l s stay next nextn = absurd cc
       row_written names (Optional n k) p f b z i h l s stay next nextn =
           single_written n (name_of names n) k p (single p k i h l) (f n (own_number n))
-              (other_number (n ∷ []) open_list n b (own_number n)) s next
+          (other_number (n ∷ []) open_list n b (own_number n)) s next
       row_written names (Repeated n U32) (Elements nil) f b z i h l s stay next nextn = stay
       row_written names (Repeated n U32) (Elements (cons (Number m) ps)) f b z i h l s stay next nextn =
           one_written n (name_of names n) U32 (Length (flat_map number_bytes
-              (element_values table (cons (Number m) ps) U32))) (array (items_json texts (cons (Number m) ps) U32))
+          (element_values table (cons (Number m) ps) U32))) (array (items_json texts (cons (Number m) ps) U32))
           (f n (own_number n)) (other_number (n ∷ []) open_list n b (own_number n))
-              (packed texts (cons (Number m) ps) h) next
+          (packed texts (cons (Number m) ps) h) next
       row_written names (Repeated n U32) (Elements (cons Absent ps)) f b z i h l s stay next nextn = absurd (cc h.0)
       row_written names (Repeated n U32) (Elements (cons (Elements qs) ps)) f b z i h l s stay next nextn = absurd
           (cc h.0)
@@ -384,14 +397,14 @@ module _ (texts : Bool) (nested : ℕ → List ℕ → List Token) (left : ℕ)
       row_written names (Repeated n k) (Elements nil) f b z i h l s stay next nextn = stay
       row_written names (Repeated n k) (Elements (cons p ps)) f b z i h l s stay next nextn =
           elements_written n (name_of names n) k p ps (f n (own_number n))
-              (other_number (n ∷ []) open_list n b (own_number n)) (not_zero (n ∷ []) n z (own_number n)) h l
-              (encode_values n (element_values table (cons p ps) k) s) (nextn n (own_number n))
+          (other_number (n ∷ []) open_list n b (own_number n)) (not_zero (n ∷ []) n z (own_number n)) h l
+          (encode_values n (element_values table (cons p ps) k) s) (nextn n (own_number n))
       row_written names (Repeated n k) p f b z i h l s stay next nextn = absurd cc
       row_written names (OneOf members) Absent f b z i h l s stay next nextn = stay
       row_written names (OneOf members) (Member m p) f b z i h l s stay next nextn =
           let e = and_split _ _ i in
           single_written m (name_of names m) (member_kind members m) p (single p (member_kind members m) e.1 h l)
-              (f m e.0) (other_number (numbers (OneOf members)) open_list m b e.0) s next
+          (f m e.0) (other_number (numbers (OneOf members)) open_list m b e.0) s next
       row_written names (OneOf members) p f b z i h l s stay next nextn = absurd cc
 
     pub members_written : (names : List (ℕ × List ℕ)) (v : Parts) (rows : List Row) (open_list : ℕ) → are_distinct
@@ -399,7 +412,7 @@ module _ (texts : Bool) (nested : ℕ → List ℕ → List Token) (left : ℕ)
         → includes (all_numbers rows) open_list ≡ false → includes (all_numbers rows) 0 ≡ false
         → Fits table v rows → levels v ≤ left → list_all encodable (message_records table v rows) ≡ true
         → walk texts nested fields open_list (message_records table v rows) ++ end_object ∷ [] ≡ end_tokens open_list ++
-            members_tokens (members_json texts names v rows)
+        members_tokens (members_json texts names v rows)
     unfolding part_values PartFits levels part_json walk
     members_written names nil [] open_list d k b z h l s = refl
     members_written names nil (row ∷ rows) open_list d k b z h l s = absurd h
@@ -408,15 +421,15 @@ module _ (texts : Bool) (nested : ℕ → List ℕ → List Token) (left : ℕ)
         let low_row : part_levels p ≤ left = omega arith in
         let low_rest : levels ps ≤ left = omega arith in
         let e = and_split _ _ (sym (list_all-append encodable (row_records row p (part_values table p (kind_of row p)))
-            (message_records table ps rows)) ∙ s) in
+        (message_records table ps rows)) ∙ s) in
         let before = or_split (includes (numbers row) open_list) _
-            (sym (includes-append (numbers row) (all_numbers rows) open_list) ∙ b) in
+        (sym (includes-append (numbers row) (all_numbers rows) open_list) ∙ b) in
         let zero_of = or_split (includes (numbers row) 0) _ (sym (includes-append (numbers row) (all_numbers rows) 0) ∙
-            z) in
+        z) in
         let later = λ (n : ℕ) (g : includes (all_numbers rows) n ≡ false). members_written names ps rows n
-            (distinct_back (numbers row) (all_numbers rows) d) (knows_rest fields names row rows d k) g zero_of.1 h.2
-            low_rest e.1 in
+        (distinct_back (numbers row) (all_numbers rows) d) (knows_rest fields names row rows d k) g zero_of.1 h.2
+        low_rest e.1 in
         row_written (message_records table ps rows) (members_json texts names ps rows) open_list names row p
-            (knows_row fields names row rows k) before.0 zero_of.0 h.0 h.1 low_row e.0
+        (knows_row fields names row rows k) before.0 zero_of.0 h.0 h.1 low_row e.0
         (later open_list before.1) (later 0 zero_of.1) (λ n g. later n
-            (distinct_other (numbers row) (all_numbers rows) n d g))
+        (distinct_other (numbers row) (all_numbers rows) n d g))

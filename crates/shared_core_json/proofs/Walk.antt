@@ -1,6 +1,6 @@
 -- What is written on going over the numbers of a packed run, and over the records of a payload.
-use Rattle.std.proofs.Common.{◌≡◌, ℕ, zero, suc, ◌-◌, ◌<◌, List, [], ◌∷◌, ◌++◌, length, drop, Some, None, Result, Ok,
-    Err, Bool, true, false, append_assoc, refl, sym, ap, ◌∙◌, arith}
+use Rattle.std.proofs.Common.{◌≡◌, ℕ, zero, suc, ◌-◌, ◌<◌, List, [], ◌∷◌, ◌++◌, length, drop, Some, None, Result, Ok}
+use Rattle.std.proofs.Common.{Err, Bool, true, false, append_assoc, refl, sym, ap, ◌∙◌, arith}
 use Rattle.std.proofs.lemmas.List.{length-append}
 use Rattle.base64.specs.GeneralPurpose.{encode_of}
 use Rattle.base64.specs.Engines.{standard}
@@ -16,8 +16,8 @@ use Rattle.std.specs.Prelude.{IfOk, OnOk, codes}
 use Rattle.std.specs.Str.{is_utf8}
 use Rattle.shared_core_json.specs.Fields.{NamedField, schema_fields, field_numbered}
 use Rattle.shared_core_json.specs.Form.{byte_string_json}
-use Rattle.shared_core_json.specs.Written.{numbers_past, value_tokens, end_tokens, lead_tokens, open_list_after,
-    record_tokens, next_open_list, items_tokens, payload_tokens}
+use Rattle.shared_core_json.specs.Written.{numbers_past, value_tokens, end_tokens, lead_tokens, open_list_after}
+use Rattle.shared_core_json.specs.Written.{record_tokens, next_open_list, items_tokens, payload_tokens}
 
 numbers_over : (past : ℕ) (bytes : List ℕ) → numbers_past past bytes ≡ numbers_past 0 (drop past bytes)
 unfolding numbers_past
@@ -36,7 +36,7 @@ unfolding numbers_past
 numbers_first [] text rest n e parts h = absurd (omega (arith, ap length parts, length-append text rest))
 numbers_first (b ∷ bs) text rest n e parts h =
     rw (e, numbers_past) (ap (λ (xs : List ℕ). n ∷ xs) (numbers_over (length bs - length rest) bs ∙ ap (numbers_past 0)
-        (beyond b bs text rest parts h)))
+    (beyond b bs text rest parts h)))
 
 pub record NumbersTurn (bytes : List ℕ) (n : ℕ) (rest : List ℕ) : Type 0 where
   pub shorter : length rest < length bytes
@@ -54,7 +54,7 @@ numbers_turn bytes n rest e =
 
 pub payload_whole : (texts : Bool) (left s : ℕ) (bytes : List ℕ)
     → payload_tokens texts (suc left) s bytes ≡ begin_object ∷
-        (items_tokens texts (payload_tokens texts left) (schema_fields s) 0 (read_records 0 bytes) ++ end_object ∷ [])
+    (items_tokens texts (payload_tokens texts left) (schema_fields s) 0 (read_records 0 bytes) ++ end_object ∷ [])
 unfolding payload_tokens
 payload_whole texts left s bytes = refl
 
@@ -93,22 +93,22 @@ module _ (texts : Bool) (nested : ℕ → List ℕ → List Token) (fields : Lis
   record_turn : (open_list now : ℕ) (old new all : List Token) (r : PlacedRecord)
       (items whole : List (Result PlacedRecord WireError))
       → new ≡ old ++ record_tokens texts nested open_list (field_numbered fields r.field_record.number)
-          r.field_record.value
+      r.field_record.value
       → now ≡ next_open_list open_list (field_numbered fields r.field_record.number)
       → whole ≡ Ok r ∷ items → old ++ items_tokens texts nested fields open_list whole ≡ all → new ++ items_tokens texts
-          nested fields now items ≡ all
+      nested fields now items ≡ all
   unfolding items_tokens
   record_turn open_list now old new all r items whole e n w h =
       rw n (step_on old new _ _ all e (sym (ap (λ (is : List (Result PlacedRecord WireError)). old ++ items_tokens texts
-          nested fields open_list is) w) ∙ h))
+      nested fields open_list is) w) ∙ h))
 
   -- the record of a field that the fields have
   pub field_turn : (f : NamedField) (open_list now : ℕ) (old new all : List Token) (r : PlacedRecord)
       (items whole : List (Result PlacedRecord WireError))
       → field_numbered fields r.field_record.number ≡ Some f → new ≡ old ++
-          (lead_tokens open_list f ++ value_tokens texts nested f.kind r.field_record.value) → now ≡ open_list_after f
+      (lead_tokens open_list f ++ value_tokens texts nested f.kind r.field_record.value) → now ≡ open_list_after f
       → whole ≡ Ok r ∷ items → old ++ items_tokens texts nested fields open_list whole ≡ all → new ++ items_tokens texts
-          nested fields now items ≡ all
+      nested fields now items ≡ all
   field_turn f open_list now old new all r items whole found e n w h =
       record_turn open_list now old new all r items whole
       (e ∙ ap (λ o. old ++ record_tokens texts nested open_list o r.field_record.value) (sym found))

@@ -1,8 +1,8 @@
 -- The tokens that are written for the records of a payload, one after the other.
-use Rattle.std.specs.Prelude.{ℕ, zero, suc, ◌-◌, ◌%◌, Bool, not, List, [], ◌∷◌, ◌++◌, map, length, decimal, nat_eq,
-    ◌==◌, if◌then◌else◌, Option, Some, None, Result, Ok, Err}
-use Rattle.json.specs.Token.{Token, begin_object, end_object, begin_array, end_array, key, string, number, boolean,
-    null}
+use Rattle.std.specs.Prelude.{ℕ, zero, suc, ◌-◌, ◌%◌, Bool, not, List, [], ◌∷◌, ◌++◌, map, length, decimal, nat_eq}
+use Rattle.std.specs.Prelude.{◌==◌, if◌then◌else◌, Option, Some, None, Result, Ok, Err}
+use Rattle.json.specs.Token.{Token, begin_object, end_object, begin_array, end_array, key, string, number, boolean}
+use Rattle.json.specs.Token.{null}
 use Rattle.json.specs.Tree.{json_tokens}
 use Rattle.shared_core_wire.specs.Grammar.{RecordValue, Varint, Fixed64, Length, Group, Fixed32}
 use Rattle.shared_core_wire.specs.Reader.{varint_at}
@@ -101,4 +101,4 @@ unfoldable pub payload_tokens : Bool → ℕ → ℕ → List ℕ → List Token
 payload_tokens texts zero s bytes = null ∷ []
 payload_tokens texts (suc left) s bytes =
     begin_object ∷ (items_tokens texts (payload_tokens texts left) (schema_fields s) 0 (read_records 0 bytes) ++
-        end_object ∷ [])
+    end_object ∷ [])

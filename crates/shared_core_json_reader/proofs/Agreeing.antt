@@ -1,34 +1,37 @@
 -- What is appended for a JSON value is the canonical payload of what it means.
-use Rattle.std.proofs.Common.{◌≡◌, ℕ, zero, suc, ◌+◌, ◌-◌, ◌/◌, ◌%◌, ◌^◌, ◌<◌, ◌≤◌, List, [], ◌∷◌, ◌++◌, map, length,
-    Bool, true, false, cond, ◌&&◌, ◌||◌, ◌⊎◌, inl, inr, Option, Some, None, option_map, option_and_then, not, refl, sym,
-    ap, ap₂, subst, ◌∙◌, append-nil, arith, eqb, ltb, eq-eqb}
+use Rattle.std.proofs.Common.{◌≡◌, ℕ, zero, suc, ◌+◌, ◌-◌, ◌/◌, ◌%◌, ◌^◌, ◌<◌, ◌≤◌, List, [], ◌∷◌, ◌++◌, map, length}
+use Rattle.std.proofs.Common.{Bool, true, false, cond, ◌&&◌, ◌||◌, ◌⊎◌, inl, inr, Option, Some, None, option_map}
+use Rattle.std.proofs.Common.{option_and_then, not, refl, sym, ap, ap₂, subst, ◌∙◌, append-nil, arith, eqb, ltb, eq-eqb}
 use Rattle.std.specs.Prelude.{flat_map}
 use Rattle.std.proofs.lemmas.List.{map-append, length-append}
 use Rattle.std.proofs.lemmas.List.Concat.{flat_map-append}
 use Rattle.std.proofs.lemmas.Bool.{eqb-false, ltb-false, ne_eqb}
 use Rattle.json.specs.Json.{Json, null, boolean, number, string, array, object, Items, no_items, item, Members}
 use Rattle.shared_core_wire.specs.Grammar.{RecordValue, Varint, Length, FieldRecord}
-use Rattle.shared_core_wire.specs.Encoding.{shortest_varint, shortest_within, key_bytes, record_bytes,
-    record_list_bytes}
-use Rattle.shared_core_wire.specs.Schema.{Kind, Row, U32, U64, Boolean, Enumeration, Text, ByteString, Message,
-    includes, member_kind, are_distinct, all_numbers, numbers}
+use Rattle.shared_core_wire.specs.Encoding.{shortest_varint, shortest_within, key_bytes, record_bytes}
+use Rattle.shared_core_wire.specs.Encoding.{record_list_bytes}
+use Rattle.shared_core_wire.specs.Schema.{Kind, Row, U32, U64, Boolean, Enumeration, Text, ByteString, Message}
+use Rattle.shared_core_wire.specs.Schema.{includes, member_kind, are_distinct, all_numbers, numbers}
 use Rattle.shared_core_wire.specs.Schema as schema
-use Rattle.shared_core_wire.specs.Value.{Part, Parts, Absent, Number, Bytes, Nested, Elements, Member, nil, cons,
-    default_of}
-use Rattle.shared_core_wire.specs.Canonical.{kind_of, member_number, written_number, number_bytes, is_default,
-    packed_values, row_records, part_values, element_values, message_records, canonical_payload}
+use Rattle.shared_core_wire.specs.Value.{Part, Parts, Absent, Number, Bytes, Nested, Elements, Member, nil, cons}
+use Rattle.shared_core_wire.specs.Value.{default_of}
+use Rattle.shared_core_wire.specs.Canonical.{kind_of, member_number, written_number, number_bytes, is_default}
+use Rattle.shared_core_wire.specs.Canonical.{packed_values, row_records, part_values, element_values, message_records}
+use Rattle.shared_core_wire.specs.Canonical.{canonical_payload}
 use Rattle.shared_core_wire.proofs.ReadBack.{includes-append, distinct_back, or_split}
 use Rattle.shared_core_wire.proofs.Runs.{and_split}
 use Rattle.shared_core_codec.specs.Table.{table}
 use Rattle.shared_core_codec.proofs.Tables.{are_schemas}
-use Rattle.shared_core_json_reader.specs.Rows.{NamedField, NamedRow, Plain, Optional, Repeated, OneOf, named_field,
-    named_row, named_rows}
+use Rattle.shared_core_json_reader.specs.Rows.{NamedField, NamedRow, Plain, Optional, Repeated, OneOf, named_field}
+use Rattle.shared_core_json_reader.specs.Rows.{named_row, named_rows}
 use Rattle.shared_core_json_reader.specs.Scalars.{unsigned_read, boolean_read, enum_read, text_read, bytes_read}
-use Rattle.shared_core_json_reader.specs.Reading.{are_known, given, single_read, field_read, elements_read, list_read,
-    or_absent, member_read, oneof_read, row_read, rows_read, members_read, object_read, message_read}
-use Rattle.shared_core_json_reader.specs.Appended.{varint_record, length_record, both, single_bytes, field_bytes,
-    items_bytes, run_bytes, array_bytes, list_bytes, member_bytes, held_after, oneof_bytes, given_bytes, row_bytes,
-    rows_bytes, members_bytes, object_bytes, message_bytes}
+use Rattle.shared_core_json_reader.specs.Reading.{are_known, given, single_read, field_read, elements_read, list_read}
+use Rattle.shared_core_json_reader.specs.Reading.{or_absent, member_read, oneof_read, row_read, rows_read, members_read}
+use Rattle.shared_core_json_reader.specs.Reading.{object_read, message_read}
+use Rattle.shared_core_json_reader.specs.Appended.{varint_record, length_record, both, single_bytes, field_bytes}
+use Rattle.shared_core_json_reader.specs.Appended.{items_bytes, run_bytes, array_bytes, list_bytes, member_bytes}
+use Rattle.shared_core_json_reader.specs.Appended.{held_after, oneof_bytes, given_bytes, row_bytes, rows_bytes}
+use Rattle.shared_core_json_reader.specs.Appended.{members_bytes, object_bytes, message_bytes}
 
 -- the records of a field that has these values
 abbrev pub out_of : ℕ → List RecordValue → List ℕ
@@ -104,7 +107,7 @@ module _ (nested_r : ℕ → Json → Option Parts) (nested_b : ℕ → Json →
   numbers_same plain n k written (Some m) is zeros =
       ap (λ (xs : List ℕ). Some xs)
       (ap (λ (b : Bool). cond (plain && b) [] (key_bytes n 0 ++ shortest_varint (written m))) (zeros m) ∙ varint_out
-          (plain && eqb m 0) n (written m)
+      (plain && eqb m 0) n (written m)
       ∙ ap (λ (ws : List RecordValue). out_of n (cond (plain && eqb m 0) [] ws)) (sym (is m)))
 
   bytes_same : (plain : Bool) (n : ℕ) (k : Kind) (o : Option (List ℕ)) →
@@ -113,7 +116,7 @@ module _ (nested_r : ℕ → Json → Option Parts) (nested_b : ℕ → Json →
   bytes_same plain n k None is = refl
   bytes_same plain n k (Some b) is =
       ap (λ (xs : List ℕ). Some xs) (length_out (plain && eqb (length b) 0) n b ∙ ap
-          (λ (ws : List RecordValue). out_of n (cond (plain && eqb (length b) 0) [] ws)) (sym (is b)))
+      (λ (ws : List RecordValue). out_of n (cond (plain && eqb (length b) 0) [] ws)) (sym (is b)))
 
   message_same : (plain : Bool) (n s : ℕ) (o : Option Parts) → option_map (length_record false n)
       (option_map (canonical_payload table s) o) ≡ option_map (single_out plain n (Message s)) (option_map Nested o)
@@ -122,7 +125,7 @@ module _ (nested_r : ℕ → Json → Option Parts) (nested_b : ℕ → Json →
   message_same plain n s (Some ps) =
       ap (λ (xs : List ℕ). Some xs)
       (length_out false n (canonical_payload table s ps) ∙ ap
-          (λ (b : Bool). out_of n (cond b [] (Length (canonical_payload table s ps) ∷ []))) (sym (no_default plain)))
+      (λ (b : Bool). out_of n (cond b [] (Length (canonical_payload table s ps) ∷ []))) (sym (no_default plain)))
 
   single_same : (plain : Bool) (n : ℕ) (k : Kind) (values : List (List ℕ × ℕ)) (j : Json) → single_bytes nested_b plain
       n k values j ≡ option_map (single_out plain n k) (single_read nested_r k values j)
@@ -154,9 +157,9 @@ module _ (nested_r : ℕ → Json → Option Parts) (nested_b : ℕ → Json →
   out_append : (n : ℕ) (us ws : List RecordValue) → out_of n us ++ out_of n ws ≡ out_of n (us ++ ws)
   out_append n us ws =
       sym (flat_map-append record_bytes (map (λ w. record { number = n; value = w }) us)
-          (map (λ w. record { number = n; value = w }) ws))
+      (map (λ w. record { number = n; value = w }) ws))
       ∙ ap (λ (rs : List FieldRecord). record_list_bytes rs)
-          (sym (map-append (λ w. record { number = n; value = w }) us ws))
+      (sym (map-append (λ w. record { number = n; value = w }) us ws))
 
   items_same : (f : NamedField) (js : Items) → items_bytes nested_b f js ≡ option_map
       (λ ps. out_of f.number (element_values table ps f.kind)) (elements_read nested_r f js)
@@ -165,9 +168,9 @@ module _ (nested_r : ℕ → Json → Option Parts) (nested_b : ℕ → Json →
   items_same f (item j js) =
       ap₂ both (field_same false f j) (items_same f js)
       ∙ both_same (single_out false f.number f.kind) (λ ps. out_of f.number (element_values table ps f.kind))
-          (λ ps. out_of f.number (element_values table ps f.kind)) cons
+      (λ ps. out_of f.number (element_values table ps f.kind)) cons
       (field_read nested_r f j) (elements_read nested_r f js)
-          (λ p ps. out_append f.number (part_values table p f.kind) (element_values table ps f.kind))
+      (λ p ps. out_append f.number (part_values table p f.kind) (element_values table ps f.kind))
 
   abbrev run_part : Part → List ℕ
   run_part p = flat_map number_bytes (part_values table p U32)
@@ -179,22 +182,22 @@ module _ (nested_r : ℕ → Json → Option Parts) (nested_b : ℕ → Json →
 
   run_same : (n : ℕ) (name : List ℕ) (values : List (List ℕ × ℕ)) (js : Items)
       → run_bytes js ≡ option_map (λ ps. flat_map number_bytes (element_values table ps U32))
-          (elements_read nested_r (record { number = n; name = name; kind = U32; values = values }) js)
+      (elements_read nested_r (record { number = n; name = name; kind = U32; values = values }) js)
   unfolding part_values
   run_same n name values no_items = refl
   run_same n name values (item j js) =
       ap₂ both (run_number (unsigned_read 4294967296 j)) (run_same n name values js)
       ∙ both_same run_part (λ ps. flat_map number_bytes (element_values table ps U32))
-          (λ ps. flat_map number_bytes (element_values table ps U32)) cons
+      (λ ps. flat_map number_bytes (element_values table ps U32)) cons
       (option_map Number (unsigned_read 4294967296 j)) (elements_read nested_r
-          (record { number = n; name = name; kind = U32; values = values }) js)
+      (record { number = n; name = name; kind = U32; values = values }) js)
       (λ p ps. sym (flat_map-append number_bytes (part_values table p U32) (element_values table ps U32)))
 
   -- a packed run is there exactly if it has elements
   run_out : (n : ℕ) (name : List ℕ) (values : List (List ℕ × ℕ)) (js : Items) (ps : Parts) → elements_read nested_r
       (record { number = n; name = name; kind = U32; values = values }) js ≡ Some ps
       → length_record true n (flat_map number_bytes (element_values table ps U32)) ≡ out_of n
-          (packed_values U32 (element_values table ps U32))
+      (packed_values U32 (element_values table ps U32))
   unfolding part_values
   run_out n name values no_items ps e = let q : nil ≡ ps = cc in rw (← q) refl
   run_out n name values (item j js) ps e = by_first (unsigned_read 4294967296 j)
@@ -203,17 +206,21 @@ module _ (nested_r : ℕ → Json → Option Parts) (nested_b : ℕ → Json →
       by_first : (o : Option ℕ) (rest : Option Parts) → option_and_then (λ p. option_map (cons p) rest)
           (option_map Number o) ≡ Some ps
           → length_record true n (flat_map number_bytes (element_values table ps U32)) ≡ out_of n
-              (packed_values U32 (element_values table ps U32))
+          (packed_values U32 (element_values table ps U32))
       by_first None rest h = absurd cc
       by_first (Some m) None h = absurd cc
       by_first (Some m) (Some qs) h =
           let q : cons (Number m) qs ≡ ps = cc in
           let run = shortest_varint m ++ flat_map number_bytes (element_values table qs U32) in
           let there : eqb (length run) 0 ≡ false = ne_eqb (length run) 0
-              (λ z. omega (arith, varint_there m, length-append (shortest_varint m)
-              (flat_map number_bytes (element_values table qs U32)))) in
+          (λ z. omega (
+            arith,
+            varint_there m,
+            length-append (shortest_varint m)
+                (flat_map number_bytes (element_values table qs U32)),
+          )) in
           rw (← q) (ap (λ (b : Bool). cond b [] (key_bytes n 2 ++ (shortest_varint (length run) ++ run))) there ∙
-              length_out false n run)
+          length_out false n run)
 
   map_some : {A : Type 0} (F G : A → List ℕ) (o : Option A) → ((x : A) → o ≡ Some x → F x ≡ G x) → option_map F o ≡
       option_map G o
@@ -235,9 +242,9 @@ module _ (nested_r : ℕ → Json → Option Parts) (nested_b : ℕ → Json →
   array_same n name U32 values js =
       let f : NamedField = record { number = n; name = name; kind = U32; values = values } in
       ap (option_map (length_record true n)) (run_same n name values js) ∙ map_map (length_record true n)
-          (λ ps. flat_map number_bytes (element_values table ps U32)) (elements_read nested_r f js)
+      (λ ps. flat_map number_bytes (element_values table ps U32)) (elements_read nested_r f js)
       ∙ map_some _ (λ ps. list_out n U32 (Elements ps)) (elements_read nested_r f js) (run_out n name values js) ∙ sym
-          (map_map (list_out n U32) Elements (elements_read nested_r f js))
+      (map_map (list_out n U32) Elements (elements_read nested_r f js))
   array_same n name U64 values js = let f : NamedField = record { number = n; name = name; kind = U64; values = values }
       in items_same f js ∙ sym (map_map (list_out n U64) Elements (elements_read nested_r f js))
   array_same n name Boolean values js = let f : NamedField = record
@@ -268,7 +275,7 @@ module _ (nested_r : ℕ → Json → Option Parts) (nested_b : ℕ → Json →
   given_same : (read_b : Json → Option (List ℕ)) (read_r : Json → Option Part) (empty : Part) (F : Part → List ℕ)
       (o : Option (Option Json))
       → F empty ≡ [] → ((j : Json) → read_b j ≡ option_map F (read_r j)) → given_bytes read_b o ≡ option_map F
-          (option_and_then (or_absent empty read_r) o)
+      (option_and_then (or_absent empty read_r) o)
   given_same read_b read_r empty F None a e = refl
   given_same read_b read_r empty F (Some None) a e = ap (λ (xs : List ℕ). Some xs) (sym a)
   given_same read_b read_r empty F (Some (Some j)) a e = e j
@@ -298,7 +305,7 @@ module _ (nested_r : ℕ → Json → Option Parts) (nested_b : ℕ → Json →
   abbrev both_or_none : Members → ℕ → Part → List NamedField → Type 0
   both_or_none ms n p fs =
       ((oneof_bytes nested_b ms true fs ≡ None) × (oneof_read nested_r ms (Member n p) fs ≡ None)) ⊎
-          ((oneof_bytes nested_b ms true fs ≡ Some []) × (oneof_read nested_r ms (Member n p) fs ≡ Some (Member n p)))
+      ((oneof_bytes nested_b ms true fs ≡ Some []) × (oneof_read nested_r ms (Member n p) fs ≡ Some (Member n p)))
 
   held_stays : (ms : Members) (n : ℕ) (p : Part) (fs : List NamedField) → both_or_none ms n p fs
   held_stays ms n p [] = inr (refl, refl)
@@ -306,13 +313,13 @@ module _ (nested_r : ℕ → Json → Option Parts) (nested_b : ℕ → Json →
     where
       by_given : (o : Option (Option Json)) → both_or_none ms n p fs
           → ((option_and_then (λ o. both (or_absent [] (member_bytes nested_b true f) o)
-              (oneof_bytes nested_b ms (held_after true o) fs)) o ≡ None)
+          (oneof_bytes nested_b ms (held_after true o) fs)) o ≡ None)
           × (option_and_then (λ o. option_and_then (λ now. oneof_read nested_r ms now fs)
-              (or_absent (Member n p) (member_read nested_r (Member n p) f) o)) o ≡ None))
+          (or_absent (Member n p) (member_read nested_r (Member n p) f) o)) o ≡ None))
           ⊎ ((option_and_then (λ o. both (or_absent [] (member_bytes nested_b true f) o)
-              (oneof_bytes nested_b ms (held_after true o) fs)) o ≡ Some [])
+          (oneof_bytes nested_b ms (held_after true o) fs)) o ≡ Some [])
           × (option_and_then (λ o. option_and_then (λ now. oneof_read nested_r ms now fs)
-              (or_absent (Member n p) (member_read nested_r (Member n p) f) o)) o ≡ Some (Member n p)))
+          (or_absent (Member n p) (member_read nested_r (Member n p) f) o)) o ≡ Some (Member n p)))
       by_given None h = inl (refl, refl)
       by_given (Some None) (inl h) = inl (ap (both (Some [])) h.0, h.1)
       by_given (Some None) (inr h) = inr (ap (both (Some [])) h.0, h.1)
@@ -333,28 +340,28 @@ module _ (nested_r : ℕ → Json → Option Parts) (nested_b : ℕ → Json →
     where
       by_rest : (p : Part) → both_or_none ms f.number p fs
           → both (Some (single_out false f.number f.kind p)) (oneof_bytes nested_b ms true fs) ≡ option_map
-              (oneof_out members) (oneof_read nested_r ms (Member f.number p) fs)
+          (oneof_out members) (oneof_read nested_r ms (Member f.number p) fs)
       by_rest p (inl h) = ap (both (Some (single_out false f.number f.kind p))) h.0 ∙ sym
           (ap (option_map (oneof_out members)) h.1)
       by_rest p (inr h) =
           ap (both (Some (single_out false f.number f.kind p))) h.0
           ∙ ap (λ (xs : List ℕ). Some xs) (append-nil (single_out false f.number f.kind p) ∙ ap
-              (λ (x : Kind). out_of f.number (part_values table p x)) (sym k.0))
+          (λ (x : Kind). out_of f.number (part_values table p x)) (sym k.0))
           ∙ sym (ap (option_map (oneof_out members)) h.1)
 
       by_part : (o : Option Part) → both (option_map (single_out false f.number f.kind) o)
           (oneof_bytes nested_b ms true fs)
           ≡ option_map (oneof_out members) (option_and_then (λ now. oneof_read nested_r ms now fs)
-              (option_map (Member f.number) o))
+          (option_map (Member f.number) o))
       by_part None = refl
       by_part (Some p) = by_rest p (held_stays ms f.number p fs)
 
       by_given : (o : Option (Option Json)) → oneof_bytes nested_b ms false fs ≡ option_map (oneof_out members)
           (oneof_read nested_r ms Absent fs)
           → option_and_then (λ o. both (or_absent [] (member_bytes nested_b false f) o)
-              (oneof_bytes nested_b ms (held_after false o) fs)) o
+          (oneof_bytes nested_b ms (held_after false o) fs)) o
           ≡ option_map (oneof_out members) (option_and_then (λ o. option_and_then (λ now. oneof_read nested_r ms now fs)
-              (or_absent Absent (member_read nested_r Absent f) o)) o)
+          (or_absent Absent (member_read nested_r Absent f) o)) o)
       by_given None h = refl
       by_given (Some None) h = both_nothing (oneof_bytes nested_b ms false fs) ∙ h
       by_given (Some (Some j)) h = ap (λ (o : Option (List ℕ)). both o (oneof_bytes nested_b ms true fs))
@@ -386,9 +393,9 @@ module _ (nested_r : ℕ → Json → Option Parts) (nested_b : ℕ → Json →
   rows_same ms (row ∷ rows) k =
       ap₂ both (row_same ms row k.0) (rows_same ms rows k.1)
       ∙ both_same (row_out row) (rows_out rows) (rows_out (row ∷ rows)) cons (row_read nested_r ms row)
-          (rows_read nested_r ms rows)
+      (rows_read nested_r ms rows)
       (λ p ps. sym (flat_map-append record_bytes (row_records (plain_row row) p
-          (part_values table p (kind_of (plain_row row) p))) (message_records table ps (map plain_row rows))))
+      (part_values table p (kind_of (plain_row row) p))) (message_records table ps (map plain_row rows))))
 
   members_same : (rows : List NamedRow) (ms : Members) → RowsKnow rows → members_bytes nested_b rows ms ≡ option_map
       (rows_out rows) (members_read nested_r rows ms)
@@ -434,7 +441,7 @@ distinct_front [] ys d = refl
 distinct_front (x ∷ xs) ys d =
     let e = and_split _ _ d in
     let other : includes xs x ≡ false = (or_split (includes xs x) (includes ys x)
-        (sym (includes-append xs ys x) ∙ not_false (includes (xs ++ ys) x) e.0)).0 in
+    (sym (includes-append xs ys x) ∙ not_false (includes (xs ++ ys) x) e.0)).0 in
     let front = distinct_front xs ys e.1 in
     rw (other, front) refl
 
@@ -444,23 +451,29 @@ other_way a b e = ne_eqb b a (λ q. eqb-false a b e (sym q))
 knows_more : (s : ℕ) (m : ℕ × Kind) (members : List (ℕ × Kind)) (others : List (ℕ × Kind)) → includes
     (map (λ o. o.0) others) m.0 ≡ false
     → Knows members (map (λ o. named_field s o.0 o.1) others) → Knows (m ∷ members)
-        (map (λ o. named_field s o.0 o.1) others)
+    (map (λ o. named_field s o.0 o.1) others)
 knows_more s m members [] h k = tt
 knows_more s m members (o ∷ others) h k =
     let e = or_split _ _ h in
-    let first = other_way m.0 o.0 e.0 in
-    (ap (λ (b : Bool). cond b m.1 (member_kind members o.0)) first ∙ k.0, ap
-        (λ (b : Bool). b || includes (map (λ o. o.0) members) o.0) first ∙ k.1, knows_more s m members others e.1 k.2)
+    let first = other_way m.0 o.0 e.0 in (
+      ap (λ (b : Bool). cond b m.1 (member_kind members o.0)) first ∙ k.0,
+      ap
+          (λ (b : Bool). b || includes (map (λ o. o.0) members) o.0) first ∙ k.1,
+      knows_more s m members others e.1 k.2,
+    )
 
 knows_members : (s : ℕ) (members : List (ℕ × Kind)) → are_distinct (map (λ m. m.0) members) ≡ true → Knows members
     (map (λ m. named_field s m.0 m.1) members)
 knows_members s [] d = tt
 knows_members s (m ∷ members) d =
     let e = and_split _ _ d in
-    let own = eq-eqb m.0 m.0 refl in
-    (ap (λ (b : Bool). cond b m.1 (member_kind members m.0)) own, ap
-        (λ (b : Bool). b || includes (map (λ o. o.0) members) m.0) own, knows_more s m members members (not_false _ e.0)
-        (knows_members s members e.1))
+    let own = eq-eqb m.0 m.0 refl in (
+      ap (λ (b : Bool). cond b m.1 (member_kind members m.0)) own,
+      ap
+          (λ (b : Bool). b || includes (map (λ o. o.0) members) m.0) own,
+      knows_more s m members members (not_false _ e.0)
+          (knows_members s members e.1),
+    )
 
 row_knows : (s : ℕ) (row : Row) → are_distinct (numbers row) ≡ true → RowKnows (named_row s row)
 row_knows s (schema.Plain n k) d = tt
@@ -471,8 +484,11 @@ row_knows s (schema.OneOf members) d = subst (λ (ms : List (ℕ × Kind)). Know
 
 pub rows_know : (s : ℕ) (rows : List Row) → are_distinct (all_numbers rows) ≡ true → RowsKnow (map (named_row s) rows)
 rows_know s [] d = tt
-rows_know s (row ∷ rows) d = (row_knows s row (distinct_front (numbers row) (all_numbers rows) d), rows_know s rows
-    (distinct_back (numbers row) (all_numbers rows) d))
+rows_know s (row ∷ rows) d = (
+  row_knows s row (distinct_front (numbers row) (all_numbers rows) d),
+  rows_know s rows
+      (distinct_back (numbers row) (all_numbers rows) d),
+)
 
 -- ---- messages
 
@@ -482,6 +498,6 @@ unfolding message_bytes message_read named_rows
 message_agrees zero s j = refl
 message_agrees (suc levels) s j =
     object_same (message_read levels) (message_bytes levels) (message_agrees levels) (named_rows s) j
-        (rows_know s (table s) (and_split _ _ (are_schemas s)).1)
+    (rows_know s (table s) (and_split _ _ (are_schemas s)).1)
     ∙ ap (λ (rows : List Row). option_map (λ ps. record_list_bytes (message_records table ps rows))
-        (object_read (message_read levels) (named_rows s) j)) (plain_rows s (table s))
+    (object_read (message_read levels) (named_rows s) j)) (plain_rows s (table s))

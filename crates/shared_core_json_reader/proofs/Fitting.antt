@@ -1,6 +1,7 @@
 -- What is read fits its schema, and is no deeper than it may be.
-use Rattle.std.proofs.Common.{◌≡◌, ℕ, zero, suc, ◌-◌, ◌%◌, ◌^◌, ◌<◌, ◌≤◌, List, [], ◌∷◌, map, Bool, true, false, cond,
-    not, ◌&&◌, ◌||◌, Option, Some, None, option_map, option_and_then, refl, sym, ap, subst, ◌∙◌, arith, eqb, ltb, leb}
+use Rattle.std.proofs.Common.{◌≡◌, ℕ, zero, suc, ◌-◌, ◌%◌, ◌^◌, ◌<◌, ◌≤◌, List, [], ◌∷◌, map, Bool, true, false, cond}
+use Rattle.std.proofs.Common.{not, ◌&&◌, ◌||◌, Option, Some, None, option_map, option_and_then, refl, sym, ap, subst}
+use Rattle.std.proofs.Common.{◌∙◌, arith, eqb, ltb, leb}
 use Rattle.std.specs.Option.{option_or}
 use Rattle.std.specs.List.{list_all}
 use Rattle.std.specs.Str.{is_utf8, bytes_eq}
@@ -8,23 +9,25 @@ use Rattle.std.proofs.lemmas.Bool.{ltb-true}
 use Rattle.std.proofs.lemmas.Str.{is_utf8-from_IsUtf8, IsUtf8-nil}
 use Rattle.json.specs.Json.{Json, null, boolean, number, string, array, object, Items, no_items, item, Members}
 use Rattle.json.specs.Find.{as_str}
-use Rattle.shared_core_wire.specs.Schema.{Kind, Row, U32, U64, Boolean, Enumeration, Text, ByteString, Message,
-    table_of, includes, member_kind, all_numbers}
+use Rattle.shared_core_wire.specs.Schema.{Kind, Row, U32, U64, Boolean, Enumeration, Text, ByteString, Message}
+use Rattle.shared_core_wire.specs.Schema.{table_of, includes, member_kind, all_numbers}
 use Rattle.shared_core_wire.specs.Schema as schema
-use Rattle.shared_core_wire.specs.Value.{Part, Parts, Absent, Number, Bytes, Nested, Elements, Member, nil, cons,
-    default_of}
+use Rattle.shared_core_wire.specs.Value.{Part, Parts, Absent, Number, Bytes, Nested, Elements, Member, nil, cons}
+use Rattle.shared_core_wire.specs.Value.{default_of}
 use Rattle.shared_core_wire.specs.Canonical.{kind_of, part_levels, levels}
 use Rattle.shared_core_wire.specs.Fitting.{is_single, has_shape, NumberFits, PartFits, ElementsFit, Fits}
 use Rattle.shared_core_wire.proofs.Runs.{and_split, and_join}
 use Rattle.shared_core_codec.specs.Table.{schemas, table}
 use Rattle.shared_core_codec.proofs.Tables.{are_schemas}
 use Rattle.shared_core_json_reader.specs.EnumValues.{EnumField, enum_fields}
-use Rattle.shared_core_json_reader.specs.Rows.{NamedField, NamedRow, Plain, Optional, Repeated, OneOf, named_field,
-    named_row, named_rows, enum_values, values_in}
-use Rattle.shared_core_json_reader.specs.Scalars.{Whole, whole_read, unsigned_below, signed_bits, unsigned_read,
-    boolean_read, value_named, enum_read, utf8_text, text_read, bytes_read}
-use Rattle.shared_core_json_reader.specs.Reading.{are_known, given, single_read, field_read, elements_read, list_read,
-    or_absent, member_read, oneof_read, row_read, rows_read, object_read, message_read}
+use Rattle.shared_core_json_reader.specs.Rows.{NamedField, NamedRow, Plain, Optional, Repeated, OneOf, named_field}
+use Rattle.shared_core_json_reader.specs.Rows.{named_row, named_rows, enum_values, values_in}
+use Rattle.shared_core_json_reader.specs.Scalars.{Whole, whole_read, unsigned_below, signed_bits, unsigned_read}
+use Rattle.shared_core_json_reader.specs.Scalars.{boolean_read, value_named, enum_read, utf8_text, text_read}
+use Rattle.shared_core_json_reader.specs.Scalars.{bytes_read}
+use Rattle.shared_core_json_reader.specs.Reading.{are_known, given, single_read, field_read, elements_read, list_read}
+use Rattle.shared_core_json_reader.specs.Reading.{or_absent, member_read, oneof_read, row_read, rows_read, object_read}
+use Rattle.shared_core_json_reader.specs.Reading.{message_read}
 use Rattle.shared_core_json_reader.proofs.Agreeing.{plain_row, plain_rows, Knows, RowKnows, RowsKnow, rows_know}
 
 -- ---- what an option holds
@@ -60,7 +63,7 @@ signed_fits w m e = by_sign w.negative e
     by_sign true h =
         let t = some_if (leb w.magnitude (2 ^ 31)) (Some ((2 ^ 32 - w.magnitude) % 2 ^ 32)) m h in
         let q : (2 ^ 32 - w.magnitude) % 2 ^ 32 ≡ m = let s : Some ((2 ^ 32 - w.magnitude) % 2 ^ 32) ≡ Some m = t.1 in
-            cc in
+        cc in
         omega (arith, q)
     by_sign false h =
         let t = some_if (ltb w.magnitude (2 ^ 31)) (Some w.magnitude) m h in
@@ -151,8 +154,12 @@ module _ (nested : ℕ → Json → Option Parts) (bound : ℕ) (fit : (s : ℕ)
       let y = some_then utf8_text (as_str j) x.0 x.1 in
       let t = some_if (is_utf8 y.0) (Some y.0) x.0 y.2 in
       let q : y.0 ≡ x.0 = let s : Some y.0 ≡ Some x.0 = t.1 in cc in
-      subst (λ (r : Part). Single r Text) x.2 (record { single = refl; fits = subst (λ (b : List ℕ). is_utf8 b ≡ true) q
-          t.0; low = omega arith })
+      subst (λ (r : Part). Single r Text) x.2 (record {
+        single = refl;
+        fits = subst (λ (b : List ℕ). is_utf8 b ≡ true) q
+            t.0;
+        low = omega arith;
+      })
   single_fits ByteString values j p low e = let x = some_map Bytes (bytes_read j) p e in subst
       (λ (r : Part). Single r ByteString) x.2 (record { single = refl; fits = tt; low = omega arith })
   single_fits (Message s) values j p low e =
@@ -178,7 +185,7 @@ module _ (nested : ℕ → Json → Option Parts) (bound : ℕ) (fit : (s : ℕ)
       let one = single_fits f.kind f.values j x.0 low x.1 in
       let more = elements_fit f js y.0 low y.1 in
       subst (λ (qs : Parts). ElementsFit table qs f.kind × (levels qs ≤ bound)) y.2
-          ((one.single, one.fits, more.0), omega (arith, one.low, more.1))
+      ((one.single, one.fits, more.0), omega (arith, one.low, more.1))
 
   list_fits : (f : NamedField) (j : Json) (p : Part) → are_low f.values ≡ true → list_read nested f j ≡ Some p → RowFits
       (Repeated f) p
@@ -252,12 +259,12 @@ module _ (nested : ℕ → Json → Option Parts) (bound : ℕ) (fit : (s : ℕ)
     where
       by_given : (o : Option (Option Json)) → (oneof_read nested ms Absent fs ≡ Some q → HeldFits members q)
           → option_and_then (λ o. option_and_then (λ now. oneof_read nested ms now fs)
-              (or_absent Absent (member_read nested Absent f) o)) o ≡ Some q → HeldFits members q
+          (or_absent Absent (member_read nested Absent f) o)) o ≡ Some q → HeldFits members q
       by_given None later h = absurd cc
       by_given (Some None) later h = later h
       by_given (Some (Some j)) later h =
           let x = some_then (λ now. oneof_read nested ms now fs) (option_map (Member f.number) (field_read nested f j))
-              q h in
+          q h in
           let y = some_map (Member f.number) (field_read nested f j) x.0 x.1 in
           let one = single_fits f.kind f.values j y.0 low.0 y.1 in
           let stays = member_stays ms f.number y.0 q fs (ap (λ (now : Part). oneof_read nested ms now fs) y.2 ∙ x.2) in
@@ -272,15 +279,15 @@ module _ (nested : ℕ → Json → Option Parts) (bound : ℕ) (fit : (s : ℕ)
   unfolding PartFits part_levels
   row_fits ms (Plain f) p low k e =
       given_fits (Plain f) (field_read nested f) (default_of f.kind) (given f ms) p
-          (plain_fits f (default_of f.kind) (default_fits f.kind low.0))
-          (λ j q h. plain_fits f q (single_fits f.kind f.values j q low.1 h)) e
+      (plain_fits f (default_of f.kind) (default_fits f.kind low.0))
+      (λ j q h. plain_fits f q (single_fits f.kind f.values j q low.1 h)) e
   row_fits ms (Optional f) p low k e =
       given_fits (Optional f) (field_read nested f) Absent (given f ms) p
-          (record { shape = refl; fits = tt; low = omega arith })
-          (λ j q h. optional_fits f q (single_fits f.kind f.values j q low h)) e
+      (record { shape = refl; fits = tt; low = omega arith })
+      (λ j q h. optional_fits f q (single_fits f.kind f.values j q low h)) e
   row_fits ms (Repeated f) p low k e =
       given_fits (Repeated f) (list_read nested f) (Elements nil) (given f ms) p
-          (record { shape = refl; fits = tt; low = omega arith }) (λ j q h. list_fits f j q low h) e
+      (record { shape = refl; fits = tt; low = omega arith }) (λ j q h. list_fits f j q low h) e
   row_fits ms (OneOf fs) p low k e = let h = oneof_fits ms (map (λ f. (f.number, f.kind)) fs) fs p low k e in record
       { shape = h.shape; fits = h.fits; low = h.low }
 
@@ -295,7 +302,7 @@ module _ (nested : ℕ → Json → Option Parts) (bound : ℕ) (fit : (s : ℕ)
       let one = row_fits ms row x.0 low.0 k.0 x.1 in
       let more = rows_fit ms rows y.0 low.1 k.1 y.1 in
       subst (λ (qs : Parts). Fits table qs (map plain_row (row ∷ rows)) × (levels qs ≤ bound)) y.2
-          ((one.shape, one.fits, more.0), omega (arith, one.low, more.1))
+      ((one.shape, one.fits, more.0), omega (arith, one.low, more.1))
 
   object_fits : (rows : List NamedRow) (j : Json) (ps : Parts) → RowsLow rows → RowsKnow rows → object_read nested rows
       j ≡ Some ps → Fits table ps (map plain_row rows) × (levels ps ≤ bound)
@@ -360,6 +367,6 @@ unfolding message_read named_rows
 message_fits zero s j v e = absurd cc
 message_fits (suc n) s j v e =
     let h : Fits table v (map plain_row (named_rows s)) × (levels v ≤ n) = object_fits (message_read n) n
-        (message_fits n) (named_rows s) j v (rows_low s (table s) (have_scalars s))
-        (rows_know s (table s) (and_split _ _ (are_schemas s)).1) e in
+    (message_fits n) (named_rows s) j v (rows_low s (table s) (have_scalars s))
+    (rows_know s (table s) (and_split _ _ (are_schemas s)).1) e in
     (subst (λ (rows : List Row). Fits table v rows) (plain_rows s (table s)) h.0, omega (arith, h.1))

@@ -1,6 +1,7 @@
 -- The JSON of a value, as tokens, is read as the value's canonical payload.
-use Rattle.std.proofs.Common.{◌≡◌, ℕ, suc, ◌+◌, ◌*◌, ◌≤◌, max, List, [], ◌∷◌, ◌++◌, length, Bool, true, false, cond,
-    ◌&&◌, Some, option_map, option_and_then, IsUtf8, refl, sym, ap, subst, ◌∙◌, append-nil, arith}
+use Rattle.std.proofs.Common.{◌≡◌, ℕ, suc, ◌+◌, ◌*◌, ◌≤◌, max, List, [], ◌∷◌, ◌++◌, length, Bool, true, false, cond}
+use Rattle.std.proofs.Common.{◌&&◌, Some, option_map, option_and_then, IsUtf8, refl, sym, ap, subst, ◌∙◌, append-nil}
+use Rattle.std.proofs.Common.{arith}
 use Rattle.std.proofs.lemmas.Bool.{eqb-true}
 use Rattle.std.proofs.lemmas.Str.{is_utf8-from_IsUtf8}
 use Rattle.std.proofs.lemmas.List.Concat.{flat_map-append}
@@ -18,14 +19,14 @@ use Rattle.shared_core_wire.specs.Encoding.{shortest_varint, key_bytes, record_b
 use Rattle.shared_core_wire.specs.Schema.{Kind, Row, U32, U64, Boolean, Enumeration, Text, ByteString, Message}
 use Rattle.shared_core_wire.specs.Schema as schema
 use Rattle.shared_core_wire.specs.Value.{Part, Parts, Absent, Number, Bytes, Nested, Elements, Member, nil, cons}
-use Rattle.shared_core_wire.specs.Canonical.{kind_of, number_of, is_default, row_records, part_values, element_values,
-    message_records, canonical_payload, part_levels, levels}
+use Rattle.shared_core_wire.specs.Canonical.{kind_of, number_of, is_default, row_records, part_values, element_values}
+use Rattle.shared_core_wire.specs.Canonical.{message_records, canonical_payload, part_levels, levels}
 use Rattle.shared_core_wire.specs.Fitting.{is_single, has_shape, PartFits, ElementsFit, Fits}
 use Rattle.shared_core_wire.proofs.Runs.{and_split}
 use Rattle.shared_core_codec.specs.Table.{table}
 use Rattle.shared_core_json.specs.Fields.{names_of, name_of}
-use Rattle.shared_core_json.specs.Form.{is_present, member_if, number_json, byte_string_json, bytes_json, part_json,
-    items_json, members_json, json_with}
+use Rattle.shared_core_json.specs.Form.{is_present, member_if, number_json, byte_string_json, bytes_json, part_json}
+use Rattle.shared_core_json.specs.Form.{items_json, members_json, json_with}
 use Rattle.shared_core_json_reader.specs.Laws.{JsonIsReadBack}
 use Rattle.shared_core_json_reader.specs.Reading.{only_value, text_payload}
 use Rattle.shared_core_json_reader.proofs.Agreeing.{out_of}
@@ -102,10 +103,16 @@ mutual
 
   part_low : (texts : Bool) (p : Part) (k : Kind) → PartFits table p k → HoldsSingle p → Low texts p k
   part_low texts Absent k f h = record { low = omega arith; lower = λ e. omega arith }
-  part_low texts (Number n) k f h = record { low = omega (arith, number_depth k n); lower = λ e. omega
-      (arith, number_depth k n) }
-  part_low texts (Bytes b) k f h = record { low = omega (arith, bytes_depth texts k b); lower = λ e. omega
-      (arith, bytes_depth texts k b) }
+  part_low texts (Number n) k f h = record {
+    low = omega (arith, number_depth k n);
+    lower = λ e. omega
+        (arith, number_depth k n);
+  }
+  part_low texts (Bytes b) k f h = record {
+    low = omega (arith, bytes_depth texts k b);
+    lower = λ e. omega
+        (arith, bytes_depth texts k b);
+  }
   part_low texts (Nested ps) (Message t) f h = let m = members_low texts (names_of t) ps (table t) f in record
       { low = omega (arith, m); lower = λ e. omega (arith, m) }
   part_low texts (Nested ps) U32 f h = absurd f
@@ -132,8 +139,8 @@ mutual
   members_low texts ns (cons p ps) (row ∷ rows) f =
       let one = (part_low texts p (kind_of row p) f.1 (shape_holds row p f.0)).low in
       member_low (is_present row p) (name_of ns (number_of row p)) (part_json texts p (kind_of row p))
-          (members_json texts ns ps rows) (2 * max (part_levels p) (levels ps) + 2) (omega (arith, one))
-          (omega (arith, members_low texts ns ps rows f.2))
+      (members_json texts ns ps rows) (2 * max (part_levels p) (levels ps) + 2) (omega (arith, one))
+      (omega (arith, members_low texts ns ps rows f.2))
 
 -- ---- the bytes of a value are those of its payload
 
@@ -258,9 +265,11 @@ mutual
   elements_bytes : (ps : Parts) (k : Kind) → ElementsFit table ps k → WsBytes (element_values table ps k) → PartsBytes
       ps
   elements_bytes nil k f h = tt
-  elements_bytes (cons p ps) k f h =
-      (part_bytes p k f.1 (ws_front (part_values table p k) (element_values table ps k) h), elements_bytes ps k f.2
-          (ws_back (part_values table p k) (element_values table ps k) h))
+  elements_bytes (cons p ps) k f h = (
+    part_bytes p k f.1 (ws_front (part_values table p k) (element_values table ps k) h),
+    elements_bytes ps k f.2
+        (ws_back (part_values table p k) (element_values table ps k) h),
+  )
 
   message_bytes_of : (v : Parts) (rows : List Row) → Fits table v rows → IsBytes
       (record_list_bytes (message_records table v rows)) → PartsBytes v
@@ -269,7 +278,7 @@ mutual
   message_bytes_of (cons p ps) (row ∷ rows) f h =
       let ws = part_values table p (kind_of row p) in
       let split = subst IsBytes (flat_map-append record_bytes (row_records row p ws) (message_records table ps rows)) h
-          in (
+      in (
         row_bytes row p ws f.0 f.1 (front_bytes (record_list_bytes (row_records row p ws))
             (record_list_bytes (message_records table ps rows)) split) (part_bytes p (kind_of row p) f.1),
         message_bytes_of ps rows f.2 (back_bytes (record_list_bytes (row_records row p ws))
@@ -294,9 +303,9 @@ pub value_back : (texts : Bool) (s : ℕ) (v : Parts) (text : List ℕ) → Fits
 value_back texts s v text fits low held utf8 lexed =
     let deep : depth (json_with texts s v) ≤ 1000 = omega (arith, value_low texts s v fits) in
     let is : IsText text (json_tokens (json_with texts s v)) = record
-        { utf8 = is_utf8-from_IsUtf8 text utf8; lexed = sym lexed } in
+    { utf8 = is_utf8-from_IsUtf8 text utf8; lexed = sym lexed } in
     text_of_value s text (json_with texts s v) (of_tokens text (json_tokens (json_with texts s v))
-        (Some (json_with texts s v)) is (whole_value (json_with texts s v) deep))
+    (Some (json_with texts s v)) is (whole_value (json_with texts s v) deep))
     ∙ ap (option_map (canonical_payload table s)) (message_back texts 100 s v fits low held)
 
 pub json_back : (texts : Bool) (s : ℕ) → JsonIsReadBack texts s

@@ -1,6 +1,6 @@
 -- A message at each level, and one more element of a list.
-use Rattle.std.proofs.Common.{◌≡◌, ℕ, zero, suc, ◌+◌, ◌-◌, ◌<◌, List, [], ◌∷◌, ◌++◌, drop, map, Bool, true, false,
-    Option, Some, None, option_and_then, refl, sym, ap, ◌∙◌, append_assoc, arith}
+use Rattle.std.proofs.Common.{◌≡◌, ℕ, zero, suc, ◌+◌, ◌-◌, ◌<◌, List, [], ◌∷◌, ◌++◌, drop, map, Bool, true, false}
+use Rattle.std.proofs.Common.{Option, Some, None, option_and_then, refl, sym, ap, ◌∙◌, append_assoc, arith}
 use Rattle.json.specs.Token.{Token}
 use Rattle.json.specs.Json.{Json, Members, if_last, value}
 use Rattle.json.specs.Value.{value_view, items_view}
@@ -10,8 +10,8 @@ use Rattle.shared_core_codec.specs.Table.{table}
 use Rattle.shared_core_codec.specs.declared.rows.Field.{Field}
 use Rattle.shared_core_json_reader.specs.Rows.{NamedField, in_schema, named_members, named_row, named_rows}
 use Rattle.shared_core_json_reader.specs.Reading.{given, only_value, or_absent}
-use Rattle.shared_core_json_reader.specs.Appended.{both, field_bytes, items_bytes, member_bytes, held_after,
-    oneof_bytes, object_bytes, message_bytes, after}
+use Rattle.shared_core_json_reader.specs.Appended.{both, field_bytes, items_bytes, member_bytes, held_after}
+use Rattle.shared_core_json_reader.specs.Appended.{oneof_bytes, object_bytes, message_bytes, after}
 
 pub no_level : (levels s : ℕ) (j : Json) → levels ≡ 0 → message_bytes levels s j ≡ None
 unfolding message_bytes
@@ -42,11 +42,11 @@ after_both old new (Some xs) (Some ys) e = let q : old ++ xs ≡ new = cc in ap 
 pub items_turn : {A : Type 0} (nested : ℕ → Json → Option (List ℕ)) (f : NamedField) (xs : List (Value A)) (i : ℕ)
     (x : Value A) (old new : List ℕ) (all : Option (List ℕ))
     → drop i xs ≡ x ∷ drop (i + 1) xs → after old (field_bytes nested false f (value_view x)) ≡ Some new → after old
-        (items_bytes nested f (items_view (drop i xs))) ≡ all
+    (items_bytes nested f (items_view (drop i xs))) ≡ all
     → after new (items_bytes nested f (items_view (drop (i + 1) xs))) ≡ all
 items_turn {A} nested f xs i x old new all here e h =
     sym (after_both old new (field_bytes nested false f (value_view x))
-        (items_bytes nested f (items_view (drop (i + 1) xs))) e)
+    (items_bytes nested f (items_view (drop (i + 1) xs))) e)
     ∙ sym (ap (λ (ys : List (Value A)). after old (items_bytes nested f (items_view ys))) here) ∙ h
 
 -- what is appended for a member of a oneof that holds none before
@@ -60,7 +60,7 @@ pub oneof_turn : (nested : ℕ → Json → Option (List ℕ)) (ms : Members) (s
     (f : NamedField) (j : Json) (held : Bool) (old new : List ℕ) (all : Option (List ℕ))
     → drop i xs ≡ x ∷ drop (i + 1) xs → f ≡ in_schema s x → given f ms ≡ Some (Some j) → held ≡ false
     → after old (field_bytes nested false f j) ≡ Some new → after old
-        (oneof_bytes nested ms held (named_members s (drop i xs))) ≡ all
+    (oneof_bytes nested ms held (named_members s (drop i xs))) ≡ all
     → after new (oneof_bytes nested ms true (named_members s (drop (i + 1) xs))) ≡ all
 oneof_turn nested ms s xs i x f j held old new all here named found none e h =
     let rest = named_members s (drop (i + 1) xs) in

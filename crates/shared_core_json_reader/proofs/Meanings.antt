@@ -1,24 +1,25 @@
 -- What a well-formed payload means fits its schema, is at most one hundred levels deep, and its bytes are the
 -- payload's.
-use Rattle.std.proofs.Common.{◌≡◌, ℕ, zero, suc, ◌^◌, ◌<◌, ◌≤◌, List, [], ◌∷◌, ◌++◌, Bool, true, false, cond, ◌&&◌,
-    Option, Some, None, option_map, refl, sym, ap, subst, ◌∙◌, append-nil, arith, eqb, eq-eqb}
+use Rattle.std.proofs.Common.{◌≡◌, ℕ, zero, suc, ◌^◌, ◌<◌, ◌≤◌, List, [], ◌∷◌, ◌++◌, Bool, true, false, cond, ◌&&◌}
+use Rattle.std.proofs.Common.{Option, Some, None, option_map, refl, sym, ap, subst, ◌∙◌, append-nil, arith, eqb, eq-eqb}
 use Rattle.std.proofs.lemmas.Bool.{eqb-true}
 use Rattle.std.proofs.lemmas.Str.{is_utf8-from_IsUtf8, IsUtf8-nil}
 use Rattle.std.specs.List.{list_all}
 use Rattle.base64.specs.GeneralPurpose.{IsBytes}
 use Rattle.base64.proofs.EngineFacts.{front_bytes}
-use Rattle.shared_core_wire.specs.Grammar.{RecordValue, Varint, Fixed64, Length, Group, Fixed32, FieldRecord, content,
-    IsRecordBody, IsGroupContent, IsRecordListWithin}
+use Rattle.shared_core_wire.specs.Grammar.{RecordValue, Varint, Fixed64, Length, Group, Fixed32, FieldRecord, content}
+use Rattle.shared_core_wire.specs.Grammar.{IsRecordBody, IsGroupContent, IsRecordListWithin}
 use Rattle.shared_core_wire.specs.Reader.{packed_numbers, record_list}
-use Rattle.shared_core_wire.specs.Schema.{Kind, Row, U32, U64, Boolean, Enumeration, Text, ByteString, Message, Plain,
-    Optional, Repeated, OneOf, numbers, includes, member_kind}
-use Rattle.shared_core_wire.specs.Value.{Part, Parts, Absent, Number, Bytes, Nested, Elements, Member, nil, cons, ◌+++◌,
-    one_part, default_of, empty_value}
-use Rattle.shared_core_wire.specs.Acceptance.{NestedAcceptance, accepts_number, accepts_value, accepts_element,
-    accepts_in_row, row_allows, accepts_record, some_passes, accepts_message}
-use Rattle.shared_core_wire.specs.Overlay.{NestedOverlay, last, values, joined_contents, own_records, all_numbered,
-    last_run, number_part, scalar_part, message_in, low_numbers, packed_elements, with_elements, member_at, singular_of,
-    singular_over, elements_of, all_elements, row_over, rows_over, or_empty, message_overlay}
+use Rattle.shared_core_wire.specs.Schema.{Kind, Row, U32, U64, Boolean, Enumeration, Text, ByteString, Message, Plain}
+use Rattle.shared_core_wire.specs.Schema.{Optional, Repeated, OneOf, numbers, includes, member_kind}
+use Rattle.shared_core_wire.specs.Value.{Part, Parts, Absent, Number, Bytes, Nested, Elements, Member, nil, cons, ◌+++◌}
+use Rattle.shared_core_wire.specs.Value.{one_part, default_of, empty_value}
+use Rattle.shared_core_wire.specs.Acceptance.{NestedAcceptance, accepts_number, accepts_value, accepts_element}
+use Rattle.shared_core_wire.specs.Acceptance.{accepts_in_row, row_allows, accepts_record, some_passes, accepts_message}
+use Rattle.shared_core_wire.specs.Overlay.{NestedOverlay, last, values, joined_contents, own_records, all_numbered}
+use Rattle.shared_core_wire.specs.Overlay.{last_run, number_part, scalar_part, message_in, low_numbers, packed_elements}
+use Rattle.shared_core_wire.specs.Overlay.{with_elements, member_at, singular_of, singular_over, elements_of}
+use Rattle.shared_core_wire.specs.Overlay.{all_elements, row_over, rows_over, or_empty, message_overlay}
 use Rattle.json.specs.Tree.{json_tokens}
 use Rattle.json.specs.Print.{print}
 use Rattle.shared_core_json.specs.Form.{json_with}
@@ -63,9 +64,11 @@ all_read : (left : ℕ) (bytes : List ℕ) (rs : List FieldRecord) → IsRecordL
 all_read left bytes [] h b = tt
 all_read left bytes (r ∷ rs) h b =
     let whole = subst IsBytes h.2 b in
-    let one = subst IsBytes h.3.parts (front_bytes h.0 h.1 whole) in
-    (value_read (IsGroupContent left) h.3.body r.number r.value h.3.valued (back_bytes h.3.key h.3.body one), all_read
-        left h.1 rs h.4 (back_bytes h.0 h.1 whole))
+    let one = subst IsBytes h.3.parts (front_bytes h.0 h.1 whole) in (
+      value_read (IsGroupContent left) h.3.body r.number r.value h.3.valued (back_bytes h.3.key h.3.body one),
+      all_read
+          left h.1 rs h.4 (back_bytes h.0 h.1 whole),
+    )
 
 join_bytes : (a b : List ℕ) → IsBytes a → IsBytes b → IsBytes (a ++ b)
 join_bytes [] b h g i = g i
@@ -144,16 +147,25 @@ module _ (bound : ℕ) where
   default_in n U64 h = record { shape = refl; fits = omega arith; low = omega arith; bytes = tt }
   default_in n Boolean h = record { shape = refl; fits = omega arith; low = omega arith; bytes = tt }
   default_in n Enumeration h = record { shape = refl; fits = omega arith; low = omega arith; bytes = tt }
-  default_in n Text h = record { shape = refl; fits = is_utf8-from_IsUtf8 [] IsUtf8-nil; low = omega arith; bytes =
-      no_bytes }
+  default_in n Text h = record {
+    shape = refl;
+    fits = is_utf8-from_IsUtf8 [] IsUtf8-nil;
+    low = omega arith;
+    bytes =
+        no_bytes;
+  }
   default_in n ByteString h = record { shape = refl; fits = tt; low = omega arith; bytes = no_bytes }
   default_in n (Message s) h = absurd cc
 
   one_more : (row : Row) (rows : List Row) (p : Part) (v : Parts) → InRow row p → InRows rows v → InRows (row ∷ rows)
       (cons p v)
   unfolding PartFits part_levels
-  one_more row rows p v h g = record { fits = (h.shape, h.fits, g.fits); low = omega (arith, h.low, g.low); bytes =
-      (h.bytes, g.bytes) }
+  one_more row rows p v h g = record {
+    fits = (h.shape, h.fits, g.fits);
+    low = omega (arith, h.low, g.low);
+    bytes =
+        (h.bytes, g.bytes);
+  }
 
   empty_in : (rows : List Row) → plain_scalars rows ≡ true → InRows rows (empty_value rows)
   unfolding PartFits part_levels plain_scalars
@@ -186,14 +198,22 @@ module _ (bound : ℕ) where
   joined_listed nil qs k h g = g
   joined_listed (cons p ps) qs k h g =
       let more = joined_listed ps qs k (record { fits = h.fits.2; low = omega (arith, h.low); bytes = h.bytes.1 }) g in
-      record { fits = (h.fits.0, h.fits.1, more.fits); low = omega (arith, h.low, more.low); bytes =
-          (h.bytes.0, more.bytes) }
+      record {
+        fits = (h.fits.0, h.fits.1, more.fits);
+        low = omega (arith, h.low, more.low);
+        bytes =
+            (h.bytes.0, more.bytes);
+      }
 
   low_listed : (ns : List ℕ) → Listed (low_numbers ns) U32
   unfolding PartFits part_levels
   low_listed [] = record { fits = tt; low = omega arith; bytes = tt }
-  low_listed (n ∷ ns) = let more = low_listed ns in record { fits = (refl, omega arith, more.fits); low = omega
-      (arith, more.low); bytes = (tt, more.bytes) }
+  low_listed (n ∷ ns) = let more = low_listed ns in record {
+    fits = (refl, omega arith, more.fits);
+    low = omega
+        (arith, more.low);
+    bytes = (tt, more.bytes);
+  }
 
   run_listed : (o : Option (List ℕ)) → Listed (packed_elements o) U32
   unfolding PartFits part_levels
@@ -220,7 +240,7 @@ module _ (bound : ℕ) where
       (some : (s : ℕ) (b : List ℕ) → accepts s b ≡ true → 1 ≤ bound)
       (joined : (s : ℕ) (a b : List ℕ) → accepts s a ≡ true → accepts s b ≡ true → accepts s (a ++ b) ≡ true)
       (good : (s : ℕ) (v : Parts) (b : List ℕ) → accepts s b ≡ true → IsBytes b → IsGood bound s v → IsGood bound s
-          (nested s v b)) where
+      (nested s v b)) where
     bytes_single : (k : Kind) (b : List ℕ) → is_scalar k ≡ true → accepts_value accepts k (Length b) ≡ true → IsBytes b
         → Single (Bytes b) k
     unfolding PartFits part_levels
@@ -286,9 +306,11 @@ module _ (bound : ℕ) where
         (ap (accepts s) (append-nil (content w)) ∙ c.0, subst IsBytes (sym (append-nil (content w))) c.1)
     contents_taken s w (v ∷ ws) t =
         let c = content_taken s w t.0 t.1 in
-        let more = contents_taken s v ws t.2 in
-        (joined s (content w) (joined_contents (v ∷ ws)) c.0 more.0, join_bytes (content w) (joined_contents (v ∷ ws))
-            c.1 more.1)
+        let more = contents_taken s v ws t.2 in (
+          joined s (content w) (joined_contents (v ∷ ws)) c.0 more.0,
+          join_bytes (content w) (joined_contents (v ∷ ws))
+              c.1 more.1,
+        )
 
     last_single : (k : Kind) (w : RecordValue) (ws : List RecordValue) → is_scalar k ≡ true → Taken k (w ∷ ws) → Single
         (scalar_part k (last w ws)) k
@@ -305,7 +327,7 @@ module _ (bound : ℕ) where
     singular_single (Message s) p w ws h t =
         let c = contents_taken s w ws t in
         good_single s _ (good s (message_in (empty_value (table s)) p) (joined_contents (w ∷ ws)) c.0 c.1
-            (held_good s p (some s (joined_contents (w ∷ ws)) c.0) h))
+        (held_good s p (some s (joined_contents (w ∷ ws)) c.0) h))
 
     -- ---- elements of occurrences
 
@@ -374,9 +396,11 @@ module _ (bound : ℕ) where
         (OneOf members) rs → Taken (member_kind members n) (values rs)
     numbered_taken members n [] a t = tt
     numbered_taken members n (r ∷ rs) a t =
-        let e = and_split _ _ a in
-        (ap (λ (m : ℕ). accepts_value accepts (member_kind members m) r.value) (sym (eqb-true r.number n e.0)) ∙ t.1,
-            t.2, numbered_taken members n rs e.1 t.3)
+        let e = and_split _ _ a in (
+          ap (λ (m : ℕ). accepts_value accepts (member_kind members m) r.value) (sym (eqb-true r.number n e.0)) ∙ t.1,
+          t.2,
+          numbered_taken members n rs e.1 t.3,
+        )
 
     run_taken : (members : List (ℕ × Kind)) (n : ℕ) (rs : List FieldRecord) → RowTakes (OneOf members) rs → Taken
         (member_kind members n) (values (last_run n rs))
@@ -396,8 +420,12 @@ module _ (bound : ℕ) where
 
     run_starts : (n : ℕ) (r : FieldRecord) (rs : List FieldRecord) → (last r rs).number ≡ n → Starts
         (last_run n (r ∷ rs))
-    run_starts n r [] e = record { first = r; others = []; is = ap (λ (b : Bool). cond (b && true) (r ∷ []) [])
-        (eq-eqb r.number n e) }
+    run_starts n r [] e = record {
+      first = r;
+      others = [];
+      is = ap (λ (b : Bool). cond (b && true) (r ∷ []) [])
+          (eq-eqb r.number n e);
+    }
     run_starts n r (q ∷ rs) e = by_test (run_starts n q rs e) (all_numbered n (r ∷ q ∷ rs))
       where
         by_test : Starts (last_run n (q ∷ rs)) → (b : Bool) → Starts (cond b (r ∷ q ∷ rs) (last_run n (q ∷ rs)))
@@ -421,8 +449,12 @@ module _ (bound : ℕ) where
     member_held members n (Member m p) h = by_test (eqb m n) refl
       where
         by_test : (b : Bool) → eqb m n ≡ b → Held (cond b p Absent) (member_kind members n)
-        by_test true e = record { fits = subst (λ (i : ℕ). PartFits table p (member_kind members i)) (eqb-true m n e)
-            h.fits; low = h.low; bytes = h.bytes }
+        by_test true e = record {
+          fits = subst (λ (i : ℕ). PartFits table p (member_kind members i)) (eqb-true m n e)
+              h.fits;
+          low = h.low;
+          bytes = h.bytes;
+        }
         by_test false e = absent_held (member_kind members n)
 
     before_held : (members : List (ℕ × Kind)) (n : ℕ) (p : Part) (b : Bool) → InRow (OneOf members) p → Held
@@ -435,7 +467,7 @@ module _ (bound : ℕ) where
     over_single k p rs h starts t =
         subst (λ (qs : List FieldRecord). Single (singular_over table nested k p (values qs)) k) (sym starts.is)
         (singular_single k p starts.first.value (values starts.others) h
-            (subst (λ (qs : List FieldRecord). Taken k (values qs)) starts.is t))
+        (subst (λ (qs : List FieldRecord). Taken k (values qs)) starts.is t))
 
     member_in : (members : List (ℕ × Kind)) (n : ℕ) (p : Part) → includes (numbers (OneOf members)) n ≡ true → Single p
         (member_kind members n) → InRow (OneOf members) (Member n p)
@@ -464,12 +496,12 @@ module _ (bound : ℕ) where
     row_in (Plain n k) p [] h t = h
     row_in (Plain n k) p (r ∷ rs) h t =
         let s = singular_single k p r.value (values rs) (single_held p k h.fits h.low h.bytes)
-            (plain_taken n k (r ∷ rs) t) in
+        (plain_taken n k (r ∷ rs) t) in
         record { shape = s.single; fits = s.fits; low = s.low; bytes = s.bytes }
     row_in (Optional n k) p [] h t = h
     row_in (Optional n k) p (r ∷ rs) h t =
         let s = singular_single k p r.value (values rs) (single_held p k h.fits h.low h.bytes)
-            (optional_taken n k (r ∷ rs) t) in
+        (optional_taken n k (r ∷ rs) t) in
         record { shape = optional_shape n k _ s.single; fits = s.fits; low = s.low; bytes = s.bytes }
     row_in (Repeated n k) p [] h t = h
     row_in (Repeated n k) p (r ∷ rs) h t = repeated_in n k p (all_elements table nested k (values (r ∷ rs))) h
@@ -479,8 +511,8 @@ module _ (bound : ℕ) where
         let n = (last r rs).number in
         let before = before_held members n p (all_numbered n (r ∷ rs)) h in
         member_in members n _ (last_included (OneOf members) r rs t)
-            (over_single (member_kind members n) _ (last_run n (r ∷ rs)) before (run_starts n r rs refl)
-            (run_taken members n (r ∷ rs) t))
+        (over_single (member_kind members n) _ (last_run n (r ∷ rs)) before (run_starts n r rs refl)
+        (run_taken members n (r ∷ rs) t))
 
     first_allowed : (row : Row) (rows : List Row) (rs : List FieldRecord) → list_all
         (accepts_record accepts (row ∷ rows)) rs ≡ true → list_all (λ r. row_allows accepts r row) rs ≡ true
@@ -500,11 +532,16 @@ module _ (bound : ℕ) where
     rows_in [] v rs h a t = h
     rows_in (row ∷ rows) nil rs h a t = h
     rows_in (row ∷ rows) (cons p ps) rs h a t =
-        let one : InRow row p = record { shape = h.fits.0; fits = h.fits.1; low = omega (arith, h.low); bytes =
-            h.bytes.0 } in
+        let one : InRow row p = record {
+          shape = h.fits.0;
+          fits = h.fits.1;
+          low = omega (arith, h.low);
+          bytes =
+              h.bytes.0;
+        } in
         let more : InRows rows ps = record { fits = h.fits.2; low = omega (arith, h.low); bytes = h.bytes.1 } in
         one_more row rows _ _ (row_in row p (own_records row rs) one (own_taken row rs (first_allowed row rows rs a) t))
-            (rows_in rows ps rs more (others_allowed row rows rs a) t)
+        (rows_in rows ps rs more (others_allowed row rows rs a) t)
 
     -- the records of bytes
     bytes_in : (left s : ℕ) (v : Parts) (b : List ℕ) → InRows (table s) v → some_passes
@@ -538,7 +575,7 @@ message_good zero s v b a i h = absurd cc
 message_good (suc left) s v b a i h =
     let rows : InRows left (table s) v = record { fits = h.fits; low = omega (arith, h.low); bytes = h.bytes } in
     let all = bytes_in left (message_overlay table left) (accepts_message table left) (some_left left)
-        (join_accepted left) (message_good left) left s v b rows a i in
+    (join_accepted left) (message_good left) left s v b rows a i in
     record { fits = all.fits; low = omega (arith, all.low); bytes = all.bytes }
 
 -- what a well-formed payload means
@@ -551,7 +588,7 @@ pub accepted_means : (s : ℕ) (payload : List ℕ) → IsAccepted s payload →
     (payload_meaning s payload)
 accepted_means s payload a i =
     let all = bytes_in 100 (message_overlay table 100) (accepts_message table 100) (some_left 100) (join_accepted 100)
-        (message_good 100) 100 s (empty_value (table s)) payload (empty_in 100 (table s) (have_scalars s)) a i in
+    (message_good 100) 100 s (empty_value (table s)) payload (empty_in 100 (table s) (have_scalars s)) a i in
     record { fits = all.fits; low = all.low; bytes = all.bytes }
 
 pub well_formed_back : (texts : Bool) (s : ℕ) → WellFormedIsReadBack texts s
@@ -564,6 +601,6 @@ printed_well_formed texts s payload a i =
     let v = payload_meaning s payload in
     let is = accepted_means s payload a i in
     let value = printed_back (json_with texts s v) (value_may texts s v is.fits)
-        (omega (arith, value_low texts s v is.fits, is.low)) in
+    (omega (arith, value_low texts s v is.fits, is.low)) in
     text_of_value s (print (json_tokens (json_with texts s v))) (json_with texts s v) value ∙ ap
-        (option_map (canonical_payload table s)) (message_back texts 100 s v is.fits is.low is.bytes)
+    (option_map (canonical_payload table s)) (message_back texts 100 s v is.fits is.low is.bytes)

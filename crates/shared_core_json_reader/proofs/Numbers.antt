@@ -1,6 +1,6 @@
 -- Reading whole numbers.
-use Rattle.std.proofs.Common.{◌≡◌, ℕ, ◌^◌, ◌<◌, List, [], ◌∷◌, ◌++◌, length, drop, ◌↔◌, Bool, true, false, cond, Option,
-    Some, None, option_map, refl, sym, ap, ◌∙◌, arith, eqb, ltb, eq-eqb, ◌&&◌}
+use Rattle.std.proofs.Common.{◌≡◌, ℕ, ◌^◌, ◌<◌, List, [], ◌∷◌, ◌++◌, length, drop, ◌↔◌, Bool, true, false, cond, Option}
+use Rattle.std.proofs.Common.{Some, None, option_map, refl, sym, ap, ◌∙◌, arith, eqb, ltb, eq-eqb, ◌&&◌}
 use Rattle.std.specs.Prelude.{IsTrue}
 use Rattle.std.specs.Str.Parse.{digits_value}
 use Rattle.std.proofs.lemmas.Bool.{eqb-true, ltb-true, lt-ltb, le-ltb}
@@ -54,13 +54,13 @@ pub not_whole : (s digits : List ℕ) (p : Parts) → ends_there (after_number s
     digits → magnitude_of p ≡ None → whole_of_text s ≡ None
 not_whole s digits p e d q m =
     number_whole s e ∙ ap (λ (x : List ℕ). with_sign s (magnitude_of (scan x))) (sym d) ∙ ap
-        (λ (x : Parts). with_sign s (magnitude_of x)) (sym q) ∙ ap (with_sign s) m
+    (λ (x : Parts). with_sign s (magnitude_of x)) (sym q) ∙ ap (with_sign s) m
 
 pub whole_is : (s digits : List ℕ) (p : Parts) (n : ℕ) → ends_there (after_number s) ≡ true → digits ≡ after_minus s → p
     ≡ scan digits → magnitude_of p ≡ Some n
     → whole_of_text s ≡ Some (record { negative = ltb (length digits) (length s); magnitude = n })
 whole_is s digits p n e d q m =
     number_whole s e ∙ ap (λ (x : List ℕ). with_sign s (magnitude_of (scan x))) (sym d) ∙ ap
-        (λ (x : Parts). with_sign s (magnitude_of x)) (sym q) ∙ ap (with_sign s) m
+    (λ (x : Parts). with_sign s (magnitude_of x)) (sym q) ∙ ap (with_sign s) m
     ∙ ap (λ (b : Bool). Some (record { negative = b; magnitude = n })) (sym (minus_shorter s))
     ∙ ap (λ (x : List ℕ). Some (record { negative = ltb (length x) (length s); magnitude = n })) (sym d)

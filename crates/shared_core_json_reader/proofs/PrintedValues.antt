@@ -1,6 +1,6 @@
 -- The JSON of a value can be printed, and its text is read as the value's canonical payload.
-use Rattle.std.proofs.Common.{◌≡◌, ℕ, zero, suc, ◌-◌, ◌^◌, ◌<◌, ◌≤◌, List, [], ◌∷◌, Bool, true, false, cond, ◌&&◌, ltb,
-    eqb, IsUtf8, refl, negsuc, arith}
+use Rattle.std.proofs.Common.{◌≡◌, ℕ, zero, suc, ◌-◌, ◌^◌, ◌<◌, ◌≤◌, List, [], ◌∷◌, Bool, true, false, cond, ◌&&◌, ltb}
+use Rattle.std.proofs.Common.{eqb, IsUtf8, refl, negsuc, arith}
 use Rattle.std.proofs.lemmas.Bool.{ltb-true, ltb-false}
 use Rattle.std.proofs.lemmas.Fmt.{IsAscii-decimal}
 use Rattle.std.proofs.lemmas.Str.{IsUtf8-nil, IsUtf8-from_ascii, IsUtf8-from_is_utf8}
@@ -20,8 +20,8 @@ use Rattle.shared_core_wire.proofs.Runs.{and_split}
 use Rattle.shared_core_codec.specs.Table.{table}
 use Rattle.shared_core_json.specs.Names.{names}
 use Rattle.shared_core_json.specs.Fields.{names_at, names_of, name_of}
-use Rattle.shared_core_json.specs.Form.{is_present, member_if, enum_digits, number_json, byte_string_json, bytes_json,
-    part_json, items_json, members_json, json_with}
+use Rattle.shared_core_json.specs.Form.{is_present, member_if, enum_digits, number_json, byte_string_json, bytes_json}
+use Rattle.shared_core_json.specs.Form.{part_json, items_json, members_json, json_with}
 use Rattle.shared_core_json_reader.proofs.Printed.{visible_decimal, MayPrint, ItemsMay, MembersMay}
 
 -- ---- numbers and bytes
@@ -140,8 +140,8 @@ mutual
   members_may texts ns (cons p ps) [] a f = absurd f
   members_may texts ns (cons p ps) (row ∷ rows) a f =
       member_may (is_present row p) (name_of ns (number_of row p)) (part_json texts p (kind_of row p))
-          (members_json texts ns ps rows) (name_utf8 ns (number_of row p) a) (part_may texts p (kind_of row p) f.1)
-          (members_may texts ns ps rows a f.2)
+      (members_json texts ns ps rows) (name_utf8 ns (number_of row p) a) (part_may texts p (kind_of row p) f.1)
+      (members_may texts ns ps rows a f.2)
 
 pub value_may : (texts : Bool) (s : ℕ) (v : Parts) → Fits table v (table s) → MayPrint (json_with texts s v)
 value_may texts s v f = members_may texts (names_of s) v (table s) (ascii_at names s are_all_ascii) f

@@ -1,7 +1,7 @@
 -- What is written for a number, a text or bytes is read as that.
-use Rattle.std.proofs.Common.{◌≡◌, ℕ, zero, suc, ◌+◌, ◌-◌, ◌*◌, ◌%◌, ◌^◌, ◌<◌, ◌≤◌, negsuc, List, [], ◌∷◌, ◌++◌, length,
-    take, drop, Bool, true, false, cond, not, ◌&&◌, Some, None, option_and_then, refl, sym, ap, ap₂, ◌∙◌, append-nil,
-    arith, eqb, ltb}
+use Rattle.std.proofs.Common.{◌≡◌, ℕ, zero, suc, ◌+◌, ◌-◌, ◌*◌, ◌%◌, ◌^◌, ◌<◌, ◌≤◌, negsuc, List, [], ◌∷◌, ◌++◌, length}
+use Rattle.std.proofs.Common.{take, drop, Bool, true, false, cond, not, ◌&&◌, Some, None, option_and_then, refl, sym}
+use Rattle.std.proofs.Common.{ap, ap₂, ◌∙◌, append-nil, arith, eqb, ltb}
 use Rattle.std.specs.Prelude.{codes, decimal}
 use Rattle.std.specs.Str.{is_utf8}
 use Rattle.std.specs.Str.Parse.{digits_value, AllDigits}
@@ -19,8 +19,8 @@ use Rattle.json.specs.Json.{Json, number, string, boolean, object, member, no_me
 use Rattle.json.specs.Word.{head, after_minus}
 use Rattle.json.proofs.Printed.Decimals.{IsNumber-decimal, IsNumber-signed_decimal}
 use Rattle.shared_core_json.specs.Form.{enum_digits, byte_string_json}
-use Rattle.shared_core_json_reader.specs.Scalars.{ends_there, magnitude_of, whole_of_text, unsigned_below, signed_bits,
-    unsigned_read, boolean_read, enum_read, text_read, bytes_read}
+use Rattle.shared_core_json_reader.specs.Scalars.{ends_there, magnitude_of, whole_of_text, unsigned_below, signed_bits}
+use Rattle.shared_core_json_reader.specs.Scalars.{unsigned_read, boolean_read, enum_read, text_read, bytes_read}
 use Rattle.shared_core_json_reader.specs.Reading.{present}
 use Rattle.shared_core_json_reader.proofs.Numbers.{magnitude_is, with_sign, number_whole}
 use Rattle.shared_core_json_reader.proofs.Texts.{standard_bytes}
@@ -32,8 +32,14 @@ digits_of n h = (decimal_is_IsNumeral n h).0.1
 
 -- the parts of a decimal
 abbrev decimal_parts : ℕ → Parts
-decimal_parts n = record { whole = decimal n; point = false; fraction = []; exponent_negative = false; exponent = [];
-    len = length (decimal n) }
+decimal_parts n = record {
+  whole = decimal n;
+  point = false;
+  fraction = [];
+  exponent_negative = false;
+  exponent = [];
+  len = length (decimal n);
+}
 
 decimal_scanned : (n : ℕ) → n < 2 ^ 64 → scan (decimal n) ≡ decimal_parts n
 decimal_scanned n h =
@@ -55,14 +61,14 @@ whole_value : (ds : List ℕ) → digits_value 10 (take (length ds + 0) (ds ++ [
 whole_value ds =
     let same : length ds + 0 - length (ds ++ []) ≡ 0 = omega (arith, ap length (append-nil ds)) in
     let all : take (length ds + 0) (ds ++ []) ≡ ds = take_all (length ds + 0) (ds ++ [])
-        (omega (arith, ap length (append-nil ds))) ∙ append-nil ds in
+    (omega (arith, ap length (append-nil ds))) ∙ append-nil ds in
     ap₂ (λ (xs : List ℕ) (k : ℕ). digits_value 10 xs * 10 ^ k) all same ∙ omega arith
 
 decimal_magnitude : (n : ℕ) → n < 2 ^ 64 → magnitude_of (scan (decimal n)) ≡ Some n
 decimal_magnitude n h =
     let value = whole_value (decimal n) ∙ (decimal_is_IsNumeral n h).1 in
     ap (λ (p : Parts). magnitude_of p) (decimal_scanned n h) ∙ magnitude_is (decimal_parts n) n
-        (whole_digits (decimal n), omega (arith, value)) (sym value)
+    (whole_digits (decimal n), omega (arith, value)) (sym value)
 
 no_minus : (ds : List ℕ) → 0 < length ds → AllDigits 10 ds → eqb (head ds) 45 ≡ false
 no_minus [] h a = absurd (omega arith)
@@ -74,9 +80,9 @@ decimal_whole n h =
     let first = no_minus (decimal n) (decimal_nonempty n h) (digits_of n h) in
     let rest : after_minus (decimal n) ≡ decimal n = ap (λ (b : Bool). cond b (drop 1 (decimal n)) (decimal n)) first in
     number_whole (decimal n) (ap ends_there (IsNumber-decimal n h)) ∙ ap
-        (λ (s : List ℕ). with_sign (decimal n) (magnitude_of (scan s))) rest
+    (λ (s : List ℕ). with_sign (decimal n) (magnitude_of (scan s))) rest
     ∙ ap (with_sign (decimal n)) (decimal_magnitude n h) ∙ ap
-        (λ (b : Bool). Some (record { negative = b; magnitude = n })) first
+    (λ (b : Bool). Some (record { negative = b; magnitude = n })) first
 
 pub negative_whole : (n : ℕ) → n < 2 ^ 63 → whole_of_text (45 ∷ decimal (suc n)) ≡ Some
     (record { negative = true; magnitude = suc n })
@@ -112,7 +118,7 @@ negative_bits : (n m : ℕ) → n < 2 ^ 32 → 2 ^ 31 ≤ n → m ≡ 2 ^ 32 - n
 negative_bits n m h g e =
     let bits : (2 ^ 32 - m) % 2 ^ 32 ≡ n = omega (arith, e) in
     ap (λ (b : Bool). cond b (Some ((2 ^ 32 - m) % 2 ^ 32)) None) (le-leb m (2 ^ 31) (omega (arith, e))) ∙ ap
-        (λ (x : ℕ). Some x) bits
+    (λ (x : ℕ). Some x) bits
 
 pub enum_back : (values : List (List ℕ × ℕ)) (n : ℕ) → n < 2 ^ 32 → enum_read values (number (enum_digits n)) ≡ Some n
 enum_back values n h = by_sign (ltb n (2 ^ 31)) refl

@@ -1,6 +1,7 @@
 -- Base64 read, varints appended, and the bytes of original names.
-use Rattle.std.proofs.Common.{◌≡◌, ◌≢◌, Bor, length, ℕ, ◌+◌, ◌/◌, ◌%◌, ◌<◌, ◌≤◌, List, [], ◌∷◌, ◌++◌, Bool, true, false,
-    cond, ◌&&◌, Option, Some, None, option_and_then, Result, Ok, Err, refl, sym, ap, subst, ◌∙◌, append_assoc, eqb, leb}
+use Rattle.std.proofs.Common.{◌≡◌, ◌≢◌, Bor, length, ℕ, ◌+◌, ◌/◌, ◌%◌, ◌<◌, ◌≤◌, List, [], ◌∷◌, ◌++◌, Bool, true, false}
+use Rattle.std.proofs.Common.{cond, ◌&&◌, Option, Some, None, option_and_then, Result, Ok, Err, refl, sym, ap, subst}
+use Rattle.std.proofs.Common.{◌∙◌, append_assoc, eqb, leb}
 use Rattle.std.specs.Result.{result_ok}
 use Rattle.std.specs.Option.{option_or}
 use Rattle.std.specs.Str.{bytes_eq, is_utf8}
@@ -38,7 +39,7 @@ pub more_varint : (out new : List ℕ) (n : ℕ) → 128 ≤ n → new ≡ out +
     (n / 128) ≡ out ++ shortest_varint n
 more_varint out new n h e =
     ap (λ (xs : List ℕ). xs ++ shortest_varint (n / 128)) e ∙ append_assoc out ((n % 128 + 128) ∷ [])
-        (shortest_varint (n / 128)) ∙ ap (λ (xs : List ℕ). out ++ xs) (sym (shortest_large n h))
+    (shortest_varint (n / 128)) ∙ ap (λ (xs : List ℕ). out ++ xs) (sym (shortest_large n h))
 
 pub last_varint : (out new : List ℕ) (n : ℕ) → n < 128 → new ≡ out ++ n ∷ [] → new ≡ out ++ shortest_varint n
 last_varint out new n h e = e ∙ ap (λ (xs : List ℕ). out ++ xs) (sym (shortest_small n h))

@@ -1,17 +1,17 @@
 -- The JSON of a value is read as the value.
-use Rattle.std.proofs.Common.{◌≡◌, ℕ, zero, suc, ◌≤◌, List, [], ◌∷◌, ◌++◌, map, length, Bool, true, false, cond, not,
-    ◌&&◌, ◌||◌, Option, Some, None, option_map, option_and_then, refl, sym, ap, ap₂, ◌∙◌, append-nil, arith, eqb,
-    eq-eqb}
+use Rattle.std.proofs.Common.{◌≡◌, ℕ, zero, suc, ◌≤◌, List, [], ◌∷◌, ◌++◌, map, length, Bool, true, false, cond, not}
+use Rattle.std.proofs.Common.{◌&&◌, ◌||◌, Option, Some, None, option_map, option_and_then, refl, sym, ap, ap₂, ◌∙◌}
+use Rattle.std.proofs.Common.{append-nil, arith, eqb, eq-eqb}
 use Rattle.std.specs.List.{list_all}
 use Rattle.std.specs.Str.{bytes_eq}
 use Rattle.std.proofs.lemmas.Bool.{eqb-true, eqb-false, ne_eqb}
 use Rattle.base64.specs.GeneralPurpose.{IsBytes}
 use Rattle.json.specs.Json.{Json, Members}
-use Rattle.shared_core_wire.specs.Schema.{Kind, Row, U32, U64, Boolean, Enumeration, Text, ByteString, Message,
-    table_of, includes, member_kind, are_distinct, numbers, all_numbers}
+use Rattle.shared_core_wire.specs.Schema.{Kind, Row, U32, U64, Boolean, Enumeration, Text, ByteString, Message}
+use Rattle.shared_core_wire.specs.Schema.{table_of, includes, member_kind, are_distinct, numbers, all_numbers}
 use Rattle.shared_core_wire.specs.Schema as schema
-use Rattle.shared_core_wire.specs.Value.{Part, Parts, Absent, Number, Bytes, Nested, Elements, Member, nil, cons,
-    default_of}
+use Rattle.shared_core_wire.specs.Value.{Part, Parts, Absent, Number, Bytes, Nested, Elements, Member, nil, cons}
+use Rattle.shared_core_wire.specs.Value.{default_of}
 use Rattle.shared_core_wire.specs.Canonical.{kind_of, number_of, is_default, part_levels, levels}
 use Rattle.shared_core_wire.specs.Fitting.{is_single, has_shape, NumberFits, BytesFit, PartFits, ElementsFit, Fits}
 use Rattle.shared_core_wire.proofs.ReadBack.{or_split, includes-append, distinct_back, distinct_other}
@@ -22,14 +22,15 @@ use Rattle.shared_core_json.specs.Names.{names}
 use Rattle.shared_core_json.specs.Fields.{names_at, names_of, name_of}
 use Rattle.shared_core_json.specs.Form.{is_present, member_if, part_json, items_json, members_json, json_with}
 use Rattle.shared_core_json.proofs.Lookup.{not_before}
-use Rattle.shared_core_json_reader.specs.Rows.{NamedField, NamedRow, Plain, Optional, Repeated, named_field, named_row,
-    named_rows}
-use Rattle.shared_core_json_reader.specs.Reading.{original_name, is_named, names_field, row_names, names_row, are_known,
-    values_named, present, the_only, given, single_read, field_read, elements_read, list_read, or_absent, member_read,
-    oneof_read, row_read, rows_read, object_read, message_read}
+use Rattle.shared_core_json_reader.specs.Rows.{NamedField, NamedRow, Plain, Optional, Repeated, named_field, named_row}
+use Rattle.shared_core_json_reader.specs.Rows.{named_rows}
+use Rattle.shared_core_json_reader.specs.Reading.{original_name, is_named, names_field, row_names, names_row, are_known}
+use Rattle.shared_core_json_reader.specs.Reading.{values_named, present, the_only, given, single_read, field_read}
+use Rattle.shared_core_json_reader.specs.Reading.{elements_read, list_read, or_absent, member_read, oneof_read}
+use Rattle.shared_core_json_reader.specs.Reading.{row_read, rows_read, object_read, message_read}
 use Rattle.shared_core_json_reader.proofs.Agreeing.{distinct_front}
-use Rattle.shared_core_json_reader.proofs.ScalarsBack.{u32_back, u64_back, boolean_back, enum_back, text_back,
-    byte_string_back, byte_string_there}
+use Rattle.shared_core_json_reader.proofs.ScalarsBack.{u32_back, u64_back, boolean_back, enum_back, text_back}
+use Rattle.shared_core_json_reader.proofs.ScalarsBack.{byte_string_back, byte_string_there}
 
 -- ---- the names of a schema's fields differ
 
@@ -82,9 +83,9 @@ names_apart s n m h g =
     let all = all_numbers (table s) in
     let ns = names_of s in
     let one = one_of_all (λ n. list_all (λ m. same_test (names_key (name_of ns n) (name_of ns m)) (eqb n m)) all) all n
-        (apart_at names schemas s all_apart) h in
+    (apart_at names schemas s all_apart) h in
     same_test-true (names_key (name_of ns n) (name_of ns m)) (eqb n m)
-        (one_of_all (λ m. same_test (names_key (name_of ns n) (name_of ns m)) (eqb n m)) all m one g)
+    (one_of_all (λ m. same_test (names_key (name_of ns n) (name_of ns m)) (eqb n m)) all m one g)
 
 pub same_bytes : (xs : List ℕ) → bytes_eq xs xs ≡ true
 same_bytes [] = refl
@@ -155,7 +156,7 @@ all_mine_none texts n nil (row ∷ rows) f h = absurd f
 all_mine_none texts n (cons p ps) [] f h = absurd f
 all_mine_none texts n (cons p ps) (row ∷ rows) f h =
     let e = or_split (includes (numbers row) n) (includes (all_numbers rows) n)
-        (sym (includes-append (numbers row) (all_numbers rows) n) ∙ h) in
+    (sym (includes-append (numbers row) (all_numbers rows) n) ∙ h) in
     ap₂ (λ (a b : List Json). a ++ b) (mine_none texts n row p f.0 e.0) (all_mine_none texts n ps rows f.2 e.1)
 
 or_true : (b : Bool) → (b || true) ≡ true
@@ -196,17 +197,17 @@ values_are texts s n k (cons p ps) (row ∷ rows) f h w =
     by_name : values_named (named_field s n k) others ≡ all_mine texts n ps rows → (b : Bool) → b ≡ eqb n
         (number_of row p)
         → cond b (j ∷ values_named (named_field s n k) others) (values_named (named_field s n k) others) ≡ cond
-            (eqb n (number_of row p)) (j ∷ []) [] ++ all_mine texts n ps rows
+        (eqb n (number_of row p)) (j ∷ []) [] ++ all_mine texts n ps rows
     by_name later true e = ap (λ (js : List Json). j ∷ js) later ∙ ap
         (λ (b : Bool). cond b (j ∷ []) [] ++ all_mine texts n ps rows) e
     by_name later false e = later ∙ ap (λ (b : Bool). cond b (j ∷ []) [] ++ all_mine texts n ps rows) e
 
     by_test : values_named (named_field s n k) others ≡ all_mine texts n ps rows → (b : Bool) → is_present row p ≡ b
         → values_named (named_field s n k) (member_if b key j others) ≡ cond b
-            (cond (eqb n (number_of row p)) (j ∷ []) []) [] ++ all_mine texts n ps rows
+        (cond (eqb n (number_of row p)) (j ∷ []) []) [] ++ all_mine texts n ps rows
     by_test later true e =
         by_name later (is_named (named_field s n k) key) (names_apart s n (number_of row p) h
-            (w (number_of row p) (within_row row rows (number_of row p) (number_within row p f.0 e))))
+        (w (number_of row p) (within_row row rows (number_of row p) (number_within row p f.0 e))))
     by_test later false e = later
 
 -- each key is known
@@ -221,14 +222,14 @@ names_one s (o ∷ members) m h = by_test (λ k. names_one s members m k) (eqb m
     by_test : (includes (map (λ o. o.0) members) m ≡ true → names_field (map (λ o. named_field s o.0 o.1) members) key ≡
         true) → (b : Bool) → eqb m o.0 ≡ b → (b || includes (map (λ o. o.0) members) m) ≡ true
         → ((bytes_eq key (name_of (names_of s) o.0) || bytes_eq key (original_name (name_of (names_of s) o.0))) ||
-            names_field (map (λ o. named_field s o.0 o.1) members) key) ≡ true
+        names_field (map (λ o. named_field s o.0 o.1) members) key) ≡ true
     by_test later true e k =
         ap (λ (b : Bool). (b || bytes_eq key (original_name (name_of (names_of s) o.0))) || names_field
-            (map (λ o. named_field s o.0 o.1) members) key)
+        (map (λ o. named_field s o.0 o.1) members) key)
         (ap (λ (x : ℕ). bytes_eq key (name_of (names_of s) x)) (sym (eqb-true m o.0 e)) ∙ same_bytes key)
     by_test later false e k =
         ap (λ (b : Bool). (bytes_eq key (name_of (names_of s) o.0) || bytes_eq key
-            (original_name (name_of (names_of s) o.0))) || b) (later k)
+        (original_name (name_of (names_of s) o.0))) || b) (later k)
         ∙ or_true (bytes_eq key (name_of (names_of s) o.0) || bytes_eq key (original_name (name_of (names_of s) o.0)))
 
 single_name : (s n m : ℕ) → includes (n ∷ []) m ≡ true → names_key (name_of (names_of s) n) (name_of (names_of s) m) ≡
@@ -236,8 +237,8 @@ single_name : (s n m : ℕ) → includes (n ∷ []) m ≡ true → names_key (na
 single_name s n m h =
     let q : m ≡ n = by_test (eqb m n) refl h in
     ap (λ (x : ℕ). names_key (name_of (names_of s) n) (name_of (names_of s) x)) q ∙ ap
-        (λ (b : Bool). b || bytes_eq (name_of (names_of s) n) (original_name (name_of (names_of s) n)))
-        (same_bytes (name_of (names_of s) n))
+    (λ (b : Bool). b || bytes_eq (name_of (names_of s) n) (original_name (name_of (names_of s) n)))
+    (same_bytes (name_of (names_of s) n))
   where
     by_test : (b : Bool) → eqb m n ≡ b → (b || false) ≡ true → m ≡ n
     by_test true e k = eqb-true m n e
@@ -289,7 +290,7 @@ all_known texts s all (cons p ps) (row ∷ rows) f w = by_test
 
 module _ (texts : Bool) (s : ℕ) (ms : Members) (nested : ℕ → Json → Option Parts) (bound : ℕ)
     (back : (t : ℕ) (ps : Parts) → Fits table ps (table t) → suc (levels ps) ≤ bound → PartsBytes ps → nested t
-        (json_with texts t ps) ≡ Some ps) where
+    (json_with texts t ps) ≡ Some ps) where
   record Back (k : Kind) (values : List (List ℕ × ℕ)) (p : Part) : Type 0 where
     read : single_read nested k values (part_json texts p k) ≡ Some p
     there : present (part_json texts p k) ≡ Some (part_json texts p k)
@@ -308,8 +309,11 @@ module _ (texts : Bool) (s : ℕ) (ms : Members) (nested : ℕ → Json → Opti
       (Bytes b)
   unfolding part_json
   content_back Text values b h g = record { read = ap (option_map Bytes) (text_back b h); there = refl }
-  content_back ByteString values b h g = record { read = ap (option_map Bytes) (byte_string_back texts b g); there =
-      byte_string_there texts b }
+  content_back ByteString values b h g = record {
+    read = ap (option_map Bytes) (byte_string_back texts b g);
+    there =
+        byte_string_there texts b;
+  }
   content_back U32 values b h g = absurd h
   content_back U64 values b h g = absurd h
   content_back Boolean values b h g = absurd h
@@ -345,7 +349,7 @@ module _ (texts : Bool) (s : ℕ) (ms : Members) (nested : ℕ → Json → Opti
       let one = single_back f.kind f.values p h.0 h.1 (omega arith) g.0 in
       let more = elements_back f ps h.2 (omega arith) g.1 in
       ap (option_and_then (λ q. option_map (cons q) (elements_read nested f (items_json texts ps f.kind)))) one.read ∙
-          ap (option_map (cons p)) more
+      ap (option_map (cons p)) more
 
   -- ---- rows
 
@@ -416,7 +420,7 @@ module _ (texts : Bool) (s : ℕ) (ms : Members) (nested : ℕ → Json → Opti
   optional_back : (f : NamedField) (p : Part) → has_shape (schema.Optional f.number f.kind) p ≡ true →
       (is_single p ≡ true → Back f.kind f.values p)
       → given f ms ≡ given_one (is_present (schema.Optional f.number f.kind) p) (part_json texts p f.kind) → row_read
-          nested ms (Optional f) ≡ Some p
+      nested ms (Optional f) ≡ Some p
   optional_back f Absent h b e = ap (option_and_then (or_absent Absent (field_read nested f))) e
   optional_back f (Number m) h b e = ap (option_and_then (or_absent Absent (field_read nested f))) e ∙ (b refl).read
   optional_back f (Bytes c) h b e = ap (option_and_then (or_absent Absent (field_read nested f))) e ∙ (b refl).read
@@ -426,7 +430,7 @@ module _ (texts : Bool) (s : ℕ) (ms : Members) (nested : ℕ → Json → Opti
 
   list_back : (f : NamedField) (ps : Parts) → elements_read nested f (items_json texts ps f.kind) ≡ Some ps
       → given f ms ≡ given_one (is_present (schema.Repeated f.number f.kind) (Elements ps))
-          (part_json texts (Elements ps) f.kind) → row_read nested ms (Repeated f) ≡ Some (Elements ps)
+      (part_json texts (Elements ps) f.kind) → row_read nested ms (Repeated f) ≡ Some (Elements ps)
   unfolding part_json
   list_back f nil b e = ap (option_and_then (or_absent (Elements nil) (list_read nested f))) e
   list_back f (cons p ps) b e = ap (option_and_then (or_absent (Elements nil) (list_read nested f))) e ∙ ap
@@ -451,8 +455,8 @@ module _ (texts : Bool) (s : ℕ) (ms : Members) (nested : ℕ → Json → Opti
   oneof_stays held (m ∷ members) h =
       let f = named_field s m.0 m.1 in
       ap (λ (xs : List Json). option_and_then (λ o. option_and_then
-          (λ now. oneof_read nested ms now (map (λ m. named_field s m.0 m.1) members))
-          (or_absent held (member_read nested held f) o)) (the_only xs))
+      (λ now. oneof_read nested ms now (map (λ m. named_field s m.0 m.1) members))
+      (or_absent held (member_read nested held f) o)) (the_only xs))
       (h m.0 m.1 (first_within m members))
       ∙ oneof_stays held members (λ n k g. h n k (later_within m members n g))
 
@@ -464,7 +468,7 @@ module _ (texts : Bool) (s : ℕ) (ms : Members) (nested : ℕ → Json → Opti
       → includes (map (λ m. m.0) members) q ≡ true → member_kind members q ≡ x
       → ((values : List (List ℕ × ℕ)) → Back x values p)
       → ((n : ℕ) (k : Kind) → includes (map (λ m. m.0) members) n ≡ true → values_named (named_field s n k) ms ≡ cond
-          (eqb n q) (part_json texts p x ∷ []) [])
+      (eqb n q) (part_json texts p x ∷ []) [])
       → oneof_read nested ms Absent (map (λ m. named_field s m.0 m.1) members) ≡ Some (Member q p)
   oneof_back q p x [] d h y b e = absurd cc
   oneof_back q p x (m ∷ members) d h y b e =
@@ -483,37 +487,37 @@ module _ (texts : Bool) (s : ℕ) (ms : Members) (nested : ℕ → Json → Opti
       other : (n : ℕ) → includes (map (λ o. o.0) members) n ≡ true → eqb n m.0 ≡ false
       other n g = ne_eqb n m.0 (λ z. absurd (
           let k : includes (map (λ o. o.0) members) m.0 ≡ false = not_true (includes (map (λ o. o.0) members) m.0)
-              (and_split _ _ d).0 in
+          (and_split _ _ d).0 in
           let l : includes (map (λ o. o.0) members) n ≡ includes (map (λ o. o.0) members) m.0 = ap
-              (includes (map (λ o. o.0) members)) z in
+          (includes (map (λ o. o.0) members)) z in
           cc
           ))
 
       by_test : (includes (map (λ o. o.0) members) q ≡ true → member_kind members q ≡ x
           → ((n : ℕ) (k : Kind) → includes (map (λ o. o.0) members) n ≡ true → values_named (named_field s n k) ms ≡
-              cond (eqb n q) (part_json texts p x ∷ []) [])
+          cond (eqb n q) (part_json texts p x ∷ []) [])
           → oneof_read nested ms Absent fields ≡ Some (Member q p))
           → (t : Bool) → eqb q m.0 ≡ t → (t || includes (map (λ o. o.0) members) q) ≡ true → cond t m.1
-              (member_kind members q) ≡ x
+          (member_kind members q) ≡ x
           → step (values_named f ms) ≡ Some (Member q p)
       by_test later true z h y =
           let same : q ≡ m.0 = eqb-true q m.0 z in
           let given_here = e m.0 m.1 (first_within m members) ∙ ap (λ (b : Bool). cond b (part_json texts p x ∷ []) [])
-              (eq-eqb m.0 q (sym same)) in
+          (eq-eqb m.0 q (sym same)) in
           let read : field_read nested f (part_json texts p x) ≡ Some p = ap
-              (λ (k : Kind). single_read nested k f.values (part_json texts p x)) y ∙ (b f.values).read in
+          (λ (k : Kind). single_read nested k f.values (part_json texts p x)) y ∙ (b f.values).read in
           ap step given_here
           ∙ ap (λ (o : Option Json). option_and_then (λ o. option_and_then (λ now. oneof_read nested ms now fields)
-              (or_absent Absent (member_read nested Absent f) o)) (Some o)) (b f.values).there
+          (or_absent Absent (member_read nested Absent f) o)) (Some o)) (b f.values).there
           ∙ ap (λ (o : Option Part). option_and_then (λ now. oneof_read nested ms now fields)
-              (option_map (Member m.0) o)) read
+          (option_map (Member m.0) o)) read
           ∙ oneof_stays (Member m.0 p) members (λ n k g. e n k (later_within m members n g) ∙ ap
-              (λ (b : Bool). cond b (part_json texts p x ∷ []) [])
-              (ne_eqb n q (λ w. eqb-false n m.0 (other n g) (w ∙ same))))
+          (λ (b : Bool). cond b (part_json texts p x ∷ []) [])
+          (ne_eqb n q (λ w. eqb-false n m.0 (other n g) (w ∙ same))))
           ∙ ap (λ (n : ℕ). Some (Member n p)) (sym same)
       by_test later false z h y =
           let none = e m.0 m.1 (first_within m members) ∙ ap (λ (b : Bool). cond b (part_json texts p x ∷ []) [])
-              (ne_eqb m.0 q (λ w. eqb-false q m.0 z (sym w))) in
+          (ne_eqb m.0 q (λ w. eqb-false q m.0 z (sym w))) in
           ap step none ∙ later h y (λ n k g. e n k (later_within m members n g))
 
   -- ---- a row, and all of them
@@ -521,14 +525,14 @@ module _ (texts : Bool) (s : ℕ) (ms : Members) (nested : ℕ → Json → Opti
   row_back : (row : Row) (p : Part) → has_shape row p ≡ true → PartFits table p (kind_of row p) → part_levels p ≤ bound
       → PartBytes p → are_distinct (numbers row) ≡ true
       → ((n : ℕ) (k : Kind) → includes (numbers row) n ≡ true → values_named (named_field s n k) ms ≡ mine texts n row
-          p) → row_read nested ms (named_row s row) ≡ Some p
+      p) → row_read nested ms (named_row s row) ≡ Some p
   unfolding PartFits part_levels part_json
   row_back (schema.Plain n k) p i h l g d e =
       let f = named_field s n k in
       let b = single_back k f.values p i h l g in
       let shown = ap (λ (c : Bool). cond c (part_json texts p k ∷ []) []) (plain_present n k p i) in
       plain_back f p i h b (only_one (values_named f ms) (not (is_default p)) (part_json texts p k)
-          (e n k (own_number n) ∙ own_mine n (is_present (schema.Plain n k) p) (part_json texts p k) ∙ shown) b.there)
+      (e n k (own_number n) ∙ own_mine n (is_present (schema.Plain n k) p) (part_json texts p k) ∙ shown) b.there)
   row_back (schema.Optional n k) Absent i h l g d e =
       let f = named_field s n k in
       optional_back f Absent refl (λ j. absurd cc) (ap the_only (e n k (own_number n)))
@@ -536,17 +540,17 @@ module _ (texts : Bool) (s : ℕ) (ms : Members) (nested : ℕ → Json → Opti
       let f = named_field s n k in
       let b = single_back k f.values (Number m) refl h l g in
       optional_back f (Number m) refl (λ j. b) (only_one (values_named f ms) true (part_json texts (Number m) k)
-          (e n k (own_number n) ∙ own_mine n true (part_json texts (Number m) k)) b.there)
+      (e n k (own_number n) ∙ own_mine n true (part_json texts (Number m) k)) b.there)
   row_back (schema.Optional n k) (Bytes c) i h l g d e =
       let f = named_field s n k in
       let b = single_back k f.values (Bytes c) refl h l g in
       optional_back f (Bytes c) refl (λ j. b) (only_one (values_named f ms) true (part_json texts (Bytes c) k)
-          (e n k (own_number n) ∙ own_mine n true (part_json texts (Bytes c) k)) b.there)
+      (e n k (own_number n) ∙ own_mine n true (part_json texts (Bytes c) k)) b.there)
   row_back (schema.Optional n k) (Nested ps) i h l g d e =
       let f = named_field s n k in
       let b = single_back k f.values (Nested ps) refl h l g in
       optional_back f (Nested ps) refl (λ j. b) (only_one (values_named f ms) true (part_json texts (Nested ps) k)
-          (e n k (own_number n) ∙ own_mine n true (part_json texts (Nested ps) k)) b.there)
+      (e n k (own_number n) ∙ own_mine n true (part_json texts (Nested ps) k)) b.there)
   row_back (schema.Optional n k) (Elements ps) i h l g d e = absurd cc
   row_back (schema.Optional n k) (Member m p) i h l g d e = absurd cc
   row_back (schema.Repeated n k) (Elements nil) i h l g d e =
@@ -556,7 +560,7 @@ module _ (texts : Bool) (s : ℕ) (ms : Members) (nested : ℕ → Json → Opti
       let f = named_field s n k in
       list_back f (cons p ps) (elements_back f (cons p ps) h l g)
       (only_one (values_named f ms) true (part_json texts (Elements (cons p ps)) k)
-          (e n k (own_number n) ∙ own_mine n true (part_json texts (Elements (cons p ps)) k)) refl)
+      (e n k (own_number n) ∙ own_mine n true (part_json texts (Elements (cons p ps)) k)) refl)
   row_back (schema.Repeated n k) Absent i h l g d e = absurd cc
   row_back (schema.Repeated n k) (Number m) i h l g d e = absurd cc
   row_back (schema.Repeated n k) (Bytes c) i h l g d e = absurd cc
@@ -566,7 +570,7 @@ module _ (texts : Bool) (s : ℕ) (ms : Members) (nested : ℕ → Json → Opti
   row_back (schema.OneOf members) (Member q p) i h l g d e =
       let a = and_split _ _ i in
       oneof_back q p (member_kind members q) members d a.0 refl
-          (λ values. single_back (member_kind members q) values p a.1 h l g) e
+      (λ values. single_back (member_kind members q) values p a.1 h l g) e
   row_back (schema.OneOf members) (Number m) i h l g d e = absurd cc
   row_back (schema.OneOf members) (Bytes c) i h l g d e = absurd cc
   row_back (schema.OneOf members) (Nested ps) i h l g d e = absurd cc
@@ -575,7 +579,7 @@ module _ (texts : Bool) (s : ℕ) (ms : Members) (nested : ℕ → Json → Opti
   rows_back : (rows : List Row) (v : Parts) → Fits table v rows → levels v ≤ bound → PartsBytes v → are_distinct
       (all_numbers rows) ≡ true
       → ((n : ℕ) (k : Kind) → includes (all_numbers rows) n ≡ true → values_named (named_field s n k) ms ≡ all_mine
-          texts n v rows) → rows_read nested ms (map (named_row s) rows) ≡ Some v
+      texts n v rows) → rows_read nested ms (map (named_row s) rows) ≡ Some v
   unfolding PartFits part_levels
   rows_back [] nil f l g d e = refl
   rows_back [] (cons p ps) f l g d e = absurd f
@@ -583,13 +587,13 @@ module _ (texts : Bool) (s : ℕ) (ms : Members) (nested : ℕ → Json → Opti
   rows_back (row ∷ rows) (cons p ps) f l g d e =
       let one = row_back row p f.0 f.1 (omega arith) g.0 (distinct_front (numbers row) (all_numbers rows) d)
       (λ n k h. e n k (within_row row rows n h) ∙ ap (λ (js : List Json). mine texts n row p ++ js)
-          (all_mine_none texts n ps rows f.2 (distinct_other (numbers row) (all_numbers rows) n d h)) ∙ append-nil
-          (mine texts n row p)) in
+      (all_mine_none texts n ps rows f.2 (distinct_other (numbers row) (all_numbers rows) n d h)) ∙ append-nil
+      (mine texts n row p)) in
       let more = rows_back rows ps f.2 (omega arith) g.1 (distinct_back (numbers row) (all_numbers rows) d)
       (λ n k h. e n k (within_rest row rows n h) ∙ ap (λ (js : List Json). js ++ all_mine texts n ps rows)
-          (mine_none texts n row p f.0 (not_before (numbers row) (all_numbers rows) n d h))) in
+      (mine_none texts n row p f.0 (not_before (numbers row) (all_numbers rows) n d h))) in
       ap (option_and_then (λ q. option_map (cons q) (rows_read nested ms (map (named_row s) rows)))) one ∙ ap
-          (option_map (cons p)) more
+      (option_map (cons p)) more
 
 -- ---- messages
 
@@ -597,7 +601,7 @@ level_back : (texts : Bool) (nested : ℕ → Json → Option Parts) (bound s : 
     ((t : ℕ) (ps : Parts) → Fits table ps (table t) → suc (levels ps) ≤ bound → PartsBytes ps → nested t
     (json_with texts t ps) ≡ Some ps)
     → Fits table v (table s) → levels v ≤ bound → PartsBytes v → object_read nested (named_rows s) (json_with texts s v)
-        ≡ Some v
+    ≡ Some v
 unfolding named_rows
 level_back texts nested bound s v back f l g =
     let rows = table s in
@@ -605,7 +609,7 @@ level_back texts nested bound s v back f l g =
     let known = all_known texts s (map (named_row s) rows) v rows f (rows_known s rows) in
     ap (λ (b : Bool). cond b (rows_read nested ms (map (named_row s) rows)) None) known
     ∙ rows_back texts s ms nested bound back rows v f l g (and_split _ _ (are_schemas s)).1
-        (λ n k h. values_are texts s n k v rows f h (λ m w. w))
+    (λ n k h. values_are texts s n k v rows f h (λ m w. w))
 
 pub message_back : (texts : Bool) (n s : ℕ) (v : Parts) → Fits table v (table s) → levels v ≤ n → PartsBytes v →
     message_read (suc n) s (json_with texts s v) ≡ Some v

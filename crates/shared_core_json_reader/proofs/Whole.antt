@@ -1,6 +1,6 @@
 -- A whole text: the value that it is, and the payload that is appended for a value.
-use Rattle.std.proofs.Common.{◌≡◌, ℕ, ◌^◌, ◌<◌, length, List, [], Bool, true, false, cond, Option, Some, None,
-    option_map, option_and_then, refl, sym, ap, subst, ◌∙◌, arith}
+use Rattle.std.proofs.Common.{◌≡◌, ℕ, ◌^◌, ◌<◌, length, List, [], Bool, true, false, cond, Option, Some, None}
+use Rattle.std.proofs.Common.{option_map, option_and_then, refl, sym, ap, subst, ◌∙◌, arith}
 use Rattle.std.specs.Str.{is_utf8}
 use Rattle.json.specs.Token.{Token}
 use Rattle.json.specs.Lex.{tokens}
@@ -10,8 +10,8 @@ use Rattle.shared_core_wire.specs.Value.{Parts}
 use Rattle.shared_core_codec.specs.Table.{table}
 use Rattle.shared_core_codec.specs.Payloads.{IsAccepted, payload_meaning}
 use Rattle.shared_core_codec.proofs.PayloadLaws.{canonical_is_read_back}
-use Rattle.shared_core_json_reader.specs.Reading.{only_value, json_of_text, message_read, value_payload, text_meaning,
-    text_payload}
+use Rattle.shared_core_json_reader.specs.Reading.{only_value, json_of_text, message_read, value_payload, text_meaning}
+use Rattle.shared_core_json_reader.specs.Reading.{text_payload}
 use Rattle.shared_core_json_reader.specs.Appended.{message_bytes, after}
 use Rattle.shared_core_json_reader.proofs.Agreeing.{message_agrees}
 use Rattle.shared_core_json_reader.proofs.Fitting.{some_map, message_fits}
@@ -41,7 +41,7 @@ pub appended_payload : (s : ℕ) (j : Json) (old out : List ℕ) → old ≡ [] 
     value_payload s j ≡ Some out
 appended_payload s j old out n a =
     sym (message_agrees 101 s j) ∙ sym (nothing_before (message_bytes 101 s j)) ∙ ap
-        (λ (xs : List ℕ). after xs (message_bytes 101 s j)) (sym n) ∙ a
+    (λ (xs : List ℕ). after xs (message_bytes 101 s j)) (sym n) ∙ a
 
 pub no_payload : (s : ℕ) (j : Json) → message_bytes 101 s j ≡ None → value_payload s j ≡ None
 no_payload s j a = sym (message_agrees 101 s j) ∙ a
@@ -53,9 +53,9 @@ payload_means s j out e z =
     let x = some_map (canonical_payload table s) (message_read 101 s j) out e in
     let f = message_fits 101 s j x.0 x.1 in
     let back = canonical_is_read_back s x.0 f.0 (subst (λ (bs : List ℕ). length bs < 2 ^ 64) (sym x.2) z)
-        (omega (arith, f.1)) in
+    (omega (arith, f.1)) in
     subst (λ (bs : List ℕ). IsAccepted s bs × (message_read 101 s j ≡ Some (payload_meaning s bs))) x.2
-        (back.0, x.1 ∙ ap (λ (v : Parts). Some v) (sym back.1))
+    (back.0, x.1 ∙ ap (λ (v : Parts). Some v) (sym back.1))
 
 -- ---- the payload of a text
 

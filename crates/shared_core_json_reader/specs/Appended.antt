@@ -1,6 +1,6 @@
 -- The bytes that are appended for a JSON value, record by record.
-use Rattle.std.specs.Prelude.{◌≡◌, ◌≢◌, ℕ, zero, suc, Bool, true, false, ◌&&◌, List, [], ◌∷◌, ◌++◌, length, ◌==◌,
-    if◌then◌else◌, Option, Some, None, option_map, option_and_then, Result, MatchResult}
+use Rattle.std.specs.Prelude.{◌≡◌, ◌≢◌, ℕ, zero, suc, Bool, true, false, ◌&&◌, List, [], ◌∷◌, ◌++◌, length, ◌==◌}
+use Rattle.std.specs.Prelude.{if◌then◌else◌, Option, Some, None, option_map, option_and_then, Result, MatchResult}
 use Rattle.json.specs.Json.{Json, null, boolean, number, string, array, object, Items, no_items, item, Members}
 use Rattle.shared_core_wire.specs.Schema.{Kind, U32, U64, Boolean, Enumeration, Text, ByteString, Message}
 use Rattle.shared_core_wire.specs.Encoding.{shortest_varint, key_bytes}
@@ -83,7 +83,7 @@ abbrev pub oneof_bytes : (ℕ → Json → Option (List ℕ)) → Members → Bo
 oneof_bytes nested ms held [] = Some []
 oneof_bytes nested ms held (f ∷ fs) =
     option_and_then (λ o. both (or_absent [] (member_bytes nested held f) o)
-        (oneof_bytes nested ms (held_after held o) fs)) (given f ms)
+    (oneof_bytes nested ms (held_after held o) fs)) (given f ms)
 
 -- What is appended for what an object gives a field: nothing, if that is nothing.
 abbrev pub given_bytes : (Json → Option (List ℕ)) → Option (Option Json) → Option (List ℕ)

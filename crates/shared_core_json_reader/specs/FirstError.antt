@@ -1,6 +1,6 @@
 -- Which error a JSON value has: the first one, and the path to the rejected value.
-use Rattle.std.specs.Prelude.{◌≡◌, ◌≢◌, ◌≤◌, ℕ, zero, suc, ◌+◌, Bool, true, false, List, [], ◌∷◌, ◌++◌, length, map,
-    codes, if◌then◌else◌, Option, Some, None, option_map, Result, MatchResult}
+use Rattle.std.specs.Prelude.{◌≡◌, ◌≢◌, ◌≤◌, ℕ, zero, suc, ◌+◌, Bool, true, false, List, [], ◌∷◌, ◌++◌, length, map}
+use Rattle.std.specs.Prelude.{codes, if◌then◌else◌, Option, Some, None, option_map, Result, MatchResult}
 use Rattle.std.specs.Option.{option_or}
 use Rattle.std.specs.Fmt.{decimal}
 use Rattle.std.specs.String.{string_bytes}
@@ -8,18 +8,19 @@ use Rattle.std.specs.Str.{is_utf8}
 use Rattle.std.specs.Str.Lossy.{utf8_valid_len}
 use Rattle.json.specs.Word.{after_number}
 use Rattle.json.specs.Find.{as_str}
-use Rattle.json.specs.Json.{Json, null, boolean, number, string, array, object, Items, no_items, item, Members,
-    no_members, member}
+use Rattle.json.specs.Json.{Json, null, boolean, number, string, array, object, Items, no_items, item, Members}
+use Rattle.json.specs.Json.{no_members, member}
 use Rattle.shared_core_wire.specs.Schema.{Kind, U32, U64, Boolean, Enumeration, Text, ByteString, Message}
 use Rattle.shared_core_json_reader.specs.declared.error.Reason.{Reason}
-use Rattle.shared_core_json_reader.specs.declared.error.Reason.TheVariants.{NotJson, UnknownMember, RepeatedMember,
-    SeveralMembers, WrongKind, OutOfRange, NotBase64, TooDeep, OutOfMemory}
+use Rattle.shared_core_json_reader.specs.declared.error.Reason.TheVariants.{NotJson, UnknownMember, RepeatedMember}
+use Rattle.shared_core_json_reader.specs.declared.error.Reason.TheVariants.{SeveralMembers, WrongKind, OutOfRange}
+use Rattle.shared_core_json_reader.specs.declared.error.Reason.TheVariants.{NotBase64, TooDeep, OutOfMemory}
 use Rattle.shared_core_json_reader.specs.declared.error.JsonReadError.{JsonReadError}
 use Rattle.shared_core_json_reader.specs.declared.payload.Step as program
 use Rattle.shared_core_json_reader.specs.declared.payload.Step.TheVariants as variants
 use Rattle.shared_core_json_reader.specs.Rows.{NamedField, NamedRow, Plain, Optional, Repeated, OneOf, named_rows}
-use Rattle.shared_core_json_reader.specs.Scalars.{ends_there, number_text, unsigned_read, boolean_read, enum_read,
-    text_read, bytes_read}
+use Rattle.shared_core_json_reader.specs.Scalars.{ends_there, number_text, unsigned_read, boolean_read, enum_read}
+use Rattle.shared_core_json_reader.specs.Scalars.{text_read, bytes_read}
 use Rattle.shared_core_json_reader.specs.Reading.{names_row, given}
 
 -- A step of the path to a value: a member by its name, or an element by its index.
@@ -132,7 +133,7 @@ abbrev pub oneof_error : (List Step → ℕ → Json → Option PathError) → M
 oneof_error nested ms path held [] = None
 oneof_error nested ms path held (f ∷ fs) =
     option_or (given_error (member_error nested held f) f path (given f ms))
-        (oneof_error nested ms path (holds_after held (given f ms)) fs)
+    (oneof_error nested ms path (holds_after held (given f ms)) fs)
 
 -- The error of what an object gives a row.
 abbrev pub row_error : (List Step → ℕ → Json → Option PathError) → Members → List Step → NamedRow → Option PathError
@@ -246,4 +247,4 @@ abbrev pub HasError : {T : Type 0} → Result T Reason → (List Step → Option
     program.Step → Type 0
 HasError r error old new =
     MatchResult r (λ _. (error (path_view old) ≡ None) × (new ≡ old))
-        (λ reason. reason ≢ OutOfMemory → error (path_view old) ≡ Some (reason, path_view new))
+    (λ reason. reason ≢ OutOfMemory → error (path_view old) ≡ Some (reason, path_view new))

@@ -31,7 +31,7 @@ abbrev pub IsReadAgain : Bool → ℕ → Type 0
 IsReadAgain texts s = (text again payload : List ℕ) → text_payload s text ≡ Some payload → IsBytes payload → length
     payload < 2 ^ 64
     → IsUtf8 again → tokens again ≡ json_tokens (json_with texts s (payload_meaning s payload)) → text_payload s again ≡
-        Some payload
+    Some payload
 
 -- A UTF-8 text that has the tokens of the JSON of a well-formed payload, with texts or without, is read as the
 -- canonical
@@ -39,7 +39,7 @@ IsReadAgain texts s = (text again payload : List ℕ) → text_payload s text �
 abbrev pub WellFormedIsReadBack : Bool → ℕ → Type 0
 WellFormedIsReadBack texts s = (payload text : List ℕ) → IsAccepted s payload → IsBytes payload → IsUtf8 text
     → tokens text ≡ json_tokens (json_with texts s (payload_meaning s payload)) → text_payload s text ≡ Some
-        (canonical_payload table s (payload_meaning s payload))
+    (canonical_payload table s (payload_meaning s payload))
 
 -- The text that is printed for a well-formed payload, with texts or without, is read as the canonical payload of what
 -- the
@@ -47,4 +47,4 @@ WellFormedIsReadBack texts s = (payload text : List ℕ) → IsAccepted s payloa
 abbrev pub PrintedIsReadBack : Bool → ℕ → Type 0
 PrintedIsReadBack texts s = (payload : List ℕ) → IsAccepted s payload → IsBytes payload
     → text_payload s (print (json_tokens (json_with texts s (payload_meaning s payload)))) ≡ Some
-        (canonical_payload table s (payload_meaning s payload))
+    (canonical_payload table s (payload_meaning s payload))

@@ -1,6 +1,6 @@
 -- What comes after the bytes of an original name.
-use Rattle.std.specs.Prelude.{ℕ, ◌+◌, ◌&&◌, List, [], ◌∷◌, nat_le, ◌==◌, if◌then◌else◌, Option, Some, None,
-    option_and_then}
+use Rattle.std.specs.Prelude.{ℕ, ◌+◌, ◌&&◌, List, [], ◌∷◌, nat_le, ◌==◌, if◌then◌else◌, Option, Some, None}
+use Rattle.std.specs.Prelude.{option_and_then}
 
 -- What comes after a byte, if the text begins with it.
 abbrev pub after_byte : ℕ → List ℕ → Option (List ℕ)

@@ -1,15 +1,15 @@
 -- Which value of a schema a JSON text means.
-use Rattle.std.specs.Prelude.{ℕ, zero, suc, ◌+◌, Bool, true, false, ◌&&◌, ◌||◌, List, [], ◌∷◌, nat_le, flat_map,
-    if◌then◌else◌, Option, Some, None, option_map, option_and_then}
+use Rattle.std.specs.Prelude.{ℕ, zero, suc, ◌+◌, Bool, true, false, ◌&&◌, ◌||◌, List, [], ◌∷◌, nat_le, flat_map}
+use Rattle.std.specs.Prelude.{if◌then◌else◌, Option, Some, None, option_map, option_and_then}
 use Rattle.std.specs.Str.{is_utf8, bytes_eq}
-use Rattle.json.specs.Json.{Json, null, boolean, number, string, array, object, Items, no_items, item, Members,
-    no_members, member, if_last}
+use Rattle.json.specs.Json.{Json, null, boolean, number, string, array, object, Items, no_items, item, Members}
+use Rattle.json.specs.Json.{no_members, member, if_last}
 use Rattle.json.specs.Json as json
 use Rattle.json.specs.Token.{Token}
 use Rattle.json.specs.Lex.{tokens}
 use Rattle.shared_core_wire.specs.Schema.{Kind, U32, U64, Boolean, Enumeration, Text, ByteString, Message}
-use Rattle.shared_core_wire.specs.Value.{Part, Parts, Absent, Number, Bytes, Nested, Elements, Member, nil, cons,
-    default_of}
+use Rattle.shared_core_wire.specs.Value.{Part, Parts, Absent, Number, Bytes, Nested, Elements, Member, nil, cons}
+use Rattle.shared_core_wire.specs.Value.{default_of}
 use Rattle.shared_core_wire.specs.Canonical.{canonical_payload}
 use Rattle.shared_core_codec.specs.Table.{table}
 use Rattle.shared_core_json_reader.specs.Rows.{NamedField, NamedRow, Plain, Optional, Repeated, OneOf, named_rows}
@@ -126,7 +126,7 @@ abbrev pub oneof_read : (ℕ → Json → Option Parts) → Members → Part →
 oneof_read nested ms held [] = Some held
 oneof_read nested ms held (f ∷ fs) =
     option_and_then (λ o. option_and_then (λ now. oneof_read nested ms now fs)
-        (or_absent held (member_read nested held f) o)) (given f ms)
+    (or_absent held (member_read nested held f) o)) (given f ms)
 
 -- What an object gives a row.
 abbrev pub row_read : (ℕ → Json → Option Parts) → Members → NamedRow → Option Part

@@ -62,8 +62,13 @@ enum_field_view f = record { schema = f.schema; number = f.number; values = map 
 
 -- The named field of a field of the program.
 abbrev pub field_view : Field → NamedField
-field_view f = record { number = f.number; name = f.name.now; kind = codec.kind_view f.kind; values = map value_view
-    f.values.now }
+field_view f = record {
+  number = f.number;
+  name = f.name.now;
+  kind = codec.kind_view f.kind;
+  values = map value_view
+      f.values.now;
+}
 
 -- The field of the schema s that a field of the codec is, with its name.
 abbrev pub in_schema : ℕ → codec_field.Field → NamedField

@@ -1,6 +1,6 @@
 -- When two futures are equal.
-use Rattle.std.proofs.Common.{◌≡◌, ℕ, suc, ◌+◌, ◌<◌, ◌≤◌, List, [], ◌∷◌, Bool, true, false, ◌&&◌, refl, ap, sym, ◌∙◌,
-    eqb, length, drop, get_or, add-one, drop-cons, arith}
+use Rattle.std.proofs.Common.{◌≡◌, ℕ, suc, ◌+◌, ◌<◌, ◌≤◌, List, [], ◌∷◌, Bool, true, false, ◌&&◌, refl, ap, sym, ◌∙◌}
+use Rattle.std.proofs.Common.{eqb, length, drop, get_or, add-one, drop-cons, arith}
 use Rattle.std.specs.Prelude.{ℤ, String, string_eq}
 use Rattle.std.specs.Ordering.{int_eq}
 use Rattle.std.proofs.Math.Bool.{and-false, and-true}
@@ -29,11 +29,11 @@ enums_equal y z = part_test_is _ _ _ (equal_enums y z)
 
 future_equal : (a b : Future) → parts_equal (future_parts a) (future_parts b)
     ≡ (part_equal (elements_part value.Number (out-Future a).waiting_completions.items)
-        (elements_part value.Number (out-Future b).waiting_completions.items)
+    (elements_part value.Number (out-Future b).waiting_completions.items)
     && (part_equal (elements_part value.Number (out-Future a).waiting_signals.items)
-        (elements_part value.Number (out-Future b).waiting_signals.items)
+    (elements_part value.Number (out-Future b).waiting_signals.items)
     && (part_equal (elements_part text_part (out-Future a).waiting_named_signals.items)
-        (elements_part text_part (out-Future b).waiting_named_signals.items)
+    (elements_part text_part (out-Future b).waiting_named_signals.items)
     && (part_equal (futures_part (out-Future a).nested_futures.items) (futures_part (out-Future b).nested_futures.items)
     && (part_equal (enum_part (out-Future a).combinator_type) (enum_part (out-Future b).combinator_type) && true)))))
 future_equal a b = rw (fold_out-Future Parts future_layer a, fold_out-Future Parts future_layer b) refl
@@ -86,9 +86,9 @@ pub by_last : (a b : Future) → pointwise eqb (out-Future a).waiting_completion
     → pointwise eqb (out-Future a).waiting_signals.items (out-Future b).waiting_signals.items ≡ true
     → pointwise string_eq (out-Future a).waiting_named_signals.items (out-Future b).waiting_named_signals.items ≡ true
     → part_equal (futures_part (out-Future a).nested_futures.items) (futures_part (out-Future b).nested_futures.items) ≡
-        true
+    true
     → int_eq (out-Future a).combinator_type (out-Future b).combinator_type ≡ parts_equal (future_parts a)
-        (future_parts b)
+    (future_parts b)
 by_last a b h i j k = sym (future_equal a b ∙ rw (
   sym (numbers_equal (out-Future a).waiting_completions.items (out-Future b).waiting_completions.items) ∙ h,
   sym (numbers_equal (out-Future a).waiting_signals.items (out-Future b).waiting_signals.items) ∙ i,
@@ -121,13 +121,13 @@ eq_lengths (x ∷ xs) (y ∷ ys) h = rw (eq_lengths xs ys (λ e. h (ap suc e))) 
 pub eq_step : (xs ys : List Future) (i : ℕ) (x y : Future) → i < length xs → i < length ys → x ≡ get_or xs i x → y ≡
     get_or ys i y
     → parts_equal (future_parts x) (future_parts y) ≡ true → from_same xs ys i ≡ from_same xs ys 0 → from_same xs ys
-        (i + 1) ≡ from_same xs ys 0
+    (i + 1) ≡ from_same xs ys 0
 eq_step xs ys i x y h k d e s w = sym (rw s at (eq_next xs ys i x y h k d e)) ∙ w
 
 pub eq_stop : (xs ys : List Future) (i : ℕ) (x y : Future) → i < length xs → i < length ys → x ≡ get_or xs i x → y ≡
     get_or ys i y
     → parts_equal (future_parts x) (future_parts y) ≡ false → from_same xs ys i ≡ from_same xs ys 0 → false ≡ part_equal
-        (futures_part xs) (futures_part ys)
+    (futures_part xs) (futures_part ys)
 unfolding from_same
 eq_stop xs ys i x y h k d e s w = sym (rw s at (eq_next xs ys i x y h k d e)) ∙ w
 

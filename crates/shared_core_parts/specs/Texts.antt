@@ -1,6 +1,6 @@
 -- The texts of the nested messages.
-use Rattle.std.specs.Prelude.{ℕ, List, [], ◌∷◌, ◌++◌, ◌/◌, ◌%◌, codes, false, nat_le, ◌==◌, ◌&&◌, if◌then◌else◌,
-    encode_utf8_all}
+use Rattle.std.specs.Prelude.{ℕ, List, [], ◌∷◌, ◌++◌, ◌/◌, ◌%◌, codes, false, nat_le, ◌==◌, ◌&&◌, if◌then◌else◌}
+use Rattle.std.specs.Prelude.{encode_utf8_all}
 use Rattle.std.specs.Fmt.{decimal, comma_space, digit_glyph}
 use Rattle.std.specs.List.{join_by, flat_map}
 use Rattle.std.specs.Str.{is_utf8}

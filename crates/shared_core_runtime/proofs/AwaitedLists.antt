@@ -1,6 +1,7 @@
 -- The lists of what is awaited, as they are measured and written off the tree.
-use Rattle.std.proofs.Common.{◌≡◌, ℕ, zero, suc, ◌+◌, ◌-◌, ◌<◌, ◌≤◌, ◌^◌, List, [], ◌∷◌, ◌++◌, Option, Some, None, refl,
-    ap, sym, ◌∙◌, length, length-append, get_or, drop, drop-cons, add-one, append_assoc, append-nil, subst, arith}
+use Rattle.std.proofs.Common.{◌≡◌, ℕ, zero, suc, ◌+◌, ◌-◌, ◌<◌, ◌≤◌, ◌^◌, List, [], ◌∷◌, ◌++◌, Option, Some, None, refl}
+use Rattle.std.proofs.Common.{ap, sym, ◌∙◌, length, length-append, get_or, drop, drop-cons, add-one, append_assoc}
+use Rattle.std.proofs.Common.{append-nil, subst, arith}
 use Rattle.std.proofs.lemmas.List.{drop_all, nil_from_length}
 use Rattle.std.proofs.lemmas.List.Concat.{flat_map-append}
 use Rattle.std.specs.Prelude.{flat_map, map}
@@ -10,8 +11,8 @@ use Rattle.std.specs.Coded.{le_prop}
 use Rattle.std.proofs.Common.{inl, inr}
 use Rattle.shared_core_wire.proofs.Runs.{parts_append_assoc}
 use Rattle.shared_core_wire.proofs.Shortest.{shortest_large, shortest_small}
-use Rattle.shared_core_wire.specs.Canonical.{canonical_payload, element_values, number_bytes, packed_values,
-    part_values}
+use Rattle.shared_core_wire.specs.Canonical.{canonical_payload, element_values, number_bytes, packed_values}
+use Rattle.shared_core_wire.specs.Canonical.{part_values}
 use Rattle.shared_core_wire.specs.Encoding.{key_bytes, record_list_bytes, shortest_varint}
 use Rattle.shared_core_wire.specs.Grammar.{RecordValue}
 use Rattle.shared_core_wire.specs.Fitting.{BytesFit, ElementsFit, Fits, NumberFits, PartFits}
@@ -19,22 +20,23 @@ use Rattle.shared_core_wire.specs.Schema.{Kind, Repeated, Text, U32}
 use Rattle.shared_core_wire.specs.Value.{Part, Parts, Absent, Number, Bytes, Nested, Elements, Member, cons, nil, ◌+++◌}
 use Rattle.shared_core_codec.proofs.Backwards.{record_size}
 use Rattle.shared_core_codec.proofs.Measuring.{measured_bytes}
-use Rattle.shared_core_codec.proofs.RowBytes.{each_bytes, each_cons, each_nil, elements_bytes, payload_size,
-    written_before}
-use Rattle.shared_core_codec.specs.FieldParts.{enum_number, enum_part, elements_part, message_part, option_part,
-    parts_of, text_part}
-use Rattle.shared_core_codec.specs.RowEncoding.{capped, length_record, measured_message, row_bytes, value_bytes,
-    varints_of}
+use Rattle.shared_core_codec.proofs.RowBytes.{each_bytes, each_cons, each_nil, elements_bytes, payload_size}
+use Rattle.shared_core_codec.proofs.RowBytes.{written_before}
+use Rattle.shared_core_codec.specs.FieldParts.{enum_number, enum_part, elements_part, message_part, option_part}
+use Rattle.shared_core_codec.specs.FieldParts.{parts_of, text_part}
+use Rattle.shared_core_codec.specs.RowEncoding.{capped, length_record, measured_message, row_bytes, value_bytes}
+use Rattle.shared_core_codec.specs.RowEncoding.{varints_of}
 use Rattle.shared_core_codec.specs.RowFitting.{FieldFits, RowFits}
 use Rattle.shared_core_codec.specs.Table.{suspension_v6, table}
 use Rattle.shared_core_parts.specs.Futures.{future_elements, future_layer, future_parts, futures_part}
 use Rattle.shared_core_parts.specs.declared.future.Future.{Future}
 use Rattle.shared_core_parts.specs.declared.future.Future.TheViews.{out-Future}
 use Rattle.shared_core_parts.specs.declared.future.Future.TheFolds.{fold_out-Future}
-use Rattle.shared_core_runtime.specs.AwaitedLists.{AwaitedList, Completions, Signals, NamedSignals, awaited_list,
-    kind_in, list_bytes, list_row, list_row_size, own_list, place_of, run_bytes}
-use Rattle.shared_core_runtime.specs.Flattening.{awaited_lists, elements_in, joined_lists, messages_in,
-    messages_of_part, part_at, preorder}
+use Rattle.shared_core_runtime.specs.AwaitedLists.{AwaitedList, Completions, Signals, NamedSignals, awaited_list}
+use Rattle.shared_core_runtime.specs.AwaitedLists.{kind_in, list_bytes, list_row, list_row_size, own_list, place_of}
+use Rattle.shared_core_runtime.specs.AwaitedLists.{run_bytes}
+use Rattle.shared_core_runtime.specs.Flattening.{awaited_lists, elements_in, joined_lists, messages_in}
+use Rattle.shared_core_runtime.specs.Flattening.{messages_of_part, part_at, preorder}
 
 -- what is so of each of the three lists
 pub by_list : (P : AwaitedList → Type 0) → P Completions → P Signals → P NamedSignals → (list : AwaitedList) → P list
@@ -64,8 +66,12 @@ each_join (cons p ps) qs =
 
 names_join : (ps qs : Parts) → row_bytes (Repeated 3 Text) (Elements (ps +++ qs)) ≡ row_bytes (Repeated 3 Text)
     (Elements ps) ++ row_bytes (Repeated 3 Text) (Elements qs)
-names_join ps qs = rw (elements_bytes 3 Text (ps +++ qs) refl, elements_bytes 3 Text ps refl, elements_bytes 3 Text qs
-    refl) (each_join ps qs)
+names_join ps qs = rw (
+  elements_bytes 3 Text (ps +++ qs) refl,
+  elements_bytes 3 Text ps refl,
+  elements_bytes 3 Text qs
+      refl,
+) (each_join ps qs)
 
 pub list_join : (list : AwaitedList) (ps qs : Parts) → list_bytes list (ps +++ qs) ≡ list_bytes list ps ++ list_bytes
     list qs
@@ -99,10 +105,14 @@ no_messages view none (x ∷ xs) = rw (none x) (no_messages view none xs)
 
 nested_alone : (numbers signals : List ℕ) (names : Parts) (nested : Parts) (n : ℕ) → messages_in names ≡ []
     → messages_in (cons (elements_part Number numbers) (cons (elements_part Number signals)
-        (cons (Elements names) (cons (Elements nested) (cons (Number n) nil))))) ≡ messages_in nested
+    (cons (Elements names) (cons (Elements nested) (cons (Number n) nil))))) ≡ messages_in nested
 unfolding messages_in
-nested_alone numbers signals names nested n h = rw (no_messages Number (λ n. refl) numbers, no_messages Number
-    (λ n. refl) signals, h) (append-nil _)
+nested_alone numbers signals names nested n h = rw (
+  no_messages Number (λ n. refl) numbers,
+  no_messages Number
+      (λ n. refl) signals,
+  h,
+) (append-nil _)
 
 -- the value of a future
 abbrev value_of : Future → Parts
@@ -121,9 +131,9 @@ messages_in_future : (f : Future) → messages_in (value_of f) ≡ messages_in
 unfolding messages_in
 messages_in_future f =
     nested_alone (out-Future f).waiting_completions.items (out-Future f).waiting_signals.items
-        (parts_of text_part (out-Future f).waiting_named_signals.items)
+    (parts_of text_part (out-Future f).waiting_named_signals.items)
     (future_elements (out-Future f).nested_futures.items) (enum_number (out-Future f).combinator_type)
-        (no_messages text_part (λ s. refl) (out-Future f).waiting_named_signals.items)
+    (no_messages text_part (λ s. refl) (out-Future f).waiting_named_signals.items)
 
 -- ---- a future's own lists
 
@@ -133,15 +143,23 @@ run_of [] = refl
 run_of (n ∷ ns) = ap (λ (t : List ℕ). shortest_varint n ++ t) (run_of ns)
 
 varint_some : (n : ℕ) → 1 ≤ length (shortest_varint n)
-varint_some n = elim (cases_lt n 128) [ inl h ↦ rw (shortest_small n h) (omega arith) | inr h ↦ rw (shortest_large n h)
-    (omega arith) ]
+varint_some n = elim (cases_lt n 128) [
+  | inl h ↦ rw (shortest_small n h) (omega arith)
+  | inr h ↦ rw (shortest_large n h)
+      (omega arith)
+]
 
 -- each number takes a byte at least
 run_shows : (ps : Parts) → ElementsFit table ps U32 → length (element_values table ps U32) ≤ length (run_bytes ps)
 unfolding ElementsFit PartFits element_values part_values
 run_shows nil f = omega arith
-run_shows (cons (Number n) ps) f = omega (arith, run_shows ps f.2, varint_some n, length-append (shortest_varint n)
-    (run_bytes ps))
+run_shows (cons (Number n) ps) f = omega (
+  arith,
+  run_shows ps f.2,
+  varint_some n,
+  length-append (shortest_varint n)
+      (run_bytes ps),
+)
 run_shows (cons (Bytes bytes) ps) f = absurd f.1
 run_shows (cons (Nested qs) ps) f = absurd f.1
 run_shows (cons Absent ps) f = absurd (false≢true f.0)
@@ -211,10 +229,16 @@ future_bytes list f = ap (list_bytes list) (future_list list f) ∙ list_join li
 pub future_measured : (list : AwaitedList) (f : Future) (old middle new : ℕ) → middle ≡ capped
     (old + length (list_bytes list (own_list list (future_parts f))))
     → new ≡ capped (middle + length (list_bytes list (awaited_list list (nested_in f)))) → new ≡ capped
-        (old + length (list_bytes list (awaited_list list (preorder (future_parts f)))))
+    (old + length (list_bytes list (awaited_list list (preorder (future_parts f)))))
 future_measured list f old middle new a b =
-    omega (arith, a, b, ap length (future_bytes list f), length-append
-        (list_bytes list (own_list list (future_parts f))) (list_bytes list (awaited_list list (nested_in f))))
+    omega (
+      arith,
+      a,
+      b,
+      ap length (future_bytes list f),
+      length-append
+          (list_bytes list (own_list list (future_parts f))) (list_bytes list (awaited_list list (nested_in f))),
+    )
 
 pub future_fits : (list : AwaitedList) (f : Future) → ElementsFit table (own_list list (future_parts f)) (kind_in list)
     → ElementsFit table (awaited_list list (nested_in f)) (kind_in list)
@@ -243,7 +267,7 @@ more_list list f fs = joined_append (place_of list) (preorder (future_parts f)) 
 
 pub next_list : (list : AwaitedList) (fs : List Future) (i : ℕ) (f : Future) → i < length fs → f ≡ get_or fs i f
     → awaited_list list (futures_from fs i) ≡ awaited_list list (preorder (future_parts f)) +++ awaited_list list
-        (futures_from fs (i + 1))
+    (futures_from fs (i + 1))
 next_list list fs i f h e = rw (add-one, drop-cons fs i f h, ← e) (more_list list f (drop (suc i) fs))
 
 pub no_list : (list : AwaitedList) (fs : List Future) (i : ℕ) → length fs ≤ i → awaited_list list (futures_from fs i) ≡
@@ -258,7 +282,7 @@ from_bytes list fs i = list_bytes list (awaited_list list (futures_from fs i))
 
 pub next_bytes : (list : AwaitedList) (fs : List Future) (i : ℕ) (f : Future) → i < length fs → f ≡ get_or fs i f
     → from_bytes list fs i ≡ list_bytes list (awaited_list list (preorder (future_parts f))) ++ from_bytes list fs
-        (i + 1)
+    (i + 1)
 next_bytes list fs i f h e = ap (list_bytes list) (next_list list fs i f h e) ∙ list_join list _ _
 
 pub no_bytes : (list : AwaitedList) (fs : List Future) (i : ℕ) → length fs ≤ i → from_bytes list fs i ≡ []
@@ -269,16 +293,22 @@ IsMeasured list fs first i now =
     (capped (now + length (from_bytes list fs i)) ≡ capped (first + length (from_bytes list fs 0)))
     × (now ≤ 2 ^ 32)
     × (ElementsFit table (awaited_list list (futures_from fs i)) (kind_in list) → ElementsFit table
-        (awaited_list list (futures_from fs 0)) (kind_in list))
+    (awaited_list list (futures_from fs 0)) (kind_in list))
 
 pub measured_next : (list : AwaitedList) (fs : List Future) (i : ℕ) (f : Future) (first old now : ℕ) → i < length fs → f
     ≡ get_or fs i f
     → now ≡ capped (old + length (list_bytes list (awaited_list list (preorder (future_parts f))))) → ElementsFit table
-        (awaited_list list (preorder (future_parts f))) (kind_in list)
+    (awaited_list list (preorder (future_parts f))) (kind_in list)
     → IsMeasured list fs first i old → IsMeasured list fs first (i + 1) now
 measured_next list fs i f first old now h e s fit w = (
-  omega (arith, s, w.0, ap length (next_bytes list fs i f h e), length-append
-      (list_bytes list (awaited_list list (preorder (future_parts f)))) (from_bytes list fs (i + 1))),
+  omega (
+    arith,
+    s,
+    w.0,
+    ap length (next_bytes list fs i f h e),
+    length-append
+        (list_bytes list (awaited_list list (preorder (future_parts f)))) (from_bytes list fs (i + 1)),
+  ),
   omega (arith, s),
   λ g. w.2 (subst (λ (ps : Parts). ElementsFit table ps (kind_in list)) (sym (next_list list fs i f h e))
       (elements_join list _ _ fit g)),
@@ -313,18 +343,24 @@ written_none list fs i end after h = record {
 pub written_next : (list : AwaitedList) (fs : List Future) (i : ℕ) (f : Future) (end old start : ℕ)
     (after mid now : List ℕ) → 0 < i → i ≤ length fs → f ≡ get_or fs (i - 1) f
     → start + length (list_bytes list (awaited_list list (preorder (future_parts f)))) ≡ old → now ≡ list_bytes list
-        (awaited_list list (preorder (future_parts f))) ++ mid
+    (awaited_list list (preorder (future_parts f))) ++ mid
     → IsWritten list fs i end old after mid → IsWritten list fs (i - 1) end start after now
 written_next list fs i f end old start after mid now z h e l w b =
     let n : i - 1 + 1 ≡ i = omega arith in
     let bytes : from_bytes list fs (i - 1) ≡ list_bytes list (awaited_list list (preorder (future_parts f))) ++
-        from_bytes list fs i = rw n at (next_bytes list fs (i - 1) f (omega arith) e) in
+    from_bytes list fs i = rw n at (next_bytes list fs (i - 1) f (omega arith) e) in
     record {
-      begins = omega (arith, l, b.begins, ap length bytes, length-append
-          (list_bytes list (awaited_list list (preorder (future_parts f)))) (from_bytes list fs i));
+      begins = omega (
+        arith,
+        l,
+        b.begins,
+        ap length bytes,
+        length-append
+            (list_bytes list (awaited_list list (preorder (future_parts f)))) (from_bytes list fs i),
+      );
       written = w ∙ ap (λ (t : List ℕ). list_bytes list (awaited_list list (preorder (future_parts f))) ++ t) b.written
           ∙ sym (append_assoc (list_bytes list (awaited_list list (preorder (future_parts f)))) (from_bytes list fs i)
-              after) ∙ ap (λ (t : List ℕ). t ++ after) (sym bytes);
+          after) ∙ ap (λ (t : List ℕ). t ++ after) (sym bytes);
     }
 
 from_shorter : (list : AwaitedList) (fs : List Future) (i : ℕ) → length (from_bytes list fs i) ≤ length
@@ -345,33 +381,57 @@ from_shorter list (f ∷ fs) (suc i) =
 pub written_room : (list : AwaitedList) (fs : List Future) (i : ℕ) (f : Future) (end start : ℕ) → 0 < i → i ≤ length fs
     → f ≡ get_or fs (i - 1) f
     → start + length (from_bytes list fs i) ≡ end → length (from_bytes list fs 0) ≤ end → length
-        (list_bytes list (awaited_list list (preorder (future_parts f)))) ≤ start
+    (list_bytes list (awaited_list list (preorder (future_parts f)))) ≤ start
 written_room list fs i f end start z h e w r =
     let n : i - 1 + 1 ≡ i = omega arith in
     let bytes : from_bytes list fs (i - 1) ≡ list_bytes list (awaited_list list (preorder (future_parts f))) ++
-        from_bytes list fs i = rw n at (next_bytes list fs (i - 1) f (omega arith) e) in
-    omega (arith, w, r, from_shorter list fs (i - 1), ap length bytes, length-append
-        (list_bytes list (awaited_list list (preorder (future_parts f)))) (from_bytes list fs i))
+    from_bytes list fs i = rw n at (next_bytes list fs (i - 1) f (omega arith) e) in
+    omega (
+      arith,
+      w,
+      r,
+      from_shorter list fs (i - 1),
+      ap length bytes,
+      length-append
+          (list_bytes list (awaited_list list (preorder (future_parts f)))) (from_bytes list fs i),
+    )
 
 pub nested_room : (list : AwaitedList) (f : Future) (end : ℕ) → length
     (list_bytes list (awaited_list list (preorder (future_parts f)))) ≤ end → length
     (list_bytes list (awaited_list list (nested_in f))) ≤ end
-nested_room list f end r = omega (arith, r, ap length (future_bytes list f), length-append
-    (list_bytes list (own_list list (future_parts f))) (list_bytes list (awaited_list list (nested_in f))))
+nested_room list f end r = omega (
+  arith,
+  r,
+  ap length (future_bytes list f),
+  length-append
+      (list_bytes list (own_list list (future_parts f))) (list_bytes list (awaited_list list (nested_in f))),
+)
 
 pub own_room : (list : AwaitedList) (f : Future) (start end : ℕ) → length
     (list_bytes list (awaited_list list (preorder (future_parts f)))) ≤ end → start + length
     (list_bytes list (awaited_list list (nested_in f))) ≡ end
     → length (list_bytes list (own_list list (future_parts f))) ≤ start
-own_room list f start end r w = omega (arith, r, w, ap length (future_bytes list f), length-append
-    (list_bytes list (own_list list (future_parts f))) (list_bytes list (awaited_list list (nested_in f))))
+own_room list f start end r w = omega (
+  arith,
+  r,
+  w,
+  ap length (future_bytes list f),
+  length-append
+      (list_bytes list (own_list list (future_parts f))) (list_bytes list (awaited_list list (nested_in f))),
+)
 
 pub future_start : (list : AwaitedList) (f : Future) (end mid start : ℕ) → mid + length
     (list_bytes list (awaited_list list (nested_in f))) ≡ end → start + length
     (list_bytes list (own_list list (future_parts f))) ≡ mid
     → start + length (list_bytes list (awaited_list list (preorder (future_parts f)))) ≡ end
-future_start list f end mid start a b = omega (arith, a, b, ap length (future_bytes list f), length-append
-    (list_bytes list (own_list list (future_parts f))) (list_bytes list (awaited_list list (nested_in f))))
+future_start list f end mid start a b = omega (
+  arith,
+  a,
+  b,
+  ap length (future_bytes list f),
+  length-append
+      (list_bytes list (own_list list (future_parts f))) (list_bytes list (awaited_list list (nested_in f))),
+)
 
 pub future_written : (list : AwaitedList) (f : Future) (after mid now : List ℕ) → mid ≡ list_bytes list
     (awaited_list list (nested_in f)) ++ after → now ≡ list_bytes list (own_list list (future_parts f)) ++ mid
@@ -379,8 +439,8 @@ pub future_written : (list : AwaitedList) (f : Future) (after mid now : List ℕ
 future_written list f after mid now a b =
     b ∙ ap (λ (t : List ℕ). list_bytes list (own_list list (future_parts f)) ++ t) a
     ∙ sym (append_assoc (list_bytes list (own_list list (future_parts f)))
-        (list_bytes list (awaited_list list (nested_in f))) after) ∙ ap (λ (t : List ℕ). t ++ after)
-        (sym (future_bytes list f))
+    (list_bytes list (awaited_list list (nested_in f))) after) ∙ ap (λ (t : List ℕ). t ++ after)
+    (sym (future_bytes list f))
 
 -- ---- a list of numbers as a packed run
 
@@ -408,7 +468,7 @@ no_row at ps f h = no_values at (element_values table ps U32) (omega (arith, f, 
 run_measured : (at : ℕ) (ps : Parts) (old run new : ℕ) → ElementsFit table ps U32 → old ≤ 2 ^ 32 → run ≡ capped
     (length (run_bytes ps)) → (run ≡ 0 → new ≡ old)
     → (0 < run → new ≡ measured_message at run old) → new ≡ capped
-        (old + length (row_bytes (Repeated at U32) (Elements ps)))
+    (old + length (row_bytes (Repeated at U32) (Elements ps)))
 run_measured at ps old run new f l e none some =
     elim (cases_lt 0 run) [
       | inl h ↦ some h ∙ measured_bytes at old run (run_bytes ps) e ∙ ap (λ (t : List ℕ). capped (old + length t))
@@ -420,8 +480,11 @@ run_measured at ps old run new f l e none some =
     ]
 
 run_room : (at : ℕ) (ps : Parts) → length (run_bytes ps) ≤ length (row_bytes (Repeated at U32) (Elements ps))
-run_room at ps = elim (cases_lt 0 (length (run_bytes ps))) [ inl h ↦ omega
-    (arith, ap length (some_row at ps h), record_size at (run_bytes ps)) | inr h ↦ omega (arith, h) ]
+run_room at ps = elim (cases_lt 0 (length (run_bytes ps))) [
+  | inl h ↦ omega
+      (arith, ap length (some_row at ps h), record_size at (run_bytes ps))
+  | inr h ↦ omega (arith, h)
+]
 
 pub elements_room : (list : AwaitedList) (ms : List Parts) → length (list_bytes list (awaited_list list ms)) ≤
     list_row_size list ms
@@ -446,13 +509,21 @@ pub head_room : (at : ℕ) (ps : Parts) (len start : ℕ) → ElementsFit table 
     → length (key_bytes at 2) + length (shortest_varint (len - start)) ≡ start
 head_room at ps len start f r w h =
     let n : length (run_bytes ps) ≡ len - start = omega (arith, w) in
-    omega (arith, r, w, n, ap length (some_row at ps (omega (arith, w, h))), record_size at (run_bytes ps), ap
-        (λ (k : ℕ). length (shortest_varint k)) n)
+    omega (
+      arith,
+      r,
+      w,
+      n,
+      ap length (some_row at ps (omega (arith, w, h))),
+      record_size at (run_bytes ps),
+      ap
+          (λ (k : ℕ). length (shortest_varint k)) n,
+    )
 
 pub head_written : (at : ℕ) (ps : Parts) (start : ℕ) (old now : List ℕ) → ElementsFit table ps U32 → length old ≡ length
     (row_bytes (Repeated at U32) (Elements ps)) → start + length (run_bytes ps) ≡ length old
     → drop start old ≡ run_bytes ps ++ [] → (length old ≤ start → now ≡ old) →
-        (start < length old → now ≡ key_bytes at 2 ++ (shortest_varint (length old - start) ++ drop start old))
+    (start < length old → now ≡ key_bytes at 2 ++ (shortest_varint (length old - start) ++ drop start old))
     → now ≡ row_bytes (Repeated at U32) (Elements ps)
 head_written at ps start old now f r w d none some =
     elim (cases_lt start (length old)) [
@@ -503,16 +574,16 @@ sizes_whole ms = omega (arith, payload_size suspension_v6 (awaited_lists ms))
 pub runs_measured : (ms : List Parts) (begin first second completions signals : ℕ) →
     ((list : AwaitedList) → ElementsFit table (awaited_list list ms) (kind_in list)) → begin ≡ 0
     → completions ≡ capped (length (list_bytes Completions (awaited_list Completions ms))) → signals ≡ capped
-        (length (list_bytes Signals (awaited_list Signals ms)))
+    (length (list_bytes Signals (awaited_list Signals ms)))
     → (completions ≡ 0 → first ≡ begin) → (0 < completions → first ≡ measured_message 1 completions begin) →
-        (signals ≡ 0 → second ≡ first) → (0 < signals → second ≡ measured_message 2 signals first)
+    (signals ≡ 0 → second ≡ first) → (0 < signals → second ≡ measured_message 2 signals first)
     → (first ≡ capped (list_row_size Completions ms)) × (second ≡ capped
-        (list_row_size Completions ms + list_row_size Signals ms))
+    (list_row_size Completions ms + list_row_size Signals ms))
 runs_measured ms begin first second completions signals fit z a b no_first some_first no_second some_second =
     let p : first ≡ capped (begin + list_row_size Completions ms) = run_measured 1 (awaited_list Completions ms) begin
-        completions first (fit Completions) (omega (arith, z)) a no_first some_first in
+    completions first (fit Completions) (omega (arith, z)) a no_first some_first in
     let q : second ≡ capped (first + list_row_size Signals ms) = run_measured 2 (awaited_list Signals ms) first signals
-        second (fit Signals) (omega (arith, p)) b no_second some_second in
+    second (fit Signals) (omega (arith, p)) b no_second some_second in
     (omega (arith, p, z), omega (arith, p, q, z))
 
 pub lists_written : (ms ns : List Parts) (completions signals names : List ℕ) → ms ≡ ns → completions ≡ list_row
@@ -521,13 +592,18 @@ pub lists_written : (ms ns : List Parts) (completions signals names : List ℕ) 
 lists_written ms ns completions signals names h a b c =
     rw (h, a, b, c)
     (append_assoc (list_row Completions ns) (list_row Signals ns) (list_row NamedSignals ns) ∙ ap
-        (λ (t : List ℕ). list_row Completions ns ++ (list_row Signals ns ++ t))
-        (sym (append-nil (list_row NamedSignals ns))) ∙ sym (lists_whole ns))
+    (λ (t : List ℕ). list_row Completions ns ++ (list_row Signals ns ++ t))
+    (sym (append-nil (list_row NamedSignals ns))) ∙ sym (lists_whole ns))
 
 no_rows : list_row_size Completions [] + (list_row_size Signals [] + list_row_size NamedSignals []) ≡ 0
 unfolding joined_lists ElementsFit element_values
-no_rows = omega (arith, ap length (no_row 1 nil (run_shows nil tt) refl), ap length
-    (no_row 2 nil (run_shows nil tt) refl), ap length (list_nil NamedSignals))
+no_rows = omega (
+  arith,
+  ap length (no_row 1 nil (run_shows nil tt) refl),
+  ap length
+      (no_row 2 nil (run_shows nil tt) refl),
+  ap length (list_nil NamedSignals),
+)
 
 pub nothing_written : (ms : List Parts) (out : List ℕ) → ms ≡ [] → length out ≡ length
     (canonical_payload table suspension_v6 (awaited_lists ms)) → out ≡ canonical_payload table suspension_v6
@@ -535,7 +611,7 @@ pub nothing_written : (ms : List Parts) (out : List ℕ) → ms ≡ [] → lengt
 nothing_written ms out h l =
     let z : length (canonical_payload table suspension_v6 (awaited_lists ms)) ≡ 0 = rw h (sizes_whole [] ∙ no_rows) in
     nil_from_length out (omega (arith, l, z)) ∙ sym (nil_from_length
-        (canonical_payload table suspension_v6 (awaited_lists ms)) z)
+    (canonical_payload table suspension_v6 (awaited_lists ms)) z)
 
 pub lists_fit : (ms : List Parts) → ((list : AwaitedList) → ElementsFit table (awaited_list list ms) (kind_in list)) →
     Fits table (awaited_lists ms) (table suspension_v6)
@@ -570,5 +646,10 @@ list_prop NamedSignals ps = elements_prop Text (λ n. hlevel le_prop) (λ bytes.
 
 pub flat_prop : (ms : List Parts) → IsProp (Fits table (awaited_lists ms) (table suspension_v6))
 unfolding Fits
-flat_prop ms = hlevel (Bool-set, list_prop Completions (awaited_list Completions ms), list_prop Signals
-    (awaited_list Signals ms), list_prop NamedSignals (awaited_list NamedSignals ms))
+flat_prop ms = hlevel (
+  Bool-set,
+  list_prop Completions (awaited_list Completions ms),
+  list_prop Signals
+      (awaited_list Signals ms),
+  list_prop NamedSignals (awaited_list NamedSignals ms),
+)

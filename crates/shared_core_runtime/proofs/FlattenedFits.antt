@@ -6,8 +6,8 @@ use Rattle.shared_core_wire.specs.Canonical.{kind_of, levels, part_levels}
 use Rattle.shared_core_wire.specs.Fitting.{ElementsFit, Fits, PartFits, is_single}
 use Rattle.shared_core_codec.specs.Table.{table}
 use Rattle.shared_core_codec.specs.Table as tables
-use Rattle.shared_core_runtime.specs.Flattening.{elements_in, flattened, joined_lists, messages_in, messages_of_part,
-    part_at}
+use Rattle.shared_core_runtime.specs.Flattening.{elements_in, flattened, joined_lists, messages_in, messages_of_part}
+use Rattle.shared_core_runtime.specs.Flattening.{part_at}
 
 -- ---- the messages in a suspension are futures
 
@@ -117,8 +117,11 @@ record FlattenedFits (suspension : Parts) : Type 0 where
 lists_fit : (suspension : Parts) → Fits table suspension (table tables.suspension) → FlattenedFits suspension
 lists_fit suspension fits =
     let are = message_futures suspension (table tables.suspension) (refl, tt) fits in
-    record { completions = joined_fit 0 U32 completions_fit _ are; signals = joined_fit 1 U32 signals_fit _ are;
-        named_signals = joined_fit 2 Text named_signals_fit _ are }
+    record {
+      completions = joined_fit 0 U32 completions_fit _ are;
+      signals = joined_fit 1 U32 signals_fit _ are;
+      named_signals = joined_fit 2 Text named_signals_fit _ are;
+    }
 
 -- ---- flattened, they fit, and have no levels
 
@@ -154,4 +157,4 @@ unfolding levels
 flattened_levels suspension fits =
     let l = lists_fit suspension fits in
     rw (flat_elements _ U32 tt l.completions, flat_elements _ U32 tt l.signals, flat_elements _ Text tt l.named_signals)
-        refl
+    refl

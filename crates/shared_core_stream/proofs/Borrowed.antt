@@ -1,6 +1,6 @@
 -- Items at the front of bytes.
-use Rattle.std.proofs.Common.{◌≡◌, ℕ, ◌+◌, ◌-◌, ◌<◌, ◌≤◌, List, [], ◌++◌, length, take, drop, sym, ap, ◌∙◌, arith,
-    append_assoc, append-nil, length-append, subst}
+use Rattle.std.proofs.Common.{◌≡◌, ℕ, ◌+◌, ◌-◌, ◌<◌, ◌≤◌, List, [], ◌++◌, length, take, drop, sym, ap, ◌∙◌, arith}
+use Rattle.std.proofs.Common.{append_assoc, append-nil, length-append, subst}
 use Rattle.std.specs.Int.{w64, from_be_bytes}
 use Rattle.std.proofs.lemmas.List.{take-append-drop}
 use Rattle.shared_core_base.specs.declared.version.Version.{Version}
@@ -8,8 +8,8 @@ use Rattle.shared_core_stream.specs.declared.encoding.announced.Announced.{Annou
 use Rattle.shared_core_stream.specs.declared.encoding.item_ref.ItemRef.{ItemRef}
 use Rattle.shared_core_stream.specs.Unread.{Unread}
 use Rattle.shared_core_stream.specs.Items.{NoItemBegins, TakesItem, body_length, front_word}
-use Rattle.shared_core_stream.specs.Borrowed.{Announces, IsAtFront, IsMissing, announced_length, item_with,
-    kind_announced}
+use Rattle.shared_core_stream.specs.Borrowed.{Announces, IsAtFront, IsMissing, announced_length, item_with}
+use Rattle.shared_core_stream.specs.Borrowed.{kind_announced}
 use Rattle.shared_core_stream.proofs.Items.{item_is_long, none_partial, takes_announced}
 
 -- what a word announces at the version of what is unread
@@ -25,8 +25,12 @@ pub header_missing : (version : Version) (bytes : List ℕ) → length bytes < 8
 header_missing version bytes short = record {
   counted = grind arith;
   some = omega arith;
-  needed = λ more few item rest taken. omega (arith, item_is_long version (bytes ++ more) rest item taken, length-append
-      bytes more);
+  needed = λ more few item rest taken. omega (
+    arith,
+    item_is_long version (bytes ++ more) rest item taken,
+    length-append
+        bytes more,
+  );
 }
 
 -- where bytes are missing no item begins
@@ -70,5 +74,5 @@ module _ (version : Version) (bytes head body : List ℕ) (word : ℕ) (announce
         (rw (is_payload, is_rest) (sym (take-append-drop (announced_length announced) body)));
     taken = subst (λ k. TakesItem version bytes (item_with k item.payload.now) rest) (sym of_kind)
         (takes_announced version bytes head body word eight joined reads announced item.payload.now rest says fits
-            is_payload is_rest);
+        is_payload is_rest);
   }

@@ -27,8 +27,11 @@ messages_decide a b = (
 
 -- items
 pub items_decide : (a b : Item) → Decides (items.eq-value.it a b) (a ≡ b)
-items_decide (Message x) (Message y) = (λ is. ap Message ((messages_decide x y).0 is), λ same. (messages_decide x y).1
-    (cc))
+items_decide (Message x) (Message y) = (
+  λ is. ap Message ((messages_decide x y).0 is),
+  λ same. (messages_decide x y).1
+      (cc),
+)
 items_decide (Unknown n) (Unknown m) = (λ is. ap Unknown (eqb-true n m is), λ same. eq-eqb n m (cc))
 items_decide (Skipped n x) (Skipped m y) = (
   λ is.

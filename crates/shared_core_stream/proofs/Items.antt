@@ -1,6 +1,7 @@
 -- Which item a stream begins with, and how streams split.
-use Rattle.std.proofs.Common.{◌≡◌, ℕ, ◌+◌, ◌<◌, ◌≤◌, List, [], ◌∷◌, ◌++◌, length, take, drop, Option, Some, None, refl,
-    sym, ap, ◌∙◌, arith, subst, append_assoc, append-nil, length-append, zero, suc, inl, inr, Bool, true, false, leb}
+use Rattle.std.proofs.Common.{◌≡◌, ℕ, ◌+◌, ◌<◌, ◌≤◌, List, [], ◌∷◌, ◌++◌, length, take, drop, Option, Some, None, refl}
+use Rattle.std.proofs.Common.{sym, ap, ◌∙◌, arith, subst, append_assoc, append-nil, length-append, zero, suc, inl, inr}
+use Rattle.std.proofs.Common.{Bool, true, false, leb}
 use Rattle.std.specs.Prelude.{◌⊎◌}
 use Rattle.std.proofs.lemmas.Bool.{leb-true, leb-false}
 use Rattle.std.specs.Int.{w64, from_be_bytes}
@@ -17,8 +18,8 @@ use Rattle.shared_core_stream.specs.declared.encoding.announced.Announced.TheVar
 use Rattle.shared_core_stream.specs.Borrowed.{Announces, announced_length, kind_announced, item_with}
 use Rattle.shared_core_stream.specs.declared.encoding.item.Item.{Item}
 use Rattle.shared_core_stream.specs.declared.encoding.item.Item.TheVariants.{Unknown, Skipped}
-use Rattle.shared_core_stream.specs.Items.{front_word, skips_unknown_messages, body_length, item_of, IsItem, AreItems,
-    TakesItem, NoItemBegins, IsItemsThen, SplitsInto, BeginsWithWritten}
+use Rattle.shared_core_stream.specs.Items.{front_word, skips_unknown_messages, body_length, item_of, IsItem, AreItems}
+use Rattle.shared_core_stream.specs.Items.{TakesItem, NoItemBegins, IsItemsThen, SplitsInto, BeginsWithWritten}
 
 take_exact : (n : ℕ) (front rest : List ℕ) → length front ≡ n → take n (front ++ rest) ≡ front
 take_exact n front rest e = subst (λ k. take k (front ++ rest) ≡ front) e (take-append_seam front rest)
@@ -43,8 +44,12 @@ module _ (version : Version) where
   takes_front head rest word size eight reads sized fits =
       let body = take size rest in
       let same : front_word (head ++ body) ≡ word = front_word_head head body eight ∙ sym reads in
-      let long : length (head ++ body) ≡ 8 + size = omega (arith, length-append head body, length-take-le size rest
-          fits) in (
+      let long : length (head ++ body) ≡ 8 + size = omega (
+        arith,
+        length-append head body,
+        length-take-le size rest
+            fits,
+      ) in (
         head ++ body,
         record {
           whole = long ∙ ap (λ n. 8 + n) (sized ∙ ap (body_length version) (sym same));
@@ -136,8 +141,14 @@ module _ (version : Version) where
     pub none_partial : (announced : Announced) → Announces version word announced → length rest < announced_length
         announced → NoItemBegins version bytes
     none_partial announced says short =
-        none_short bytes (omega (arith, ap length whole, length-append head rest, ap (body_length version)
-            (ap front_word whole ∙ front_word_head head rest eight ∙ sym reads), says.length_is))
+        none_short bytes (omega (
+          arith,
+          ap length whole,
+          length-append head rest,
+          ap (body_length version)
+              (ap front_word whole ∙ front_word_head head rest eight ∙ sym reads),
+          says.length_is,
+        ))
 
   -- an item takes eight bytes at least
   pub item_is_long : (old new : List ℕ) (item : Item) → TakesItem version old item new → length new + 8 ≤ length old
@@ -149,12 +160,12 @@ module _ (version : Version) where
   one_item a b x y i j is other joined =
       let words : front_word a ≡ front_word b =
       sym (front_word_more a x (omega (arith, is.whole))) ∙ ap front_word joined ∙ front_word_more b y
-          (omega (arith, other.whole)) in
+      (omega (arith, other.whole)) in
       let sizes : length a ≡ length b = omega (arith, is.whole, other.whole, ap (body_length version) words) in
       let same : a ≡ b = sym (take_exact (length a) a x refl) ∙ ap (take (length a)) joined ∙ take_exact (length a) b y
-          (sym sizes) in
+      (sym sizes) in
       let rests : x ≡ y = sym (drop_exact (length a) a x refl) ∙ ap (drop (length a)) joined ∙ drop_exact (length a) b y
-          (sym sizes) in
+      (sym sizes) in
       (same, is.means ∙ ap (λ l. item_of version (front_word l) (drop 8 l)) same ∙ sym other.means, rests)
 
   -- an item at the front stays there if bytes are appended
@@ -193,8 +204,12 @@ module _ (version : Version) where
 
   pub then_one : (old new : List ℕ) (item : Item) → TakesItem version old item new → IsItemsThen version old (item ∷ [])
       new
-  then_one old new item taken = record { front = taken.0; encoded =
-      (taken.0, [], taken.1, refl, sym (append-nil taken.0)); whole = taken.2 }
+  then_one old new item taken = record {
+    front = taken.0;
+    encoded =
+        (taken.0, [], taken.1, refl, sym (append-nil taken.0));
+    whole = taken.2;
+  }
 
   pub then_takes : (stream old new : List ℕ) (items : List Item) (item : Item) → IsItemsThen version stream items old →
       TakesItem version old item new → IsItemsThen version stream (items ++ item ∷ []) new
@@ -217,13 +232,16 @@ module _ (version : Version) where
       (items ≡ written ++ others)
   begins front rest left right items [] encoded begun no_more joined = (items, refl)
   begins front rest left right [] (w ∷ written) encoded begun no_more joined =
-      absurd (no_more w (begun.1 ++ right)
-      (begun.0, begun.2, ap (λ l. l ++ rest) (sym encoded) ∙ joined ∙ ap (λ l. l ++ right) begun.4 ∙ append_assoc
-          begun.0 begun.1 right))
+      absurd (no_more w (begun.1 ++ right) (
+        begun.0,
+        begun.2,
+        ap (λ l. l ++ rest) (sym encoded) ∙ joined ∙ ap (λ l. l ++ right) begun.4 ∙ append_assoc
+            begun.0 begun.1 right,
+      ))
   begins front rest left right (i ∷ items) (w ∷ written) encoded begun no_more joined =
       let heads = one_item encoded.0 begun.0 (encoded.1 ++ rest) (begun.1 ++ right) i w encoded.2 begun.2
       (sym (append_assoc encoded.0 encoded.1 rest) ∙ ap (λ l. l ++ rest) (sym encoded.4) ∙ joined ∙ ap (λ l. l ++ right)
-          begun.4 ∙ append_assoc begun.0 begun.1 right) in
+      begun.4 ∙ append_assoc begun.0 begun.1 right) in
       let tails = begins encoded.1 rest begun.1 right items written encoded.3 begun.3 no_more heads.2 in
       (tails.0, ap (λ l. i ∷ l) tails.1 ∙ ap (λ k. k ∷ (written ++ tails.0)) heads.1)
 
@@ -231,7 +249,7 @@ module _ (version : Version) where
       BeginsWithWritten version stream items
   split_begins stream rest items split written right front =
       begins split.items_then.front rest front.front right items written split.items_then.encoded front.encoded
-          split.no_more (sym split.items_then.whole ∙ front.whole)
+      split.no_more (sym split.items_then.whole ∙ front.whole)
 
   same_split : (front rest front' rest' : List ℕ) (items items' : List Item) → AreItems version front items → AreItems
       version front' items' → NoItemBegins version rest → NoItemBegins version rest' → front ++ rest ≡ front' ++ rest' →
@@ -239,17 +257,23 @@ module _ (version : Version) where
   same_split front rest front' rest' [] [] encoded encoded' none none' joined =
       (refl, ap (λ l. l ++ rest) (sym encoded) ∙ joined ∙ ap (λ l. l ++ rest') encoded')
   same_split front rest front' rest' [] (j ∷ items') encoded encoded' none none' joined =
-      absurd (none j (encoded'.1 ++ rest')
-      (encoded'.0, encoded'.2, ap (λ l. l ++ rest) (sym encoded) ∙ joined ∙ ap (λ l. l ++ rest') encoded'.4 ∙
-          append_assoc encoded'.0 encoded'.1 rest'))
+      absurd (none j (encoded'.1 ++ rest') (
+        encoded'.0,
+        encoded'.2,
+        ap (λ l. l ++ rest) (sym encoded) ∙ joined ∙ ap (λ l. l ++ rest') encoded'.4 ∙
+            append_assoc encoded'.0 encoded'.1 rest',
+      ))
   same_split front rest front' rest' (i ∷ items) [] encoded encoded' none none' joined =
-      absurd (none' i (encoded.1 ++ rest)
-      (encoded.0, encoded.2, ap (λ l. l ++ rest') (sym encoded') ∙ sym joined ∙ ap (λ l. l ++ rest) encoded.4 ∙
-          append_assoc encoded.0 encoded.1 rest))
+      absurd (none' i (encoded.1 ++ rest) (
+        encoded.0,
+        encoded.2,
+        ap (λ l. l ++ rest') (sym encoded') ∙ sym joined ∙ ap (λ l. l ++ rest) encoded.4 ∙
+            append_assoc encoded.0 encoded.1 rest,
+      ))
   same_split front rest front' rest' (i ∷ items) (j ∷ items') encoded encoded' none none' joined =
       let heads = one_item encoded.0 encoded'.0 (encoded.1 ++ rest) (encoded'.1 ++ rest') i j encoded.2 encoded'.2
       (sym (append_assoc encoded.0 encoded.1 rest) ∙ ap (λ l. l ++ rest) (sym encoded.4) ∙ joined ∙ ap (λ l. l ++ rest')
-          encoded'.4 ∙ append_assoc encoded'.0 encoded'.1 rest') in
+      encoded'.4 ∙ append_assoc encoded'.0 encoded'.1 rest') in
       let tails = same_split encoded.1 rest encoded'.1 rest' items items' encoded.3 encoded'.3 none none' heads.2 in
       (ap (λ l. i ∷ l) tails.0 ∙ ap (λ k. k ∷ items') heads.1, tails.1)
 
@@ -258,7 +282,7 @@ module _ (version : Version) where
       items rest → SplitsInto version stream others left → (items ≡ others) × (rest ≡ left)
   split_is_unique stream items others rest left one other =
       same_split one.items_then.front rest other.items_then.front left items others one.items_then.encoded
-          other.items_then.encoded one.no_more other.no_more
+      other.items_then.encoded one.no_more other.no_more
       (sym one.items_then.whole ∙ other.items_then.whole)
 
   -- the bytes begin with an item, or with none
@@ -266,19 +290,19 @@ module _ (version : Version) where
       version bytes
   front_item bytes =
       (elim (leb (8 + body_length version (front_word bytes)) (length bytes)) as
-          (λ b. leb (8 + body_length version (front_word bytes)) (length bytes) ≡ b →
-          ((item : Item) × (rest : List ℕ) × TakesItem version bytes item rest) ⊎ NoItemBegins version bytes) [
+      (λ b. leb (8 + body_length version (front_word bytes)) (length bytes) ≡ b →
+      ((item : Item) × (rest : List ℕ) × TakesItem version bytes item rest) ⊎ NoItemBegins version bytes) [
         | true ↦ λ is.
             let whole : 8 + body_length version (front_word bytes) ≤ length bytes = leb-true _ _ is in
             let head = take 8 bytes in
             let eight : length head ≡ 8 = length-take-le 8 bytes (omega (arith, whole)) in
             let size = body_length version (from_be_bytes w64 head) in
             let word : front_word bytes ≡ from_be_bytes w64 head = ap front_word (sym (take-append-drop 8 bytes)) ∙
-                front_word_head head (drop 8 bytes) eight in
+            front_word_head head (drop 8 bytes) eight in
             let long : length bytes ≡ 8 + length (drop 8 bytes) = ap length (sym (take-append-drop 8 bytes)) ∙
-                length-append head (drop 8 bytes) ∙ ap (λ n. n + length (drop 8 bytes)) eight in
+            length-append head (drop 8 bytes) ∙ ap (λ n. n + length (drop 8 bytes)) eight in
             let found = takes_front head (drop 8 bytes) (from_be_bytes w64 head) size eight refl refl
-                (omega (arith, whole, long, ap (body_length version) word)) in
+            (omega (arith, whole, long, ap (body_length version) word)) in
             inl (_, _, rw (take-append-drop 8 bytes) at found)
         | false ↦ λ is. inr (none_short bytes (leb-false _ _ is))
       ]) refl

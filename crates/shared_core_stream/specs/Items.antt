@@ -22,7 +22,7 @@ front_word bytes = from_be_bytes w64 (take 8 bytes)
 unfoldable pub body_length : Version → ℕ → ℕ
 body_length version word =
     option_map_or (λ header. header.length) (header_of word)
-        (if skips_unknown_messages version then word_length word else 0)
+    (if skips_unknown_messages version then word_length word else 0)
 
 -- The item that a word and the bytes after it are: a message with its payload; or a code that is no type's, with its
 -- payload if the version skips such a message, otherwise alone.
@@ -41,7 +41,7 @@ abbrev pub AreItems : Version → List ℕ → List Item → Type 0
 AreItems version bytes [] = bytes ≡ []
 AreItems version bytes (item ∷ items) =
     (first : List ℕ) × (others : List ℕ) × IsItem version first item × AreItems version others items ×
-        (bytes ≡ first ++ others)
+    (bytes ≡ first ++ others)
 
 -- An item is at the front of the old bytes, and the new bytes are those after it.
 abbrev pub TakesItem : Version → List ℕ → Item → List ℕ → Type 0
@@ -66,7 +66,7 @@ pub record SplitsInto (version : Version) (stream : List ℕ) (items : List Item
 abbrev pub BeginsWithWritten : Version → List ℕ → List Item → Type 0
 BeginsWithWritten version stream items =
     (written : List Item) (rest : List ℕ) → IsItemsThen version stream written rest → (others : List Item) ×
-        (items ≡ written ++ others)
+    (items ≡ written ++ others)
 
 -- The item has a payload, which may be empty.
 abbrev pub HasPayload : Item → Type 0

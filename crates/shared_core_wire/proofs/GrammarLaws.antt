@@ -1,10 +1,10 @@
 -- Laws of encodings.
-use Rattle.std.proofs.Common.{◌≡◌, ℕ, ◌*◌, ◌≤◌, List, [], ◌∷◌, ◌++◌, length, map, Option, Some, Result, Ok, refl, sym,
-    ap, ◌∙◌, append_assoc, arith}
+use Rattle.std.proofs.Common.{◌≡◌, ℕ, ◌*◌, ◌≤◌, List, [], ◌∷◌, ◌++◌, length, map, Option, Some, Result, Ok, refl, sym}
+use Rattle.std.proofs.Common.{ap, ◌∙◌, append_assoc, arith}
 use Rattle.std.proofs.lemmas.List.{append_cancel_right, length-append}
 use Rattle.shared_core_wire.specs.declared.error.WireError.{WireError}
-use Rattle.shared_core_wire.specs.Grammar.{IsVarint, IsRecordWithin, IsRecordListWithin, IsGroupContent, IsSequence,
-    FieldRecord}
+use Rattle.shared_core_wire.specs.Grammar.{IsVarint, IsRecordWithin, IsRecordListWithin, IsGroupContent, IsSequence}
+use Rattle.shared_core_wire.specs.Grammar.{FieldRecord}
 use Rattle.shared_core_wire.specs.Reader.{varint_at, record_at}
 use Rattle.shared_core_wire.proofs.Readers.{some_is, varint_again, record_long}
 use Rattle.shared_core_wire.proofs.ReadRecords.{read_again, read_only}
@@ -41,11 +41,22 @@ one_list left payload rs ss p q = same_oks rs ss (sym (read_only left rs 0 paylo
 pub joined_lists : {A : Type 0} (R : List ℕ → A → Type 0) (a b : List ℕ) (rs ss : List A) → IsSequence R a rs →
     IsSequence R b ss → IsSequence R (a ++ b) (rs ++ ss)
 joined_lists R a b [] ss p q = rw p q
-joined_lists R a b (r ∷ rs) ss p q = (p.0, p.1 ++ b, ap (λ (w : List ℕ). w ++ b) p.2 ∙ append_assoc p.0 p.1 b, p.3,
-    joined_lists R p.1 b rs ss p.4 q)
+joined_lists R a b (r ∷ rs) ss p q = (
+  p.0,
+  p.1 ++ b,
+  ap (λ (w : List ℕ). w ++ b) p.2 ∙ append_assoc p.0 p.1 b,
+  p.3,
+  joined_lists R p.1 b rs ss p.4 q,
+)
 
 pub two_bytes : (left : ℕ) (rs : List FieldRecord) (payload : List ℕ) → IsRecordListWithin left payload rs → 2 * length
     rs ≤ length payload
 two_bytes left [] payload p = omega arith
-two_bytes left (r ∷ rs) payload p = omega (arith, ap length p.2, length-append p.0 p.1, record_long
-    (IsGroupContent left) p.0 r p.3, two_bytes left rs p.1 p.4)
+two_bytes left (r ∷ rs) payload p = omega (
+  arith,
+  ap length p.2,
+  length-append p.0 p.1,
+  record_long
+      (IsGroupContent left) p.0 r p.3,
+  two_bytes left rs p.1 p.4,
+)

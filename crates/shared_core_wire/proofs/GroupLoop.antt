@@ -4,8 +4,8 @@ use Rattle.std.proofs.lemmas.List.{length-append}
 use Rattle.shared_core_wire.specs.Grammar.{IsGroupContent, RecordValue, FieldRecord}
 use Rattle.shared_core_wire.specs.Reader.{key_at, value_with, record_with, group_end_at, group_content_at}
 use Rattle.shared_core_wire.proofs.Readers.{record_reads, record_long}
-use Rattle.shared_core_wire.proofs.Groups.{reads_groups, record_is, record_no_value, end_here, end_other, end_no_record,
-    end_more, content_is, content_none}
+use Rattle.shared_core_wire.proofs.Groups.{reads_groups, record_is, record_no_value, end_here, end_other, end_no_record}
+use Rattle.shared_core_wire.proofs.Groups.{end_more, content_is, content_none}
 
 abbrev end_of : ℕ → ℕ → List ℕ → Option (List ℕ × List ℕ)
 end_of left number bytes = group_end_at (record_with (group_content_at left)) number 0 bytes
@@ -16,7 +16,7 @@ pub group_ends : (left number : ℕ) (bytes rest after : List ℕ) (n w : ℕ) �
 group_ends left number bytes rest after n w same key is here =
     let room : left + 1 ≡ suc left = omega arith in
     rw room (content_is left number bytes rest after (sym same ∙ end_here (record_with (group_content_at left)) number
-        rest after n w key is here))
+    rest after n w key is here))
 
 pub group_fails : (left number : ℕ) (bytes rest : List ℕ) → end_of left number rest ≡ end_of left number bytes → end_of
     left number rest ≡ None → group_content_at (left + 1) number bytes ≡ None
@@ -35,7 +35,7 @@ pub value_fails : (left number : ℕ) (rest after : List ℕ) (n w : ℕ) → ke
     value_with (group_content_at left) n w after ≡ None → end_of left number rest ≡ None
 value_fails left number rest after n w key is none =
     end_no_record (record_with (group_content_at left)) number rest after n w key is
-        (record_no_value (group_content_at left) rest after n w key none)
+    (record_no_value (group_content_at left) rest after n w key none)
 
 -- one record is passed
 pub record Turn (left number : ℕ) (rest beyond : List ℕ) : Type 0 where

@@ -1,16 +1,16 @@
 -- Groups: where one ends, and what it contains.
-use Rattle.std.proofs.Common.{◌≡◌, ℕ, zero, suc, ◌-◌, ◌<◌, ◌≤◌, cond, List, [], ◌∷◌, ◌++◌, length, take, drop, Option,
-    Some, None, refl, sym, ap, subst, ◌∙◌, append_assoc, arith, inl, inr, eq-eqb}
+use Rattle.std.proofs.Common.{◌≡◌, ℕ, zero, suc, ◌-◌, ◌<◌, ◌≤◌, cond, List, [], ◌∷◌, ◌++◌, length, take, drop, Option}
+use Rattle.std.proofs.Common.{Some, None, refl, sym, ap, subst, ◌∙◌, append_assoc, arith, inl, inr, eq-eqb}
 use Rattle.std.specs.Prelude.{◌==◌}
 use Rattle.std.proofs.lemmas.Bool.{eqb-true, ne_eqb}
 use Rattle.std.proofs.lemmas.List.{take_at, drop_at, length-append}
-use Rattle.shared_core_wire.specs.Grammar.{IsSequence, IsKey, IsFieldRecord, IsGroupContent, RecordValue, Varint,
-    Fixed64, Length, Group, Fixed32, FieldRecord, wire_type}
+use Rattle.shared_core_wire.specs.Grammar.{IsSequence, IsKey, IsFieldRecord, IsGroupContent, RecordValue, Varint}
+use Rattle.shared_core_wire.specs.Grammar.{Fixed64, Length, Group, Fixed32, FieldRecord, wire_type}
 use Rattle.shared_core_wire.proofs.Readers.{BeginsWith}
-use Rattle.shared_core_wire.specs.Reader.{◌>>=◌, varint_within, varint_at, key_at, value_with, record_with,
-    group_end_at, group_content_at}
-use Rattle.shared_core_wire.proofs.Readers.{bind_some, chosen, passed, some_is, key_again, key_reads, ReadsGroups,
-    record_again, record_reads, record_long}
+use Rattle.shared_core_wire.specs.Reader.{◌>>=◌, varint_within, varint_at, key_at, value_with, record_with}
+use Rattle.shared_core_wire.specs.Reader.{group_end_at, group_content_at}
+use Rattle.shared_core_wire.proofs.Readers.{bind_some, chosen, passed, some_is, key_again, key_reads, ReadsGroups}
+use Rattle.shared_core_wire.proofs.Readers.{record_again, record_reads, record_long}
 
 pub record_is : (group : ℕ → List ℕ → Option (List ℕ × List ℕ)) (bytes after rest : List ℕ) (n w : ℕ) (v : RecordValue)
     → key_at bytes ≡ Some (n, w, after) → value_with group n w after ≡ Some (v, rest) → record_with group bytes ≡ Some
@@ -76,7 +76,7 @@ module _ (one : List ℕ → Option (FieldRecord × List ℕ)) (number : ℕ) wh
   end_more [] text after rest n w r e is o parts h = absurd (key_nil (n, w, after) e)
   end_more (b ∷ bs) text after rest n w r e is o parts h =
       rw (e, ne_eqb w 4 is, o) (end_past (length bs - length rest) bs ∙ ap (group_end_at one number 0)
-          (beyond b bs text rest parts h))
+      (beyond b bs text rest parts h))
 
 not_end : (v : RecordValue) → wire_type v ≡ 4 → ⊥
 not_end (Varint n) e = omega arith
@@ -107,13 +107,13 @@ module _ (C : List ℕ → Type 0) (group : ℕ → List ℕ → Option (List �
       let field_record = j.3 in
       let tail = others ++ (end ++ rest) in
       let key : key_at (first ++ tail) ≡ Some (r.number, wire_type r.value, field_record.body ++ tail) = rw
-          (field_record.parts, append_assoc field_record.key field_record.body tail)
-          (key_again field_record.key (field_record.body ++ tail) r.number (wire_type r.value) field_record.keyed) in
+      (field_record.parts, append_assoc field_record.key field_record.body tail)
+      (key_again field_record.key (field_record.body ++ tail) r.number (wire_type r.value) field_record.keyed) in
       let long : 2 ≤ length first = record_long C first r field_record in
       rw (j.2, append_assoc first others (end ++ rest))
       (end_more (record_with group) number (first ++ tail) first (field_record.body ++ tail) tail r.number
-          (wire_type r.value) r key (not_end r.value) (record_again C group groups r first tail field_record) refl
-          (omega arith)
+      (wire_type r.value) r key (not_end r.value) (record_again C group groups r first tail field_record) refl
+      (omega arith)
       ∙ end_again rs others end rest j.4 k)
 
   one_more : (bytes : List ℕ) (r : FieldRecord × List ℕ) (x : List ℕ × List ℕ) → BeginsWith (IsFieldRecord C) bytes r →
@@ -135,25 +135,32 @@ module _ (C : List ℕ → Type 0) (group : ℕ → List ℕ → Option (List �
   end_reads (suc past) (b ∷ bs) x e = end_reads past bs x e
   end_reads zero (b ∷ bs) x e =
       let k = bind_some (key_at (b ∷ bs)) (λ key. cond (key.1 == 4) (cond (key.0 == number) (Some (b ∷ bs, key.2)) None)
-          (record_with group (b ∷ bs) >>= λ r. group_end_at (record_with group) number (length bs - length r.1) bs)) x e
-          in
+      (record_with group (b ∷ bs) >>= λ r. group_end_at (record_with group) number (length bs - length r.1) bs)) x e
+      in
       elim (chosen (k.0.1 == 4) (cond (k.0.0 == number) (Some (b ∷ bs, k.0.2)) None)
-          (record_with group (b ∷ bs) >>= λ r. group_end_at (record_with group) number (length bs - length r.1) bs)
-          (Some x) k.2) [
+      (record_with group (b ∷ bs) >>= λ r. group_end_at (record_with group) number (length bs - length r.1) bs)
+      (Some x) k.2) [
         | inl w ↦
             let v = passed (k.0.0 == number) (Some (b ∷ bs, k.0.2)) x w.1 in
             let t = key_reads (b ∷ bs) k.0 k.1 in
             subst (Closed C number (b ∷ bs)) (some_is (b ∷ bs, k.0.2) x v.1)
-            (record { content = []; end = t.text; records = []; parts = refl; closes = t.parts; keyed = subst
-                (λ (n : ℕ). IsKey t.text n 4) (eqb-true _ _ v.0) (subst (IsKey t.text k.0.0) (eqb-true _ _ w.0) t.is);
-                joined = refl })
+            (record {
+              content = [];
+              end = t.text;
+              records = [];
+              parts = refl;
+              closes = t.parts;
+              keyed = subst
+                  (λ (n : ℕ). IsKey t.text n 4) (eqb-true _ _ v.0) (subst (IsKey t.text k.0.0) (eqb-true _ _ w.0) t.is);
+              joined = refl;
+            })
         | inr w ↦
             let v = bind_some (record_with group (b ∷ bs)) (λ r. group_end_at (record_with group) number
-                (length bs - length r.1) bs) x w.1 in
+            (length bs - length r.1) bs) x w.1 in
             let f = record_reads C group groups (b ∷ bs) v.0 v.1 in
             let long = record_long C f.text v.0.0 f.is in
             one_more (b ∷ bs) v.0 x f (subst (λ (w : List ℕ). Closed C number w x)
-                (beyond b bs f.text v.0.1 f.parts (omega arith)) (end_reads (length bs - length v.0.1) bs x v.2))
+            (beyond b bs f.text v.0.1 f.parts (omega arith)) (end_reads (length bs - length v.0.1) bs x v.2))
       ]
 
 pub front_taken : (bytes front rest : List ℕ) → bytes ≡ front ++ rest → take (length bytes - length rest) bytes ≡ front
@@ -179,19 +186,28 @@ reads_groups (suc room) =
     record {
       again = λ number content end rest h k.
           let closed = end_again (IsGroupContent room) (group_content_at room) inner number h.0 content end rest h.1 k
-              in
+          in
           rw (append_assoc content end rest, closed) (ap (λ (w : List ℕ). Some (w, rest))
-              (take_at content (end ++ rest) (length (content ++ (end ++ rest)) - length (end ++ rest))
-              (omega (arith, length-append content (end ++ rest)))));
+          (take_at content (end ++ rest) (length (content ++ (end ++ rest)) - length (end ++ rest))
+          (omega (arith, length-append content (end ++ rest)))));
       reads = λ number bytes x e.
           let v = bind_some (group_end_at (record_with (group_content_at room)) number 0 bytes)
-              (λ end. Some (take (length bytes - length end.0) bytes, end.1)) x e in
+          (λ end. Some (take (length bytes - length end.0) bytes, end.1)) x e in
           let c = end_reads (IsGroupContent room) (group_content_at room) inner number 0 bytes v.0 v.1 in
           let content = front_taken bytes c.content v.0.0 c.parts in
           subst (BeginsWith (λ text content. (end : List ℕ) × IsKey end number 4 ×
-              ((rs : List FieldRecord) × IsSequence (IsFieldRecord (IsGroupContent room)) content rs) ×
-              (text ≡ content ++ end)) bytes) (some_is (take (length bytes - length v.0.0) bytes, v.0.1) x v.2)
-          (record { text = c.content ++ c.end; parts = c.parts ∙ ap (λ (w : List ℕ). c.content ++ w) c.closes ∙ sym
-              (append_assoc c.content c.end v.0.1); is = (c.end, c.keyed, rw content (c.records, c.joined), ap
-              (λ (w : List ℕ). w ++ c.end) (sym content)) });
+          ((rs : List FieldRecord) × IsSequence (IsFieldRecord (IsGroupContent room)) content rs) ×
+          (text ≡ content ++ end)) bytes) (some_is (take (length bytes - length v.0.0) bytes, v.0.1) x v.2)
+          (record {
+            text = c.content ++ c.end;
+            parts = c.parts ∙ ap (λ (w : List ℕ). c.content ++ w) c.closes ∙ sym
+                (append_assoc c.content c.end v.0.1);
+            is = (
+              c.end,
+              c.keyed,
+              rw content (c.records, c.joined),
+              ap
+                  (λ (w : List ℕ). w ++ c.end) (sym content),
+            );
+          });
     }

@@ -1,6 +1,6 @@
 -- Merging one record list after another into a value is merging the joined list.
-use Rattle.std.proofs.Common.{◌≡◌, ℕ, zero, suc, List, [], ◌∷◌, ◌++◌, Bool, true, false, cond, refl, sym, ap, subst,
-    ◌∙◌, Option, Some, None, append-nil, eqb, eq-eqb}
+use Rattle.std.proofs.Common.{◌≡◌, ℕ, zero, suc, List, [], ◌∷◌, ◌++◌, Bool, true, false, cond, refl, sym, ap, subst}
+use Rattle.std.proofs.Common.{◌∙◌, Option, Some, None, append-nil, eqb, eq-eqb}
 use Rattle.std.proofs.lemmas.Bool.{eqb-true}
 use Rattle.std.specs.List.{list_all}
 use Rattle.std.proofs.lemmas.List.Elements.{filter-append}
@@ -9,18 +9,20 @@ use Rattle.std.proofs.lemmas.List.Folds.{list_all-append}
 use Rattle.shared_core_wire.specs.Grammar.{RecordValue, Varint, Fixed64, Length, Group, Fixed32, FieldRecord, content}
 use Rattle.shared_core_wire.specs.Reader.{record_list}
 use Rattle.shared_core_wire.proofs.RecordLists.{records_append}
-use Rattle.shared_core_wire.specs.Schema.{Kind, Row, U32, U64, Boolean, Enumeration, Text, ByteString, Message, Plain,
-    Optional, Repeated, OneOf, numbers, includes, member_kind}
-use Rattle.shared_core_wire.specs.Value.{Part, Parts, Absent, Number, Bytes, Nested, Elements, Member, nil, cons, ◌+++◌,
-    empty_value}
-use Rattle.shared_core_wire.specs.Overlay.{last, values, joined_contents, own_records, message_overlay, NestedOverlay,
-    scalar_part, message_in, with_elements, member_at, all_numbered, last_run, singular_over, elements_of, all_elements,
-    repeated_over, member_over, oneof_over, row_over, rows_over, or_empty, overlay}
-use Rattle.shared_core_wire.specs.Acceptance.{NestedAcceptance, accepts_value, accepts_in_row, row_allows,
-    accepts_record, some_passes, accepts_message, accepts_records, accepts_payload}
-use Rattle.shared_core_wire.proofs.Runs.{and_split, and_join, parts_append_assoc, parts_append_nil, last-append,
-    values-append, all_numbered-append, last_not, and-true_is, and-false_is, last_run_whole, last_run_on,
-    last_run_within, last_run_none}
+use Rattle.shared_core_wire.specs.Schema.{Kind, Row, U32, U64, Boolean, Enumeration, Text, ByteString, Message, Plain}
+use Rattle.shared_core_wire.specs.Schema.{Optional, Repeated, OneOf, numbers, includes, member_kind}
+use Rattle.shared_core_wire.specs.Value.{Part, Parts, Absent, Number, Bytes, Nested, Elements, Member, nil, cons, ◌+++◌}
+use Rattle.shared_core_wire.specs.Value.{empty_value}
+use Rattle.shared_core_wire.specs.Overlay.{last, values, joined_contents, own_records, message_overlay, NestedOverlay}
+use Rattle.shared_core_wire.specs.Overlay.{scalar_part, message_in, with_elements, member_at, all_numbered, last_run}
+use Rattle.shared_core_wire.specs.Overlay.{singular_over, elements_of, all_elements, repeated_over, member_over}
+use Rattle.shared_core_wire.specs.Overlay.{oneof_over, row_over, rows_over, or_empty, overlay}
+use Rattle.shared_core_wire.specs.Acceptance.{NestedAcceptance, accepts_value, accepts_in_row, row_allows}
+use Rattle.shared_core_wire.specs.Acceptance.{accepts_record, some_passes, accepts_message, accepts_records}
+use Rattle.shared_core_wire.specs.Acceptance.{accepts_payload}
+use Rattle.shared_core_wire.proofs.Runs.{and_split, and_join, parts_append_assoc, parts_append_nil, last-append}
+use Rattle.shared_core_wire.proofs.Runs.{values-append, all_numbered-append, last_not, and-true_is, and-false_is}
+use Rattle.shared_core_wire.proofs.Runs.{last_run_whole, last_run_on, last_run_within, last_run_none}
 
 with_elements-append : (p : Part) (qs rs : Parts) → with_elements p (qs +++ rs) ≡ with_elements (with_elements p qs) rs
 with_elements-append Absent qs rs = refl
@@ -61,9 +63,9 @@ rows_over_nothing table overlay_nested (row ∷ rows) (cons p ps) = ap
 
 module _ (table : ℕ → List Row) (overlay_nested : NestedOverlay) (accepts_nested : NestedAcceptance)
     (overlay_nested_append : (s : ℕ) (m : Parts) (a b : List ℕ) → accepts_nested s a ≡ true → accepts_nested s b ≡ true
-        → overlay_nested s m (a ++ b) ≡ overlay_nested s (overlay_nested s m a) b)
+    → overlay_nested s m (a ++ b) ≡ overlay_nested s (overlay_nested s m a) b)
     (accepts_nested_append : (s : ℕ) (a b : List ℕ) → accepts_nested s a ≡ true → accepts_nested s b ≡ true →
-        accepts_nested s (a ++ b) ≡ true) where
+    accepts_nested s (a ++ b) ≡ true) where
   all_elements-append : (k : Kind) (xs ys : List RecordValue) → all_elements table overlay_nested k (xs ++ ys) ≡
       all_elements table overlay_nested k xs +++ all_elements table overlay_nested k ys
   all_elements-append k [] ys = refl
@@ -84,7 +86,7 @@ module _ (table : ℕ → List Row) (overlay_nested : NestedOverlay) (accepts_ne
   joined_contents_accepted s w (x ∷ ws) h =
       let e = and_split _ _ h in
       accepts_nested_append s (content w) (joined_contents (x ∷ ws)) (content_accepted s w e.0)
-          (joined_contents_accepted s x ws e.1)
+      (joined_contents_accepted s x ws e.1)
 
   singular_over-append : (k : Kind) (p : Part) (xs ys : List RecordValue) → list_all (accepts_value accepts_nested k) xs
       ≡ true → list_all (accepts_value accepts_nested k) ys ≡ true → singular_over table overlay_nested k p (xs ++ ys) ≡
@@ -118,7 +120,7 @@ module _ (table : ℕ → List Row) (overlay_nested : NestedOverlay) (accepts_ne
         let a = and_split _ _ e in
         let g = and_split _ _ h in
         and_join _ _ (subst (λ n. accepts_value accepts_nested (member_kind ms n) r.value ≡ true) (eqb-true _ _ a.0)
-            g.0) (all_numbered_accepted k rs a.1 g.1)
+        g.0) (all_numbered_accepted k rs a.1 g.1)
 
     last_run_accepted : (k : ℕ) (rs : List FieldRecord) → list_all (accepts_in_row accepts_nested (OneOf ms)) rs ≡ true
         → list_all (accepts_value accepts_nested (member_kind ms k)) (values (last_run k rs)) ≡ true
@@ -140,14 +142,14 @@ module _ (table : ℕ → List Row) (overlay_nested : NestedOverlay) (accepts_ne
         let kind = member_kind ms k in
         let start = cond (all_numbered k xs) (member_at k p) Absent in
         ap (λ b. Member k (singular_over table overlay_nested kind (cond b (member_at k p) Absent)
-            (values (last_run k (xs ++ ys))))) (all_numbered-append k xs ys ∙ and-true_is (all_numbered k xs)
-            (all_numbered k ys) a)
+        (values (last_run k (xs ++ ys))))) (all_numbered-append k xs ys ∙ and-true_is (all_numbered k xs)
+        (all_numbered k ys) a)
         ∙ ap (λ (rs : List FieldRecord). Member k (singular_over table overlay_nested kind start (values rs)))
-            (last_run_on k xs ys a)
+        (last_run_on k xs ys a)
         ∙ ap (λ (ws : List RecordValue). Member k (singular_over table overlay_nested kind start ws))
-            (values-append (last_run k xs) ys)
+        (values-append (last_run k xs) ys)
         ∙ ap (Member k) (singular_over-append kind start (values (last_run k xs)) (values ys) (last_run_accepted k xs g)
-            (all_numbered_accepted k ys a h))
+        (all_numbered_accepted k ys a h))
         ∙ sym (rw (a, last_run_whole k ys a, eq-eqb k k refl) refl)
 
     member_over_other : (p : Part) (x : FieldRecord) (xs : List FieldRecord) (j : ℕ) (ys : List FieldRecord) (k : ℕ) →
@@ -157,10 +159,10 @@ module _ (table : ℕ → List Row) (overlay_nested : NestedOverlay) (accepts_ne
     member_over_other p x xs j ys k l e a =
         let kind = member_kind ms k in
         ap (λ b. Member k (singular_over table overlay_nested kind (cond b (member_at k p) Absent)
-            (values (last_run k ((x ∷ xs) ++ ys))))) (all_numbered-append k (x ∷ xs) ys ∙ and-true_is
-            (all_numbered k (x ∷ xs)) (all_numbered k ys) a ∙ last_not k x xs l)
+        (values (last_run k ((x ∷ xs) ++ ys))))) (all_numbered-append k (x ∷ xs) ys ∙ and-true_is
+        (all_numbered k (x ∷ xs)) (all_numbered k ys) a ∙ last_not k x xs l)
         ∙ ap (λ (rs : List FieldRecord). Member k (singular_over table overlay_nested kind Absent (values rs)))
-            (last_run_on k (x ∷ xs) ys a ∙ ap (λ (rs : List FieldRecord). rs ++ ys) (last_run_none k x xs l))
+        (last_run_on k (x ∷ xs) ys a ∙ ap (λ (rs : List FieldRecord). rs ++ ys) (last_run_none k x xs l))
         ∙ sym (rw (a, last_run_whole k ys a, e) refl)
 
     member_over_within : (p q : Part) (xs ys : List FieldRecord) (k : ℕ) → all_numbered k ys ≡ false → member_over table
@@ -168,12 +170,12 @@ module _ (table : ℕ → List Row) (overlay_nested : NestedOverlay) (accepts_ne
     member_over_within p q xs ys k a =
         let kind = member_kind ms k in
         ap (λ b. Member k (singular_over table overlay_nested kind (cond b (member_at k p) Absent)
-            (values (last_run k (xs ++ ys))))) (all_numbered-append k xs ys ∙ and-false_is (all_numbered k xs)
-            (all_numbered k ys) a)
+        (values (last_run k (xs ++ ys))))) (all_numbered-append k xs ys ∙ and-false_is (all_numbered k xs)
+        (all_numbered k ys) a)
         ∙ ap (λ (rs : List FieldRecord). Member k (singular_over table overlay_nested kind Absent (values rs)))
-            (last_run_within k xs ys a)
+        (last_run_within k xs ys a)
         ∙ sym (ap (λ b. Member k (singular_over table overlay_nested kind (cond b (member_at k q) Absent)
-            (values (last_run k ys)))) a)
+        (values (last_run k ys)))) a)
 
     -- x ∷ xs, whose last record has the number j, and then ys, whose last has the number k
     member_over-append : (p : Part) (x : FieldRecord) (xs : List FieldRecord) (j : ℕ) (ys : List FieldRecord) (k : ℕ) →
@@ -215,11 +217,11 @@ module _ (table : ℕ → List Row) (overlay_nested : NestedOverlay) (accepts_ne
       singular_over-append k p (values xs) (values ys) (values_accepted k xs g) (values_accepted k ys h)
   row_over-append (Repeated n k) p xs ys g h =
       repeated_over_is table overlay_nested k p (values (xs ++ ys)) ∙ ap (with_elements p)
-          (ap (all_elements table overlay_nested k) (values-append xs ys) ∙ all_elements-append k (values xs)
-          (values ys)) ∙ with_elements-append p _ _
+      (ap (all_elements table overlay_nested k) (values-append xs ys) ∙ all_elements-append k (values xs)
+      (values ys)) ∙ with_elements-append p _ _
       ∙ ap (λ q. with_elements q (all_elements table overlay_nested k (values ys)))
-          (sym (repeated_over_is table overlay_nested k p (values xs))) ∙ sym
-          (repeated_over_is table overlay_nested k (repeated_over table overlay_nested k p (values xs)) (values ys))
+      (sym (repeated_over_is table overlay_nested k p (values xs))) ∙ sym
+      (repeated_over_is table overlay_nested k (repeated_over table overlay_nested k p (values xs)) (values ys))
   row_over-append (OneOf ms) p xs ys g h = oneof_over-append ms p xs ys g h
 
   own_records_accepted : (row : Row) (rs : List FieldRecord) → list_all (λ r. row_allows accepts_nested r row) rs ≡ true
@@ -254,14 +256,14 @@ module _ (table : ℕ → List Row) (overlay_nested : NestedOverlay) (accepts_ne
   rows_over-append (row ∷ rows) nil xs ys g h = refl
   rows_over-append (row ∷ rows) (cons p ps) xs ys g h =
       ap (λ (rs : List FieldRecord). cons (row_over table overlay_nested row p rs)
-          (rows_over table overlay_nested rows ps (xs ++ ys)))
-          (filter-append (λ (r : FieldRecord). includes (numbers row) r.number) xs ys)
+      (rows_over table overlay_nested rows ps (xs ++ ys)))
+      (filter-append (λ (r : FieldRecord). includes (numbers row) r.number) xs ys)
       ∙ ap (λ q. cons q (rows_over table overlay_nested rows ps (xs ++ ys)))
-          (row_over-append row p (own_records row xs) (own_records row ys)
-          (own_records_accepted row xs (first_row row rows xs g))
-          (own_records_accepted row ys (first_row row rows ys h)))
+      (row_over-append row p (own_records row xs) (own_records row ys)
+      (own_records_accepted row xs (first_row row rows xs g))
+      (own_records_accepted row ys (first_row row rows ys h)))
       ∙ ap (cons (row_over table overlay_nested row (row_over table overlay_nested row p (own_records row xs))
-          (own_records row ys))) (rows_over-append rows ps xs ys (other_rows row rows xs g) (other_rows row rows ys h))
+      (own_records row ys))) (rows_over-append rows ps xs ys (other_rows row rows xs g) (other_rows row rows ys h))
 
 -- ---- any nesting depth
 
@@ -287,7 +289,7 @@ module _ (table : ℕ → List Row) where
       let x = accepted_payload_records left s a g in
       let y = accepted_payload_records left s b h in
       ap (some_passes (accepts_records table left s)) (records_append left a b x.0 y.0 x.1 y.1) ∙ accepts_records-append
-          left s x.0 y.0 x.2 y.2
+      left s x.0 y.0 x.2 y.2
 
   accepts_message-append : (left s : ℕ) (a b : List ℕ) → accepts_message table left s a ≡ true → accepts_message table
       left s b ≡ true → accepts_message table left s (a ++ b) ≡ true
@@ -299,7 +301,7 @@ module _ (table : ℕ → List Row) where
       accepts_message table left s b ≡ true → message_overlay table left s m (a ++ b) ≡ message_overlay table left s
       (message_overlay table left s m a) b)
       → (s : ℕ) (v : Parts) (xs ys : List FieldRecord) → accepts_records table left s xs ≡ true → accepts_records table
-          left s ys ≡ true → overlay table left s v (xs ++ ys) ≡ overlay table left s (overlay table left s v xs) ys
+      left s ys ≡ true → overlay table left s v (xs ++ ys) ≡ overlay table left s (overlay table left s v xs) ys
   mutual_step left ih s v xs ys g h = rows_over-append table (message_overlay table left) (accepts_message table left)
       ih (accepts_message-append left) (table s) v xs ys g h
 
@@ -307,8 +309,8 @@ module _ (table : ℕ → List Row) where
       accepts_records table left s ys ≡ true → overlay table left s v (xs ++ ys) ≡ overlay table left s
       (overlay table left s v xs) ys)
       → (s : ℕ) (v : Parts) (a b : List ℕ) → accepts_payload table left s a ≡ true → accepts_payload table left s b ≡
-          true → overlay table left s v (or_empty (record_list left (a ++ b))) ≡ overlay table left s
-          (overlay table left s v (or_empty (record_list left a))) (or_empty (record_list left b))
+      true → overlay table left s v (or_empty (record_list left (a ++ b))) ≡ overlay table left s
+      (overlay table left s v (or_empty (record_list left a))) (or_empty (record_list left b))
   bytes_step left ih s v a b g h =
       let x = accepted_payload_records left s a g in
       let y = accepted_payload_records left s b h in
@@ -338,6 +340,9 @@ module _ (table : ℕ → List Row) where
   pub overlay_step : (left s : ℕ) (v w x : Parts) (rs : List FieldRecord) (r : FieldRecord) → accepts_records table left
       s rs ≡ true → w ≡ overlay table left s v rs
       → accepts_records table left s (r ∷ []) ≡ true → x ≡ overlay table left s w (r ∷ []) →
-          (accepts_records table left s (rs ++ r ∷ []) ≡ true) × (x ≡ overlay table left s v (rs ++ r ∷ []))
-  overlay_step left s v w x rs r g e h f = (accepts_records-append left s rs (r ∷ []) g h, f ∙ ap
-      (λ u. overlay table left s u (r ∷ [])) e ∙ sym (overlay-append left s v rs (r ∷ []) g h))
+      (accepts_records table left s (rs ++ r ∷ []) ≡ true) × (x ≡ overlay table left s v (rs ++ r ∷ []))
+  overlay_step left s v w x rs r g e h f = (
+    accepts_records-append left s rs (r ∷ []) g h,
+    f ∙ ap
+        (λ u. overlay table left s u (r ∷ [])) e ∙ sym (overlay-append left s v rs (r ∷ []) g h),
+  )

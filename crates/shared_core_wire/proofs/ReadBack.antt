@@ -1,7 +1,7 @@
 -- A canonical payload is accepted and means its value: one level of nesting.
-use Rattle.std.proofs.Common.{◌≡◌, ℕ, zero, suc, ◌+◌, ◌-◌, ◌%◌, ◌^◌, ◌<◌, ◌≤◌, List, [], ◌∷◌, ◌++◌, map, length, Bool,
-    true, false, cond, not, ◌&&◌, ◌||◌, refl, sym, ap, subst, ◌∙◌, Some, append_assoc, append-nil, length-append, arith,
-    eqb, ltb, eq-eqb}
+use Rattle.std.proofs.Common.{◌≡◌, ℕ, zero, suc, ◌+◌, ◌-◌, ◌%◌, ◌^◌, ◌<◌, ◌≤◌, List, [], ◌∷◌, ◌++◌, map, length, Bool}
+use Rattle.std.proofs.Common.{true, false, cond, not, ◌&&◌, ◌||◌, refl, sym, ap, subst, ◌∙◌, Some, append_assoc}
+use Rattle.std.proofs.Common.{append-nil, length-append, arith, eqb, ltb, eq-eqb}
 use Rattle.std.proofs.lemmas.Bool.{eqb-true, lt-ltb}
 use Rattle.std.specs.Prelude.{flat_map}
 use Rattle.std.specs.List.{list_all}
@@ -9,21 +9,23 @@ use Rattle.std.proofs.Math.Bool.{or-true, or_assoc}
 use Rattle.std.proofs.lemmas.List.Elements.{filter-append}
 use Rattle.std.proofs.lemmas.List.Folds.{list_all-append, list_all-map}
 use Rattle.shared_core_wire.specs.Grammar.{RecordValue, Varint, Fixed64, Length, Group, Fixed32, FieldRecord, content}
-use Rattle.shared_core_wire.specs.Encoding.{shortest_varint, key_bytes, record_bytes, record_list_bytes,
-    is_field_number}
+use Rattle.shared_core_wire.specs.Encoding.{shortest_varint, key_bytes, record_bytes, record_list_bytes}
+use Rattle.shared_core_wire.specs.Encoding.{is_field_number}
 use Rattle.shared_core_wire.specs.Reader.{packed_numbers}
 use Rattle.shared_core_wire.proofs.EncodingLaws.{encodable, encodable_value, varints_encoded}
-use Rattle.shared_core_wire.specs.Schema.{Kind, Row, U32, U64, Boolean, Enumeration, Text, ByteString, Message, Plain,
-    Optional, Repeated, OneOf, numbers, includes, member_kind, are_distinct, all_numbers, is_schema}
-use Rattle.shared_core_wire.specs.Value.{Part, Parts, Absent, Number, Bytes, Nested, Elements, Member, nil, cons, ◌+++◌,
-    one_part, empty_value, empty_part, default_of}
-use Rattle.shared_core_wire.specs.Overlay.{values, own_records, NestedOverlay, number_part, low_numbers, singular_of,
-    elements_of, all_elements, row_over, rows_over}
-use Rattle.shared_core_wire.specs.Acceptance.{NestedAcceptance, accepts_value, accepts_element, accepts_in_row,
-    row_allows, accepts_record}
+use Rattle.shared_core_wire.specs.Schema.{Kind, Row, U32, U64, Boolean, Enumeration, Text, ByteString, Message, Plain}
+use Rattle.shared_core_wire.specs.Schema.{Optional, Repeated, OneOf, numbers, includes, member_kind, are_distinct}
+use Rattle.shared_core_wire.specs.Schema.{all_numbers, is_schema}
+use Rattle.shared_core_wire.specs.Value.{Part, Parts, Absent, Number, Bytes, Nested, Elements, Member, nil, cons, ◌+++◌}
+use Rattle.shared_core_wire.specs.Value.{one_part, empty_value, empty_part, default_of}
+use Rattle.shared_core_wire.specs.Overlay.{values, own_records, NestedOverlay, number_part, low_numbers, singular_of}
+use Rattle.shared_core_wire.specs.Overlay.{elements_of, all_elements, row_over, rows_over}
+use Rattle.shared_core_wire.specs.Acceptance.{NestedAcceptance, accepts_value, accepts_element, accepts_in_row}
+use Rattle.shared_core_wire.specs.Acceptance.{row_allows, accepts_record}
 use Rattle.shared_core_wire.specs.Fitting.{is_single, has_shape, NumberFits, BytesFit, PartFits, ElementsFit, Fits}
-use Rattle.shared_core_wire.specs.Canonical.{kind_of, written_number, is_default, number_bytes, row_records,
-    part_values, element_values, message_records, canonical_payload, part_levels, levels}
+use Rattle.shared_core_wire.specs.Canonical.{kind_of, written_number, is_default, number_bytes, row_records}
+use Rattle.shared_core_wire.specs.Canonical.{part_values, element_values, message_records, canonical_payload}
+use Rattle.shared_core_wire.specs.Canonical.{part_levels, levels}
 use Rattle.shared_core_wire.proofs.Merging.{repeated_over_is}
 use Rattle.shared_core_wire.proofs.Runs.{and_split, and_join, parts_append_nil}
 
@@ -213,9 +215,12 @@ content_below : (n : ℕ) (w : RecordValue) → length (content w) ≤ length
 content_below n (Varint m) = omega arith
 content_below n (Fixed64 bytes) = omega arith
 content_below n (Length bytes) =
-    let e : length bytes ≤ length (key_bytes n 2 ++ (shortest_varint (length bytes) ++ bytes)) = omega
-        (arith, length-append (key_bytes n 2) (shortest_varint (length bytes) ++ bytes), length-append
-        (shortest_varint (length bytes)) bytes) in
+    let e : length bytes ≤ length (key_bytes n 2 ++ (shortest_varint (length bytes) ++ bytes)) = omega (
+      arith,
+      length-append (key_bytes n 2) (shortest_varint (length bytes) ++ bytes),
+      length-append
+          (shortest_varint (length bytes)) bytes,
+    ) in
     e
 content_below n (Group bytes) = omega arith
 content_below n (Fixed32 bytes) = omega arith
@@ -225,7 +230,7 @@ small_all [] h = refl
 small_all (r ∷ rs) h =
     let len = length-append (record_bytes r) (record_list_bytes rs) in
     and_join _ _ (lt-ltb (length (content r.value)) (2 ^ 64) (omega (arith, content_below r.number r.value)))
-        (small_all rs (omega arith))
+    (small_all rs (omega arith))
 
 number_is : (ns : List ℕ) (n : ℕ) → list_all is_field_number ns ≡ true → includes ns n ≡ true → is_field_number n ≡ true
 number_is [] n h g = absurd cc
@@ -245,9 +250,9 @@ encode_all ns (r ∷ rs) h m s = let e = and_split _ _ m in let f = and_split _ 
 
 module _ (table : ℕ → List Row) (overlay_nested : NestedOverlay) (accepts_nested : NestedAcceptance) (left : ℕ)
     (back : (t : ℕ) (ps : Parts) → Fits table ps (table t) → suc (levels ps) ≤ left → ltb
-        (length (canonical_payload table t ps)) (2 ^ 64) ≡ true →
-        (accepts_nested t (canonical_payload table t ps) ≡ true) ×
-        (overlay_nested t (empty_value (table t)) (canonical_payload table t ps) ≡ ps)) where
+    (length (canonical_payload table t ps)) (2 ^ 64) ≡ true →
+    (accepts_nested t (canonical_payload table t ps) ≡ true) ×
+    (overlay_nested t (empty_value (table t)) (canonical_payload table t ps) ≡ ps)) where
   -- the one record value of a single part
   record Single (p : Part) (k : Kind) : Type 0 where
     w : RecordValue
@@ -261,22 +266,54 @@ module _ (table : ℕ → List Row) (overlay_nested : NestedOverlay) (accepts_ne
 
   single_number : (n : ℕ) (k : Kind) → NumberFits k n → Single (Number n) k
   unfolding part_values
-  single_number n U32 h = let e = number_back U32 n h in record
-      { w = Varint (written_number U32 n); is = refl; encodes = lt-ltb (written_number U32 n) (2 ^ 64)
-      (number_small U32 n h); takes_it = refl; each_takes_it = refl; from_absent = e; from_default = e; adds = ap
-      one_part e }
-  single_number n U64 h = let e = number_back U64 n h in record
-      { w = Varint (written_number U64 n); is = refl; encodes = lt-ltb (written_number U64 n) (2 ^ 64)
-      (number_small U64 n h); takes_it = refl; each_takes_it = refl; from_absent = e; from_default = e; adds = ap
-      one_part e }
-  single_number n Boolean h = let e = number_back Boolean n h in record
-      { w = Varint (written_number Boolean n); is = refl; encodes = lt-ltb (written_number Boolean n) (2 ^ 64)
-      (number_small Boolean n h); takes_it = refl; each_takes_it = refl; from_absent = e; from_default = e; adds = ap
-      one_part e }
-  single_number n Enumeration h = let e = number_back Enumeration n h in record
-      { w = Varint (written_number Enumeration n); is = refl; encodes = lt-ltb (written_number Enumeration n) (2 ^ 64)
-      (number_small Enumeration n h); takes_it = refl; each_takes_it = refl; from_absent = e; from_default = e; adds =
-      ap one_part e }
+  single_number n U32 h = let e = number_back U32 n h in record {
+    w = Varint (written_number U32 n);
+    is = refl;
+    encodes = lt-ltb (written_number U32 n) (2 ^ 64)
+        (number_small U32 n h);
+    takes_it = refl;
+    each_takes_it = refl;
+    from_absent = e;
+    from_default = e;
+    adds = ap
+        one_part e;
+  }
+  single_number n U64 h = let e = number_back U64 n h in record {
+    w = Varint (written_number U64 n);
+    is = refl;
+    encodes = lt-ltb (written_number U64 n) (2 ^ 64)
+        (number_small U64 n h);
+    takes_it = refl;
+    each_takes_it = refl;
+    from_absent = e;
+    from_default = e;
+    adds = ap
+        one_part e;
+  }
+  single_number n Boolean h = let e = number_back Boolean n h in record {
+    w = Varint (written_number Boolean n);
+    is = refl;
+    encodes = lt-ltb (written_number Boolean n) (2 ^ 64)
+        (number_small Boolean n h);
+    takes_it = refl;
+    each_takes_it = refl;
+    from_absent = e;
+    from_default = e;
+    adds = ap
+        one_part e;
+  }
+  single_number n Enumeration h = let e = number_back Enumeration n h in record {
+    w = Varint (written_number Enumeration n);
+    is = refl;
+    encodes = lt-ltb (written_number Enumeration n) (2 ^ 64)
+        (number_small Enumeration n h);
+    takes_it = refl;
+    each_takes_it = refl;
+    from_absent = e;
+    from_default = e;
+    adds =
+        ap one_part e;
+  }
   single_number n Text h = absurd h
   single_number n ByteString h = absurd h
   single_number n (Message s) h = absurd h
@@ -288,10 +325,27 @@ module _ (table : ℕ → List Row) (overlay_nested : NestedOverlay) (accepts_ne
   single_bytes bytes U64 h z = absurd h
   single_bytes bytes Boolean h z = absurd h
   single_bytes bytes Enumeration h z = absurd h
-  single_bytes bytes Text h z = record { w = Length bytes; is = refl; encodes = (and_split _ _ z).0; takes_it = h;
-      each_takes_it = h; from_absent = refl; from_default = refl; adds = refl }
-  single_bytes bytes ByteString h z = record { w = Length bytes; is = refl; encodes = (and_split _ _ z).0; takes_it =
-      refl; each_takes_it = refl; from_absent = refl; from_default = refl; adds = refl }
+  single_bytes bytes Text h z = record {
+    w = Length bytes;
+    is = refl;
+    encodes = (and_split _ _ z).0;
+    takes_it = h;
+    each_takes_it = h;
+    from_absent = refl;
+    from_default = refl;
+    adds = refl;
+  }
+  single_bytes bytes ByteString h z = record {
+    w = Length bytes;
+    is = refl;
+    encodes = (and_split _ _ z).0;
+    takes_it =
+        refl;
+    each_takes_it = refl;
+    from_absent = refl;
+    from_default = refl;
+    adds = refl;
+  }
   single_bytes bytes (Message s) h z = absurd h
 
   single_message : (ps : Parts) (k : Kind) → PartFits table (Nested ps) k → suc (levels ps) ≤ left → list_all small
@@ -305,11 +359,19 @@ module _ (table : ℕ → List Row) (overlay_nested : NestedOverlay) (accepts_ne
   single_message ps ByteString h l s = absurd h
   single_message ps (Message t) h l s =
       let e = back t ps h l (and_split _ _ s).0 in
-      record { w = Length (canonical_payload table t ps); is = refl; encodes = (and_split _ _ s).0; takes_it = e.0;
-          each_takes_it = e.0; from_absent = ap Nested (ap (overlay_nested t (empty_value (table t)))
-          (append-nil (canonical_payload table t ps)) ∙ e.1); from_default = ap Nested
-          (ap (overlay_nested t (empty_value (table t))) (append-nil (canonical_payload table t ps)) ∙ e.1); adds = ap
-          (λ m. one_part (Nested m)) e.1 }
+      record {
+        w = Length (canonical_payload table t ps);
+        is = refl;
+        encodes = (and_split _ _ s).0;
+        takes_it = e.0;
+        each_takes_it = e.0;
+        from_absent = ap Nested (ap (overlay_nested t (empty_value (table t)))
+            (append-nil (canonical_payload table t ps)) ∙ e.1);
+        from_default = ap Nested
+            (ap (overlay_nested t (empty_value (table t))) (append-nil (canonical_payload table t ps)) ∙ e.1);
+        adds = ap
+            (λ m. one_part (Nested m)) e.1;
+      }
 
   single : (p : Part) (k : Kind) → is_single p ≡ true → PartFits table p k → part_levels p ≤ left → list_all small
       (part_values table p k) ≡ true → Single p k
@@ -352,10 +414,13 @@ module _ (table : ℕ → List Row) (overlay_nested : NestedOverlay) (accepts_ne
   packed_run_back nil h = (refl, refl, refl)
   packed_run_back (cons Absent ps) h = absurd (cc h.0)
   packed_run_back (cons (Number n) ps) h =
-      let r = packed_run_back ps h.2 in
-      (ap (λ (bytes : List ℕ). shortest_varint n ++ bytes) r.0, ap (λ q. cons q (low_numbers (element_numbers ps)))
-          (number_back U32 n h.1) ∙ ap (cons (Number n)) r.1, and_join _ _ (lt-ltb n (2 ^ 64) (number_small U32 n h.1))
-          r.2)
+      let r = packed_run_back ps h.2 in (
+        ap (λ (bytes : List ℕ). shortest_varint n ++ bytes) r.0,
+        ap (λ q. cons q (low_numbers (element_numbers ps)))
+            (number_back U32 n h.1) ∙ ap (cons (Number n)) r.1,
+        and_join _ _ (lt-ltb n (2 ^ 64) (number_small U32 n h.1))
+            r.2,
+      )
   packed_run_back (cons (Bytes bytes) ps) h = absurd h.1
   packed_run_back (cons (Nested qs) ps) h = absurd h.1
   packed_run_back (cons (Elements qs) ps) h = absurd (cc h.0)
@@ -377,13 +442,22 @@ module _ (table : ℕ → List Row) (overlay_nested : NestedOverlay) (accepts_ne
       (b : Bool) → is_default p ≡ b → list_all (λ r. small r.value) (with_number n (cond b [] (part_values table p k)))
       ≡ true → RowBack (Plain n k) p (with_number n (cond b [] (part_values table p k)))
   unfolding with_number
-  plain_back n k p i h l true d s = record { gives = default_back table p k i h d; takes_all = refl; mine = refl;
-      encodes = refl }
+  plain_back n k p i h l true d s = record {
+    gives = default_back table p k i h d;
+    takes_all = refl;
+    mine = refl;
+    encodes = refl;
+  }
   plain_back n k p i h l false d s =
       let x = single p k i h l (sym (list_all-map (λ (r : FieldRecord). small r.value)
-          (λ (w : RecordValue). record { number = n; value = w }) (part_values table p k)) ∙ s) in
-      rw x.is (record { gives = x.from_default; takes_all = and_join _ _ x.takes_it refl; encodes = and_join _ _
-          x.encodes refl; mine = rw (eq-eqb n n refl) refl })
+      (λ (w : RecordValue). record { number = n; value = w }) (part_values table p k)) ∙ s) in
+      rw x.is (record {
+        gives = x.from_default;
+        takes_all = and_join _ _ x.takes_it refl;
+        encodes = and_join _ _
+            x.encodes refl;
+        mine = rw (eq-eqb n n refl) refl;
+      })
 
   optional_back : (n : ℕ) (k : Kind) (p : Part) → is_single p ≡ true → PartFits table p k → part_levels p ≤ left →
       list_all (λ r. small r.value) (with_number n (part_values table p k)) ≡ true → RowBack (Optional n k) p
@@ -391,9 +465,14 @@ module _ (table : ℕ → List Row) (overlay_nested : NestedOverlay) (accepts_ne
   unfolding with_number
   optional_back n k p i h l s =
       let x = single p k i h l (sym (list_all-map (λ (r : FieldRecord). small r.value)
-          (λ (w : RecordValue). record { number = n; value = w }) (part_values table p k)) ∙ s) in
-      rw x.is (record { gives = x.from_absent; takes_all = and_join _ _ x.takes_it refl; encodes = and_join _ _
-          x.encodes refl; mine = rw (eq-eqb n n refl) refl })
+      (λ (w : RecordValue). record { number = n; value = w }) (part_values table p k)) ∙ s) in
+      rw x.is (record {
+        gives = x.from_absent;
+        takes_all = and_join _ _ x.takes_it refl;
+        encodes = and_join _ _
+            x.encodes refl;
+        mine = rw (eq-eqb n n refl) refl;
+      })
 
   variant_back : (ms : List (ℕ × Kind)) (n : ℕ) (p : Part) → includes (numbers (OneOf ms)) n ≡ true → is_single p ≡ true
       → PartFits table p (member_kind ms n) → part_levels p ≤ left → list_all (λ r. small r.value)
@@ -403,9 +482,14 @@ module _ (table : ℕ → List Row) (overlay_nested : NestedOverlay) (accepts_ne
   variant_back ms n p m i h l s =
       let k = member_kind ms n in
       let x = single p k i h l (sym (list_all-map (λ (r : FieldRecord). small r.value)
-          (λ (w : RecordValue). record { number = n; value = w }) (part_values table p k)) ∙ s) in
-      rw x.is (record { gives = rw (eq-eqb n n refl) (ap (Member n) x.from_absent); takes_all = and_join _ _ x.takes_it
-          refl; encodes = and_join _ _ x.encodes refl; mine = and_join _ _ m refl })
+      (λ (w : RecordValue). record { number = n; value = w }) (part_values table p k)) ∙ s) in
+      rw x.is (record {
+        gives = rw (eq-eqb n n refl) (ap (Member n) x.from_absent);
+        takes_all = and_join _ _ x.takes_it
+            refl;
+        encodes = and_join _ _ x.encodes refl;
+        mine = and_join _ _ m refl;
+      })
 
   values_with : (n : ℕ) (ws : List RecordValue) → values (with_number n ws) ≡ ws
   unfolding with_number
@@ -450,12 +534,17 @@ module _ (table : ℕ → List Row) (overlay_nested : NestedOverlay) (accepts_ne
   row_back (Plain n k) p i h l s = plain_back n k p i h l (is_default p) refl s
   row_back (Optional n k) Absent i h l s = record { gives = refl; takes_all = refl; mine = refl; encodes = refl }
   row_back (Optional n k) p i h l s = optional_back n k p i h l s
-  row_back (Repeated n U32) (Elements nil) i h l s = record { gives = refl; takes_all = refl; mine = refl; encodes =
-      refl }
+  row_back (Repeated n U32) (Elements nil) i h l s = record {
+    gives = refl;
+    takes_all = refl;
+    mine = refl;
+    encodes =
+        refl;
+  }
   row_back (Repeated n U32) (Elements (cons (Number m) ps)) i h l s =
       let r = packed_run_back (cons (Number m) ps) h in
       packed_back n (cons (Number m) ps) (flat_map number_bytes (element_values table (cons (Number m) ps) U32))
-          (element_numbers (cons (Number m) ps)) r.0 r.1 r.2 s
+      (element_numbers (cons (Number m) ps)) r.0 r.1 r.2 s
   row_back (Repeated n U32) (Elements (cons Absent ps)) i h l s = absurd (cc h.0)
   row_back (Repeated n U32) (Elements (cons (Elements qs) ps)) i h l s = absurd (cc h.0)
   row_back (Repeated n U32) (Elements (cons (Member m p) ps)) i h l s = absurd (cc h.0)
@@ -481,14 +570,14 @@ module _ (table : ℕ → List Row) (overlay_nested : NestedOverlay) (accepts_ne
   numbers_in (cons p ps) [] h l s = absurd h
   numbers_in (cons p ps) (row ∷ rows) h l s =
       let e = and_split _ _ (sym (list_all-append (λ (r : FieldRecord). small r.value)
-          (row_records row p (part_values table p (kind_of row p))) (message_records table ps rows)) ∙ s) in
+      (row_records row p (part_values table p (kind_of row p))) (message_records table ps rows)) ∙ s) in
       let x = row_back row p h.0 h.1 (omega arith) e.0 in
       list_all-append (λ (r : FieldRecord). includes (all_numbers (row ∷ rows)) r.number)
-          (row_records row p (part_values table p (kind_of row p))) (message_records table ps rows)
+      (row_records row p (part_values table p (kind_of row p))) (message_records table ps rows)
       ∙ and_join _ _ (includes_front (numbers row) (all_numbers rows)
-          (row_records row p (part_values table p (kind_of row p))) x.mine)
-          (includes_back (numbers row) (all_numbers rows) (message_records table ps rows)
-          (numbers_in ps rows h.2 (omega arith) e.1))
+      (row_records row p (part_values table p (kind_of row p))) x.mine)
+      (includes_back (numbers row) (all_numbers rows) (message_records table ps rows)
+      (numbers_in ps rows h.2 (omega arith) e.1))
 
   record WholeBack (rows : List Row) (v : Parts) (rs : List FieldRecord) : Type 0 where
     gives : rows_over table overlay_nested rows (empty_value rows) rs ≡ v
@@ -497,10 +586,13 @@ module _ (table : ℕ → List Row) (overlay_nested : NestedOverlay) (accepts_ne
   whole_back : (v : Parts) (rows : List Row) (before : List FieldRecord) → are_distinct (all_numbers rows) ≡ true →
       list_all (λ r. not (includes (all_numbers rows) r.number)) before ≡ true
       → Fits table v rows → levels v ≤ left → list_all (λ r. small r.value) (message_records table v rows) ≡ true →
-          WholeBack rows v (before ++ message_records table v rows)
+      WholeBack rows v (before ++ message_records table v rows)
   unfolding part_values PartFits levels
-  whole_back nil [] before d b h l s = record { gives = refl; allows = no_rows accepts_nested
-      (before ++ message_records table nil []) }
+  whole_back nil [] before d b h l s = record {
+    gives = refl;
+    allows = no_rows accepts_nested
+        (before ++ message_records table nil []);
+  }
   whole_back nil (row ∷ rows) before d b h l s = absurd h
   whole_back (cons p ps) [] before d b h l s = absurd h
   whole_back (cons p ps) (row ∷ rows) before d b h l s =
@@ -516,13 +608,13 @@ module _ (table : ℕ → List Row) (overlay_nested : NestedOverlay) (accepts_ne
       ∙ filter-append (λ (r : FieldRecord). includes (numbers row) r.number) own_part rest
       ∙ ap (λ (rs : List FieldRecord). rs ++ own_records row rest) (own_all row own_part x.mine)
       ∙ ap (λ (rs : List FieldRecord). own_part ++ rs) (own_none row rest
-          (apart_before (numbers row) (all_numbers rows) rest d in_rest))
+      (apart_before (numbers row) (all_numbers rows) rest d in_rest))
       ∙ append-nil own_part in
       let disjoint = list_all-append (λ (r : FieldRecord). not (includes (all_numbers rows) r.number)) before own_part ∙
-          and_join _ _ apart_of.1 (apart (numbers row) (all_numbers rows) own_part d x.mine) in
+      and_join _ _ apart_of.1 (apart (numbers row) (all_numbers rows) own_part d x.mine) in
       let next = subst (WholeBack rows ps) (append_assoc before own_part rest)
-          (whole_back ps rows (before ++ own_part) (distinct_back (numbers row) (all_numbers rows) d) disjoint h.2
-          (omega arith) e.1) in
+      (whole_back ps rows (before ++ own_part) (distinct_back (numbers row) (all_numbers rows) d) disjoint h.2
+      (omega arith) e.1) in
       record {
         gives = ap (λ (rs : List FieldRecord). cons (row_over table overlay_nested row (empty_part row) rs)
             (rows_over table overlay_nested rows (empty_value rows) (before ++ (own_part ++ rest)))) mine ∙ ap
@@ -546,7 +638,7 @@ module _ (table : ℕ → List Row) (overlay_nested : NestedOverlay) (accepts_ne
       let e = and_split _ _ (sym (list_all-append (λ (r : FieldRecord). small r.value) own_part rest) ∙ s) in
       let x = row_back row p h.0 h.1 (omega arith) e.0 in
       list_all-append (λ (r : FieldRecord). encodable_value r.value) own_part rest ∙ and_join _ _ x.encodes
-          (encodes_all ps rows h.2 (omega arith) e.1)
+      (encodes_all ps rows h.2 (omega arith) e.1)
 
   -- what a value's records leave, and that they have an encoding
   pub record LevelBack (rows : List Row) (v : Parts) : Type 0 where
@@ -560,5 +652,9 @@ module _ (table : ℕ → List Row) (overlay_nested : NestedOverlay) (accepts_ne
       let e = and_split _ _ d in
       let s = small_all (message_records table v rows) z in
       let w = whole_back v rows [] e.1 refl h l s in
-      record { gives = w.gives; allows = w.allows; encodes = encode_all (all_numbers rows)
-          (message_records table v rows) e.0 (numbers_in v rows h l s) (encodes_all v rows h l s) }
+      record {
+        gives = w.gives;
+        allows = w.allows;
+        encodes = encode_all (all_numbers rows)
+            (message_records table v rows) e.0 (numbers_in v rows h l s) (encodes_all v rows h l s);
+      }

@@ -1,6 +1,6 @@
 -- What reading the records of some bytes gives.
-use Rattle.std.proofs.Common.{◌≡◌, ℕ, zero, suc, ◌+◌, ◌-◌, ◌*◌, ◌<◌, ◌≤◌, ◌⊎◌, List, [], ◌∷◌, ◌++◌, length, drop, map,
-    Option, Some, None, Result, Ok, Err, refl, sym, ap, subst, ◌∙◌, arith, inl, inr}
+use Rattle.std.proofs.Common.{◌≡◌, ℕ, zero, suc, ◌+◌, ◌-◌, ◌*◌, ◌<◌, ◌≤◌, ◌⊎◌, List, [], ◌∷◌, ◌++◌, length, drop, map}
+use Rattle.std.proofs.Common.{Option, Some, None, Result, Ok, Err, refl, sym, ap, subst, ◌∙◌, arith, inl, inr}
 use Rattle.std.specs.Prelude.{◌↔◌}
 use Rattle.std.proofs.lemmas.List.{length-append}
 use Rattle.shared_core_wire.specs.declared.error.WireError.{WireError}
@@ -53,7 +53,7 @@ module _ (one : List ℕ → Option (FieldRecord × List ℕ)) (end : ℕ) where
   read_more [] text rest r e parts h = absurd (omega (arith, ap length parts, length-append text rest))
   read_more (b ∷ bs) text rest r e parts h =
       rw (e, records_past) (ap (λ (xs : List (Result PlacedRecord WireError)). Ok (place end (b ∷ bs) r rest) ∷ xs)
-          (read_over (length bs - length rest) bs ∙ ap (records_past one end 0) (beyond b bs text rest parts h)))
+      (read_over (length bs - length rest) bs ∙ ap (records_past one end 0) (beyond b bs text rest parts h)))
 
 -- ---- with a nesting depth
 
@@ -79,17 +79,28 @@ module _ (left : ℕ) where
       elim (cases_option (record_at left (b ∷ bs))) [
         | inl none ↦
             subst (ReadsInOrder (IsRecordWithin left) from (b ∷ bs))
-                (sym (read_stop (record_at left) end (b ∷ bs) (omega arith) none))
-            (refl, refl, omega arith, λ first others r parts h. none_some (r, others)
-                (sym none ∙ ap (record_at left) parts ∙ read_again r first others h))
+            (sym (read_stop (record_at left) end (b ∷ bs) (omega arith) none)) (
+              refl,
+              refl,
+              omega arith,
+              λ first others r parts h. none_some (r, others)
+                  (sym none ∙ ap (record_at left) parts ∙ read_again r first others h),
+            )
         | inr w ↦
             let f = read_encoded (b ∷ bs) w.0 w.1 in
             let long = record_long C f.text w.0.0 f.is in
             let len : length (b ∷ bs) ≡ length f.text + length w.0.1 = ap length f.parts ∙ length-append f.text w.0.1 in
             subst (ReadsInOrder (IsRecordWithin left) from (b ∷ bs))
-                (sym (read_more (record_at left) end (b ∷ bs) f.text w.0.1 w.0.0 w.1 f.parts (omega arith)))
-            (f.text, w.0.1, f.parts, f.is, omega arith, omega arith, read_reading most (end - length w.0.1) end w.0.1
-                (omega arith) (omega arith))
+            (sym (read_more (record_at left) end (b ∷ bs) f.text w.0.1 w.0.0 w.1 f.parts (omega arith))) (
+              f.text,
+              w.0.1,
+              f.parts,
+              f.is,
+              omega arith,
+              omega arith,
+              read_reading most (end - length w.0.1) end w.0.1
+                  (omega arith) (omega arith),
+            )
       ]
 
   pub read_only : (rs : List FieldRecord) (end : ℕ) (bytes : List ℕ) → IsRecordListWithin left bytes rs → map
@@ -131,9 +142,12 @@ module _ (left : ℕ) where
 
   pub read_complete : (bytes : List ℕ) (rs : List FieldRecord) → IsRecordListWithin left bytes rs ↔
       (map without_place (records_past (record_at left) (length bytes) 0 bytes) ≡ map Ok rs)
-  read_complete bytes rs = (read_only rs (length bytes) bytes, oks_listed 0 bytes
-      (records_past (record_at left) (length bytes) 0 bytes) rs
-      (read_reading (length bytes) 0 (length bytes) bytes (omega arith) (omega arith)))
+  read_complete bytes rs = (
+    read_only rs (length bytes) bytes,
+    oks_listed 0 bytes
+        (records_past (record_at left) (length bytes) 0 bytes) rs
+        (read_reading (length bytes) 0 (length bytes) bytes (omega arith) (omega arith)),
+  )
 
   pub read_count : (most end : ℕ) (bytes : List ℕ) → length bytes ≤ most → 2 * record_count
       (records_past (record_at left) end 0 bytes) ≤ length bytes

@@ -65,15 +65,24 @@ last_run_whole k (y ∷ ys) h = ap (λ b. cond b (y ∷ ys) (last_run k ys)) h
 pub last_run_on : (k : ℕ) (xs ys : List FieldRecord) → all_numbered k ys ≡ true → last_run k (xs ++ ys) ≡ last_run k xs
     ++ ys
 last_run_on k [] ys h = last_run_whole k ys h
-last_run_on k (x ∷ xs) ys h = rw (last_run_on k xs ys h, all_numbered-append k xs ys, and-true_is (all_numbered k xs)
-    (all_numbered k ys) h) (cond-append (eqb x.number k && all_numbered k xs) (x ∷ xs) (last_run k xs) ys)
+last_run_on k (x ∷ xs) ys h = rw (
+  last_run_on k xs ys h,
+  all_numbered-append k xs ys,
+  and-true_is (all_numbered k xs)
+      (all_numbered k ys) h,
+) (cond-append (eqb x.number k && all_numbered k xs) (x ∷ xs) (last_run k xs) ys)
 
 -- otherwise the run is within the later records
 pub last_run_within : (k : ℕ) (xs ys : List FieldRecord) → all_numbered k ys ≡ false → last_run k (xs ++ ys) ≡ last_run
     k ys
 last_run_within k [] ys h = refl
-last_run_within k (x ∷ xs) ys h = rw (last_run_within k xs ys h, all_numbered-append k xs ys, and-false_is
-    (all_numbered k xs) (all_numbered k ys) h, and-false_is (eqb x.number k) false refl) refl
+last_run_within k (x ∷ xs) ys h = rw (
+  last_run_within k xs ys h,
+  all_numbered-append k xs ys,
+  and-false_is
+      (all_numbered k xs) (all_numbered k ys) h,
+  and-false_is (eqb x.number k) false refl,
+) refl
 
 -- there is no run if the last record has another number
 pub last_run_none : (k : ℕ) (x : FieldRecord) (xs : List FieldRecord) → eqb (last x xs).number k ≡ false → last_run k

@@ -1,6 +1,6 @@
 -- The shortest varint.
-use Rattle.std.proofs.Common.{◌≡◌, ℕ, zero, suc, ◌+◌, ◌-◌, ◌*◌, ◌/◌, ◌%◌, ◌^◌, ◌<◌, ◌≤◌, List, [], ◌∷◌, ◌++◌, length,
-    refl, ap, ◌∙◌, arith, lit<, inl, inr}
+use Rattle.std.proofs.Common.{◌≡◌, ℕ, zero, suc, ◌+◌, ◌-◌, ◌*◌, ◌/◌, ◌%◌, ◌^◌, ◌<◌, ◌≤◌, List, [], ◌∷◌, ◌++◌, length}
+use Rattle.std.proofs.Common.{refl, ap, ◌∙◌, arith, lit<, inl, inr}
 use Rattle.std.proofs.Math.Nat.{pow-suc, pow-le-pow_right}
 use Rattle.std.proofs.lemmas.Bool.{lt-ltb, le-ltb, cases_lt}
 use Rattle.shared_core_wire.specs.Grammar.{IsBase128, IsVarint, IsKey}
@@ -73,8 +73,12 @@ pub shortest_is : (n : ℕ) → n < 2 ^ 64 → IsVarint (shortest_varint n) n
 shortest_is n h = record { encoding = encodes_within n n (omega arith); short = ten_bytes n h; fits = h }
 
 pub key_is : (number wire : ℕ) → 0 < number → number < 2 ^ 29 → wire < 8 → IsKey (key_bytes number wire) number wire
-key_is number wire p n w = record { encoding = shortest_is (8 * number + wire) (omega arith); numbered = p; typed = w;
-    fits = omega arith }
+key_is number wire p n w = record {
+  encoding = shortest_is (8 * number + wire) (omega arith);
+  numbered = p;
+  typed = w;
+  fits = omega arith;
+}
 
 pub fewest : (n : ℕ) (bytes : List ℕ) → IsBase128 bytes n → length (shortest_varint n) ≤ length bytes
 fewest n [] h = absurd h

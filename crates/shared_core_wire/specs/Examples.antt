@@ -1,9 +1,9 @@
 -- A small table of schemas, on which hand-checked payloads test the definitions.
-use Rattle.std.specs.Prelude.{◌≡◌, ℕ, zero, suc, true, false, List, [], ◌∷◌, ◌++◌, length, ◌+◌, ◌-◌, ◌*◌, nat_lt,
-    if◌then◌else◌}
+use Rattle.std.specs.Prelude.{◌≡◌, ℕ, zero, suc, true, false, List, [], ◌∷◌, ◌++◌, length, ◌+◌, ◌-◌, ◌*◌, nat_lt}
+use Rattle.std.specs.Prelude.{if◌then◌else◌}
 use Rattle.shared_core_wire.specs.Encoding.{shortest_varint}
-use Rattle.shared_core_wire.specs.Schema.{Table, table_of, Row, U32, U64, Enumeration, Text, ByteString, Message, Plain,
-    Optional, Repeated, OneOf}
+use Rattle.shared_core_wire.specs.Schema.{Table, table_of, Row, U32, U64, Enumeration, Text, ByteString, Message, Plain}
+use Rattle.shared_core_wire.specs.Schema.{Optional, Repeated, OneOf}
 use Rattle.shared_core_wire.specs.Value.{Part, Parts, Number, Bytes, Elements, nil, cons, one_part}
 use Rattle.shared_core_wire.specs.Acceptance.{accepts_payload}
 use Rattle.shared_core_wire.specs.Overlay.{overlay_payload, meaning}
@@ -99,7 +99,7 @@ schemas =
     ∷ (Repeated 1 U32 ∷ Repeated 2 U32 ∷ Repeated 3 Text ∷ [])
     ∷ (Plain 1 U32 ∷ OneOf ((4, Message void) ∷ (5, Message value) ∷ (6, Message failure) ∷ []) ∷ [])
     ∷ (OneOf ((2, U32) ∷ (3, Text) ∷ []) ∷ OneOf ((4, Message void) ∷ (5, Message value) ∷ (6, Message failure) ∷ []) ∷
-        [])
+    [])
     ∷ (Plain 12 Text ∷ [])
     ∷ (Plain 1 U64 ∷ Plain 11 U32 ∷ Plain 12 Text ∷ [])
     ∷ (Plain 9 Enumeration ∷ Optional 10 Text ∷ [])
@@ -110,7 +110,7 @@ schemas =
     ∷ (Plain 1 U32 ∷ Optional 17 (Message keys) ∷ [])
     ∷ (Plain 1 U32 ∷ Plain 16 Text ∷ [])
     ∷ (OneOf ((1, U32) ∷ (2, U32) ∷ (3, Text) ∷ []) ∷ OneOf ((4, Message void) ∷ (5, Message value) ∷
-        (6, Message failure) ∷ (16, Text) ∷ (17, Message keys) ∷ []) ∷ [])
+    (6, Message failure) ∷ (16, Text) ∷ (17, Message keys) ∷ []) ∷ [])
     ∷ []
 
 -- The table of these schemas.

@@ -1,6 +1,6 @@
 -- The items that reading a payload gives: its records, and at most one error.
-use Rattle.std.specs.Prelude.{◌≡◌, ℕ, zero, suc, ◌+◌, ◌-◌, ◌<◌, ◌≤◌, List, [], ◌∷◌, length, Option, Some, None, Result,
-    Ok, Err}
+use Rattle.std.specs.Prelude.{◌≡◌, ℕ, zero, suc, ◌+◌, ◌-◌, ◌<◌, ◌≤◌, List, [], ◌∷◌, length, Option, Some, None, Result}
+use Rattle.std.specs.Prelude.{Ok, Err}
 use Rattle.std.specs.List.{slice_range}
 use Rattle.shared_core_wire.specs.declared.error.WireError.{WireError}
 use Rattle.shared_core_wire.specs.declared.error.WireError.TheVariants.{Malformed}

@@ -2,8 +2,9 @@
 use Rattle.std.specs.Prelude.{◌≡◌, ℕ, suc, Bool, true, false, not, ◌&&◌, ◌||◌, List, [], ◌∷◌, nat_eq, if◌then◌else◌}
 use Rattle.std.specs.List.{list_all, list_any}
 use Rattle.shared_core_wire.specs.Grammar.{FieldRecord}
-use Rattle.shared_core_wire.specs.Schema.{Table, Kind, Row, U32, U64, Boolean, Enumeration, Text, ByteString, Message,
-    Plain, Optional, Repeated, OneOf, numbers, includes, member_kind, all_numbers, is_schema}
+use Rattle.shared_core_wire.specs.Schema.{Table, Kind, Row, U32, U64, Boolean, Enumeration, Text, ByteString, Message}
+use Rattle.shared_core_wire.specs.Schema.{Plain, Optional, Repeated, OneOf, numbers, includes, member_kind, all_numbers}
+use Rattle.shared_core_wire.specs.Schema.{is_schema}
 use Rattle.shared_core_wire.specs.Value.{Part, Parts, Absent, nil, cons}
 use Rattle.shared_core_wire.specs.Acceptance.{accepts_payload}
 use Rattle.shared_core_wire.specs.Overlay.{member_at, payload_records, meaning}
@@ -64,7 +65,7 @@ is_within_template template rows =
     list_all is_oneof template
     && list_all (λ row. not (is_repeated row)) rows
     && list_all (λ n. includes (all_numbers template) n && same_kind (kind_at rows n) (kind_at template n))
-        (all_numbers rows)
+    (all_numbers rows)
     && list_all (λ n. list_all (λ m. share_alike template rows n m) (all_numbers rows)) (all_numbers rows)
 
 -- What a row's part holds at one of its numbers.
@@ -94,5 +95,5 @@ ViewLaw table = (left s t : ℕ) (payload : List ℕ)
     → are_apart (table s) (table t) (payload_records left payload) ≡ true → accepts_payload table left t payload ≡ true
     → (accepts_payload table left s payload ≡ true)
     × ((n : ℕ) → includes (all_numbers (table s)) n ≡ true → list_any (λ r. nat_eq r.number n)
-        (payload_records left payload) ≡ true
+    (payload_records left payload) ≡ true
     → part_at (table s) (meaning table left s payload) n ≡ part_at (table t) (meaning table left t payload) n)

@@ -19,4 +19,4 @@ pub returns : goal.returns
 returns c =
     let nil : length c.loop-rest.rest.now ≡ 0 = search rules in
     some_written c.args.run.now (sym c.is_empty.ensures ∙ c.if-is_empty.false)
-        (sym c.loop-rest.invariant ∙ low_end c.loop-rest.rest.now (nil_from_length c.loop-rest.rest.now nil))
+    (sym c.loop-rest.invariant ∙ low_end c.loop-rest.rest.now (nil_from_length c.loop-rest.rest.now nil))

@@ -10,7 +10,7 @@ pub returns-in_default-clause-computed : goal.returns-in_default-clause-computed
 returns-in_default-clause-computed c =
     let some : 0 < length c.loop-rest.rest.now = search rules in
     sym c.loop-rest.invariant.same ∙ packed_stop c.loop-rest.numbers.items c.loop-rest.rest.now some
-        c.in_default.ensures
+    c.in_default.ensures
 
 pub loop-rest-smaller : goal.loop-rest-smaller
 loop-rest-smaller c = (packed_turn c.loop-rest.numbers.items c.loop-rest.rest.now c.in-Some.number c.in-Some.after.now
@@ -19,9 +19,9 @@ loop-rest-smaller c = (packed_turn c.loop-rest.numbers.items c.loop-rest.rest.no
 pub loop-rest-preserved : goal.loop-rest-preserved
 loop-rest-preserved c =
     let one_part = (packed_turn c.loop-rest.numbers.items c.loop-rest.rest.now c.in-Some.number c.in-Some.after.now
-        c.in-Some.ensures).same in
+    c.in-Some.ensures).same in
     let pushed : c.push.new.self.items ≡ c.loop-rest.numbers.items ++ (c.in-Some.number % 4294967296) ∷ [] = search
-        rules in
+    rules in
     record {
       same = rw pushed (sym one_part ∙ c.loop-rest.invariant.same);
       kept = pushed_more Number c.args.numbers.now.items c.loop-rest.numbers.items c.push.new.self.items
@@ -29,8 +29,11 @@ loop-rest-preserved c =
     }
 
 pub loop-rest-init : goal.loop-rest-init
-loop-rest-init c = record { same = refl; kept = same_elements Number c.args.numbers.now.items c.args.numbers.now.items
-    refl }
+loop-rest-init c = record {
+  same = refl;
+  kept = same_elements Number c.args.numbers.now.items c.args.numbers.now.items
+      refl;
+}
 
 pub returns-in_err-push-clause-kept : goal.returns-in_err-push-clause-kept
 returns-in_err-push-clause-kept c =
@@ -42,4 +45,4 @@ returns-clause-computed c =
     let nil : length c.loop-rest.rest.now ≡ 0 = search rules in
     let nothing = nil_from_length c.loop-rest.rest.now nil in
     sym c.loop-rest.invariant.same ∙ rw nothing (packed_end c.loop-rest.numbers.items) ∙ ap (λ w. Some w)
-        (append-nil c.loop-rest.numbers.items)
+    (append-nil c.loop-rest.numbers.items)

@@ -21,5 +21,5 @@ loop-i-preserved c = packed_after c.args.numbers.now.items c.loop-i.i c.from.res
 pub returns : goal.returns
 returns c =
     let b = packed_after_all c.args.numbers.now.items c.loop-i.i c.args.end c.loop-i.start
-        (drop c.args.end c.args.out.now) (drop c.loop-i.start c.loop-i.out) (omega arith) c.loop-i.invariant in
+    (drop c.args.end c.args.out.now) (drop c.loop-i.start c.loop-i.out) (omega arith) c.loop-i.invariant in
     record { start = b.0; written = b.1 }

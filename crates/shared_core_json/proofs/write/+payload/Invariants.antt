@@ -29,6 +29,6 @@ invariant-write_payload-loop-item l = record {
   tokens : l.out.tokens ++ items_tokens l.texts (payload_tokens l.texts l.left) (schema_fields l.schema) l.open_list
       (records_left l.item-iterator)
       ≡ l.initial.out.tokens ++ items_tokens l.texts (payload_tokens l.texts l.left) (schema_fields l.schema) 0
-          (read_records 0 l.payload);
+      (read_records 0 l.payload);
   before : l.out.before ≡ l.fn.out.before;
 }

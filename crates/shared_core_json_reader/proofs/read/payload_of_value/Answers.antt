@@ -11,7 +11,7 @@ pub returns-in-Ok-clause-means : goal.returns-in-Ok-clause-means
 returns-in-Ok-clause-means c =
     let short : length c.append_message.new.out.items < 2 ^ 64 = search rules in
     payload_means c.args.schema (json_view c.args.value.now) c.append_message.new.out.items (returns-in-Ok-clause-ok c)
-        short
+    short
 
 pub returns-clause-rejected : goal.returns-clause-rejected
 returns-clause-rejected c n = no_payload c.args.schema (json_view c.args.value.now)

@@ -8,4 +8,4 @@ use Rattle.shared_core_parts.proofs.texts.write_keys.Given as goal
 abbrev pub invariant-loop-key : goal.invariant-loop-key
 invariant-loop-key g l =
     IsPlainFormatter l.initial.f → HasWritten g.W.Write.write_str_gives l.initial.f
-        (flat_map (λ key. comma_space ++ state_key_text key) (take l.key-index l.rest)) l.f
+    (flat_map (λ key. comma_space ++ state_key_text key) (take l.key-index l.rest)) l.f

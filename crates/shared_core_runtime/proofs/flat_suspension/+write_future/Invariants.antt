@@ -7,5 +7,5 @@ abbrev pub invariant-write_futures-loop-i : goal.invariant-write_futures-loop-i
 invariant-write_futures-loop-i l =
     (list : AwaitedList)
     → IsWritten list l.futures.items l.i (end_in list l.fn.ends) (end_in list l.ends)
-        (drop (end_in list l.fn.ends) (of_list list l.fn.completions l.fn.signals l.fn.names))
-        (drop (end_in list l.ends) (of_list list l.completions l.signals l.names))
+    (drop (end_in list l.fn.ends) (of_list list l.fn.completions l.fn.signals l.fn.names))
+    (drop (end_in list l.ends) (of_list list l.completions l.signals l.names))

@@ -10,7 +10,7 @@ pub returns-in_err-feed-clause-too_long : goal.returns-in_err-feed-clause-too_lo
 returns-in_err-feed-clause-too_long c is =
     let from = err_from_is_err_and c.from_residual.result c.from_residual.ensures.1 in
     let fits = rest_fits c.args.version c.args.chunks.now c.loop-chunk.chunk-index _ _ _ c.loop-chunk-test.true
-        c.chunk-item.is c.loop-chunk.invariant.1.items_then in
+    c.chunk-item.is c.loop-chunk.invariant.1.items_then in
     omega (arith, fits, c.in_err-feed.ensures.too_long (cc))
 
 pub loop-chunk-preserved : goal.loop-chunk-preserved

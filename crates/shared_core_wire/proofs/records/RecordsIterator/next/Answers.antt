@@ -15,7 +15,7 @@ returns-then-is_empty-clause-steps c =
     let none : length s.rest.now ≡ 0 = search rules in
     let nothing = nil_from_length s.rest.now none in
     let ends : records_past (record_at s.left) s.end 0 s.rest.now ≡ [] = rw nothing (read_nil (record_at s.left) s.end)
-        in
+    in
     (ends, ends)
 
 pub returns-in_default-clause-steps : goal.returns-in_default-clause-steps

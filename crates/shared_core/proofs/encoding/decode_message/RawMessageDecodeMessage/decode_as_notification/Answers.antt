@@ -2,10 +2,7 @@ use Rattle.std.proofs.Common.{rules}
 use Rattle.shared_core_parts.specs.contracts.notification_template.IdOneOf.TheImpl as ids
 use Rattle.shared_core_parts.specs.contracts.notification_template.IdOneOf.TheImpl.Laws.{present-law as id_present}
 use Rattle.shared_core_parts.specs.contracts.notification_template.ResultOneOf.TheImpl as results
-use Rattle.shared_core_parts.specs.contracts.notification_template.ResultOneOf.TheImpl.Laws.{
-  present-law as
-      result_present,
-}
+use Rattle.shared_core_parts.specs.contracts.notification_template.ResultOneOf.TheImpl.Laws.{present-law as result_present}
 use Rattle.shared_core_codec.specs.FieldParts.{option_part}
 use Rattle.shared_core_codec.specs.Table.{notification_template}
 use Rattle.shared_core_wire.specs.Value.{Absent}
