@@ -291,8 +291,13 @@ module _ (C : List ℕ → Type 0) (group : ℕ → List ℕ → Option (List �
       (record {
         text = s.text ++ t.text;
         parts = parts;
-        is = record
-            { key = s.text; body = t.text; parts = refl; keyed = subst (IsKey s.text k.0.0) t.is.0 s.is; valued = t.is.1 };
+        is = record {
+          key = s.text;
+          body = t.text;
+          parts = refl;
+          keyed = subst (IsKey s.text k.0.0) t.is.0 s.is;
+          valued = t.is.1;
+        };
       })
 
 body_pos : (C : List ℕ → Type 0) (number : ℕ) (v : RecordValue) (body : List ℕ) → IsRecordBody C body number v → 0 <
