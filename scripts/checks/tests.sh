@@ -25,7 +25,7 @@ for folder in "$@"; do
 done
 
 # Those of a program and of the library for C, which need more libraries, alone where they are named alone.
-more='journal_c_api stream_survey command_line clap memchr thiserror'
+more='journal_c_api command_line clap memchr thiserror'
 case " $* " in
   *' ffi '* | *' measures '* | *' list '* | *' diff '*) ;;
   *) more='' ;;

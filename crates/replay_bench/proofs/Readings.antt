@@ -13,9 +13,9 @@ use Rattle.shared_core_stream.specs.Items.{IsItemsThen, NoItemBegins, SplitsInto
 use Rattle.shared_core_stream.proofs.Items.{then_more, then_start, then_takes}
 use Rattle.stream_lines.specs.Printing.{items_size}
 use Rattle.stream_lines.proofs.Progress.{then_long}
-use Rattle.stream_survey.specs.declared.totals.Survey.{Survey}
-use Rattle.stream_survey.specs.Survey.{is_command, survey_of}
-use Rattle.stream_survey.proofs.Surveys.{count_more}
+use Rattle.replay_bench.specs.declared.survey.Survey.{Survey}
+use Rattle.replay_bench.specs.Survey.{is_command, survey_of}
+use Rattle.replay_bench.proofs.Surveys.{count_more}
 use Rattle.replay_bench.specs.declared.verdicts.Side.{Side}
 use Rattle.replay_bench.specs.declared.verdicts.ReaderError.{ReaderError}
 use Rattle.replay_bench.specs.declared.verdicts.ReaderError.TheVariants.{Read, Bench}

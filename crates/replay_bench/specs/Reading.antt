@@ -4,8 +4,8 @@ use Rattle.std.specs.Io.KnownBytes.{Consumes, IsAtEnd}
 use Rattle.shared_core_base.specs.declared.version.Version.{Version}
 use Rattle.shared_core_stream.specs.declared.encoding.item.Item.{Item}
 use Rattle.shared_core_stream.specs.Items.{IsItemsThen, NoItemBegins}
-use Rattle.stream_survey.specs.declared.totals.Survey.{Survey}
-use Rattle.stream_survey.specs.Survey.{IsSurvey, is_command, last_command, survey_of}
+use Rattle.replay_bench.specs.declared.survey.Survey.{Survey}
+use Rattle.replay_bench.specs.Survey.{IsSurvey, is_command, last_command, survey_of}
 use Rattle.replay_bench.specs.declared.verdicts.Side.{Side}
 
 -- The bytes that came are items, of which this is the survey, and then those that are held.

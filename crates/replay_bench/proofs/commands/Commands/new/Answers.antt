@@ -1,5 +1,5 @@
 use Rattle.std.proofs.Common.{refl, ap}
-use Rattle.stream_survey.specs.declared.totals.Survey.{Survey}
+use Rattle.replay_bench.specs.declared.survey.Survey.{Survey}
 use Rattle.replay_bench.proofs.Readings.{nothing_noted}
 use Rattle.replay_bench.proofs.commands.Commands.new.Goals as goal
 

@@ -5,10 +5,10 @@ use Rattle.std.proofs.lemmas.List.Sums.{count_by-le-length, sum_by-append}
 use Rattle.shared_core_base.specs.declared.version.Version.{Version}
 use Rattle.shared_core_stream.specs.declared.encoding.item.Item.{Item}
 use Rattle.shared_core_stream.specs.declared.encoding.item.Item.TheVariants.{Message, Unknown, Skipped}
-use Rattle.stream_survey.specs.declared.faults.Fault.{Fault}
-use Rattle.stream_survey.specs.declared.totals.Survey.{Survey}
+use Rattle.replay_bench.specs.declared.faults.Fault.{Fault}
+use Rattle.replay_bench.specs.declared.survey.Survey.{Survey}
 use Rattle.stream_lines.specs.Printing.{item_size, items_size}
-use Rattle.stream_survey.specs.Survey.{fault_of, fault_with, first_fault, first_of, is_command, is_malformed, is_other, is_skipped, is_unknown, last_command, survey_of}
+use Rattle.replay_bench.specs.Survey.{fault_of, fault_with, first_fault, first_of, is_command, is_malformed, is_other, is_skipped, is_unknown, last_command, survey_of}
 
 -- an item has eight bytes at least
 eight : (item : Item) → 8 ≤ item_size item

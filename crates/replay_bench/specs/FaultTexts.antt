@@ -2,9 +2,9 @@
 use Rattle.std.specs.Prelude.{ℕ, List, ◌++◌, false, codes, decimal, ◌==◌, if◌then◌else◌}
 use Rattle.std.specs.Fmt.{digits}
 use Rattle.shared_core_base.specs.MessageType.{debug_name_of}
-use Rattle.stream_survey.specs.declared.faults.Fault.{Fault}
-use Rattle.stream_survey.specs.declared.faults.FaultReason.{FaultReason}
-use Rattle.stream_survey.specs.declared.faults.FaultReason.TheVariants.{UnknownHeader, Malformed, Rest}
+use Rattle.replay_bench.specs.declared.faults.Fault.{Fault}
+use Rattle.replay_bench.specs.declared.faults.FaultReason.{FaultReason}
+use Rattle.replay_bench.specs.declared.faults.FaultReason.TheVariants.{UnknownHeader, Malformed, Rest}
 
 -- The text of what is wrong.
 abbrev pub reason_text : FaultReason → List ℕ

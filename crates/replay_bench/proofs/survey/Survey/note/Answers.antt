@@ -1,7 +1,7 @@
 use Rattle.std.proofs.Common.{ap, ◌∙◌, refl}
-use Rattle.stream_survey.specs.Survey.{is_command, is_malformed, is_other, is_skipped, is_unknown}
-use Rattle.stream_survey.proofs.Surveys.{count_next_fits, survey_next}
-use Rattle.stream_survey.proofs.totals.Survey.note.Goals as goal
+use Rattle.replay_bench.specs.Survey.{is_command, is_malformed, is_other, is_skipped, is_unknown}
+use Rattle.replay_bench.proofs.Surveys.{count_next_fits, survey_next}
+use Rattle.replay_bench.proofs.survey.Survey.note.Goals as goal
 
 pub count-requires : goal.count-requires
 count-requires c =

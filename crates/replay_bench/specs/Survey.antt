@@ -8,9 +8,9 @@ use Rattle.shared_core_stream.specs.declared.encoding.item.Item.{Item}
 use Rattle.shared_core_stream.specs.declared.encoding.item.Item.TheVariants.{Message, Unknown, Skipped}
 use Rattle.shared_core_stream.specs.Items.{SplitsInto}
 use Rattle.shared_core_message.specs.Schemas.{schema_at}
-use Rattle.stream_survey.specs.declared.faults.Fault.{Fault}
-use Rattle.stream_survey.specs.declared.faults.FaultReason.TheVariants.{UnknownHeader, Malformed, Rest}
-use Rattle.stream_survey.specs.declared.totals.Survey.{Survey}
+use Rattle.replay_bench.specs.declared.faults.Fault.{Fault}
+use Rattle.replay_bench.specs.declared.faults.FaultReason.TheVariants.{UnknownHeader, Malformed, Rest}
+use Rattle.replay_bench.specs.declared.survey.Survey.{Survey}
 use Rattle.stream_lines.specs.Printing.{item_size, items_size}
 
 -- ---- what items are
