@@ -11,7 +11,8 @@ abbrev pub reason_text : FaultReason → List ℕ
 reason_text (UnknownHeader code) = codes "unknown header 0x" ++ digits 16 false code
 reason_text (Malformed ty) = codes "malformed payload of " ++ debug_name_of ty
 reason_text (Rest count) =
-    if count == 1 then codes "1 byte after the last whole item" else decimal count ++ codes " bytes after the last whole item"
+    if count == 1 then codes "1 byte after the last whole item"
+    else decimal count ++ codes " bytes after the last whole item"
 
 -- The text of a fault: where it is, and what is wrong.
 abbrev pub fault_text : Fault → List ℕ

@@ -74,7 +74,8 @@ first_of None later = later
 -- The first fault of items, of which the first begins at an offset.
 abbrev pub first_fault : Version → ℕ → List Item → Option Fault
 first_fault version at [] = None
-first_fault version at (item ∷ items) = first_of (fault_of version at item) (first_fault version (at + item_size item) items)
+first_fault version at (item ∷ items) =
+    first_of (fault_of version at item) (first_fault version (at + item_size item) items)
 
 -- ---- surveys
 
@@ -107,7 +108,8 @@ fault_with survey malformed item =
 -- What is wrong with a whole stream of this survey: the first fault of its items, or else the bytes that are in none.
 abbrev pub trouble_of : Survey → Option Fault
 trouble_of survey =
-    first_of survey.fault (if survey.rest == 0 then None else Some (record { offset = survey.size; reason = Rest survey.rest }))
+    first_of survey.fault
+    (if survey.rest == 0 then None else Some (record { offset = survey.size; reason = Rest survey.rest }))
 
 -- The survey of a stream: of the items that it splits into, and the number of bytes that are in none.
 pub record IsSurvey (version : Version) (is_strict : Bool) (stream : List ℕ) (survey : Survey) : Type 0 where

@@ -10,7 +10,8 @@ returns-clause-new g c = record {
   noted_is = refl;
   nothing_held = ap (λ d. d.bytes) c.new-decoder.ensures;
   nothing_taken = refl;
-  nothing_noted = nothing_noted c.args.version c.args.is_strict c.new-survey.result (c.new-survey.ensures c.args.version);
+  nothing_noted = nothing_noted c.args.version c.args.is_strict c.new-survey.result
+      (c.new-survey.ensures c.args.version);
 }
 
 pub returns-clause-strict : goal.returns-clause-strict
