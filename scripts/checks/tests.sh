@@ -24,7 +24,7 @@ for folder in "$@"; do
 done
 
 # Those of a program and of the library for C, which need more libraries, alone where they are named alone.
-more='journal_c_api stream_survey command_line clap memchr thiserror'
+more='journal_c_api command_line clap memchr thiserror'
 case " $* " in
   *' ffi '* | *' measures '* | *' list '* | *' diff '*) ;;
   *) more='' ;;
@@ -32,7 +32,7 @@ esac
 # shellcheck disable=SC2086 # the names are split
 unproved_crate tests replay_bench shared_core_fields shared_core_json shared_core_json_reader stream_lines shared_core \
   shared_core_stream shared_core_base shared_core_wire shared_core_codec shared_core_message shared_core_parts shared_core_runtime \
-  shared_core_state_commands shared_core_call_commands shared_core_notifications shared_core_callers bytes hex json \
+  shared_core_state_commands shared_core_call_commands shared_core_notifications anyhow bytes hex json \
   $more
 {
   echo '//! Tests.'
@@ -60,6 +60,7 @@ as_module() {
   printf '#[cfg(test)]\nmod %s;\n' "$1" >> "$crate/src/lib.rt"
 }
 
+as_module readme_example streams
 as_module journal_ffi ffi
 as_module bench_ffi measures
 as_module journal_list list

@@ -5,10 +5,10 @@ use Rattle.shared_core_base.specs.Version.{version_number}
 use Rattle.replay_bench.specs.declared.verdicts.Side.{Side}
 use Rattle.replay_bench.specs.declared.verdicts.Side.TheVariants.{Recorded, Replayed}
 use Rattle.replay_bench.specs.Texts.{side_text}
-use Rattle.stream_survey.specs.declared.faults.Fault.{Fault}
-use Rattle.stream_survey.specs.declared.totals.Survey.{Survey}
-use Rattle.stream_survey.specs.Survey.{trouble_of}
-use Rattle.stream_survey.specs.Texts.{fault_text}
+use Rattle.replay_bench.specs.declared.faults.Fault.{Fault}
+use Rattle.replay_bench.specs.declared.survey.Survey.{Survey}
+use Rattle.replay_bench.specs.Survey.{trouble_of}
+use Rattle.replay_bench.specs.FaultTexts.{fault_text}
 use Rattle.journal_diff.specs.declared.passed_over.Note.{Note}
 use Rattle.journal_diff.specs.declared.passed_over.Note.TheVariants.{UnknownHeaders, Rest, NoItem}
 use Rattle.journal_diff.specs.declared.passed_over.Trouble.{Trouble}

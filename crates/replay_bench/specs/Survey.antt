@@ -8,9 +8,9 @@ use Rattle.shared_core_stream.specs.declared.encoding.item.Item.{Item}
 use Rattle.shared_core_stream.specs.declared.encoding.item.Item.TheVariants.{Message, Unknown, Skipped}
 use Rattle.shared_core_stream.specs.Items.{SplitsInto}
 use Rattle.shared_core_message.specs.Schemas.{schema_at}
-use Rattle.stream_survey.specs.declared.faults.Fault.{Fault}
-use Rattle.stream_survey.specs.declared.faults.FaultReason.TheVariants.{UnknownHeader, Malformed, Rest}
-use Rattle.stream_survey.specs.declared.totals.Survey.{Survey}
+use Rattle.replay_bench.specs.declared.faults.Fault.{Fault}
+use Rattle.replay_bench.specs.declared.faults.FaultReason.TheVariants.{UnknownHeader, Malformed, Rest}
+use Rattle.replay_bench.specs.declared.survey.Survey.{Survey}
 use Rattle.stream_lines.specs.Printing.{item_size, items_size}
 
 -- ---- what items are
@@ -74,7 +74,8 @@ first_of None later = later
 -- The first fault of items, of which the first begins at an offset.
 abbrev pub first_fault : Version → ℕ → List Item → Option Fault
 first_fault version at [] = None
-first_fault version at (item ∷ items) = first_of (fault_of version at item) (first_fault version (at + item_size item) items)
+first_fault version at (item ∷ items) =
+    first_of (fault_of version at item) (first_fault version (at + item_size item) items)
 
 -- ---- surveys
 
@@ -107,7 +108,8 @@ fault_with survey malformed item =
 -- What is wrong with a whole stream of this survey: the first fault of its items, or else the bytes that are in none.
 abbrev pub trouble_of : Survey → Option Fault
 trouble_of survey =
-    first_of survey.fault (if survey.rest == 0 then None else Some (record { offset = survey.size; reason = Rest survey.rest }))
+    first_of survey.fault
+    (if survey.rest == 0 then None else Some (record { offset = survey.size; reason = Rest survey.rest }))
 
 -- The survey of a stream: of the items that it splits into, and the number of bytes that are in none.
 pub record IsSurvey (version : Version) (is_strict : Bool) (stream : List ℕ) (survey : Survey) : Type 0 where

@@ -1,4 +1,5 @@
-//! The round trip of any message: what the contracts of encoding, pushing, consuming and decoding say together.
+//! Callers of the public calls, proved from their contracts alone: the round trip of any message, and a loop over the
+//! messages that have come. The program does not call them.
 
 ghost use Rattle.std.specs.Prelude.{◌≡◌, ◌≤◌, ◌^◌, IfOk};
 ghost use Rattle.std.specs.Result.{IsErrOf};
@@ -62,4 +63,16 @@ pub fn there_and_back<M: RestateEncodableMessage>(
         // its type and its payload are those that were written
         Err(_other) => unreachable!(),
     }
+}
+
+/// Takes all messages that are whole, and returns the lengths of their payloads. It ends, since each message takes
+/// bytes.
+pub fn payload_lengths(alloc: Global, decoder: &mut Decoder) -> Result<Vec<usize>, DecodingError> {
+    let mut lengths = Vec::new(alloc);
+    while let Some(message) = decoder.consume_next()? {
+        let Ok(()) = lengths.push(message.payload().len()) else {
+            return Err(DecodingError::OutOfMemory);
+        };
+    }
+    Ok(lengths)
 }

@@ -2,8 +2,8 @@
 
 ghost use Rattle.std.specs.Prelude.{◌≡◌};
 ghost use Rattle.shared_core_message.specs.Schemas.{schema_at};
-ghost use Rattle.stream_survey.specs.Survey.{fault_at};
-ghost use Rattle.stream_survey.specs.Survey.{is_malformed as found_malformed, is_well_formed as accepts};
+ghost use Rattle.replay_bench.specs.Survey.{fault_at};
+ghost use Rattle.replay_bench.specs.Survey.{is_malformed as found_malformed, is_well_formed as accepts};
 
 use shared_core::encoding::Item;
 use shared_core::header::MessageType;
@@ -34,7 +34,7 @@ pub enum FaultReason {
 
 impl fmt::Display for FaultReason {
     ghost use Rattle.std.specs.Prelude.{Some};
-    ghost use Rattle.stream_survey.specs.Texts.{reason_text};
+    ghost use Rattle.replay_bench.specs.FaultTexts.{reason_text};
 
     ghost output = { λ reason. Some (reason_text reason) };
 
@@ -50,7 +50,7 @@ impl fmt::Display for FaultReason {
 
 impl fmt::Display for Fault {
     ghost use Rattle.std.specs.Prelude.{Some};
-    ghost use Rattle.stream_survey.specs.Texts.{fault_text};
+    ghost use Rattle.replay_bench.specs.FaultTexts.{fault_text};
 
     ghost output = { λ fault. Some (fault_text fault) };
 

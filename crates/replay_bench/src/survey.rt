@@ -4,8 +4,8 @@ ghost use Rattle.std.specs.Prelude.{◌≡◌, ◌+◌, ◌<◌, ◌^◌, ◌++�
 ghost use Rattle.shared_core_base.specs.declared.version.Version.{Version as AnyVersion};
 ghost use Rattle.shared_core_stream.specs.declared.encoding.item.Item.{Item as AnyItem};
 ghost use Rattle.stream_lines.specs.Printing.{item_size as size_of_item, items_size};
-ghost use Rattle.stream_survey.specs.Survey.{fault_with, survey_of, trouble_of};
-ghost use Rattle.stream_survey.specs.Survey as test;
+ghost use Rattle.replay_bench.specs.Survey.{fault_with, survey_of, trouble_of};
+ghost use Rattle.replay_bench.specs.Survey as test;
 
 use crate::faults::{Fault, FaultReason, fault_at, is_malformed};
 use shared_core::CommandType;
