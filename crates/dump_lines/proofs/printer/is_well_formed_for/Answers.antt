@@ -1,5 +1,5 @@
 use Rattle.dump_lines.proofs.Truths.{same_truth}
-use Rattle.dump_lines.proofs.lines.is_well_formed_for.Goals as goal
+use Rattle.dump_lines.proofs.printer.is_well_formed_for.Goals as goal
 
 pub returns-in-Some : goal.returns-in-Some
 returns-in-Some c =

@@ -1,49 +1,50 @@
-//! The canonical payloads of messages, by their types.
+//! The canonical payloads of messages, by the records of their types.
 
 ghost use Rattle.std.specs.Prelude.{IfOk};
 ghost use Rattle.std.specs.Result.{IsErrOf};
 ghost use Rattle.shared_core_codec.specs.Payloads.{IsAccepted, payload_meaning};
 ghost use Rattle.shared_core_json.specs.Payloads.{IsEncoding, IsTooLong};
 ghost use Rattle.shared_core_json.specs.declared.error.JsonError.TheVariants.{Malformed, TooLong};
-ghost use Rattle.shared_core_message.specs.Schemas.{schema_at};
-ghost use Rattle.dump_lines.specs.Canonical.{ReturnsEncoding};
 
 use bytes::Bytes;
-use shared_core::header::MessageType;
+use dump_lines::Canonicalizer;
 use shared_core::messages::{RecordVisitor, schema_at, visit_record};
-use shared_core::version::Version;
 use shared_core::wire::WireRecord;
+use shared_core_base::header::MessageType;
+use shared_core_base::version::Version;
 use shared_core_json::{JsonError, write_canonical};
 use std::alloc::Global;
 use std::fmt::Debug;
 use std::mem;
 
-/// Overwrites the buffer with the canonical payload of what a message's payload means, and returns the index of its
-/// schema; `None` for a custom entry, whose payload is opaque.
-pub fn canonical_of(
-    alloc: Global,
-    version: Version,
-    ty: MessageType,
-    payload: &Bytes,
-    canonical: &mut Vec<u8>,
-) -> Result<Option<u32>, JsonError>
-    ensures { ReturnsEncoding (schema_at version ty) payload.now canonical.new.items result }
-{
-    let Some(schema) = schema_at(version, ty) else {
-        return Ok(None);
-    };
-    let writing = Writing {
-        alloc,
-        payload,
-        buffer: mem::replace(canonical, Vec::new(alloc)),
-    };
-    match visit_record(schema, writing) {
-        Some(written) => {
-            *canonical = written?;
-            Ok(Some(schema))
+/// The records of all messages: a payload is decoded to its record, and encoded.
+pub struct Records;
+
+impl Canonicalizer for Records {
+    fn canonical_of(
+        &self,
+        alloc: Global,
+        version: Version,
+        ty: MessageType,
+        payload: &Bytes,
+        canonical: &mut Vec<u8>,
+    ) -> Result<Option<u32>, JsonError> {
+        let Some(schema) = schema_at(version, ty) else {
+            return Ok(None);
+        };
+        let writing = Writing {
+            alloc,
+            payload,
+            buffer: mem::replace(canonical, Vec::new(alloc)),
+        };
+        match visit_record(schema, writing) {
+            Some(written) => {
+                *canonical = written?;
+                Ok(Some(schema))
+            }
+            // each index of a schema has a record
+            None => unreachable!(),
         }
-        // each index of a schema has a record
-        None => unreachable!(),
     }
 }
 
