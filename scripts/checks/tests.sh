@@ -23,17 +23,9 @@ for folder in "$@"; do
   fi
 done
 
-# Those of a program and of the library for C, which need more libraries, alone where they are named alone.
-more='journal_c_api stream_survey command_line clap memchr thiserror'
-case " $* " in
-  *' ffi '* | *' measures '* | *' list '* | *' diff '*) ;;
-  *) more='' ;;
-esac
-# shellcheck disable=SC2086 # the names are split
 unproved_crate tests replay_bench shared_core_json shared_core_json_reader stream_lines shared_core shared_core_stream \
   shared_core_base shared_core_wire shared_core_codec shared_core_message shared_core_parts shared_core_runtime \
-  shared_core_state_commands shared_core_call_commands shared_core_notifications shared_core_callers bytes hex json \
-  $more
+  shared_core_state_commands shared_core_call_commands shared_core_notifications shared_core_callers bytes hex json
 {
   echo '//! Tests.'
   echo '#![tactic(auto)]'
@@ -45,25 +37,20 @@ for folder in "$@"; do
   sources "tests/$folder" "$crate/src/$folder"
 done
 
-# as_module CRATE FOLDER: copies the sources of a crate that no other can use, as a module whose items are all public,
-# where the tests of this folder are among them
-as_module() {
+# as_library CRATE FOLDER [LIBRARY]: in the copy, a crate that no other can use is a library of public modules, which the
+# tests of this folder use, and this other library
+as_library() {
   [ -d "$crate/src/$2" ] || return 0
-  mkdir "$crate/src/$1"
-  for file in crates/"$1"/src/*.rt; do
-    name=${file##*/}
-    case $name in
-      lib.rt | main.rt) name=mod.rt ;;
-    esac
-    sed "/^ *#/!s/crate::/crate::$1::/g; s/^mod /pub mod /; /^#!\[tactic(auto)]$/d" "$file" > "$crate/src/$1/$name"
-  done
-  printf '#[cfg(test)]\nmod %s;\n' "$1" >> "$crate/src/lib.rt"
+  top=$work/tree/crates/$1/src
+  [ ! -e "$top/main.rt" ] || mv "$top/main.rt" "$top/lib.rt"
+  sed -i 's/^mod /pub mod /' "$top/lib.rt"
+  sed -i "s/^$1 staticlib:/$1:/; s/^tests: .*/& $1${3:+ $3}/" "$work/tree/crates.txt"
 }
 
-as_module journal_ffi ffi
-as_module bench_ffi measures
-as_module journal_list list
-as_module journal_diff diff
+as_library journal_ffi ffi
+as_library bench_ffi measures
+as_library journal_list list
+as_library journal_diff diff clap
 
 # the program is kept, and its allocations can be made to fail
 can_refuse=no

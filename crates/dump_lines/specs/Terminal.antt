@@ -1,5 +1,5 @@
 -- A dump on a terminal.
-use Rattle.std.specs.Prelude.{ℕ, false, if◌then◌else◌, nat_lt, List, length, Result, Option}
+use Rattle.std.specs.Prelude.{ℕ, Bool, false, if◌then◌else◌, nat_lt, List, length, Result, Option}
 use Rattle.stream_lines.specs.declared.error.PrintError.{PrintError}
 use Rattle.stream_lines.specs.declared.report.Report.{Report}
 use Rattle.stream_lines.specs.Printing.{ArePrinted}
@@ -14,6 +14,10 @@ rest_options options count = if nat_lt 64 count then record options { payloads =
 -- The last line on a terminal.
 abbrev pub shown_rest_line : Options → ℕ → List ℕ → List ℕ
 shown_rest_line options at rest = rest_line (rest_options options (length rest)) at rest
+
+-- The last line, on a terminal or not.
+abbrev pub last_line : Bool → Options → ℕ → List ℕ → List ℕ
+last_line is_terminal options = if is_terminal then shown_rest_line options else rest_line options
 
 -- For the bytes that were read, the lines of their items are written, as far as the result says; the last line is that
 -- of a terminal.

@@ -1,14 +1,15 @@
 //! The lines of a dump: a stream as JSON, one object a line for each of its items, and last one for the bytes in none.
 #![tactic(auto)]
 
-mod canonical;
+mod canonicalizer;
 mod lines;
 mod options;
 mod pretty;
+mod printer;
 mod scratch;
 mod stream;
-mod terminal;
 
+pub use crate::canonicalizer::Canonicalizer;
 pub use crate::options::Options;
-pub use crate::stream::dump;
-pub use crate::terminal::{MOST_SHOWN, dump_on_terminal};
+pub use crate::printer::MOST_SHOWN;
+pub use crate::stream::{dump, dump_on_terminal};

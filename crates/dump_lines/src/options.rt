@@ -1,6 +1,6 @@
 //! The options of a dump.
 
-use shared_core::version::Version;
+use shared_core_base::version::Version;
 
 /// Which items have lines, and what these contain.
 #[derive(Clone, Copy)]

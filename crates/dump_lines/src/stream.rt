@@ -4,8 +4,11 @@ ghost use Rattle.std.specs.Prelude.{◌≤◌, ℕ, List};
 ghost use Rattle.std.specs.Io.KnownBytes.{Appends, Consumes};
 ghost use Rattle.shared_core_base.specs.Version.{version_number};
 ghost use Rattle.dump_lines.specs.Dump.{IsDumped};
+ghost use Rattle.dump_lines.specs.Terminal.{IsShown};
 
+use crate::canonicalizer::Canonicalizer;
 use crate::options::Options;
+use crate::printer::Printer;
 use std::alloc::Global;
 use std::io::{Read, Write};
 use stream_lines::{PrintError, Report, print_lines};
@@ -18,10 +21,12 @@ const CHUNK: usize = 65536;
 /// It reads at most 65,536 bytes at a time, and ends as `print_lines` says. `TooLong` comes only if payloads are
 /// printed and one of the items after the written lines is a selected message whose canonical payload has more bytes
 /// than 32 bits can count. If the options are strict, the report has the first item whose code is no type's, or which
-/// is a selected message whose payload is not well-formed for its type at the version.
-pub fn dump<R: Read, W: Write>(
+/// is a selected message whose payload is not well-formed for its type at the version. The canonicalizer is called for
+/// each printed payload that is not canonical.
+pub fn dump<C: Canonicalizer, R: Read, W: Write>(
     alloc: Global,
     options: &Options<'_>,
+    canonicalizer: &C,
     input: &mut R,
     output: &mut W,
 ) -> Result<Report, PrintError>
@@ -31,5 +36,33 @@ pub fn dump<R: Read, W: Write>(
         × Appends (W.contents output.old) (W.contents output.new) written
         × IsDumped options.now result read written (R.remaining input.new) }
 {
-    print_lines(alloc, options.version, options, input, output, CHUNK)
+    let printer = Printer {
+        options: *options,
+        canonicalizer,
+        is_terminal: false,
+    };
+    print_lines(alloc, options.version, &printer, input, output, CHUNK)
+}
+
+/// Dumps a stream as `dump` does, but for the last line, which is without the bytes in no item if there are more of
+/// them than `MOST_SHOWN`.
+pub fn dump_on_terminal<C: Canonicalizer, R: Read, W: Write>(
+    alloc: Global,
+    options: &Options<'_>,
+    canonicalizer: &C,
+    input: &mut R,
+    output: &mut W,
+) -> Result<Report, PrintError>
+    requires spoken { 5 ≤ version_number options.now.version }
+    ensures { (read : List ℕ) × (written : List ℕ)
+        × Consumes (R.remaining input.old) (R.remaining input.new) read
+        × Appends (W.contents output.old) (W.contents output.new) written
+        × IsShown options.now result read written (R.remaining input.new) }
+{
+    let printer = Printer {
+        options: *options,
+        canonicalizer,
+        is_terminal: true,
+    };
+    print_lines(alloc, options.version, &printer, input, output, CHUNK)
 }

@@ -8,7 +8,7 @@ use clap::{Command, Error};
 use command_line::{
     ColorChoice, color_of, color_option, flag, operand, protocol_of, protocol_option,
 };
-use shared_core::version::Version;
+use shared_core_base::version::Version;
 use std::alloc::{AllocError, Global};
 
 /// The parsed command line.

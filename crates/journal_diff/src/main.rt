@@ -5,22 +5,18 @@ ghost use Rattle.std.specs.Prelude.{◌≤◌};
 ghost use Rattle.shared_core_base.specs.Version.{version_number};
 
 mod arguments;
-mod colors;
-mod diff;
 mod inputs;
-mod json_line;
-mod passed_over;
-mod shown;
 
 use crate::arguments::{Arguments, parse_arguments};
-use crate::diff::{DiffError, Findings, Form, diff, diff_with_colors};
 use crate::inputs::{Inputs, closed_side, open_both};
-use crate::passed_over::{no_item_note, rest_note, unknown_note};
 use command_line::{
     Escapes, Escaping, Pipe, Progress, Watched, fail, has_color, note, read_arguments, report,
 };
+use diff_lines::{
+    DiffError, Findings, Form, diff, diff_with_colors, no_item_note, rest_note, unknown_note,
+};
 use replay_bench::{ReaderError, Side};
-use shared_core::version::Version;
+use shared_core_base::version::Version;
 use std::io::{IsTerminal, Stdout};
 use std::process::ExitCode;
 

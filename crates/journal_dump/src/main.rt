@@ -5,9 +5,11 @@ ghost use Rattle.std.specs.Prelude.{◌≤◌};
 ghost use Rattle.shared_core_base.specs.Version.{version_number};
 
 mod arguments;
+mod canonical;
 mod suggestions;
 
 use crate::arguments::{Arguments, parse_arguments};
+use crate::canonical::Records;
 use command_line::{
     Escapes, Escaping, Input, Pipe, Progress, Watched, fail, input_size, note, open,
     read_arguments, report,
@@ -94,9 +96,9 @@ fn run_parsed(rt: &HostRuntime, parsed: &Arguments<'_>, input: Input) -> ExitCod
     let is_terminal = rt.stdout().is_terminal();
     let mut output = Pipe::new(Escaping::new(rt.alloc(), rt.stdout(), Escapes::Json, is_terminal));
     let dumped = if is_terminal {
-        dump_on_terminal(rt.alloc(), &options, &mut input, &mut output)
+        dump_on_terminal(rt.alloc(), &options, &Records, &mut input, &mut output)
     } else {
-        dump(rt.alloc(), &options, &mut input, &mut output)
+        dump(rt.alloc(), &options, &Records, &mut input, &mut output)
     };
     progress.clear();
     match dumped {

@@ -2,7 +2,7 @@
 
 use clap::{Command, Error};
 use command_line::{operand, protocol_of, protocol_option};
-use shared_core::version::Version;
+use shared_core_base::version::Version;
 use std::alloc::{AllocError, Global};
 
 /// The parsed command line.

@@ -2,20 +2,12 @@
 #![tactic(auto)]
 
 mod arguments;
-mod error;
-mod laws;
-mod line;
-mod make;
-mod members;
-mod reject;
-mod text;
 
 use crate::arguments::{Arguments, parse_arguments};
-use crate::error::MakeError;
-use crate::make::make;
 use command_line::{
     Input, Pipe, Progress, Watched, fail, input_size, open, read_arguments, report,
 };
+use make_lines::{MakeError, make};
 use std::io::{IsTerminal, Stdout};
 use std::process::ExitCode;
 

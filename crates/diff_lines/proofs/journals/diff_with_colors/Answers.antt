@@ -1,0 +1,18 @@
+use Rattle.std.proofs.Common.{[], rules}
+use Rattle.diff_lines.proofs.Reporting.{reported_faulty, reported_text}
+use Rattle.diff_lines.proofs.journals.diff_with_colors.Goals as goal
+
+pub returns-in-Ok : goal.returns-in-Ok
+returns-in-Ok g c =
+    let (text, items_is, reports) = c.in-Ok.ensures in
+    let (written, wrote, painted) = c.write_with_colors.ensures in (
+      written,
+      wrote,
+      reported_text c.args.version c.args.ignore_payloads c.args.is_strict c.args.form _ _ c.in-Ok.findings c.new-text.result.items _ c.as_slice.result.now text c.write_with_colors.result written
+          c.new-text.ensures.items items_is c.as_slice.ensures.value reports painted,
+    )
+
+pub returns : goal.returns
+returns g c =
+    let (written, wrote, reports) = c.diff-compared.ensures in
+    ([], search rules, reported_faulty _ _ _ _ _ _ c.in-Err-Faulty.trouble c.diff-compared.result written (search rules) reports)

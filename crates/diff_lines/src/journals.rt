@@ -1,0 +1,285 @@
+//! The calls that compare two journals from any readers, and write the verdict to any writer.
+
+ghost use Rattle.std.specs.Prelude.{◌≡◌, ◌≤◌, ◌++◌, ℕ, List, IfOk};
+ghost use Rattle.std.specs.Io.KnownBytes.{Appends};
+ghost use Rattle.std.specs.String.{string_bytes};
+ghost use Rattle.shared_core_base.specs.Version.{version_number};
+ghost use Rattle.diff_lines.specs.Verdicts.{Reports, ReportsFound, ReportsWithColors, WritesWithColors, IsWritten};
+ghost use Rattle.diff_lines.specs.Verdicts.{commands_word, found_line, is_same, terminal_line, verdict_line};
+
+use crate::colors::with_colors;
+use crate::json_line::json_line;
+use crate::passed_over::{Trouble, strict_trouble};
+use crate::shown::shown_text;
+use replay_bench::{BenchError, Comparison, FieldDifference, ReaderError, Verdict, survey_readers};
+use shared_core_base::version::Version;
+use std::alloc::{AllocError, Global};
+use std::error::Error;
+use std::fmt;
+use std::io::{Read, Write};
+use stream_lines::output::{OutputFailed, write_whole};
+use stream_survey::Survey;
+
+/// The number of bytes that are read at a time.
+const CHUNK_SIZE: usize = 65536;
+
+/// How a verdict is written.
+#[derive(Debug, Clone, Copy, PartialEq, Eq, Drop)]
+pub enum Form {
+    /// As a text, as the journals and the error of an SDK have it.
+    Text,
+    /// As a text for a terminal, in which what comes from the journals is escaped.
+    Terminal,
+    /// As a line of JSON.
+    Json,
+}
+
+/// Why the verdict on two journals was not printed, or not whole.
+#[derive(Debug, Clone, Copy, PartialEq, Eq, Drop)]
+pub enum DiffError {
+    /// The comparison has no verdict. Nothing is written.
+    NoVerdict(ReaderError),
+    /// In a strict comparison something is wrong with a journal. Nothing is written.
+    Faulty(Trouble),
+    /// A write failed, or wrote no byte. A prefix of the verdict's line may be written.
+    Output,
+}
+
+impl From<ReaderError> for DiffError {
+    ghost use Rattle.std.specs.Prelude.{◌≡◌};
+    ghost use Rattle.diff_lines.specs.declared.journals.DiffError.TheVariants.{NoVerdict};
+
+    ghost from_gives = { λ why error. error ≡ NoVerdict why };
+
+    fn from(error: ReaderError) -> DiffError {
+        DiffError::NoVerdict(error)
+    }
+}
+
+impl From<AllocError> for DiffError {
+    ghost use Rattle.std.specs.Prelude.{◌≡◌};
+    ghost use Rattle.diff_lines.specs.declared.journals.DiffError.TheVariants.{NoVerdict};
+    ghost use Rattle.replay_bench.specs.declared.verdicts.ReaderError.TheVariants.{Bench};
+    ghost use Rattle.replay_bench.specs.declared.verdicts.BenchError.TheVariants.{OutOfMemory};
+
+    ghost from_gives = { λ _ error. error ≡ NoVerdict (Bench OutOfMemory) };
+
+    fn from(_error: AllocError) -> DiffError {
+        DiffError::NoVerdict(ReaderError::Bench(BenchError::OutOfMemory))
+    }
+}
+
+/// Prints the reason in one line, without a line feed.
+impl fmt::Display for DiffError {
+    ghost use Rattle.std.specs.Prelude.{Some};
+    ghost use Rattle.diff_lines.specs.Verdicts.{error_text};
+
+    ghost output = { λ error. Some (error_text error) };
+
+    fn fmt<W: fmt::Write>(&self, f: &mut fmt::Formatter<W>) -> fmt::Result {
+        match self {
+            DiffError::NoVerdict(error) => write!(f, "{error}"),
+            DiffError::Faulty(trouble) => write!(f, "{trouble}"),
+            DiffError::Output => f.write_str("output failed"),
+        }
+    }
+}
+
+impl Error for DiffError {}
+
+/// Two journals that were compared, and whose verdict was written.
+#[derive(Debug, Clone, Copy, PartialEq, Eq, Drop)]
+pub struct Findings {
+    /// Whether they are the same.
+    pub is_same: bool,
+    /// What the recorded journal has.
+    pub recorded: Survey,
+    /// What the replayed journal has.
+    pub replayed: Survey,
+}
+
+/// Compares two journals of a version, at least V5, from two readers, writes the verdict in this form, a text in one
+/// line or in several, and returns what the journals have and whether they are the same.
+///
+/// Both are read to their ends. The line is written only once all of that is known and its whole text is made. If
+/// `is_strict`, an unknown header, a payload that is not well-formed, or bytes after the last whole item are an error:
+/// the first of them in the recorded journal, or else in the replayed one.
+#[tactic(auto, using(crate::proofs::Reporting::reported))]
+pub fn diff<A: Read + Drop, B: Read + Drop, W: Write>(
+    alloc: Global,
+    version: Version,
+    recorded: A,
+    replayed: B,
+    ignore_payloads: bool,
+    is_strict: bool,
+    form: Form,
+    output: &mut W,
+) -> Result<Findings, DiffError>
+    requires { 5 ≤ version_number version }
+    ensures { (written : List ℕ)
+        × Appends (W.contents output.old) (W.contents output.new) written
+        × Reports version ignore_payloads is_strict form
+        (A.remaining recorded) (B.remaining replayed) result written }
+{
+    let found = survey_readers(
+        alloc,
+        version,
+        recorded,
+        replayed,
+        CHUNK_SIZE,
+        ignore_payloads,
+        is_strict,
+    )?;
+    if let Some(trouble) = strict_trouble(is_strict, &found.recorded, &found.replayed) {
+        return Err(DiffError::Faulty(trouble));
+    }
+    report(alloc, found, form, output)
+}
+
+/// The same with the verdict in colors: its text is made whole, then painted, and then written.
+#[tactic(auto, using(crate::proofs::Reporting::reported_text, crate::proofs::Reporting::out_of_memory))]
+pub fn diff_with_colors<A: Read + Drop, B: Read + Drop, W: Write>(
+    alloc: Global,
+    version: Version,
+    recorded: A,
+    replayed: B,
+    ignore_payloads: bool,
+    is_strict: bool,
+    form: Form,
+    output: &mut W,
+) -> Result<Findings, DiffError>
+    requires { 5 ≤ version_number version }
+    ensures { (written : List ℕ)
+        × Appends (W.contents output.old) (W.contents output.new) written
+        × ReportsWithColors version ignore_payloads is_strict form
+        (A.remaining recorded) (B.remaining replayed) result written }
+{
+    let mut text = Vec::new(alloc);
+    let compared = diff(
+        alloc,
+        version,
+        recorded,
+        replayed,
+        ignore_payloads,
+        is_strict,
+        form,
+        &mut text,
+    );
+    match compared {
+        Ok(findings) => write_with_colors(alloc, findings, text.as_slice(), output),
+        // a vector takes all, unless an allocation fails
+        Err(DiffError::Output) => {
+            Err(DiffError::NoVerdict(ReaderError::Bench(BenchError::OutOfMemory)))
+        }
+        Err(DiffError::NoVerdict(why)) => Err(DiffError::NoVerdict(why)),
+        Err(DiffError::Faulty(trouble)) => Err(DiffError::Faulty(trouble)),
+    }
+}
+
+/// Writes the text of a verdict with colors, and returns what was found.
+fn write_with_colors<W: Write>(
+    alloc: Global,
+    findings: Findings,
+    text: &[u8],
+    output: &mut W,
+) -> Result<Findings, DiffError>
+    ensures { (written : List ℕ)
+        × Appends (W.contents output.old) (W.contents output.new) written
+        × WritesWithColors findings text.now result written }
+{
+    let painted = with_colors(alloc, text)?;
+    write_text(output, painted.as_slice())?;
+    Ok(findings)
+}
+
+/// Writes the line of a comparison, and returns what was found.
+fn report<W: Write>(
+    alloc: Global,
+    found: Comparison,
+    form: Form,
+    output: &mut W,
+) -> Result<Findings, DiffError>
+    ensures { (written : List ℕ)
+        × Appends (W.contents output.old) (W.contents output.new) written
+        × ReportsFound form found result written }
+{
+    let line = found_line(alloc, form, &found)?;
+    write_text(output, line.as_slice())?;
+    Ok(Findings {
+        is_same: is_same(&found.verdict),
+        recorded: found.recorded,
+        replayed: found.replayed,
+    })
+}
+
+/// The line of a comparison, in its form.
+fn found_line(alloc: Global, form: Form, found: &Comparison) -> Result<Vec<u8>, AllocError>
+    ensures { IfOk result (λ line. line.items ≡ found_line form found.now) }
+{
+    match form {
+        Form::Text => Ok(line_of(alloc, &found.verdict)?.into_bytes()),
+        Form::Terminal => terminal_line(alloc, &found.verdict, found.fields.as_slice()),
+        Form::Json => json_line(alloc, found),
+    }
+}
+
+/// The line of a verdict on a terminal, with the fields of the lines of its text.
+fn terminal_line(
+    alloc: Global,
+    verdict: &Verdict,
+    fields: &[FieldDifference],
+) -> Result<Vec<u8>, AllocError>
+    ensures { IfOk result (λ line. line.items ≡ terminal_line verdict.now fields.now) }
+{
+    let Verdict::HeaderMismatch { index, text } = verdict else {
+        return Ok(line_of(alloc, verdict)?.into_bytes());
+    };
+    let mut line = format!(in alloc; "command {index}: ")?.into_bytes();
+    line.extend_from_slice(shown_text(alloc, text.as_str(), fields)?.as_slice())?;
+    line.extend_from_slice(b"\n")?;
+    Ok(line)
+}
+
+/// Whether a verdict is that the journals are the same.
+fn is_same(verdict: &Verdict) -> bool
+    ensures { result ≡ is_same verdict.now }
+{
+    matches!(verdict, Verdict::Same(_))
+}
+
+/// `command` or `commands`, by their number.
+fn commands_word(count: u64) -> &'static str
+    ensures { result.now ≡ commands_word count }
+{
+    if count == 1 { "command" } else { "commands" }
+}
+
+/// The line of a verdict.
+fn line_of(alloc: Global, verdict: &Verdict) -> Result<String, AllocError>
+    ensures { IfOk result (λ line. string_bytes line ≡ verdict_line verdict.now) }
+{
+    match verdict {
+        Verdict::Same(count) => {
+            let word = commands_word(*count);
+            format!(in alloc; "same, {count} {word}\n")
+        }
+        Verdict::RecordedEnded(index) => { format!(in alloc; "recorded ends at command {index}\n") }
+        Verdict::ReplayedEnded(index) => { format!(in alloc; "replayed ends at command {index}\n") }
+        Verdict::TypeMismatch { index, text } => { format!(in alloc; "command {index}: {text}\n") }
+        Verdict::HeaderMismatch { index, text } => {
+            format!(in alloc; "command {index}: {text}\n")
+        }
+    }
+}
+
+/// Writes a text whole.
+fn write_text<W: Write>(output: &mut W, bytes: &[u8]) -> Result<(), DiffError>
+    ensures { (written : List ℕ)
+        × Appends (W.contents output.old) (W.contents output.new) written
+        × IsWritten result written bytes.now }
+{
+    match write_whole(output, bytes) {
+        Ok(()) => Ok(()),
+        Err(OutputFailed) => Err(DiffError::Output),
+    }
+}

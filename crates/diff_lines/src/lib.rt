@@ -1,0 +1,11 @@
+//! Two journals compared, and the verdict written: as a text, for a terminal, in colors, or as a line of JSON.
+#![tactic(auto)]
+
+mod colors;
+mod journals;
+mod json_line;
+mod passed_over;
+mod shown;
+
+pub use crate::journals::{DiffError, Findings, Form, diff, diff_with_colors};
+pub use crate::passed_over::{Note, Trouble, no_item_note, rest_note, unknown_note};

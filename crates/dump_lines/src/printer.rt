@@ -1,0 +1,195 @@
+//! The printer of a dump's lines.
+
+ghost use Rattle.std.specs.Prelude.{◌≡◌, ◌++◌, codes, OnOk};
+ghost use Rattle.std.specs.Str.{IsUtf8};
+ghost use Rattle.json.specs.Lex.{tokens};
+ghost use Rattle.json.specs.Print.{print};
+ghost use Rattle.shared_core_message.specs.Schemas.{schema_at};
+ghost use Rattle.shared_core_stream.specs.declared.encoding.item.Item.TheVariants as variant;
+ghost use Rattle.dump_lines.specs.Dump.{is_well_formed_for, wrong_of};
+ghost use Rattle.dump_lines.specs.Lines.{rest_line};
+ghost use Rattle.dump_lines.specs.Spread.{AreGood, tokens_text};
+ghost use Rattle.dump_lines.specs.Terminal.{rest_options};
+
+use crate::canonicalizer::Canonicalizer;
+use crate::lines::{Form, ItemWriter, Written, is_selected, item_code, write_rest};
+use crate::options::Options;
+use crate::pretty::pretty_text;
+use crate::scratch::Scratch;
+use bytes::Bytes;
+use json::Writer;
+use shared_core_base::header::MessageType;
+use shared_core_codec::check::is_well_formed;
+use shared_core_message::schemas::schema_at;
+use shared_core_stream::encoding::{Decoder, Item, RawMessage};
+use std::alloc::{AllocError, Global};
+use stream_lines::{LinePrinter, PrintError, Trouble};
+
+/// The most bytes in no item that the last line has on a terminal: more are not for people to read.
+pub const MOST_SHOWN: u64 = 64;
+
+/// Prints the lines of a dump.
+#[derive(Drop)]
+pub struct Printer<'a, C> {
+    /// Which items have lines, and what these contain.
+    pub options: Options<'a>,
+    /// What payloads that are not canonical need.
+    pub canonicalizer: &'a C,
+    /// Whether the last line is one of a terminal.
+    pub is_terminal: bool,
+}
+
+impl<'a, C: Canonicalizer> LinePrinter for Printer<'a, C> {
+    ghost use Rattle.dump_lines.specs.Dump.{IsLong, trouble_of};
+    ghost use Rattle.dump_lines.specs.Lines.{line_of};
+    ghost use Rattle.dump_lines.specs.Terminal.{last_line};
+
+    type Scratch = Scratch;
+
+    ghost item_line = { λ printer. line_of printer.options };
+
+    ghost rest_line = { λ printer. last_line printer.is_terminal printer.options };
+
+    ghost is_long = { λ printer. IsLong printer.options };
+
+    ghost item_trouble = { λ printer. trouble_of printer.options };
+
+    fn scratch(&self, alloc: Global) -> Scratch {
+        Scratch::new(alloc)
+    }
+
+    fn trouble(&self, item: &Item) -> Option<Trouble> {
+        if !self.options.strict {
+            return None;
+        }
+        match item {
+            Item::Message(message) => message_trouble(&self.options, message),
+            Item::Unknown(code) => Some(Trouble::UnknownCode(*code)),
+            Item::Skipped(code, _) => Some(Trouble::UnknownCode(*code)),
+        }
+    }
+
+    fn print_item(
+        &self,
+        alloc: Global,
+        offset: u128,
+        word: u64,
+        item: Item,
+        scratch: &mut Scratch,
+        lines: &mut Vec<u8>,
+    ) -> Result<(), PrintError> {
+        let options = &self.options;
+        if !is_selected(options.codes, item_code(&item)) {
+            return Ok(());
+        }
+        let mut writer = ItemWriter {
+            alloc,
+            options,
+            canonicalizer: self.canonicalizer,
+            form: Form::Received,
+        };
+        if let Written::NotCanonical = writer.write_object(offset, word, &item, scratch)? {
+            // the object begins anew
+            writer.form = Form::Encoded;
+            writer.write_object(offset, word, &item, scratch)?;
+        }
+        Ok(append_object(alloc, options.pretty, scratch.line.as_slice(), lines)?)
+    }
+
+    fn print_rest(
+        &self,
+        alloc: Global,
+        offset: u128,
+        rest: &Decoder,
+        lines: &mut Vec<u8>,
+    ) -> Result<(), AllocError> {
+        if self.is_terminal {
+            let options = rest_options(&self.options, rest.pending());
+            return append_rest(alloc, &options, offset, rest, lines);
+        }
+        append_rest(alloc, &self.options, offset, rest, lines)
+    }
+}
+
+/// The options of the last line on a terminal, for this many bytes in no item.
+fn rest_options<'a>(options: &Options<'a>, count: u64) -> Options<'a>
+    ensures { result ≡ rest_options options.now count }
+{
+    if count > MOST_SHOWN {
+        Options {
+            payloads: false,
+            ..*options
+        }
+    } else {
+        *options
+    }
+}
+
+/// The trouble of a selected message whose payload is not well-formed.
+fn message_trouble(options: &Options<'_>, message: &RawMessage) -> Option<Trouble>
+    ensures { result ≡ wrong_of options.now (variant.Message message.now) }
+{
+    let ty = message.ty();
+    if !is_selected(options.codes, u16::from(ty)) {
+        return None;
+    }
+    if is_well_formed_for(schema_at(options.version, ty), message.payload()) {
+        return None;
+    }
+    Some(Trouble::Malformed(ty))
+}
+
+/// Whether a payload is well-formed for a schema. Without a schema every payload is.
+fn is_well_formed_for(schema: Option<u32>, payload: &Bytes) -> bool
+    ensures { result ≡ is_well_formed_for schema payload.now }
+{
+    match schema {
+        Some(schema) => is_well_formed(schema, payload.as_slice()),
+        None => true,
+    }
+}
+
+/// Appends the last line.
+#[tactic(auto, using(crate::proofs::Good::good_tokens))]
+fn append_rest(
+    alloc: Global,
+    options: &Options<'_>,
+    offset: u128,
+    rest: &Decoder,
+    lines: &mut Vec<u8>,
+) -> Result<(), AllocError>
+    ensures { OnOk result (lines.new.items ≡ lines.old.items ++ rest_line options.now offset rest.now.bytes) }
+{
+    let mut out = Writer::new(Vec::new(alloc));
+    out.begin_object()?;
+    write_rest(options, offset, rest, &mut Scratch::new(alloc), &mut out)?;
+    out.end_object()?;
+    append_object(alloc, options.pretty, out.into_inner().as_slice(), lines)
+}
+
+/// Appends an object, on one line or on several.
+fn append_object(
+    alloc: Global,
+    is_pretty: bool,
+    object: &[u8],
+    lines: &mut Vec<u8>,
+) -> Result<(), AllocError>
+    requires utf8 { IsUtf8 object.now }
+    requires good { AreGood (tokens object.now) }
+    requires printed { object.now ≡ print (tokens object.now) }
+    ensures { OnOk result (lines.new.items ≡ lines.old.items
+        ++ (tokens_text is_pretty (tokens object.now) ++ codes "\n")) }
+{
+    if is_pretty {
+        return append_line(pretty_text(alloc, object)?.as_slice(), lines);
+    }
+    append_line(object, lines)
+}
+
+/// Appends a line.
+fn append_line(line: &[u8], lines: &mut Vec<u8>) -> Result<(), AllocError>
+    ensures line { OnOk result (lines.new.items ≡ lines.old.items ++ (line.now ++ codes "\n")) }
+{
+    lines.extend_from_slice(line)?;
+    lines.extend_from_slice(b"\n")
+}

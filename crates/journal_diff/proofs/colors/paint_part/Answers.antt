@@ -1,5 +1,0 @@
-use Rattle.journal_diff.proofs.Painting.{paints_one}
-use Rattle.journal_diff.proofs.colors.paint_part.Goals as goal
-
-pub returns : goal.returns
-returns c = paints_one c.args.painted.now.items c.paint.new.painted.items c.args.part.now c.args.style c.in_ok-paint.ensures

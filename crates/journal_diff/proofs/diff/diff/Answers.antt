@@ -1,6 +1,0 @@
-use Rattle.std.proofs.Common.{[], rules, refl, sym, ◌∙◌}
-use Rattle.journal_diff.proofs.diff.diff.Goals as goal
-
-pub returns-in-Some : goal.returns-in-Some
-returns-in-Some g c =
-    ([], search rules, (c.in_ok-found.found, record { compared = c.in_ok-found.ensures; trouble_is = sym c.strict_trouble.ensures ∙ c.in-Some.is }, refl))

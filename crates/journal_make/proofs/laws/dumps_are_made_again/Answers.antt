@@ -1,5 +1,0 @@
-use Rattle.journal_make.proofs.KeptDumps.{dump_again_made}
-use Rattle.journal_make.proofs.laws.dumps_are_made_again.Goals as goal
-
-pub returns : goal.returns
-returns c = dump_again_made

@@ -1,5 +1,0 @@
-use Rattle.journal_make.proofs.KeptDumps.{there_and_back}
-use Rattle.journal_make.proofs.laws.streams_go_there_and_back.Goals as goal
-
-pub returns : goal.returns
-returns c = there_and_back

@@ -1,9 +1,0 @@
-use Rattle.std.proofs.Common.{◌≡◌, []}
-use Rattle.journal_make.proofs.Progress.{GoesOn}
-use Rattle.journal_make.proofs.make.make.Given as goal
-
-abbrev pub invariant-loop : goal.invariant-loop
-invariant-loop g l = record {
-  empty : l.lines.made.items ≡ [];
-  so_far : GoesOn l.fn.version (g.R.Read.remaining l.fn.input) (g.W.Write.contents l.fn.output) (g.R.Read.remaining l.input) (g.W.Write.contents l.output) l.lines.pending.items l.lines.taken;
-}

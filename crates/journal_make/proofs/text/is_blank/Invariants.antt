@@ -1,6 +1,0 @@
-use Rattle.std.proofs.Common.{◌≡◌, drop}
-use Rattle.journal_make.specs.Lines.{is_blank}
-use Rattle.journal_make.proofs.text.is_blank.Given as goal
-
-abbrev pub invariant-loop-byte : goal.invariant-loop-byte
-invariant-loop-byte l = is_blank (drop l.byte-index l.line) ≡ is_blank l.line

@@ -1,0 +1,13 @@
+//! A stream made of lines of JSON, as a dump has them: an item of each line, and of the last one the bytes in none.
+#![tactic(auto)]
+
+mod error;
+pub mod laws;
+mod line;
+mod members;
+mod reject;
+mod stream;
+mod text;
+
+pub use crate::error::{LineError, LineReason, MakeError};
+pub use crate::stream::make;

@@ -1,0 +1,488 @@
+//! The bytes that a line means: the header and the payload of an item, or the bytes after the last one.
+
+ghost use Rattle.std.specs.Prelude.{◌≡◌, ◌++◌, length, Some, None, option_and_then, Ok, IfOk, IfErr, OnOk, MatchResult};
+ghost use Rattle.json.specs.Value.{value_view as json_view};
+ghost use Rattle.shared_core_base.specs.MessageType.{type_of};
+ghost use Rattle.shared_core_message.specs.Schemas.{schema_at};
+ghost use Rattle.make_lines.specs.Errors.{lack};
+ghost use Rattle.make_lines.specs.Lines.{code_read, name_read, code_named, is_name_of, code_if, line_code};
+ghost use Rattle.make_lines.specs.Lines.{bytes_said, bytes_name, message_said, nothing_said, line_payload};
+ghost use Rattle.make_lines.specs.Lines.{has_flag, ack_name, line_flag, word, is_alone, line_header, framed};
+ghost use Rattle.make_lines.specs.Lines.{agrees_in_flag, word_fault, alone_given, with_size, header_given};
+ghost use Rattle.make_lines.specs.Lines.{item_said, says_no_item, rest_said, line_said};
+ghost use Rattle.make_lines.specs.Appending.{HasFault, Rejects, Appends, AppendsLine};
+
+use crate::error::{LineError, LineReason};
+use crate::members::{check_line, given, given_either, given_name};
+use crate::reject::{out_of_memory, reject, reject_inside, reject_name, reject_text};
+use crate::text::is_blank;
+use json::{Scratch, Value};
+use shared_core_base::header::MessageType;
+use shared_core_base::version::Version;
+use shared_core_json_reader::{
+    Reason, payload_of_value, read_bytes, read_u32, read_u64, value_of_text,
+};
+use shared_core_message::schemas::schema_at;
+use std::alloc::{AllocError, Global};
+
+/// What a code is multiplied by in the word of a header.
+const CODE: u64 = 1 << 48;
+
+/// What a flag is multiplied by there.
+const FLAG: u64 = 1 << 47;
+
+/// One more than the greatest length there.
+const LENGTHS: u64 = 1 << 32;
+
+// ---- the code
+
+/// The code that a value is.
+fn read_code(alloc: Global, value: &Value<'_>) -> Result<u16, LineError>
+    ensures { MatchResult result (λ code. code_read (json_view value.now) ≡ Ok code)
+        (Rejects (code_read (json_view value.now))) }
+{
+    match read_u32(value) {
+        Ok(code) if code < 65536 => Ok(code as u16),
+        Ok(_) => Err(reject(alloc, LineReason::Json(Reason::OutOfRange), "code")),
+        Err(reason) => Err(reject(alloc, LineReason::Json(reason), "code")),
+    }
+}
+
+/// The name that a value is.
+fn read_name<'a>(alloc: Global, value: &Value<'a>) -> Result<&'a str, LineError>
+    ensures { MatchResult result (λ name. name_read (json_view value.now) ≡ Ok name.now)
+        (Rejects (name_read (json_view value.now))) }
+{
+    match value.as_str() {
+        Some(name) => Ok(name),
+        None => Err(reject(alloc, LineReason::Json(Reason::WrongKind), "type")),
+    }
+}
+
+/// The code of the named type that has this name.
+fn code_named(name: &[u8]) -> Option<u16>
+    ensures { result ≡ code_named name.now }
+{
+    match MessageType::from_name(name) {
+        Some(ty) => Some(u16::from(ty)),
+        None => None,
+    }
+}
+
+/// Whether this is the name of a type.
+fn is_name_of(alloc: Global, ty: MessageType, name: &str) -> Result<bool, AllocError>
+    ensures { IfOk result (λ is. is ≡ is_name_of (Some ty) name.now) }
+{
+    match ty {
+        MessageType::CustomEntry(_) => {
+            let printed = ty.debug_name().to_string(alloc)?;
+            Ok(printed.as_str() == name)
+        }
+        ty => Ok(ty.variant_name() == name),
+    }
+}
+
+/// A code, if its type has this name.
+fn code_if(alloc: Global, code: u16, name: &str) -> Result<u16, LineError>
+    ensures { MatchResult result (λ said. code_if code name.now ≡ Ok said)
+        (Rejects (code_if code name.now)) }
+{
+    let Ok(ty) = MessageType::try_from(code) else {
+        return Err(reject(alloc, LineReason::OtherType, "type"));
+    };
+    match is_name_of(alloc, ty, name) {
+        Ok(true) => Ok(code),
+        Ok(false) => Err(reject(alloc, LineReason::OtherType, "type")),
+        Err(_) => Err(out_of_memory(alloc)),
+    }
+}
+
+/// The code of a line, by its type and its code.
+fn code_of(alloc: Global, line: &Value<'_>) -> Result<u16, LineError>
+    ensures { MatchResult result (λ code. line_code (json_view line.now) ≡ Ok code)
+        (Rejects (line_code (json_view line.now))) }
+{
+    let ty = given("type", line);
+    let Some(code) = given("code", line) else {
+        let Some(ty) = ty else {
+            return Err(reject(alloc, LineReason::NoType, ""));
+        };
+        let name = read_name(alloc, ty)?;
+        return match code_named(name.as_bytes()) {
+            Some(code) => Ok(code),
+            None => Err(reject_name(alloc, name)),
+        };
+    };
+    let code = read_code(alloc, code)?;
+    match ty {
+        Some(ty) => code_if(alloc, code, read_name(alloc, ty)?),
+        None => Ok(code),
+    }
+}
+
+// ---- the payload
+
+/// The bytes that a value is, in base64.
+fn bytes_of(alloc: Global, value: &Value<'_>, member: &str) -> Result<Vec<u8>, LineError>
+    ensures { MatchResult result (λ bytes. bytes_said member.now (json_view value.now) ≡ Ok bytes.items)
+        (Rejects (bytes_said member.now (json_view value.now))) }
+{
+    match read_bytes(alloc, value) {
+        Ok(bytes) => Ok(bytes),
+        Err(reason) => Err(reject(alloc, LineReason::Json(reason), member)),
+    }
+}
+
+/// The name of the member that gives bytes.
+fn bytes_name(line: &Value<'_>) -> &'static str
+    ensures { result.now ≡ bytes_name (json_view line.now) }
+{
+    given_name("bytes", "payload", line)
+}
+
+/// The schema of the messages that have a code.
+fn schema_of(version: Version, code: u16) -> Option<u32>
+    ensures { result ≡ option_and_then (schema_at version) (type_of code) }
+{
+    match MessageType::try_from(code) {
+        Ok(ty) => schema_at(version, ty),
+        Err(_) => None,
+    }
+}
+
+/// The payload of a message.
+fn message_of(
+    alloc: Global,
+    version: Version,
+    code: u16,
+    message: &Value<'_>,
+) -> Result<Vec<u8>, LineError>
+    ensures { MatchResult result (λ bytes. message_said version code (json_view message.now) ≡ Ok bytes.items)
+        (Rejects (message_said version code (json_view message.now))) }
+{
+    let Some(schema) = schema_of(version, code) else {
+        return Err(reject(alloc, LineReason::NoSchema, "message"));
+    };
+    match payload_of_value(alloc, schema, message) {
+        Ok(payload) => Ok(payload),
+        Err(error) => Err(reject_inside(alloc, &error, "message")),
+    }
+}
+
+/// The payload of an item that is a header alone.
+fn nothing_of(alloc: Global, code: u16, value: &Value<'_>) -> Result<Vec<u8>, LineError>
+    ensures { MatchResult result (λ bytes. nothing_said code (json_view value.now) ≡ Ok bytes.items)
+        (Rejects (nothing_said code (json_view value.now))) }
+{
+    let Some(true) = value.as_bool() else {
+        return Err(reject(alloc, LineReason::Json(Reason::WrongKind), "unknown"));
+    };
+    match MessageType::try_from(code) {
+        Ok(_) => Err(reject(alloc, LineReason::CodeOfType, "unknown")),
+        Err(_) => Ok(Vec::new(alloc)),
+    }
+}
+
+/// The payload of a line.
+fn payload_of(
+    alloc: Global,
+    version: Version,
+    code: u16,
+    line: &Value<'_>,
+) -> Result<Vec<u8>, LineError>
+    ensures { MatchResult result (λ payload. line_payload version code (json_view line.now) ≡ Ok payload.items)
+        (Rejects (line_payload version code (json_view line.now))) }
+{
+    let message = given("message", line);
+    let bytes = given_either("bytes", "payload", line);
+    let unknown = given("unknown", line);
+    match (message, bytes, unknown) {
+        (Some(message), None, None) => message_of(alloc, version, code, message),
+        (None, Some(bytes), None) => bytes_of(alloc, bytes, bytes_name(line)),
+        (None, None, Some(unknown)) => nothing_of(alloc, code, unknown),
+        (None, None, None) => Err(reject(alloc, LineReason::NoPayload, "")),
+        _ => Err(reject(alloc, LineReason::SeveralPayloads, "")),
+    }
+}
+
+// ---- the header
+
+/// Whether the headers of a code's type can request an acknowledgement.
+fn has_flag(code: u16) -> bool
+    ensures { result ≡ has_flag (type_of code) }
+{
+    match MessageType::try_from(code) {
+        Ok(ty) => ty.allows_ack(),
+        Err(_) => false,
+    }
+}
+
+/// The name of the member that says whether an acknowledgement is requested.
+fn ack_name(line: &Value<'_>) -> &'static str
+    ensures { result.now ≡ ack_name (json_view line.now) }
+{
+    given_name("requestedAck", "ack", line)
+}
+
+/// Whether a line requests an acknowledgement.
+fn flag_of(alloc: Global, code: u16, line: &Value<'_>) -> Result<bool, LineError>
+    ensures { MatchResult result (λ flag. line_flag code (json_view line.now) ≡ Ok flag)
+        (Rejects (line_flag code (json_view line.now))) }
+{
+    let Some(value) = given_either("requestedAck", "ack", line) else {
+        return Ok(false);
+    };
+    if !has_flag(code) {
+        return Err(reject(alloc, LineReason::NoFlag, ack_name(line)));
+    }
+    match value.as_bool() {
+        Some(flag) => Ok(flag),
+        None => Err(reject(alloc, LineReason::Json(Reason::WrongKind), ack_name(line))),
+    }
+}
+
+/// The word of a header.
+fn word(code: u16, flag: bool, size: u32) -> u64
+    ensures { result ≡ word code flag size }
+{
+    let flag = if flag { FLAG } else { 0 };
+    u64::from(code) * CODE + flag + u64::from(size)
+}
+
+/// Whether a line says that there is no payload.
+fn is_alone(line: &Value<'_>) -> bool
+    ensures { result ≡ is_alone (json_view line.now) }
+{
+    given("unknown", line).is_some()
+}
+
+/// Whether the word of a header has this flag, which only some types have.
+fn agrees_in_flag(code: u16, flag: bool, word: u64) -> bool
+    ensures { result ≡ agrees_in_flag code flag word }
+{
+    let bit = if flag { 1 } else { 0 };
+    !has_flag(code) || word / FLAG % 2 == bit
+}
+
+/// Checks that the word of a header has this code and this flag.
+fn check_word(alloc: Global, code: u16, flag: bool, word: u64) -> Result<(), LineError>
+    ensures { MatchResult result (λ _. word_fault code flag word ≡ None) (HasFault (word_fault code flag word)) }
+{
+    if word / CODE != u64::from(code) {
+        return Err(reject(alloc, LineReason::OtherCode, "header"));
+    }
+    if !agrees_in_flag(code, flag, word) {
+        return Err(reject(alloc, LineReason::OtherFlag, "header"));
+    }
+    Ok(())
+}
+
+/// Appends a given header that stands alone. Where unknown types are skipped with their payloads, it has no length.
+fn append_alone(
+    alloc: Global,
+    version: Version,
+    word: u64,
+    header: &[u8],
+    out: &mut Vec<u8>,
+) -> Result<(), LineError>
+    ensures { Appends result (alone_given version word header.now) out.old.items out.new.items }
+{
+    if version.skips_unknown_messages() && word % LENGTHS != 0 {
+        return Err(reject(alloc, LineReason::NoSuchPayload, "header"));
+    }
+    append(alloc, header, out)
+}
+
+/// Appends the header that has the code and the flags of a given one, and this length.
+fn append_sized(
+    alloc: Global,
+    size: usize,
+    header: &[u8],
+    out: &mut Vec<u8>,
+) -> Result<(), LineError>
+    requires { length header.now ≡ 8 }
+    ensures { Appends result (with_size size header.now) out.old.items out.new.items }
+{
+    let Ok(size) = u32::try_from(size) else {
+        return Err(reject(alloc, LineReason::TooLong, ""));
+    };
+    append(alloc, &header[..4], out)?;
+    append(alloc, &size.to_be_bytes(), out)
+}
+
+/// Appends the header by eight given bytes: all of them if there is no payload, otherwise the first four, which are the
+/// code and the flags, and the length of the payload.
+fn append_given(
+    alloc: Global,
+    version: Version,
+    code: u16,
+    flag: bool,
+    size: usize,
+    alone: bool,
+    header: &[u8],
+    out: &mut Vec<u8>,
+) -> Result<(), LineError>
+    ensures { Appends result (header_given version code flag size alone header.now) out.old.items out.new.items }
+{
+    let Ok(bytes) = <[u8; 8]>::try_from(header) else {
+        return Err(reject(alloc, LineReason::HeaderLength, "header"));
+    };
+    let word = u64::from_be_bytes(bytes);
+    check_word(alloc, code, flag, word)?;
+    if alone {
+        append_alone(alloc, version, word, header, out)
+    } else {
+        append_sized(alloc, size, header, out)
+    }
+}
+
+/// Appends a header, of a payload of this size.
+fn append_header(
+    alloc: Global,
+    version: Version,
+    code: u16,
+    flag: bool,
+    size: usize,
+    line: &Value<'_>,
+    out: &mut Vec<u8>,
+) -> Result<(), LineError>
+    ensures { Appends result (line_header version code flag size (json_view line.now)) out.old.items out.new.items }
+{
+    if let Some(header) = given("header", line) {
+        let header = bytes_of(alloc, header, "header")?;
+        let alone = is_alone(line);
+        return append_given(
+            alloc,
+            version,
+            code,
+            flag,
+            size,
+            alone,
+            header.as_slice(),
+            out,
+        );
+    }
+    let Ok(size) = u32::try_from(size) else {
+        return Err(reject(alloc, LineReason::TooLong, ""));
+    };
+    append(alloc, &word(code, flag, size).to_be_bytes(), out)
+}
+
+// ---- lines
+
+/// Appends bytes.
+fn append(alloc: Global, bytes: &[u8], out: &mut Vec<u8>) -> Result<(), LineError>
+    ensures ok { OnOk result (out.new.items ≡ out.old.items ++ bytes.now) }
+    ensures err { IfErr result (λ error. error.reason ≡ lack) }
+{
+    match out.extend_from_slice(bytes) {
+        Ok(()) => Ok(()),
+        Err(_) => Err(out_of_memory(alloc)),
+    }
+}
+
+/// Appends a header and its payload.
+fn append_framed(
+    alloc: Global,
+    version: Version,
+    code: u16,
+    flag: bool,
+    payload: &[u8],
+    line: &Value<'_>,
+    out: &mut Vec<u8>,
+) -> Result<(), LineError>
+    ensures { Appends result (framed version code flag (json_view line.now) payload.now) out.old.items out.new.items }
+{
+    append_header(alloc, version, code, flag, payload.len(), line, out)?;
+    append(alloc, payload, out)
+}
+
+/// Appends the bytes of an item.
+#[tactic(auto, unfolding(crate::specs::Lines::item_said))]
+fn append_item(
+    alloc: Global,
+    version: Version,
+    line: &Value<'_>,
+    out: &mut Vec<u8>,
+) -> Result<(), LineError>
+    ensures { Appends result (item_said version (json_view line.now)) out.old.items out.new.items }
+{
+    let code = code_of(alloc, line)?;
+    let flag = flag_of(alloc, code, line)?;
+    let payload = payload_of(alloc, version, code, line)?;
+    append_framed(alloc, version, code, flag, payload.as_slice(), line, out)
+}
+
+/// Whether a line has none of the members that say what an item is.
+fn says_no_item(line: &Value<'_>) -> bool
+    ensures { result ≡ says_no_item (json_view line.now) }
+{
+    given("type", line).is_none()
+        && given("code", line).is_none()
+        && given("message", line).is_none()
+        && given("unknown", line).is_none()
+        && given("header", line).is_none()
+        && given_either("requestedAck", "ack", line).is_none()
+}
+
+/// The bytes after the last item.
+#[tactic(auto, unfolding(crate::specs::Lines::rest_said))]
+fn rest_of(alloc: Global, rest: &Value<'_>, line: &Value<'_>) -> Result<Vec<u8>, LineError>
+    ensures { MatchResult result (λ bytes. rest_said (json_view rest.now) (json_view line.now) ≡ Ok bytes.items)
+        (Rejects (rest_said (json_view rest.now) (json_view line.now))) }
+{
+    if !says_no_item(line) {
+        return Err(reject(alloc, LineReason::ItemInRest, "rest"));
+    }
+    if let Some(bytes) = given_either("bytes", "payload", line) {
+        return bytes_of(alloc, bytes, bytes_name(line));
+    }
+    match read_u64(rest) {
+        Ok(0) => Ok(Vec::new(alloc)),
+        Ok(_) => Err(reject(alloc, LineReason::NoBytes, "rest")),
+        Err(reason) => Err(reject(alloc, LineReason::Json(reason), "rest")),
+    }
+}
+
+/// Appends the bytes that the value of a line means.
+#[tactic(auto, unfolding(crate::specs::Lines::line_said))]
+fn append_said(
+    alloc: Global,
+    version: Version,
+    line: &Value<'_>,
+    out: &mut Vec<u8>,
+) -> Result<(), LineError>
+    ensures { Appends result (line_said version (json_view line.now)) out.old.items out.new.items }
+{
+    check_line(alloc, line)?;
+    let Some(rest) = given("rest", line) else {
+        return append_item(alloc, version, line, out);
+    };
+    let bytes = rest_of(alloc, rest, line)?;
+    append(alloc, bytes.as_slice(), out)
+}
+
+/// Appends the bytes that a line means, without its newline; none for a blank one. After an error nothing is appended,
+/// unless an allocation failed. The buffers for reading JSON can be reused.
+#[tactic(auto, unfolding(crate::specs::Lines::line_made))]
+pub fn append_line(
+    alloc: Global,
+    version: Version,
+    line: &[u8],
+    scratch: &mut Scratch,
+    out: &mut Vec<u8>,
+) -> Result<(), LineError>
+    ensures { AppendsLine version line.now result out.old.items out.new.items }
+{
+    if is_blank(line) {
+        return Ok(());
+    }
+    let error = match value_of_text(alloc, line, scratch) {
+        Ok(value) => return append_said(alloc, version, &value, out),
+        Err(error) => error,
+    };
+    match (error.reason, error.offset) {
+        (Reason::NotJson, Some(offset)) => Err(reject_text(alloc, line, offset)),
+        _ => Err(out_of_memory(alloc)),
+    }
+}
