@@ -1,5 +1,5 @@
 #!/usr/bin/env python3
-"""Each allocation of the programs fails in turn; that of the tests is in tests.py.
+"""Each allocation of the programs fails in turn; that of the tests is in tests.sh.
 
 The programs run once for each allocation that they make, with that one failing, and at last with none. journal_list and
 journal_dump have to write their lines, or whole lines at the beginning of them and that they are out of memory,
