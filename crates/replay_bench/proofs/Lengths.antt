@@ -1,5 +1,6 @@
 -- How long a journal is.
-use Rattle.std.proofs.Common.{◌≡◌, ℕ, ◌+◌, ◌^◌, ◌≤◌, List, length, Option, Some, None, refl, ap, ◌∙◌, arith, length-append}
+use Rattle.std.proofs.Common.{◌≡◌, ℕ, ◌+◌, ◌^◌, ◌≤◌, List, length, Option, Some, None, refl, ap, ◌∙◌, arith}
+use Rattle.std.proofs.Common.{length-append}
 use Rattle.replay_bench.specs.Taking.{GivesChunk, IsTooLong, KeepsLength, known_length}
 
 pub keeps_on : (old between new : Option ℕ) → KeepsLength old between → KeepsLength between new → KeepsLength old new

@@ -1,5 +1,6 @@
 -- Surveys of items, one after the other.
-use Rattle.std.proofs.Common.{◌≡◌, ℕ, ◌+◌, ◌*◌, ◌≤◌, ◌<◌, ◌^◌, Bool, true, false, cond, List, [], ◌∷◌, ◌++◌, length, Option, Some, None, refl, sym, ap, ◌∙◌, arith, zero-add}
+use Rattle.std.proofs.Common.{◌≡◌, ℕ, ◌+◌, ◌*◌, ◌≤◌, ◌<◌, ◌^◌, Bool, true, false, cond, List, [], ◌∷◌, ◌++◌, length}
+use Rattle.std.proofs.Common.{Option, Some, None, refl, sym, ap, ◌∙◌, arith, zero-add}
 use Rattle.std.specs.Prelude.{count_by}
 use Rattle.std.proofs.lemmas.List.Sums.{count_by-le-length, sum_by-append}
 use Rattle.shared_core_base.specs.declared.version.Version.{Version}
@@ -8,7 +9,8 @@ use Rattle.shared_core_stream.specs.declared.encoding.item.Item.TheVariants.{Mes
 use Rattle.replay_bench.specs.declared.faults.Fault.{Fault}
 use Rattle.replay_bench.specs.declared.survey.Survey.{Survey}
 use Rattle.stream_lines.specs.Printing.{item_size, items_size}
-use Rattle.replay_bench.specs.Survey.{fault_of, fault_with, first_fault, first_of, is_command, is_malformed, is_other, is_skipped, is_unknown, last_command, survey_of}
+use Rattle.replay_bench.specs.Survey.{fault_of, fault_with, first_fault, first_of, is_command, is_malformed, is_other}
+use Rattle.replay_bench.specs.Survey.{is_skipped, is_unknown, last_command, survey_of}
 
 -- an item has eight bytes at least
 eight : (item : Item) → 8 ≤ item_size item

@@ -1,7 +1,8 @@
 use Rattle.std.proofs.Common.{◌∙◌, arith, sym}
 use Rattle.std.proofs.lemmas.Result.{err_from_is_err_and}
 use Rattle.replay_bench.specs.declared.verdicts.Verdict.TheVariants.{Same, RecordedEnded, ReplayedEnded}
-use Rattle.replay_bench.proofs.Endings.{returns_error, returns_verdict, are_alike, ends_first, ends_found, ends_replayed, ends_together, goes_after, is_found}
+use Rattle.replay_bench.proofs.Endings.{returns_error, returns_verdict, are_alike, ends_first, ends_found}
+use Rattle.replay_bench.proofs.Endings.{ends_replayed, ends_together, goes_after, is_found}
 use Rattle.replay_bench.proofs.Lengths.{keeps_on}
 use Rattle.replay_bench.proofs.Places.{after_more, command_is_at, fields_found}
 use Rattle.replay_bench.proofs.Readings.{on_more}
