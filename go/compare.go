@@ -25,13 +25,8 @@ func Difference(code uint16, first, second []byte) (string, error) {
 
 // commandError returns the error of a call that compares two commands, of the code or of one of the two.
 func commandError(call string, result int64, code uint16, first, second []byte) error {
-	argument := bytesText("second", second)
-	if result == unknown {
-		argument = codeText(code)
-	} else if journalHeaderEq(code, first, first, false) < 0 {
-		argument = bytesText("first", first)
-	}
-	return &Error{call, argument, errorOf(result)}
+	given := arguments{code: codeText(code), payload: bytesText("first", first), second: bytesText("second", second)}
+	return given.refusal(call, result)
 }
 
 // A VerdictKind says how two journals compare.
@@ -68,7 +63,7 @@ func CompareJournals(version int, recorded, replayed []byte, ignorePayloads bool
 		return journalVerdict(number, recorded, replayed, ignorePayloads, numbers, out)
 	})
 	if result < 0 {
-		return Verdict{}, &Error{"CompareJournals", named("version", version), errorOf(result)}
+		return Verdict{}, arguments{version: named("version", version)}.refusal("CompareJournals", result)
 	}
 	verdict, err := verdictOf(numbers, text)
 	if err != nil {

@@ -73,7 +73,7 @@ func (d *Decoder) take() (Item, int64, error) {
 	}
 	missing := journalNext(version, d.rest, d.numbers[:])
 	if missing < 0 {
-		return nil, 0, &Error{"Decoder.Next", named("version", d.version), errorOf(missing)}
+		return nil, 0, arguments{version: named("version", d.version)}.refusal("Decoder.Next", missing)
 	}
 	if missing > 0 {
 		return nil, missing, nil

@@ -17,13 +17,16 @@ const Schemas = C.JOURNAL_SCHEMAS
 
 // The errors of the calls for C, and the kinds that they write.
 const (
-	malformed   = C.JOURNAL_MALFORMED
-	outOfMemory = C.JOURNAL_OUT_OF_MEMORY
-	noRoom      = C.JOURNAL_NO_ROOM
-	tooLong     = C.JOURNAL_TOO_LONG
-	unknown     = C.JOURNAL_UNKNOWN
-	noID        = C.JOURNAL_NO_ID
-	noResult    = C.JOURNAL_NO_RESULT
+	malformed       = C.JOURNAL_MALFORMED
+	outOfMemory     = C.JOURNAL_OUT_OF_MEMORY
+	noRoom          = C.JOURNAL_NO_ROOM
+	tooLong         = C.JOURNAL_TOO_LONG
+	noID            = C.JOURNAL_NO_ID
+	noResult        = C.JOURNAL_NO_RESULT
+	malformedSecond = C.JOURNAL_MALFORMED_SECOND
+	unknownVersion  = C.JOURNAL_UNKNOWN_VERSION
+	unknownSchema   = C.JOURNAL_UNKNOWN_SCHEMA
+	unknownType     = C.JOURNAL_UNKNOWN_TYPE
 
 	itemMessage     = C.JOURNAL_MESSAGE
 	itemUnknownCode = C.JOURNAL_UNKNOWN_CODE

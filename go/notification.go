@@ -39,11 +39,9 @@ func ReadNotification(code uint16, payload []byte) (Notification, error) {
 	found, result := written(len(payload), func(out []byte) int64 {
 		return journalNotification(code, payload, numbers, out)
 	})
-	switch {
-	case result == unknown:
-		return Notification{}, &Error{"ReadNotification", codeText(code), ErrUnknown}
-	case result < 0:
-		return Notification{}, &Error{"ReadNotification", bytesText("payload", payload), errorOf(result)}
+	if result < 0 {
+		given := arguments{code: codeText(code), payload: bytesText("payload", payload)}
+		return Notification{}, given.refusal("ReadNotification", result)
 	}
 	notification, err := notificationOf(numbers, found)
 	if err != nil {

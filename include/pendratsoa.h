@@ -23,7 +23,12 @@
 extern "C" {
 #endif
 
-/* A payload is not well-formed for its schema. */
+/*
+ * The kinds of errors. An error is the number of its kind, or that and a multiple of -16, which says about which
+ * argument it is; what an error is of a kind, JOURNAL_KIND_OF_ERROR says of each negative result, also of one that a
+ * later library tells apart.
+ */
+/* A payload is not well-formed for its schema. As an error: the only payload of the call, or the first of two. */
 #define JOURNAL_MALFORMED (-1)
 /* An allocation failed. The call can be repeated. */
 #define JOURNAL_OUT_OF_MEMORY (-2)
@@ -31,12 +36,23 @@ extern "C" {
 #define JOURNAL_NO_ROOM (-3)
 /* A payload would have more than 4,294,967,295 bytes, or a result 2^63 or more. */
 #define JOURNAL_TOO_LONG (-4)
-/* A number is that of no version, schema or type, or of no type of the kind that the call is for. */
+/* An argument is not known. As an error it comes as one of the three below. */
 #define JOURNAL_UNKNOWN (-5)
 /* A notification has no id. */
 #define JOURNAL_NO_ID (-6)
 /* A notification has an id, and no result. */
 #define JOURNAL_NO_RESULT (-7)
+/* The second payload is not well-formed for its schema, and the first one is. */
+#define JOURNAL_MALFORMED_SECOND (-17)
+/* The number is no version's. */
+#define JOURNAL_UNKNOWN_VERSION (-21)
+/* The number is no schema's. */
+#define JOURNAL_UNKNOWN_SCHEMA (-37)
+/* The code or the name is no type's, or that of no type of the kind that the call is for. */
+#define JOURNAL_UNKNOWN_TYPE (-53)
+
+/* The kind of an error, by a negative result: JOURNAL_UNKNOWN of JOURNAL_UNKNOWN_TYPE. */
+#define JOURNAL_KIND_OF_ERROR(result) ((result) % 16)
 
 /*
  * Names and numbers.
@@ -57,18 +73,18 @@ int64_t journal_library_version(uint8_t *out, size_t room);
 
 /*
  * Returns the number of the schema that payloads of a type have at a version. A suspension has another schema before
- * version 7 than later. JOURNAL_UNKNOWN if the number is no version's or the code no named type's; a custom entry has
- * no schema.
+ * version 7 than later. JOURNAL_UNKNOWN_VERSION, otherwise JOURNAL_UNKNOWN_TYPE if the code is no named type's; a
+ * custom entry has no schema.
  */
 int64_t journal_schema(uint32_t version, uint16_t code);
 
 /*
  * Writes the name of the type that has the code, as "SleepCommand", or "CustomEntry(64513)" of a custom entry. Returns
- * its length in bytes. JOURNAL_UNKNOWN if no type has it.
+ * its length in bytes. JOURNAL_UNKNOWN_TYPE if no type has it.
  */
 int64_t journal_type_name(uint16_t code, uint8_t *out, size_t room);
 
-/* Returns the code of the named type that has the name, as "SleepCommand". JOURNAL_UNKNOWN if none has. */
+/* Returns the code of the named type that has the name, as "SleepCommand". JOURNAL_UNKNOWN_TYPE if none has. */
 int64_t journal_type_code(const uint8_t *name, size_t name_length);
 
 /*
@@ -96,30 +112,31 @@ int64_t journal_type_code(const uint8_t *name, size_t name_length);
  * Finds the item that the bytes begin with, at a version from 5 to 9. It copies nothing and does not allocate.
  *
  * Returns 0 if a whole item is there, and writes its six numbers; otherwise the least number of missing bytes, and
- * nothing is written: call again with more of the stream. JOURNAL_UNKNOWN if the number is no version's, otherwise
- * JOURNAL_NO_ROOM if `item` has room for fewer than six numbers.
+ * nothing is written: call again with more of the stream. JOURNAL_UNKNOWN_VERSION, otherwise JOURNAL_NO_ROOM if `item`
+ * has room for fewer than six numbers.
  */
 int64_t journal_next(uint32_t version, const uint8_t *bytes, size_t length, uint64_t *item, size_t item_room);
 
 /*
  * Writes the eight bytes of the header that a message of a type has at a version, by the length of its payload in
- * bytes; the payload comes after it. Returns 8. JOURNAL_UNKNOWN if the number is no version's or the code no type's; a
- * custom entry has a header.
+ * bytes; the payload comes after it. Returns 8. JOURNAL_UNKNOWN_VERSION, otherwise JOURNAL_UNKNOWN_TYPE if the code is
+ * no type's; a custom entry has a header.
  */
 int64_t journal_header(uint32_t version, uint16_t code, uint32_t payload_length, uint8_t *out, size_t room);
 
 /*
  * Decodes a payload for the named type that has the code, and writes the frame of that message at a version: its
  * header, and the canonical payload after it. A suspension is decoded by its schema from version 7 on, and written by
- * that of the version. Returns the frame's length in bytes. JOURNAL_MALFORMED, JOURNAL_TOO_LONG, JOURNAL_OUT_OF_MEMORY;
- * JOURNAL_UNKNOWN if the number is no version's or the code no named type's.
+ * that of the version. Returns the frame's length in bytes. In this order: JOURNAL_UNKNOWN_VERSION,
+ * JOURNAL_UNKNOWN_TYPE if the code is no named type's, JOURNAL_MALFORMED, JOURNAL_TOO_LONG; JOURNAL_OUT_OF_MEMORY in
+ * place of the last two.
  */
 int64_t journal_frame(uint32_t version, uint16_t code, const uint8_t *payload, size_t payload_length, uint8_t *out,
                       size_t room);
 
 /*
- * Payloads, by their schemas. JOURNAL_UNKNOWN if no schema has the number; JOURNAL_OUT_OF_MEMORY, but for
- * journal_is_well_formed, which does not allocate.
+ * Payloads, by their schemas. JOURNAL_UNKNOWN_SCHEMA before any other error; JOURNAL_OUT_OF_MEMORY in place of all
+ * others, but for journal_is_well_formed, which does not allocate.
  */
 
 /* Returns 1 if a payload is well-formed for a schema, otherwise 0. */
@@ -127,14 +144,14 @@ int64_t journal_is_well_formed(uint32_t schema, const uint8_t *payload, size_t p
 
 /*
  * Writes the canonical payload of what a payload means. Returns its length in bytes. A payload that is canonical is
- * copied: nothing is allocated then, and nothing can fail. JOURNAL_MALFORMED, JOURNAL_TOO_LONG.
+ * copied: nothing is allocated then, and nothing can fail. JOURNAL_MALFORMED, otherwise JOURNAL_TOO_LONG.
  */
 int64_t journal_canonical(uint32_t schema, const uint8_t *payload, size_t payload_length, uint8_t *out, size_t room);
 
 /*
  * Merges the second payload into the first, as protobuf merges messages, and writes the canonical payload of the
- * result. Returns its length in bytes. JOURNAL_MALFORMED if one of the two is not well-formed by itself,
- * JOURNAL_TOO_LONG.
+ * result. Returns its length in bytes. JOURNAL_MALFORMED if the first is not well-formed by itself, otherwise
+ * JOURNAL_MALFORMED_SECOND if the second is not, otherwise JOURNAL_TOO_LONG.
  */
 int64_t journal_merge(uint32_t schema, const uint8_t *first, size_t first_length, const uint8_t *second,
                       size_t second_length,
@@ -142,7 +159,7 @@ int64_t journal_merge(uint32_t schema, const uint8_t *first, size_t first_length
 
 /*
  * Writes the JSON of what a payload means, in protobuf's own form (docs/FORMAT.md). Returns its length in bytes.
- * JOURNAL_MALFORMED, JOURNAL_TOO_LONG.
+ * JOURNAL_MALFORMED, otherwise JOURNAL_TOO_LONG.
  */
 int64_t journal_json(uint32_t schema, const uint8_t *payload, size_t payload_length, uint8_t *out, size_t room);
 
@@ -168,7 +185,7 @@ int64_t journal_json(uint32_t schema, const uint8_t *payload, size_t payload_len
  * these are; if there is no room for them, the numbers are written nevertheless. A rejected text is no error of the
  * call: the kind of the result says why it is rejected.
  *
- * In this order: JOURNAL_UNKNOWN if no schema has the number, JOURNAL_NO_ROOM if `numbers` has room for fewer than two,
+ * In this order: JOURNAL_UNKNOWN_SCHEMA, JOURNAL_NO_ROOM if `numbers` has room for fewer than two,
  * JOURNAL_TOO_LONG if the payload would have more than 4,294,967,295 bytes; JOURNAL_OUT_OF_MEMORY from the second on.
  */
 int64_t journal_payload_of_json(uint32_t schema, const uint8_t *json, size_t json_length, uint64_t *numbers,
@@ -204,7 +221,7 @@ int64_t journal_payload_of_json(uint32_t schema, const uint8_t *json, size_t jso
  * invocation id, and nothing of a void. Returns how many bytes these are; if there is no room for them, the numbers are
  * written nevertheless.
  *
- * In this order: JOURNAL_UNKNOWN if the code is that of no notification, JOURNAL_NO_ROOM if `numbers` has room for
+ * In this order: JOURNAL_UNKNOWN_TYPE if the code is that of no notification, JOURNAL_NO_ROOM if `numbers` has room for
  * fewer than four, JOURNAL_MALFORMED, JOURNAL_NO_ID, JOURNAL_NO_RESULT, JOURNAL_TOO_LONG; JOURNAL_OUT_OF_MEMORY from
  * the third on.
  */
@@ -214,8 +231,9 @@ int64_t journal_notification(uint16_t code, const uint8_t *payload, size_t paylo
 
 /*
  * Comparing commands, by two payloads of one type. conformance/README.md lists the fields that are never compared,
- * those that hold payloads of user data, and those that are printed, with how they print. JOURNAL_UNKNOWN if the code
- * is that of no command, JOURNAL_MALFORMED if one of the two payloads is not well-formed, JOURNAL_OUT_OF_MEMORY.
+ * those that hold payloads of user data, and those that are printed, with how they print. In this order:
+ * JOURNAL_UNKNOWN_TYPE if the code is that of no command, JOURNAL_MALFORMED if the first payload is not well-formed,
+ * JOURNAL_MALFORMED_SECOND if the second is not; JOURNAL_OUT_OF_MEMORY in place of the last two.
  */
 
 /*
@@ -266,8 +284,8 @@ int64_t journal_difference(uint16_t code, const uint8_t *first, size_t first_len
  * mismatch, as the SDKs report it. Returns the text's length in bytes: 0 if there is none; if there is no room for it,
  * the numbers are written nevertheless.
  *
- * JOURNAL_UNKNOWN if the number is no version's, otherwise JOURNAL_NO_ROOM if `numbers` has room for fewer than two,
- * before anything is compared; JOURNAL_OUT_OF_MEMORY.
+ * JOURNAL_UNKNOWN_VERSION, otherwise JOURNAL_NO_ROOM if `numbers` has room for fewer than two, before anything is
+ * compared; JOURNAL_OUT_OF_MEMORY.
  */
 int64_t journal_verdict(uint32_t version, const uint8_t *recorded, size_t recorded_length, const uint8_t *replayed,
                         size_t replayed_length,

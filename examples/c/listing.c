@@ -135,7 +135,7 @@ static int64_t print_item(uint32_t version, const uint8_t *bytes, const uint64_t
         break;
     }
     if (name_length < 0 || (uint64_t)name_length > sizeof name) {
-        return JOURNAL_UNKNOWN;
+        return JOURNAL_UNKNOWN_TYPE;
     }
     printf("%.*s %zu", (int)name_length, (const char *)name, length);
     if (item[JOURNAL_ITEM_ACK]) {

@@ -7,7 +7,6 @@ import { schemaNumber } from './schemas.js';
 /** The versions from the first to the last. */
 export const { FIRST_VERSION, LAST_VERSION } = addon;
 
-const UNKNOWN = -5;
 const encoder = new TextEncoder();
 
 // What a JSON text is read as, by its number: a payload, or why there is none.
@@ -175,7 +174,7 @@ function utf8Of(json) {
 /** The number of a schema. What is neither a number nor a name, the addon does not take. */
 function known(schema, given) {
   const isUnknownName = typeof schema === 'string' && schemaNumber(schema) === undefined;
-  return isUnknownName ? checked(UNKNOWN, given) : schemaNumber(schema);
+  return isUnknownName ? checked(addon.UNKNOWN_SCHEMA, given) : schemaNumber(schema);
 }
 
 function kindOf(kinds, number, given, what) {

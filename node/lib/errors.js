@@ -2,9 +2,6 @@
 
 import { inspect } from 'node:util';
 
-import { addon } from './addon.js';
-import { schemaNumber } from './schemas.js';
-
 /** A call failed. */
 export class JournalError extends Error {
   static {
@@ -109,15 +106,19 @@ const REASONS = {
   tooDeep: 'too deep',
 };
 
-// The error that each negative number of the library is, which of the arguments it is about, and what is wrong with it.
+// The error that each negative number of the library is, the names of the arguments one of which it is about, and what is
+// wrong.
 const REFUSALS = new Map([
-  [-1, [Malformed, malformedPayload, 'not well-formed for its schema']],
-  [-2, [OutOfMemory, noArgument, 'an allocation failed']],
-  [-3, [NoRoom, noArgument, 'no room for the numbers']],
-  [-4, [TooLong, longPayload, 'more than 4,294,967,295 bytes']],
-  [-5, [Unknown, unknownNumber, 'unknown, or not of the kind that the call is for']],
-  [-6, [NoId, payloadOf, 'the notification has no id']],
-  [-7, [NoResult, payloadOf, 'the notification has an id and no result']],
+  [-1, [Malformed, ['payload', 'first'], 'not well-formed for its schema']],
+  [-2, [OutOfMemory, [], 'an allocation failed']],
+  [-3, [NoRoom, [], 'no room for the numbers']],
+  [-4, [TooLong, ['payloadLength', 'json', 'payload', 'first'], 'more than 4,294,967,295 bytes']],
+  [-6, [NoId, ['payload'], 'the notification has no id']],
+  [-7, [NoResult, ['payload'], 'the notification has an id and no result']],
+  [-17, [Malformed, ['second'], 'not well-formed for its schema']],
+  [-21, [Unknown, ['version'], 'unknown, or not of the kind that the call is for']],
+  [-37, [Unknown, ['schema'], 'unknown, or not of the kind that the call is for']],
+  [-53, [Unknown, ['name', 'code'], 'unknown, or not of the kind that the call is for']],
 ]);
 
 /** The error that a negative number is, of a call: its name and its arguments, by their names. */
@@ -125,9 +126,9 @@ export function refusal(number, given) {
   if (!REFUSALS.has(number)) {
     return notKnown(given.call, 'error', number);
   }
-  const [ErrorClass, argumentOf, reason] = REFUSALS.get(number);
+  const [ErrorClass, names, reason] = REFUSALS.get(number);
   const { call } = given;
-  const argument = argumentOf(given);
+  const argument = names.find((name) => name in given);
   if (argument === undefined) {
     return new ErrorClass(`${call}: ${reason}`, { call });
   }
@@ -160,36 +161,6 @@ export function wrongKind(argument, value, wanted) {
   const error = new TypeError(`${argument} is ${shown(value)}, and has to be ${wanted}`);
   error.code = 'ERR_INVALID_ARG_TYPE';
   return error;
-}
-
-function noArgument() {
-  return undefined;
-}
-
-/** A version is known from the header that the addon was built with; of all else the last one given is not. */
-function unknownNumber(given) {
-  const isVersion = given.version >= addon.FIRST_VERSION && given.version <= addon.LAST_VERSION;
-  if ('version' in given && !(isVersion && Number.isInteger(given.version))) {
-    return 'version';
-  }
-  return ['schema', 'name', 'code'].find((argument) => argument in given);
-}
-
-function longPayload(given) {
-  return ['payloadLength', 'json'].find((argument) => argument in given) ?? payloadOf(given);
-}
-
-function payloadOf(given) {
-  return 'payload' in given ? 'payload' : 'first';
-}
-
-/** Of two payloads the first one that is malformed. */
-function malformedPayload(given) {
-  if ('payload' in given) {
-    return 'payload';
-  }
-  const schema = 'schema' in given ? schemaNumber(given.schema) : addon.schema(addon.LAST_VERSION, given.code);
-  return addon.isWellFormed(schema, given.first) === 0 ? 'first' : 'second';
 }
 
 /** A value within a message: bytes by their number, all else as Node prints it on a line. */

@@ -125,6 +125,7 @@ static const struct {
 } CONSTANTS[] = {
     {"FIRST_VERSION", JOURNAL_FIRST_VERSION},
     {"LAST_VERSION", JOURNAL_LAST_VERSION},
+    {"UNKNOWN_SCHEMA", JOURNAL_UNKNOWN_SCHEMA},
 };
 
 /* Runs the function that `info` has as its data. */
@@ -148,8 +149,14 @@ static napi_value run(napi_env env, napi_callback_info info) {
         break;
     case THROWN:
         return NULL;
-    case UNKNOWN_NUMBER:
-        returned = JOURNAL_UNKNOWN;
+    case UNKNOWN_VERSION:
+        returned = JOURNAL_UNKNOWN_VERSION;
+        break;
+    case UNKNOWN_SCHEMA:
+        returned = JOURNAL_UNKNOWN_SCHEMA;
+        break;
+    case UNKNOWN_CODE:
+        returned = JOURNAL_UNKNOWN_TYPE;
         break;
     case LENGTH_TOO_LONG:
         returned = JOURNAL_TOO_LONG;

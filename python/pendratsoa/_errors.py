@@ -3,7 +3,7 @@
 from __future__ import annotations
 
 from enum import IntEnum
-from typing import Dict, Optional, Type
+from typing import Dict, Optional, Tuple, Type
 
 
 class JournalError(Exception):
@@ -86,13 +86,16 @@ class JsonError(JournalError, ValueError):
         self.path = path
 
 
-# the error of each negative number that the library returns
-ERRORS: Dict[int, Type[JournalError]] = {
-    -1: Malformed,
-    -2: OutOfMemory,
-    -3: NoRoom,
-    -4: TooLong,
-    -5: Unknown,
-    -6: NoId,
-    -7: NoResult,
+# the error of each negative number that the library returns, and the names of the arguments one of which it is about
+ERRORS: Dict[int, Tuple[Type[JournalError], Tuple[str, ...]]] = {
+    -1: (Malformed, ("payload", "first")),
+    -2: (OutOfMemory, ()),
+    -3: (NoRoom, ()),
+    -4: (TooLong, ()),
+    -6: (NoId, ("payload",)),
+    -7: (NoResult, ("payload",)),
+    -17: (Malformed, ("second",)),
+    -21: (Unknown, ("version",)),
+    -37: (Unknown, ("schema",)),
+    -53: (Unknown, ("code", "name")),
 }

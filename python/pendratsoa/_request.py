@@ -20,7 +20,6 @@ from ._errors import (
     TooLong,
     Unknown,
 )
-from ._library import library
 from ._protocol import SCHEMA_NAMES
 
 BytesLike = Union[bytes, bytearray, memoryview]
@@ -40,6 +39,7 @@ TEXTS = {
     NoRoom: "a slice for numbers was too short",
     OutOfMemory: "an allocation failed",
     TooLong: "the result would have more than 4,294,967,295 bytes",
+    Unknown: "the library does not know an argument",
 }
 
 # why a JSON text is rejected
@@ -206,14 +206,14 @@ class Request:
 
     def _refused(self, number: int) -> JournalError:
         """The error of a negative number. A later library may have further ones."""
-        kind = ERRORS.get(number)
-        if kind is None:
+        if number not in ERRORS:
             return self.unexpected(str(number))
-        if kind is Unknown:
-            return self._unknown(self._unknown_argument())
-        if kind not in (Malformed, NoId, NoResult):
+        kind, arguments = ERRORS[number]
+        argument = next((name for name in arguments if name in self.arguments), None)
+        if argument is None:
             return self.error(kind, TEXTS[kind])
-        argument = self._malformed_argument() if kind is Malformed else "payload"
+        if kind is Unknown:
+            return self._unknown(argument)
         return self.error(kind, f"{argument} {shown(self.arguments[argument])} {TEXTS[kind]}", argument)
 
     def _unknown(self, argument: str) -> JournalError:
@@ -222,26 +222,6 @@ class Request:
             return self.error(Unknown, f"code {value} is not that of {self.kind}", argument)
         what = "type with the name" if argument == "name" else argument
         return self.error(Unknown, f"there is no {what} {value}", argument)
-
-    def _unknown_argument(self) -> str:
-        """Which argument the library does not know."""
-        if "version" in self.arguments and not is_version(self.version()):
-            return "version"
-        return next(name for name in ("code", "schema", "name", "version") if name in self.arguments)
-
-    def _malformed_argument(self) -> str:
-        """Which payload is malformed."""
-        if "payload" in self.arguments:
-            return "payload"
-        schema = self.schema() if "schema" in self.arguments else library.journal_schema(LAST_VERSION, self.code(""))
-        is_first = library.journal_is_well_formed(schema, *self.data("first")) == 0
-        return "first" if is_first else "second"
-
-
-def is_version(number: int) -> bool:
-    """Whether the library knows a version."""
-    numbers = ItemNumbers()
-    return int(library.journal_next(number, None, 0, numbers, len(numbers))) >= 0
 
 
 @functools.lru_cache(maxsize=None)

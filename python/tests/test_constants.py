@@ -11,8 +11,14 @@ from support import HEADER, TOP, defined
 
 class TestConstants(unittest.TestCase):
     def test_errors(self):
-        names = {number: name.replace("_", "").lower() for name, number in defined(r"-\d+").items()}
-        self.assertEqual(names, {number: error.__name__.lower() for number, error in _errors.ERRORS.items()})
+        numbers = defined(r"-\d+")
+        # no call returns the kind of what is unknown by itself
+        unknown = numbers.pop("UNKNOWN")
+        kinds = {number: name.replace("_", "").lower() for name, number in numbers.items() if number > -16}
+        kinds[unknown] = "unknown"
+        self.assertEqual(sorted(numbers.values()), sorted(_errors.ERRORS))
+        for number, (error, _) in _errors.ERRORS.items():
+            self.assertEqual(kinds[-(-number % 16)], error.__name__.lower())
 
     def test_kinds(self):
         numbers = defined(r"\d+")

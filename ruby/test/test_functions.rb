@@ -11,9 +11,13 @@ class TestConstants < Minitest::Test
 
   def test_errors_are_those_of_the_header
     errors = Pendratsoa.send(:const_get, :ERRORS)
-    names = errors.transform_values { |kind| kind.name.delete_prefix("Pendratsoa::").upcase }.invert
-    defined_errors = defined_numbers.select { |_, number| number.negative? }
-    assert_equal defined_errors.transform_keys { |name| name.delete("_") }, names
+    numbers = defined_numbers.select { |_, number| number.negative? }
+    kinds = numbers.select { |_, number| number > -16 }.invert
+    # no call returns the kind of what is unknown by itself
+    assert_equal numbers.reject { |name, _| name == "UNKNOWN" }.values.sort, errors.keys.sort
+    errors.each do |number, (kind, _)|
+      assert_equal kinds[number.remainder(16)].delete("_"), kind.name.delete_prefix("Pendratsoa::").upcase
+    end
   end
 
   def test_kinds_are_those_of_the_header

@@ -112,14 +112,26 @@ mod c {
     }
 }
 
+/// Which argument of a call an error is about.
+#[derive(Clone, Copy, Debug, PartialEq, Eq)]
+pub(crate) enum About {
+    Version,
+    Schema,
+    /// The code or the name of a type.
+    Type,
+    /// The only payload, or the first of two.
+    Payload,
+    Second,
+}
+
 /// A negative result of a call.
 #[derive(Clone, Copy, Debug, PartialEq, Eq)]
 pub(crate) enum Refusal {
-    Malformed,
+    Malformed(About),
     OutOfMemory,
     NoRoom,
     TooLong,
-    Unknown,
+    Unknown(About),
     NoId,
     NoResult,
     /// One that the header does not list.
@@ -129,13 +141,16 @@ pub(crate) enum Refusal {
 impl From<i64> for Refusal {
     fn from(returned: i64) -> Refusal {
         match returned {
-            -1 => Refusal::Malformed,
+            -1 => Refusal::Malformed(About::Payload),
             -2 => Refusal::OutOfMemory,
             -3 => Refusal::NoRoom,
             -4 => Refusal::TooLong,
-            -5 => Refusal::Unknown,
             -6 => Refusal::NoId,
             -7 => Refusal::NoResult,
+            -17 => Refusal::Malformed(About::Second),
+            -21 => Refusal::Unknown(About::Version),
+            -37 => Refusal::Unknown(About::Schema),
+            -53 => Refusal::Unknown(About::Type),
             unlisted => Refusal::Unlisted(unlisted),
         }
     }
@@ -429,19 +444,21 @@ mod tests {
     #[test]
     fn each_negative_number_is_a_refusal() {
         use Refusal::*;
-        let refusals = [
-            Malformed,
-            OutOfMemory,
-            NoRoom,
-            TooLong,
-            Unknown,
-            NoId,
-            NoResult,
-        ];
-        for (refusal, returned) in refusals.into_iter().zip((-7..0).rev()) {
+        for (refusal, returned) in [
+            (Malformed(About::Payload), -1),
+            (OutOfMemory, -2),
+            (NoRoom, -3),
+            (TooLong, -4),
+            (NoId, -6),
+            (NoResult, -7),
+            (Malformed(About::Second), -17),
+            (Unknown(About::Version), -21),
+            (Unknown(About::Schema), -37),
+            (Unknown(About::Type), -53),
+        ] {
             assert_eq!(count(returned), Err(refusal));
         }
-        for returned in [-8, -12, i64::MIN] {
+        for returned in [-5, -8, -12, -33, i64::MIN] {
             assert_eq!(count(returned), Err(Unlisted(returned)));
         }
         assert_eq!(count(0), Ok(0));

@@ -207,10 +207,8 @@ pub enum Next<'a> {
 /// ```
 pub fn next_item(version: u32, bytes: &[u8]) -> Result<Next<'_>, Error> {
     let mut numbers = [0; 6];
-    let missing = ffi::next(version, bytes, &mut numbers).map_err(|refusal| {
-        let unknown = || Argument::Version(version);
-        Error::of(refusal, unknown, || Argument::Payload(bytes.len()))
-    })?;
+    let missing = ffi::next(version, bytes, &mut numbers)
+        .map_err(|refusal| Error::of(refusal, |_| Argument::Version(version)))?;
     if missing > 0 {
         return Ok(Next::Missing(missing));
     }

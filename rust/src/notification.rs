@@ -2,7 +2,7 @@
 
 use crate::calls::text;
 use crate::error::{narrowed, Argument, Error};
-use crate::ffi;
+use crate::ffi::{self, About};
 
 const COMPLETION_ID: u64 = 0;
 const SIGNAL_ID: u64 = 1;
@@ -68,11 +68,10 @@ pub enum NotificationResult {
 pub fn notification(code: u16, payload: &[u8]) -> Result<Notification, Error> {
     let mut numbers = [0; 4];
     let bytes = ffi::notification(code, payload, &mut numbers).map_err(|refusal| {
-        Error::of(
-            refusal,
-            || Argument::Code(code),
-            || Argument::Payload(payload.len()),
-        )
+        Error::of(refusal, |about| match about {
+            About::Type => Argument::Code(code),
+            _ => Argument::Payload(payload.len()),
+        })
     })?;
     notification_of(numbers, bytes)
 }

@@ -54,6 +54,7 @@ static void refusals(void) {
     const uint8_t input[] = {0x04, 0, 0, 0, 0, 0, 0, 0};
     const uint8_t no_id[] = {0x22, 0}, no_result[] = {0x08, 1};
     uint64_t numbers[6];
+    int64_t unknown = journal_schema(4, 0x0400);
 
     IS(JOURNAL_MALFORMED, journal_canonical(13, cut, sizeof cut, NULL, 0));
     refuses = 1;
@@ -62,7 +63,15 @@ static void refusals(void) {
     IS(JOURNAL_NO_ROOM, journal_next(8, input, sizeof input, numbers, 5));
     /* no case of less than 4 GiB shows it */
     IS(JOURNAL_TOO_LONG, -4);
-    IS(JOURNAL_UNKNOWN, journal_type_code(NULL, 0));
+    IS(JOURNAL_MALFORMED_SECOND, journal_merge(13, NULL, 0, cut, sizeof cut, NULL, 0));
+    IS(JOURNAL_UNKNOWN_VERSION, unknown);
+    IS(JOURNAL_UNKNOWN_SCHEMA, journal_is_well_formed(0xFFFFFFFF, NULL, 0));
+    IS(JOURNAL_UNKNOWN_TYPE, journal_type_code(NULL, 0));
+    IS(JOURNAL_UNKNOWN, JOURNAL_KIND_OF_ERROR(unknown));
+    is("JOURNAL_KIND_OF_ERROR", JOURNAL_KIND_OF_ERROR(JOURNAL_UNKNOWN_TYPE) == JOURNAL_UNKNOWN &&
+       JOURNAL_KIND_OF_ERROR(JOURNAL_UNKNOWN_SCHEMA) == JOURNAL_UNKNOWN &&
+       JOURNAL_KIND_OF_ERROR(JOURNAL_MALFORMED_SECOND) == JOURNAL_MALFORMED &&
+       JOURNAL_KIND_OF_ERROR(JOURNAL_MALFORMED) == JOURNAL_MALFORMED && JOURNAL_KIND_OF_ERROR(15) == 15, 1);
     IS(JOURNAL_NO_ID, journal_notification(0x8002, no_id, sizeof no_id, numbers, 4, NULL, 0));
     IS(JOURNAL_NO_RESULT, journal_notification(0x8002, no_result, sizeof no_result, numbers, 4, NULL, 0));
 }

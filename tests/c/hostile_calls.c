@@ -82,13 +82,34 @@ enum call {
     PAYLOAD_OF_JSON, NOTIFICATION, HEADER_EQ, DIFFERENCE, VERDICT, CALLS
 };
 
-#define ERRORS 8
-#define BIT(error) (1u << -(error))
-#define UNKNOWN BIT(JOURNAL_UNKNOWN)
-#define MALFORMED BIT(JOURNAL_MALFORMED)
-#define MEMORY BIT(JOURNAL_OUT_OF_MEMORY)
-#define NO_ROOM BIT(JOURNAL_NO_ROOM)
-#define TOO_LONG BIT(JOURNAL_TOO_LONG)
+enum error {
+    NO_ERROR, MALFORMED, OUT_OF_MEMORY, NO_ROOM, TOO_LONG, NO_ID, NO_RESULT, MALFORMED_SECOND, UNKNOWN_VERSION,
+    UNKNOWN_SCHEMA, UNKNOWN_TYPE, ERRORS
+};
+
+static const int64_t error_numbers[ERRORS] = {
+    0, JOURNAL_MALFORMED, JOURNAL_OUT_OF_MEMORY, JOURNAL_NO_ROOM, JOURNAL_TOO_LONG, JOURNAL_NO_ID, JOURNAL_NO_RESULT,
+    JOURNAL_MALFORMED_SECOND, JOURNAL_UNKNOWN_VERSION, JOURNAL_UNKNOWN_SCHEMA, JOURNAL_UNKNOWN_TYPE,
+};
+
+#define BIT(error) (1u << (error))
+#define V BIT(UNKNOWN_VERSION)
+#define S BIT(UNKNOWN_SCHEMA)
+#define T BIT(UNKNOWN_TYPE)
+#define PAYLOAD (BIT(MALFORMED) | BIT(OUT_OF_MEMORY))
+#define LONG_PAYLOAD (PAYLOAD | BIT(TOO_LONG))
+#define SECOND_PAYLOAD BIT(MALFORMED_SECOND)
+#define NUMBERS_ROOM BIT(NO_ROOM)
+
+/* Which error a negative result is; ERRORS if it is none that the header lists. */
+static enum error error_of(int64_t result) {
+    int error = 1;
+
+    while (error < ERRORS && error_numbers[error] != result) {
+        error++;
+    }
+    return (enum error)error;
+}
 
 /* The most kinds of results that are no errors: an id of each kind with a result of each kind. */
 #define KINDS 15
@@ -102,24 +123,23 @@ static const struct {
     int kinds;
 } listed[CALLS] = {
     [LIBRARY_VERSION] = {"journal_library_version", 0, 0, 1, 0, 1},
-    [SCHEMA] = {"journal_schema", 0, 0, 0, UNKNOWN, 1},
-    [TYPE_NAME] = {"journal_type_name", 0, 0, 1, UNKNOWN, 1},
-    [TYPE_CODE] = {"journal_type_code", 1, 0, 0, UNKNOWN, 1},
-    [NEXT] = {"journal_next", 1, JOURNAL_ITEM_NUMBERS, 0, UNKNOWN | NO_ROOM, 4},
-    [HEADER] = {"journal_header", 0, 0, 1, UNKNOWN, 1},
-    [FRAME] = {"journal_frame", 1, 0, 1, UNKNOWN | MALFORMED | MEMORY | TOO_LONG, 1},
-    [IS_WELL_FORMED] = {"journal_is_well_formed", 1, 0, 0, UNKNOWN, 2},
-    [CANONICAL] = {"journal_canonical", 1, 0, 1, UNKNOWN | MALFORMED | MEMORY | TOO_LONG, 1},
-    [MERGE] = {"journal_merge", 2, 0, 1, UNKNOWN | MALFORMED | MEMORY | TOO_LONG, 1},
-    [JSON] = {"journal_json", 1, 0, 1, UNKNOWN | MALFORMED | MEMORY | TOO_LONG, 1},
-    [PAYLOAD_OF_JSON] = {"journal_payload_of_json", 1, JOURNAL_READ_NUMBERS, 1, UNKNOWN | MEMORY | TOO_LONG | NO_ROOM,
-                         JOURNAL_TOO_DEEP + 1},
+    [SCHEMA] = {"journal_schema", 0, 0, 0, V | T, 1},
+    [TYPE_NAME] = {"journal_type_name", 0, 0, 1, T, 1},
+    [TYPE_CODE] = {"journal_type_code", 1, 0, 0, T, 1},
+    [NEXT] = {"journal_next", 1, JOURNAL_ITEM_NUMBERS, 0, V | NUMBERS_ROOM, 4},
+    [HEADER] = {"journal_header", 0, 0, 1, V | T, 1},
+    [FRAME] = {"journal_frame", 1, 0, 1, V | T | LONG_PAYLOAD, 1},
+    [IS_WELL_FORMED] = {"journal_is_well_formed", 1, 0, 0, S, 2},
+    [CANONICAL] = {"journal_canonical", 1, 0, 1, S | LONG_PAYLOAD, 1},
+    [MERGE] = {"journal_merge", 2, 0, 1, S | LONG_PAYLOAD | SECOND_PAYLOAD, 1},
+    [JSON] = {"journal_json", 1, 0, 1, S | LONG_PAYLOAD, 1},
+    [PAYLOAD_OF_JSON] = {"journal_payload_of_json", 1, JOURNAL_READ_NUMBERS, 1,
+                         S | BIT(OUT_OF_MEMORY) | BIT(TOO_LONG) | NUMBERS_ROOM, JOURNAL_TOO_DEEP + 1},
     [NOTIFICATION] = {"journal_notification", 1, JOURNAL_NOTIFICATION_NUMBERS, 1,
-                      UNKNOWN | MALFORMED | MEMORY | TOO_LONG | NO_ROOM | BIT(JOURNAL_NO_ID) | BIT(JOURNAL_NO_RESULT),
-                      KINDS},
-    [HEADER_EQ] = {"journal_header_eq", 2, 0, 0, UNKNOWN | MALFORMED | MEMORY, 2},
-    [DIFFERENCE] = {"journal_difference", 2, 0, 1, UNKNOWN | MALFORMED | MEMORY, 1},
-    [VERDICT] = {"journal_verdict", 2, JOURNAL_VERDICT_NUMBERS, 1, UNKNOWN | MEMORY | NO_ROOM, 7},
+                      T | LONG_PAYLOAD | NUMBERS_ROOM | BIT(NO_ID) | BIT(NO_RESULT), KINDS},
+    [HEADER_EQ] = {"journal_header_eq", 2, 0, 0, T | PAYLOAD | SECOND_PAYLOAD, 2},
+    [DIFFERENCE] = {"journal_difference", 2, 0, 1, T | PAYLOAD | SECOND_PAYLOAD, 1},
+    [VERDICT] = {"journal_verdict", 2, JOURNAL_VERDICT_NUMBERS, 1, V | BIT(OUT_OF_MEMORY) | NUMBERS_ROOM, 7},
 };
 
 /* Bytes that are made up, before they are handed over. */
@@ -527,10 +547,10 @@ static int64_t called(struct work *work, const struct request *request, size_t r
     if (result >= 0) {
         written = listed[call].writes && (uint64_t)result <= room ? (size_t)result : 0;
         numbers = call == NEXT && result > 0 ? 0 : listed[call].numbers;
-    } else if (result <= -ERRORS || !(listed[call].errors & BIT(result))) {
+    } else if (error_of(result) == ERRORS || !(listed[call].errors & BIT(error_of(result)))) {
         wrong(work, request, "an error that the header does not list", result);
     } else {
-        work->results[call][-result]++;
+        work->results[call][error_of(result)]++;
     }
     if (heap.held != 0) {
         wrong(work, request, "memory is held after the call", result);
@@ -538,7 +558,7 @@ static int64_t called(struct work *work, const struct request *request, size_t r
     if (heap.has_failed != (result == JOURNAL_OUT_OF_MEMORY)) {
         wrong(work, request, "an allocation failed and the result is another, or the other way round", result);
     }
-    if (heap.allocations > 0 && !(listed[call].errors & MEMORY)) {
+    if (heap.allocations > 0 && !(listed[call].errors & BIT(OUT_OF_MEMORY))) {
         wrong(work, request, "it allocates", result);
     }
     if (heap.allocations > 0 && call == CANONICAL && written > 0 && written == request->source[0].length &&
@@ -747,8 +767,9 @@ static void put_text_of(struct request *request, int kind) {
     }
 }
 
-/* Changes a request so that its result is of a kind, or this error if that is not 0. */
-static void make_wanted(struct work *work, struct request *request, int kind, int error) {
+/* Changes a request so that its result is of a kind, or this error if there is one. What is looked at after what the
+   error is about may be wrong too. */
+static void make_wanted(struct work *work, struct request *request, int kind, enum error error) {
     struct source *first = &request->source[0], *second = &request->source[1];
     enum call call = request->call;
 
@@ -774,10 +795,10 @@ static void make_wanted(struct work *work, struct request *request, int kind, in
         first->length = kind > JOURNAL_SKIPPED ? below(work, 8) : first->length;
         break;
     case NOTIFICATION:
-        put_notification(first, error == JOURNAL_NO_ID ? 3 : kind / 5, error == JOURNAL_NO_RESULT ? 5 : kind % 5);
+        put_notification(first, error == NO_ID ? 3 : kind / 5, error == NO_RESULT ? 5 : kind % 5);
         break;
     case VERDICT:
-        put_journals(work, request->source, error == JOURNAL_OUT_OF_MEMORY ? JOURNAL_HEADER_MISMATCH : kind);
+        put_journals(work, request->source, error == OUT_OF_MEMORY ? JOURNAL_HEADER_MISMATCH : kind);
         break;
     case MERGE: case HEADER_EQ: case DIFFERENCE:
         PUT(second, A_CALL);
@@ -788,16 +809,23 @@ static void make_wanted(struct work *work, struct request *request, int kind, in
     default:
         break;
     }
-    if (error == JOURNAL_MALFORMED || (call == IS_WELL_FORMED && !error && kind == 0)) {
-        put_byte(listed[call].inputs > 1 && one_of(work, 2) ? second : first, 0x07);
+    if (error == MALFORMED || (call == IS_WELL_FORMED && !error && kind == 0)) {
+        put_byte(first, 0x07);
+    }
+    if (error == MALFORMED_SECOND || (error == MALFORMED && listed[call].inputs > 1 && one_of(work, 2))) {
+        put_byte(second, 0x07);
     }
     if (call == HEADER_EQ && !error && kind == 0) {
         PUT(first, "\x0A\x01s");
     }
-    if (error == JOURNAL_UNKNOWN) {
+    if (error == UNKNOWN_VERSION) {
         request->version = one_of(work, 2) ? below(work, JOURNAL_FIRST_VERSION)
                                            : JOURNAL_LAST_VERSION + 1 + below(work, 300);
+    }
+    if (error == UNKNOWN_SCHEMA) {
         request->schema = JOURNAL_SCHEMAS + below(work, 300);
+    }
+    if (error == UNKNOWN_TYPE || (error == UNKNOWN_VERSION && one_of(work, 2))) {
         request->code = call == NOTIFICATION ? CALL_COMMAND : call == TYPE_NAME ? 0x0004 : 0x8002;
         if (call == TYPE_CODE) {
             PUT(first, "callCommand");
@@ -805,17 +833,17 @@ static void make_wanted(struct work *work, struct request *request, int kind, in
     }
 }
 
-/* The next kind of a result in turn, which is made on purpose: of a call, and an error if that is not 0. */
-static void next_turn(struct work *work, struct request *request, int *error) {
+/* The next kind of a result in turn, which is made on purpose: of a call, and an error if there is one. */
+static void next_turn(struct work *work, struct request *request, enum error *error) {
     for (;;) {
         long turn = work->turn++ % (CALLS * (KINDS + ERRORS));
         int kind = (int)(turn % (KINDS + ERRORS));
 
         request->call = (enum call)(turn / (KINDS + ERRORS));
-        *error = kind < KINDS ? 0 : KINDS - kind;
-        if (*error == 0 ? kind < listed[request->call].kinds
-                          : (listed[request->call].errors & ~TOO_LONG & BIT(*error)) != 0) {
-            make_wanted(work, request, *error ? 0 : kind, *error);
+        *error = (enum error)(kind < KINDS ? 0 : kind - KINDS);
+        if (kind < KINDS ? kind < listed[request->call].kinds
+                         : *error != TOO_LONG && (listed[request->call].errors & BIT(*error)) != 0) {
+            make_wanted(work, request, kind < KINDS ? kind : 0, *error);
             return;
         }
     }
@@ -831,7 +859,7 @@ static void try_case(struct work *work, struct request *request) {
     enum call call;
     size_t numbers, room;
     int64_t result;
-    int error = 0;
+    enum error error = NO_ERROR;
 
     make_request(work, request);
     if (work->cases % 4 == 0) {
@@ -854,15 +882,15 @@ static void try_case(struct work *work, struct request *request) {
         again(work, request, result, 0, numbers);
     }
     if (numbers > 0) {
-        int64_t error = called(work, request, room, below(work, (uint32_t)numbers), 0);
-        if (error != JOURNAL_NO_ROOM && (result >= 0 || error != result)) {
-            wrong(work, request, "too few numbers are taken", error);
+        int64_t refused = called(work, request, room, below(work, (uint32_t)numbers), 0);
+        if (refused != JOURNAL_NO_ROOM && (result >= 0 || refused != result)) {
+            wrong(work, request, "too few numbers are taken", refused);
         }
         if (result >= 0) {
             again(work, request, result, listed[call].writes ? room_for(result) : 0, numbers + 1 + below(work, 4));
         }
     }
-    if ((listed[call].errors & MEMORY) && (error == JOURNAL_OUT_OF_MEMORY || one_of(work, 4))) {
+    if ((listed[call].errors & BIT(OUT_OF_MEMORY)) && (error == OUT_OF_MEMORY || one_of(work, 4))) {
         long failing = 0;
         do {
             failing++;
@@ -947,10 +975,10 @@ int main(int argc, char **argv) {
         }
     }
     for (int call = 0; call < CALLS; call++) {
-        memory += works[0].results[call][-JOURNAL_OUT_OF_MEMORY];
+        memory += works[0].results[call][OUT_OF_MEMORY];
         for (int error = 1; works[0].count >= 10000 && error < ERRORS; error++) {
-            if ((listed[call].errors & ~TOO_LONG) >> error & 1 && works[0].results[call][error] == 0) {
-                printf("wrong: %s never returned -%d\n", listed[call].name, error);
+            if (error != TOO_LONG && listed[call].errors >> error & 1 && works[0].results[call][error] == 0) {
+                printf("wrong: %s never returned %" PRId64 "\n", listed[call].name, error_numbers[error]);
                 failed++;
             }
         }

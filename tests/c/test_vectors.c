@@ -144,7 +144,7 @@ static int is_whole(int64_t result) {
 
 /* What was written, as hex digits, or the error. */
 static void say_written(int64_t length) {
-    if (length == JOURNAL_MALFORMED) {
+    if (JOURNAL_KIND_OF_ERROR(length) == JOURNAL_MALFORMED) {
         append_text(&found, "malformed");
     } else if (length < 0) {
         append_text(&found, "refused");
@@ -267,7 +267,8 @@ static void compare(void) {
 
         append_text(&found, same == 1 ? "same " : same == 0 ? "other " : "refused ");
     }
-    if (journal_header_eq(code, first.bytes, first.length, second.bytes, second.length, 0) == JOURNAL_MALFORMED) {
+    if (JOURNAL_KIND_OF_ERROR(journal_header_eq(code, first.bytes, first.length, second.bytes, second.length, 0)) ==
+        JOURNAL_MALFORMED) {
         found.length = 0;
     }
     say_written(WRITTEN(journal_difference(code, first.bytes, first.length, second.bytes, second.length, written.bytes,

@@ -12,7 +12,8 @@ use std::alloc::Global;
 /// replay, otherwise 0. If `ignore_payloads` is not 0, the content of user data is not compared, but that of a signal
 /// is.
 ///
-/// `Malformed` if one of the two is not well-formed for the type, `Unknown` if the code is that of no command.
+/// `UnknownType` if the code is that of no command, otherwise `Malformed` if the first payload is not well-formed for
+/// the type, otherwise `MalformedSecond` if the second is not.
 #[unsafe(no_mangle)]
 pub extern "C" fn journal_header_eq(
     alloc: Global,
@@ -29,7 +30,8 @@ pub extern "C" fn journal_header_eq(
 /// Decodes two payloads for the command type that has the code, and writes a line for each printed field in which the
 /// two commands differ: a line feed, three spaces and `name: first != second`.
 ///
-/// `Malformed` if one of the two is not well-formed for the type, `Unknown` if the code is that of no command.
+/// `UnknownType` if the code is that of no command, otherwise `Malformed` if the first payload is not well-formed for
+/// the type, otherwise `MalformedSecond` if the second is not.
 #[unsafe(no_mangle)]
 pub extern "C" fn journal_difference(
     alloc: Global,

@@ -9,8 +9,8 @@ use journal_c_api::{frames, headers};
 use std::alloc::Global;
 
 /// Writes the eight bytes of the header that a message of the type that has the code has at a version from 5 to 9, by
-/// the length of its payload in bytes. `Unknown` if the number is no version's or the code no type's; a custom entry
-/// has a header.
+/// the length of its payload in bytes. `UnknownVersion` if the number is no version's, otherwise `UnknownType` if the
+/// code is no type's; a custom entry has a header.
 #[unsafe(no_mangle)]
 pub extern "C" fn journal_header(
     version: u32,
@@ -26,8 +26,9 @@ pub extern "C" fn journal_header(
 /// Decodes a payload for the named message type that has the code, and writes the frame of that message at a version
 /// from 5 to 9.
 ///
-/// `Malformed` if it is not well-formed for the type, `TooLong` if the payload of the frame would have more than
-/// 4,294,967,295 bytes, `Unknown` if the number is no version's or the code no named type's.
+/// In this order: `UnknownVersion` if the number is no version's, `UnknownType` if the code is no named type's,
+/// `Malformed` if the payload is not well-formed for the type, `TooLong` if that of the frame would have more than
+/// 4,294,967,295 bytes.
 #[unsafe(no_mangle)]
 pub extern "C" fn journal_frame(
     alloc: Global,

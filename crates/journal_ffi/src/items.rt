@@ -10,8 +10,8 @@ use journal_c_api::outcome::outcome_of;
 /// message, 1 an unknown code, 2 a skipped message), its first eight bytes as one number, its code, its flag, its size
 /// in bytes, and where its payload begins. It copies nothing and does not allocate.
 ///
-/// Returns 0, or the least number of missing bytes; then nothing is written. `Unknown` if the number is no version's,
-/// otherwise `NoRoom` if the slice has fewer than six numbers.
+/// Returns 0, or the least number of missing bytes; then nothing is written. `UnknownVersion` if the number is no
+/// version's, otherwise `NoRoom` if the slice has fewer than six numbers.
 #[unsafe(no_mangle)]
 pub extern "C" fn journal_next(version: u32, bytes: &[u8], item: &mut [u64]) -> i64
     ensures { Returns result (WritesNext version bytes.now item.old item.new) }

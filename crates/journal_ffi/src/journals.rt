@@ -13,7 +13,7 @@ use std::alloc::Global;
 /// not compared if `ignore_payloads` is not 0, but that of a signal is. The numbers are written even if there is no
 /// room for the text.
 ///
-/// `Unknown` if the number is no version's, otherwise `NoRoom` if there is room for fewer than two numbers.
+/// `UnknownVersion` if the number is no version's, otherwise `NoRoom` if there is room for fewer than two numbers.
 #[unsafe(no_mangle)]
 pub extern "C" fn journal_verdict(
     alloc: Global,

@@ -16,7 +16,7 @@ pub extern "C" fn journal_library_version(out: &mut [u8]) -> i64
 }
 
 /// Returns the number of the schema that payloads of the type that has the code have at a version from 5 to 9.
-/// `Unknown` if the number is no version's or the code no named type's.
+/// `UnknownVersion` if the number is no version's, otherwise `UnknownType` if the code is no named type's.
 #[unsafe(no_mangle)]
 pub extern "C" fn journal_schema(version: u32, code: u16) -> i64
     ensures { Returns result (ReturnsSchema version code) }
@@ -24,8 +24,8 @@ pub extern "C" fn journal_schema(version: u32, code: u16) -> i64
     outcome_of(names::schema(version, code))
 }
 
-/// Writes the name of the type that has the code, as "SleepCommand" or "CustomEntry(64513)". `Unknown` if no type has
-/// it.
+/// Writes the name of the type that has the code, as "SleepCommand" or "CustomEntry(64513)". `UnknownType` if no type
+/// has it.
 #[unsafe(no_mangle)]
 pub extern "C" fn journal_type_name(code: u16, out: &mut [u8]) -> i64
     ensures { Returns result (Writes (ReturnsTypeName code) out.old out.new) }
@@ -33,7 +33,7 @@ pub extern "C" fn journal_type_name(code: u16, out: &mut [u8]) -> i64
     outcome_of(names::write_type_name(code, out))
 }
 
-/// Returns the code of the named type that has the name, as "SleepCommand". `Unknown` if none has.
+/// Returns the code of the named type that has the name, as "SleepCommand". `UnknownType` if none has.
 #[unsafe(no_mangle)]
 pub extern "C" fn journal_type_code(name: &[u8]) -> i64
     ensures { Returns result (ReturnsTypeCode name.now) }

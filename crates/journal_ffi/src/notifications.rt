@@ -12,8 +12,8 @@ use std::alloc::Global;
 /// a void, 1 a value, 2 a failure, 3 the id of an invocation, 4 the keys of a state); and as bytes the name, and after
 /// it the result's canonical payload or text.
 ///
-/// Returns how many bytes these are; if there is no room for them, the numbers are written nevertheless. `Unknown` if
-/// the code is that of no notification, then `NoRoom` if there is room for fewer than four numbers, then `Malformed`,
+/// Returns how many bytes these are; if there is no room for them, the numbers are written nevertheless. `UnknownType`
+/// if the code is that of no notification, then `NoRoom` if there is room for fewer than four numbers, then `Malformed`,
 /// `NoId`, `NoResult`, and last `TooLong`.
 #[unsafe(no_mangle)]
 pub extern "C" fn journal_notification(

@@ -10,7 +10,7 @@ use journal_c_api::{json_payloads, payloads};
 use std::alloc::Global;
 
 /// Returns 1 if a payload is well-formed for a schema, by its number (its index in the table), otherwise 0. Nothing is
-/// allocated; the only error is `Unknown`, if no schema has the number.
+/// allocated; the only error is `UnknownSchema`, if no schema has the number.
 #[unsafe(no_mangle)]
 pub extern "C" fn journal_is_well_formed(schema: u32, payload: &[u8]) -> i64
     ensures { Returns result (ReturnsWellFormed schema payload.now) }
@@ -21,8 +21,8 @@ pub extern "C" fn journal_is_well_formed(schema: u32, payload: &[u8]) -> i64
 /// Writes the canonical payload of what a payload means for a schema. A payload that is canonical is copied: nothing is
 /// allocated then, and nothing can fail.
 ///
-/// `Malformed` if it is not well-formed for the schema, `TooLong` if the canonical payload has more than 4,294,967,295
-/// bytes, `Unknown` if no schema has the number.
+/// `UnknownSchema` if no schema has the number, otherwise `Malformed` if the payload is not well-formed for the schema,
+/// otherwise `TooLong` if the canonical payload has more than 4,294,967,295 bytes.
 #[unsafe(no_mangle)]
 pub extern "C" fn journal_canonical(
     alloc: Global,
@@ -36,7 +36,8 @@ pub extern "C" fn journal_canonical(
 }
 
 /// Decodes the first payload for a schema, merges the second into it, and writes the canonical payload of the result.
-/// `Malformed` if one of the two is not well-formed; the other errors are those of `journal_canonical`.
+/// `Malformed` if the first is not well-formed, otherwise `MalformedSecond` if the second is not; the other errors are
+/// those of `journal_canonical`.
 #[unsafe(no_mangle)]
 pub extern "C" fn journal_merge(
     alloc: Global,
@@ -64,8 +65,8 @@ pub extern "C" fn journal_json(alloc: Global, schema: u32, payload: &[u8], out: 
 /// out of range, 7 not base64, 8 too deep), and where the text stops being JSON, in bytes; and as bytes the canonical
 /// payload of that value, or the path to the rejected value, as `headers[2].key`.
 ///
-/// Returns how many bytes these are; if there is no room for them, the numbers are written nevertheless. `Unknown` if
-/// no schema has the number, otherwise `NoRoom` if there is room for fewer than two numbers; `TooLong` if the payload
+/// Returns how many bytes these are; if there is no room for them, the numbers are written nevertheless. `UnknownSchema`
+/// if no schema has the number, otherwise `NoRoom` if there is room for fewer than two numbers; `TooLong` if the payload
 /// would have more than 4,294,967,295 bytes.
 #[unsafe(no_mangle)]
 pub extern "C" fn journal_payload_of_json(
