@@ -34,11 +34,7 @@ type VerdictKind int
 
 // String returns the name of the kind, as "VerdictSame".
 func (kind VerdictKind) String() string {
-	names := []string{
-		"VerdictSame", "VerdictRecordedEnded", "VerdictReplayedEnded", "VerdictTypeMismatch", "VerdictHeaderMismatch",
-		"VerdictBadRecorded", "VerdictBadReplayed",
-	}
-	return nameOfKind("VerdictKind", names, int(kind))
+	return nameOfKind("VerdictKind", namesOfVerdictKind, int(kind))
 }
 
 // A Verdict says how two journals compare.
@@ -58,14 +54,14 @@ func CompareJournals(version int, recorded, replayed []byte, ignorePayloads bool
 	if err != nil {
 		return Verdict{}, err
 	}
-	numbers := make([]uint64, verdictNumbers)
+	var numbers [verdictNumbers]uint64
 	text, result := written(textRoom, func(out []byte) int64 {
-		return journalVerdict(number, recorded, replayed, ignorePayloads, numbers, out)
+		return journalVerdict(number, recorded, replayed, ignorePayloads, &numbers, out)
 	})
 	if result < 0 {
 		return Verdict{}, arguments{version: named("version", version)}.refusal("CompareJournals", result)
 	}
-	verdict, err := verdictOf(numbers, text)
+	verdict, err := verdictOf(numbers[:], text)
 	if err != nil {
 		return Verdict{}, &Error{"CompareJournals", bytesText("replayed", replayed), err}
 	}

@@ -1,6 +1,15 @@
 // The calls over numbers, names and payloads.
 
 import { addon } from './addon.js';
+import {
+  ID_KINDS,
+  NOTIFICATION_NUMBERS,
+  READINGS,
+  READ_NUMBERS,
+  RESULT_KINDS,
+  VERDICT_KINDS,
+  VERDICT_NUMBERS,
+} from './declared.js';
 import { notKnown, notTaken, refusal, wrongKind } from './errors.js';
 import { schemaNumber } from './schemas.js';
 
@@ -9,37 +18,11 @@ export const { FIRST_VERSION, LAST_VERSION } = addon;
 
 const encoder = new TextEncoder();
 
-// What a JSON text is read as, by its number: a payload, or why there is none.
-const READINGS = [
-  'read',
-  'notJson',
-  'unknownMember',
-  'repeatedMember',
-  'severalMembers',
-  'wrongKind',
-  'outOfRange',
-  'notBase64',
-  'tooDeep',
-];
-
-// The kinds of a notification's id and result, and of a verdict, by their numbers.
-const ID_KINDS = ['completionId', 'signalId', 'signalName'];
-const RESULT_KINDS = ['void', 'value', 'failure', 'invocationId', 'stateKeys'];
-const VERDICT_KINDS = [
-  'same',
-  'recordedEnded',
-  'replayedEnded',
-  'typeMismatch',
-  'headerMismatch',
-  'badRecorded',
-  'badReplayed',
-];
-
 // What calls write to. No JavaScript runs between a call and the reading of it.
 const scratch = new Uint8Array(65536);
-const readNumbers = new BigUint64Array(2);
-const notificationNumbers = new BigUint64Array(4);
-const verdictNumbers = new BigUint64Array(2);
+const readNumbers = new BigUint64Array(READ_NUMBERS);
+const notificationNumbers = new BigUint64Array(NOTIFICATION_NUMBERS);
+const verdictNumbers = new BigUint64Array(VERDICT_NUMBERS);
 
 export function libraryVersion() {
   return text(written((out) => addon.libraryVersion(out), { call: 'libraryVersion' }));

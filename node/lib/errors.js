@@ -2,6 +2,8 @@
 
 import { inspect } from 'node:util';
 
+import { ERRORS } from './declared.js';
+
 /** A call failed. */
 export class JournalError extends Error {
   static {
@@ -106,29 +108,29 @@ const REASONS = {
   tooDeep: 'too deep',
 };
 
-// The error that each negative number of the library is, the names of the arguments one of which it is about, and what is
-// wrong.
-const REFUSALS = new Map([
-  [-1, [Malformed, ['payload', 'first'], 'not well-formed for its schema']],
-  [-2, [OutOfMemory, [], 'an allocation failed']],
-  [-3, [NoRoom, [], 'no room for the numbers']],
-  [-4, [TooLong, ['payloadLength', 'json', 'payload', 'first'], 'more than 4,294,967,295 bytes']],
-  [-6, [NoId, ['payload'], 'the notification has no id']],
-  [-7, [NoResult, ['payload'], 'the notification has an id and no result']],
-  [-17, [Malformed, ['second'], 'not well-formed for its schema']],
-  [-21, [Unknown, ['version'], 'unknown, or not of the kind that the call is for']],
-  [-37, [Unknown, ['schema'], 'unknown, or not of the kind that the call is for']],
-  [-53, [Unknown, ['name', 'code'], 'unknown, or not of the kind that the call is for']],
-]);
+// The kinds of errors by their names, with what is wrong.
+const KINDS = {
+  Malformed: [Malformed, 'not well-formed for its schema'],
+  OutOfMemory: [OutOfMemory, 'an allocation failed'],
+  NoRoom: [NoRoom, 'no room for the numbers'],
+  TooLong: [TooLong, 'more than 4,294,967,295 bytes'],
+  Unknown: [Unknown, 'unknown, or not of the kind that the call is for'],
+  NoId: [NoId, 'the notification has no id'],
+  NoResult: [NoResult, 'the notification has an id and no result'],
+};
+
+// What is too long, or becomes so: the library does not say which argument that is of.
+const LONG = ['payloadLength', 'json', 'payload', 'first'];
 
 /** The error that a negative number is, of a call: its name and its arguments, by their names. */
 export function refusal(number, given) {
-  if (!REFUSALS.has(number)) {
+  if (!ERRORS.has(number)) {
     return notKnown(given.call, 'error', number);
   }
-  const [ErrorClass, names, reason] = REFUSALS.get(number);
+  const [kind, names] = ERRORS.get(number);
+  const [ErrorClass, reason] = KINDS[kind];
   const { call } = given;
-  const argument = names.find((name) => name in given);
+  const argument = (kind === 'TooLong' ? LONG : names).find((name) => name in given);
   if (argument === undefined) {
     return new ErrorClass(`${call}: ${reason}`, { call });
   }

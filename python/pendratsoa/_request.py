@@ -7,11 +7,11 @@ import functools
 import operator
 from typing import Any, Callable, Optional, SupportsIndex, Tuple, Type, Union, cast
 
+from ._declared import ITEM_NUMBERS, NOTIFICATION_NUMBERS, READ_NUMBERS, VERDICT_NUMBERS, JsonReason
 from ._errors import (
     ERRORS,
     JournalError,
     JsonError,
-    JsonReason,
     Malformed,
     NoId,
     NoResult,
@@ -27,8 +27,6 @@ BytesLike = Union[bytes, bytearray, memoryview]
 # a schema, by its number or by the name of its record, as "SleepCommandMessage"
 Schema = Union[int, str]
 
-FIRST_VERSION = 5
-LAST_VERSION = 9
 SCHEMAS = len(SCHEMA_NAMES)
 
 # what is wrong: with a payload, which comes before these words, or with the call
@@ -59,10 +57,10 @@ U16_END = 1 << 16
 U32_END = 1 << 32
 
 # the numbers that calls write
-ItemNumbers = ctypes.c_uint64 * 6
-ReadNumbers = ctypes.c_uint64 * 2
-NotificationNumbers = ctypes.c_uint64 * 4
-VerdictNumbers = ctypes.c_uint64 * 2
+ItemNumbers = ctypes.c_uint64 * ITEM_NUMBERS
+ReadNumbers = ctypes.c_uint64 * READ_NUMBERS
+NotificationNumbers = ctypes.c_uint64 * NOTIFICATION_NUMBERS
+VerdictNumbers = ctypes.c_uint64 * VERDICT_NUMBERS
 
 
 def shown(value: object) -> str:

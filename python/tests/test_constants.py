@@ -6,7 +6,7 @@ import unittest
 
 import pendratsoa
 from pendratsoa import IdKind, JsonReason, ResultKind, VerdictKind, _errors, _library
-from support import HEADER, TOP, defined
+from support import HEADER, TOP, defined, types
 
 
 class TestConstants(unittest.TestCase):
@@ -32,6 +32,13 @@ class TestConstants(unittest.TestCase):
         self.assertEqual(numbers["SCHEMAS"], pendratsoa.SCHEMAS)
         self.assertEqual(numbers["SCHEMAS"], len(pendratsoa.SCHEMA_NAMES))
         self.assertRaises(pendratsoa.Unknown, pendratsoa.is_well_formed, pendratsoa.SCHEMAS, b"")
+
+    def test_types(self):
+        listed = {name: code for code, name in types()}
+        self.assertEqual(len(listed), len(pendratsoa.TypeCode))
+        for code in pendratsoa.TypeCode:
+            self.assertEqual(listed[pendratsoa.type_name(code)], code)
+            self.assertEqual(defined("0x[0-9A-F]+", 16)[code.name], code)
 
     def test_calls(self):
         self.assertEqual(re.findall(r"^int64_t (journal_\w+)\(", HEADER, re.M), list(_library.PARAMETERS))

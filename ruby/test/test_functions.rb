@@ -16,7 +16,7 @@ class TestConstants < Minitest::Test
     # no call returns the kind of what is unknown by itself
     assert_equal numbers.reject { |name, _| name == "UNKNOWN" }.values.sort, errors.keys.sort
     errors.each do |number, (kind, _)|
-      assert_equal kinds[number.remainder(16)].delete("_"), kind.name.delete_prefix("Pendratsoa::").upcase
+      assert_equal kinds[number.remainder(16)].delete("_"), kind.to_s.upcase
     end
   end
 
@@ -35,6 +35,13 @@ class TestConstants < Minitest::Test
     %w[FIRST_VERSION LAST_VERSION SCHEMAS].each do |name|
       assert_equal defined_numbers[name], Pendratsoa.const_get(name)
     end
+  end
+
+  def test_types_are_those_of_the_header
+    codes = HEADER.scan(/^#define JOURNAL_(\w+) 0x(\h+)$/).to_h { |name, digits| [name.to_sym, digits.hex] }
+    constants = Pendratsoa::TypeCode.constants.to_h { |name| [name, Pendratsoa::TypeCode.const_get(name)] }
+    assert_equal codes, constants
+    constants.each_value { |code| assert_equal code, Pendratsoa.type_code(Pendratsoa.type_name(code)) }
   end
 
   def test_functions_are_those_of_the_header

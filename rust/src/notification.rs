@@ -3,16 +3,8 @@
 use crate::calls::text;
 use crate::error::{narrowed, Argument, Error};
 use crate::ffi::{self, About};
-
-const COMPLETION_ID: u64 = 0;
-const SIGNAL_ID: u64 = 1;
-const SIGNAL_NAME: u64 = 2;
-
-const VOID: u64 = 0;
-const VALUE: u64 = 1;
-const FAILURE: u64 = 2;
-const INVOCATION_ID: u64 = 3;
-const STATE_KEYS: u64 = 4;
+use crate::ffi::{COMPLETION_ID, SIGNAL_ID, SIGNAL_NAME};
+use crate::ffi::{FAILURE, INVOCATION_ID, STATE_KEYS, VALUE, VOID};
 
 /// The id and the result of a notification.
 #[derive(Clone, Debug, PartialEq, Eq, Hash)]

@@ -4,7 +4,7 @@ use std::fmt;
 
 use crate::calls::text;
 use crate::error::{narrowed, Argument, Error};
-use crate::ffi::{self, About};
+use crate::ffi::{self, About, READ};
 
 /// Why a JSON text is rejected, and where.
 #[derive(Clone, Debug, PartialEq, Eq, Hash)]
@@ -39,9 +39,6 @@ pub enum JsonReason {
     /// A message is nested more than one hundred levels deep.
     TooDeep,
 }
-
-/// The number of a text that is accepted.
-const READ: u64 = 0;
 
 /// The reasons, each at its number, after the number of a text that is accepted.
 const REASONS: [JsonReason; 8] = [

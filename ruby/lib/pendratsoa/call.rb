@@ -4,9 +4,6 @@ module Pendratsoa
   # One call by its name in this gem, with its arguments by their names. A method that takes the name of an argument
   # checks it, and returns what the library takes in its place.
   class Call
-    # How many numbers an item has.
-    ITEM_NUMBERS = 6
-
     # What is wrong with a payload, or with the call.
     TEXTS = {
       Malformed => "is not well-formed",
@@ -147,8 +144,9 @@ module Pendratsoa
 
     # The error of a negative number. A later library may have further ones.
     def refused(number)
-      kind, arguments = ERRORS[number]
-      argument = arguments&.find { |name| @arguments.key?(name) }
+      name, arguments = ERRORS[number]
+      kind = name && Pendratsoa.const_get(name)
+      argument = arguments&.find { |candidate| @arguments.key?(candidate) }
       return unknown(argument) if kind == Unknown && argument
       return unexpected(number) unless TEXTS.key?(kind)
       return error(kind, TEXTS.fetch(kind)) unless argument

@@ -49,19 +49,4 @@ module Pendratsoa
       @path = path
     end
   end
-
-  # The error of each negative number that the library returns, and the arguments one of which it is about.
-  ERRORS = {
-    -1 => [Malformed, %i[payload first]],
-    -2 => [OutOfMemory, []],
-    -3 => [NoRoom, []],
-    -4 => [TooLong, []],
-    -6 => [NoId, %i[payload]],
-    -7 => [NoResult, %i[payload]],
-    -17 => [Malformed, %i[second]],
-    -21 => [Unknown, %i[version]],
-    -37 => [Unknown, %i[schema]],
-    -53 => [Unknown, %i[code name]]
-  }.freeze
-  private_constant :ERRORS
 end
