@@ -81,7 +81,7 @@ const (
 	ReasonNotJSON JSONReason = C.JOURNAL_NOT_JSON
 	// ReasonUnknownMember: a member has no name of a field of its message.
 	ReasonUnknownMember JSONReason = C.JOURNAL_UNKNOWN_MEMBER
-	// ReasonRepeatedMember: a member comes twice, by whichever of its names.
+	// ReasonRepeatedMember: two members have a name of the same field.
 	ReasonRepeatedMember JSONReason = C.JOURNAL_REPEATED_MEMBER
 	// ReasonSeveralMembers: two members of one oneof are there.
 	ReasonSeveralMembers JSONReason = C.JOURNAL_SEVERAL_MEMBERS

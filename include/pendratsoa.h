@@ -292,7 +292,7 @@ int64_t journal_json(uint32_t schema, const uint8_t *payload, size_t payload_len
 #define JOURNAL_READ 0            /* the text means a value, whose canonical payload is written */
 #define JOURNAL_NOT_JSON 1        /* it is not JSON, or not UTF-8, or nested more than one thousand levels deep */
 #define JOURNAL_UNKNOWN_MEMBER 2  /* a member has no name of a field of its message */
-#define JOURNAL_REPEATED_MEMBER 3 /* a member comes twice, by whichever of its names */
+#define JOURNAL_REPEATED_MEMBER 3 /* two members have a name of the same field */
 #define JOURNAL_SEVERAL_MEMBERS 4 /* two members of one oneof are there */
 #define JOURNAL_WRONG_KIND 5      /* a value is of another kind than its field */
 #define JOURNAL_OUT_OF_RANGE 6    /* a number is not whole, or not in the range of its field */

@@ -58,11 +58,12 @@ def go_constants(values):
 def ruby():
     """The file of the gem for Ruby."""
     names = "".join(f"    {message.name}\n" for message in schemas())
-    codes = "".join(f"    {snake(message.type_name())} = 0x{message.code:04x}\n" for message in typed())
+    # not in a module of their own: END is a word of Ruby
+    codes = "".join(f"  CODE_{snake(message.type_name())} = 0x{message.code:04x}\n" for message in typed())
     return (
         "# frozen_string_literal: true\n\nmodule Pendratsoa\n"
         f"  # The name of each schema, at its number.\n  SCHEMA_NAMES = %w[\n{names}  ].freeze\n\n"
-        f"  # The code of each named type.\n  module TypeCode\n{codes}  end\n\n"
+        f"  # The code of each named type.\n{codes}\n"
         "  # The codes of commands and of notifications, those of custom entries among them.\n"
         f"  COMMAND_CODES = (0x{COMMANDS.start:04x}...0x{COMMANDS.stop:04x})\n"
         f"  NOTIFICATION_CODES = (0x{NOTIFICATIONS.start:04x}...0x{NOTIFICATIONS.stop:04x})\nend\n"
