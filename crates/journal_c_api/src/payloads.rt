@@ -76,6 +76,7 @@ pub fn is_well_formed(schema: u32, payload: &[u8]) -> Result<usize, CallError>
 }
 
 /// The canonical payload of what a payload means.
+#[tactic(auto, using(crate::proofs::Parts::only_part))]
 fn canonical(alloc: Global, schema: u32, payload: &[u8]) -> Result<Vec<u8>, CallError>
     ensures { ReturnsMerged schema payload.now [] (bytes_of result) }
 {
