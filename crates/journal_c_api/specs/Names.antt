@@ -9,8 +9,8 @@ use Rattle.journal_c_api.specs.declared.outcome.CallError.{CallError}
 use Rattle.journal_c_api.specs.declared.outcome.CallError.TheVariants.{UnknownVersion, UnknownType}
 use Rattle.journal_c_api.specs.Outcomes.{supported_version}
 
--- The schema of a type's payloads at a version; UnknownVersion if there is no version, otherwise UnknownType if there is
--- no type or no schema.
+-- The schema of a type's payloads at a version; UnknownVersion if there is no version, otherwise UnknownType if there
+-- is no type or no schema.
 abbrev pub schema_outcome : Option Version → Option MessageType → Result ℕ CallError
 schema_outcome (Some version) (Some ty) = ok_or (schema_at version ty) UnknownType
 schema_outcome (Some version) None = Err UnknownType
