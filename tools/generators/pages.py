@@ -1,6 +1,5 @@
-"""What pages repeat of proto/journal.proto: how many schemas, types and commands there are, wherever a page or the
-header for C says so, the kinds of types in docs/FORMAT.md, and the list of schemas in docs/C.md. All else of these
-files is written by hand.
+"""What pages repeat of proto/journal.proto: how many schemas, types and commands there are, wherever a page says so, the
+kinds of types in docs/FORMAT.md, and the list of schemas in docs/C.md. All else of these files is written by hand.
 """
 import re
 import textwrap
@@ -17,10 +16,6 @@ PAGES = ("README.md", "CHANGELOG.md", "bench/README.md", "conformance/README.md"
 MEASURED = ("docs/GATE.md", "docs/PERFORMANCE.md")
 
 SAID = re.compile(r"((?:[Tt]he|[Aa]ll|its|these|each of the) )(\d+)( (?:named )?(schemas|records|types|codes|commands))\b")
-
-DEFINED = {
-    "include/pendratsoa.h": re.compile(r"^(#define JOURNAL_SCHEMAS )(\d+)()$", re.M),
-}
 
 # The page on what bytes are: the row of the types with their kinds, and how many lines give a type's code.
 FORMAT = "docs/FORMAT.md"
@@ -70,7 +65,7 @@ def list_of_schemas():
 
 def paths():
     found = {str(file.relative_to(ROOT)) for pattern in PAGES for file in ROOT.glob(pattern)}
-    return sorted((found - set(MEASURED)) | set(DEFINED))
+    return sorted(found - set(MEASURED))
 
 
 def files():
@@ -78,9 +73,6 @@ def files():
     found = {}
     for path in paths():
         text = (ROOT / path).read_text(encoding="utf-8")
-        if path in DEFINED:
-            found[path] = DEFINED[path].sub(lambda match: f"{match[1]}{counts['schemas']}", text)
-            continue
         text = numbered(text, counts)
         if path == FORMAT:
             text = format_page(text)
