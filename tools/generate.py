@@ -8,7 +8,7 @@
 
 A file says in its first line that it is generated, and from what, where it can have a comment; .gitattributes marks
 each. What needs a tool that is not there is not made, which is said. The last line of --check is 'N passed, M failed',
-of files.
+of files. It needs Python 3.11, which reads TOML.
 """
 import importlib
 import pathlib
@@ -131,6 +131,8 @@ def show():
 
 
 def main():
+    if sys.version_info < (3, 11):
+        refuse("it needs Python 3.11, which reads TOML")
     words = sys.argv[1:]
     if words == ["--help"]:
         print(__doc__.strip())

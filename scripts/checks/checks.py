@@ -23,7 +23,7 @@ sys.path[1:1] = [str(ROOT / "scripts"), str(ROOT / "tools")]
 import crates  # noqa: E402
 
 # The programs that are installed.
-PROGRAMS = ("journal_list", "journal_diff", "journal_dump", "journal_make")
+PROGRAMS = ("journal", "journal_list", *crates.LINKS)
 
 # How much of a text is shown where a case failed.
 LINES = 20
@@ -139,16 +139,22 @@ class Check:
         if not shutil.which(tool):
             raise NotRun(f"there is no {tool}; the Debian package {package} has it")
 
-    def program(self, crate: str) -> pathlib.Path:
-        """The proved program of a crate, which rt ci or scripts/run.sh --proved leaves in out/; else the check ends."""
+    def program(self, name: str) -> pathlib.Path:
+        """A proved program, which rt ci or scripts/run.sh --proved leaves in out/ of its crate, or a link of this name
+        to it; else the check ends."""
+        crate = crates.crate_of(name)
         place = f"crates/{crate}/out/{crate}"
         if not os.access(place, os.X_OK):
             why = f"there is no {place}"
         elif not crates.is_up_to_date(ROOT / place, crate):
             why = f"{place} is older than a source"
         else:
-            return ROOT / place
-        raise NotRun(f"{why}; sh scripts/run.sh --proved {crate.removeprefix('journal_')} builds it")
+            link = self.work / "programs" / name
+            link.parent.mkdir(exist_ok=True)
+            link.unlink(missing_ok=True)
+            link.symlink_to(ROOT / place)
+            return link
+        raise NotRun(f"{why}; sh scripts/run.sh --proved {crate} builds it")
 
     def static_library(self) -> None:
         """Builds the proved static library for C where it is not there; where it cannot be built the check ends."""

@@ -14,7 +14,7 @@ program_of journal_dump
 [ -n "$program" ] || not_run "$why"
 failure=1
 top=$PWD
-run=$PWD/crates/journal_dump
+run=$PWD/crates/journal
 cd examples/streams || exit 1
 
 # dumped NAME STATUS LINES [LINE]: the run ended with this status, wrote these lines or nothing, and said this line or

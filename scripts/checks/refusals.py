@@ -10,7 +10,6 @@ one of them fail. Each failed allocation counts as one.
 """
 from __future__ import annotations
 
-import os
 import pathlib
 import re
 import shutil
@@ -19,8 +18,18 @@ import checks
 from failing_allocations import each_fails
 
 STREAMS = pathlib.Path("examples/streams")
-JOURNALS = ("crates/journal_diff/data/recorded", "crates/journal_diff/data/replayed")
+# Two journals that differ, and the verdict.
+JOURNALS = (str(STREAMS / "recorded"), str(STREAMS / "replayed_other_payload"))
 SIZES = ("3", "4096")
+
+DIFFERS = b"""\
+command 1: Found a mismatch between the code paths taken during the previous execution and the paths taken during this \
+execution.
+This typically happens when some parts of the code are non-deterministic.
+- The mismatch happened while executing 'set state' (index '1')
+- Difference:
+   value: '1' != '2'
+"""
 
 # At v9 an unknown message is skipped with its payload.
 SKIPPED = b"skipped 0x8 8\nrest 0\n"
@@ -34,8 +43,17 @@ class Refusals:
         self.preload = f"LD_PRELOAD={check.work}/refuse.so"
 
     def each_fails(self, program: str, words: tuple[str, ...], stream: pathlib.Path, name: str, is_right) -> None:
-        path = f"crates/{program}/out/{program}"
-        each_fails(self.check, name, ["env", self.preload, path, *words], stream.read_bytes(), is_right)
+        path = self.check.program(program)
+        each_fails(self.check, name, ["env", self.preload, str(path), *words], stream.read_bytes(), is_right)
+
+    def has(self, program: str) -> bool:
+        """Whether a program is there; where it is not, says that the part which needs it is not run."""
+        try:
+            self.check.program(program)
+        except checks.NotRun as why:
+            self.check.left_out(program, str(why))
+            return False
+        return True
 
     def listing(self, stream: pathlib.Path, listing: bytes, *words: str) -> None:
         """journal_list on a stream, which is to write this listing."""
@@ -76,23 +94,18 @@ def main(check: checks.Check) -> None:
         return
     refusals = Refusals(check)
 
-    if os.access("crates/journal_list/out/journal_list", os.X_OK):
+    if refusals.has("journal_list"):
         for stream in ("replay", "unknown_type", "cut_short"):
             for size in SIZES:
                 refusals.listing(STREAMS / stream, (STREAMS / f"{stream}.stdout").read_bytes(), size)
         for size in SIZES:
             refusals.listing(STREAMS / "unknown_type", SKIPPED, size, "v9")
-    else:
-        check.without("journal_list", "crates/journal_list/out/journal_list")
 
-    if os.access("crates/journal_diff/out/journal_diff", os.X_OK):
-        verdict = pathlib.Path("crates/journal_diff/stdout").read_bytes()
-        refusals.verdict(1, verdict, *JOURNALS)
+    if refusals.has("journal_diff"):
+        refusals.verdict(1, DIFFERS, *JOURNALS)
         same = ("--ignore-payloads", "--protocol", "9", "-", str(STREAMS / "replayed_other_payload"))
         refusals.verdict(0, b"same, 4 commands\n", *same)
-        refusals.verdict(1, colored(verdict), "--color", "always", *JOURNALS)
-    else:
-        check.without("journal_diff", "crates/journal_diff/out/journal_diff")
+        refusals.verdict(1, colored(DIFFERS), "--color", "always", *JOURNALS)
 
 
 if __name__ == "__main__":

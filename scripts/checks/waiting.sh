@@ -8,8 +8,8 @@ cd "$(dirname "$0")/../.." || exit 1
 
 needs python3 python3
 set --
-for crate in journal_list journal_dump journal_make; do
-  program_of $crate
+for name in journal_list journal_dump journal_make; do
+  program_of $name
   [ -n "$program" ] || not_run "$why"
   set -- "$@" "$program"
 done

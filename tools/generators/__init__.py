@@ -33,6 +33,7 @@ NAMES = (
     "peer",
     "rust",
     "page_fields",
+    "programs",
     "pages",
     "man_pages",
     "completions",

@@ -1,6 +1,6 @@
 """Streams and their dumps, with protobuf's own JSON printer as the judge:
 
-    protobuf_dumps.py --write FOLDER     writes the stored run of journal_dump and the JSON of each message below a folder, for tools/generate.py
+    protobuf_dumps.py --write FOLDER     writes the stored run of journal and the JSON of each message below a folder, for tools/generate.py
     protobuf_dumps.py --random SEED COUNT PROGRAM [WORD..]
                                          COUNT random payloads of each message type in one stream, dumped by the program and printed by protobuf
 
@@ -212,7 +212,7 @@ def dump_random(kinds, seed, count, command):
             stream.message(name, payload_of(r, getattr(kinds, name + "Message")), flag)
     rest, end = r.randbytes(r.randrange(2, 8)), len(stream.bytes)
     given, wanted = stream.end(rest)
-    told = f"journal_dump: offset {end}: {len(rest)} bytes after the last whole item\n"
+    told = f"journal dump: offset {end}: {len(rest)} bytes after the last whole item\n"
     run = subprocess.run(command, input=given, capture_output=True, check=False)
     lines = run.stdout.decode().split("\n")[:-1]
     passed = failed = 0
@@ -240,8 +240,8 @@ def main():
         sys.exit(__doc__)
     given, wanted = stored(kinds)
     files = {
-        "crates/journal_dump/stdin": given,
-        "crates/journal_dump/stdout": wanted.encode(),
+        "crates/journal/stdin": given,
+        "crates/journal/stdout": wanted.encode(),
         "conformance/json/records.txt": json_lines(kinds).encode(),
     }
     for path, data in files.items():
