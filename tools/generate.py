@@ -8,7 +8,7 @@
 
 All that is wrong with the description is said, and then nothing is written. A file says in its first line that it is
 generated, and from what, where it can have a comment; .gitattributes marks each. What needs a tool that is not there is
-not made, which is said. The last line of --check is 'N passed, M failed', of files.
+not made, which is said. The last line of --check is 'N passed, M failed', of files. It needs Python 3.11, which reads TOML.
 """
 import importlib
 import pathlib
@@ -143,6 +143,8 @@ def show():
 
 
 def main():
+    if sys.version_info < (3, 11):
+        refuse("it needs Python 3.11, which reads TOML")
     words = sys.argv[1:]
     if words == ["--help"]:
         print(__doc__.strip())

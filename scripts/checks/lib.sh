@@ -118,21 +118,24 @@ installed_library() {
   export PKG_CONFIG_PATH PENDRATSOA_LIBRARY LD_LIBRARY_PATH
 }
 
-# program_of CRATE: $program is the proved program of a crate, which rt ci or scripts/run.sh --proved leaves in out/;
-# where there is none, or a source is newer, $program is empty and $why says so
+# program_of NAME: $program is a proved program, which rt ci or scripts/run.sh --proved leaves in out/ of its crate, or
+# a link of this name to it; where there is none, or a source is newer, $program is empty and $why says so
 program_of() {
   . scripts/up_to_date.sh
-  program=$PWD/crates/$1/out/$1
+  crate=$(crate_of "$1")
+  built=crates/$crate/out/$crate
+  program=
   why=
-  if [ ! -x "$program" ]; then
-    why="there is no crates/$1/out/$1"
-  elif ! is_up_to_date "$program" "$1"; then
-    why="crates/$1/out/$1 is older than a source"
+  if [ ! -x "$built" ]; then
+    why="there is no $built"
+  elif ! is_up_to_date "$built" "$crate"; then
+    why="$built is older than a source"
+  else
+    mkdir -p "$work/programs"
+    program=$work/programs/$1
+    ln -sfn "$PWD/$built" "$program"
   fi
-  if [ -n "$why" ]; then
-    program=
-    why="$why; sh scripts/run.sh --proved ${1#journal_} builds it"
-  fi
+  [ -z "$why" ] || why="$why; sh scripts/run.sh --proved $crate builds it"
 }
 
 # said STATUS [LINE]: the run ended with this status, and printed this line, or nothing, on the standard error

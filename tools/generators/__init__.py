@@ -46,6 +46,7 @@ NAMES = (
     "peer",
     "rust",
     "page_fields",
+    "programs",
     "pages",
     "call_pages",
     "man_pages",

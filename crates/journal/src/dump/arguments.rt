@@ -1,17 +1,18 @@
-//! Parsing the command line.
+//! Parsing the arguments.
 
 ghost use Rattle.std.specs.Prelude.{◌≤◌, IfOk};
 ghost use Rattle.shared_core_base.specs.Version.{version_number};
 
-use crate::suggestions::unknown_type;
+use crate::definitions;
+use crate::dump::suggestions::unknown_type;
+use clap::Error;
 use clap::error::ErrorKind;
-use clap::{Arg, ArgAction, Command, Error};
-use command_line::{flag, operand, protocol_of, protocol_option};
-use shared_core::header::MessageType;
-use shared_core::version::Version;
+use command_line::protocol_of;
+use shared_core_base::header::MessageType;
+use shared_core_base::version::Version;
 use std::alloc::{AllocError, Global};
 
-/// The parsed command line.
+/// The parsed arguments.
 #[derive(Drop)]
 pub struct Arguments<'a> {
     /// The path of the stream, or `-` for the standard input.
@@ -62,56 +63,16 @@ fn code_within(name: &str) -> Option<u16> {
     digits.parse().ok()
 }
 
-/// The clap definition of the command line.
-fn command<'a>(alloc: Global) -> Result<Command<'a>, AllocError> {
-    Command::new(alloc, "journal_dump")
-        .version("0.1.0")
-        .about("Prints a stream of the protocol as JSON, one object a line for each of its items.")
-        .arg(flag(alloc, "no-payload", "Leaves out what is in messages"))?
-        .arg(flag(
-            alloc,
-            "pretty",
-            "Prints each object on several lines, indented, for people to read",
-        ))?
-        .arg(protocol_option(alloc, "The version of the protocol of the stream").default_value(
-            "8",
-        ))?
-        .arg(flag(
-            alloc,
-            "strict",
-            "Ends with status 2 if there is an unknown code, a malformed payload or a rest",
-        ))?
-        .arg(flag(
-            alloc,
-            "text",
-            "Prints bytes that are UTF-8 as an object with their text, and not in base64",
-        ))?
-        .arg(type_option(alloc))?
-        .arg(operand(
-            alloc,
-            "file",
-            "FILE",
-            "The stream: a file, or - for the standard input",
-        )
-        .default_value("-"))
-}
-
-/// The option `--type`, which may come several times.
-fn type_option<'a>(alloc: Global) -> Arg<'a> {
-    Arg::new(alloc, "type")
-        .long("type")
-        .value_name("NAME")
-        .action(ArgAction::Append)
-        .help("Shows messages of this type alone, or of several, with commas between")
-}
-
-/// Parses the arguments after the program's name. The error is an invalid argument, or a request for the help or the
-/// version.
-pub fn parse_arguments<'a>(alloc: Global, arguments: &'a [String]) -> Result<Arguments<'a>, Error>
+/// Parses the arguments. The error is an invalid argument, or a request for the help or the version.
+pub fn parse_arguments<'a>(
+    alloc: Global,
+    name: &'static str,
+    words: &'a [String],
+) -> Result<Arguments<'a>, Error>
     ensures { IfOk result (λ parsed. 5 ≤ version_number parsed.version) }
 {
-    let mut command = command(alloc)?;
-    let matches = command.try_get_matches_from_mut(arguments)?;
+    let mut command = definitions::dump(alloc, name)?.no_binary_name(true);
+    let matches = command.try_get_matches_from_mut(words)?;
     let mut codes = Vec::new(alloc);
     if let Some(names) = matches.get_strs("type") {
         for name in names.iter().flat_map(|names| names.split(',')) {

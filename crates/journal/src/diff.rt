@@ -1,5 +1,4 @@
 //! Compares two journals, of which one may be the standard input, and prints where they differ.
-#![tactic(auto)]
 
 ghost use Rattle.std.specs.Prelude.{◌≤◌};
 ghost use Rattle.shared_core_base.specs.Version.{version_number};
@@ -7,11 +6,10 @@ ghost use Rattle.shared_core_base.specs.Version.{version_number};
 mod arguments;
 mod inputs;
 
-use crate::arguments::{Arguments, parse_arguments};
-use crate::inputs::{Inputs, closed_side, open_both};
-use command_line::{
-    Escapes, Escaping, Pipe, Progress, Watched, fail, has_color, note, read_arguments, report,
-};
+use crate::call::Call;
+use crate::diff::arguments::{Arguments, parse_arguments};
+use crate::diff::inputs::{Inputs, closed_side, open_both};
+use command_line::{Escapes, Escaping, Pipe, Progress, Watched, has_color};
 use diff_lines::{
     DiffError, Findings, Form, diff, diff_with_colors, no_item_note, rest_note, unknown_note,
 };
@@ -20,13 +18,11 @@ use shared_core_base::version::Version;
 use std::io::{IsTerminal, Stdout};
 use std::process::ExitCode;
 
-const PROGRAM: &str = "journal_diff";
-
 /// The standard output, which a reader may close, and before which a line of JSON is escaped if it is a terminal.
 type Output = Pipe<Escaping<Stdout>>;
 
 /// Reports what the comparison passed over.
-fn tell(rt: &HostRuntime, version: Version, found: &Findings) {
+fn tell(call: &Call<'_>, version: Version, found: &Findings) {
     let notes = [
         unknown_note(Side::Recorded, &found.recorded),
         rest_note(Side::Recorded, &found.recorded),
@@ -36,24 +32,24 @@ fn tell(rt: &HostRuntime, version: Version, found: &Findings) {
         no_item_note(Side::Replayed, version, &found.replayed),
     ];
     for what in notes.into_iter().flatten() {
-        note(rt, PROGRAM, what);
+        call.note(what);
     }
 }
 
 /// Reports how the comparison ended, unless the reader of the output has closed it, and returns the status.
 fn end(
-    rt: &HostRuntime,
+    call: &Call<'_>,
     version: Version,
     found: Result<Findings, DiffError>,
     output: &Output,
 ) -> ExitCode {
     match found {
         Ok(found) => {
-            tell(rt, version, &found);
+            tell(call, version, &found);
             ExitCode::from(if found.is_same { 0 } else { 1 })
         }
-        Err(DiffError::Output) if output.is_broken() => ExitCode::from(2),
-        Err(error) => fail(rt, PROGRAM, error, 2),
+        Err(DiffError::Output) if output.is_broken() => ExitCode::from(call.failure),
+        Err(error) => call.fail(error, call.failure),
     }
 }
 
@@ -69,23 +65,23 @@ fn form_of(is_json: bool, is_terminal: bool) -> Form {
 }
 
 /// Compares the two inputs, prints the verdict and returns its status.
-fn run_parsed(rt: &HostRuntime, parsed: &Arguments<'_>, inputs: Inputs) -> ExitCode
+fn run_parsed(call: &Call<'_>, parsed: &Arguments<'_>, inputs: Inputs) -> ExitCode
     requires { 5 ≤ version_number parsed.now.version }
 {
-    let progress = Progress::new(rt, PROGRAM, inputs.size());
+    let progress = Progress::new(call.rt, call.name, inputs.size());
     let recorded = Watched::new(inputs.recorded, &progress);
     let replayed = Watched::new(inputs.replayed, &progress);
-    let is_terminal = rt.stdout().is_terminal();
+    let is_terminal = call.rt.stdout().is_terminal();
     let form = form_of(parsed.is_json, is_terminal);
     let mut output = Pipe::new(Escaping::new(
-        rt.alloc(),
-        rt.stdout(),
+        call.rt.alloc(),
+        call.rt.stdout(),
         Escapes::Json,
         is_terminal && parsed.is_json,
     ));
-    let found = if !parsed.is_json && has_color(rt, parsed.color) {
+    let found = if !parsed.is_json && has_color(call.rt, parsed.color) {
         diff_with_colors(
-            rt.alloc(),
+            call.rt.alloc(),
             parsed.version,
             recorded,
             replayed,
@@ -96,7 +92,7 @@ fn run_parsed(rt: &HostRuntime, parsed: &Arguments<'_>, inputs: Inputs) -> ExitC
         )
     } else {
         diff(
-            rt.alloc(),
+            call.rt.alloc(),
             parsed.version,
             recorded,
             replayed,
@@ -107,23 +103,20 @@ fn run_parsed(rt: &HostRuntime, parsed: &Arguments<'_>, inputs: Inputs) -> ExitC
         )
     };
     progress.clear();
-    end(rt, parsed.version, found, &output)
+    end(call, parsed.version, found, &output)
 }
 
-fn main(rt: HostRuntime) -> ExitCode {
-    let arguments = match read_arguments(&rt) {
-        Ok(arguments) => arguments,
-        Err(error) => return fail(&rt, PROGRAM, error, error.status(2)),
-    };
-    let parsed = match parse_arguments(rt.alloc(), arguments.as_slice()) {
+/// Parses the arguments, compares the journals, and returns the status.
+pub fn run(call: &Call<'_>) -> ExitCode {
+    let parsed = match parse_arguments(call.rt.alloc(), call.name, call.words) {
         Ok(parsed) => parsed,
-        Err(error) => return report(&rt, PROGRAM, &error, 2),
+        Err(error) => return call.report(&error),
     };
-    if let Some(side) = closed_side(&rt, &parsed) {
-        return fail(&rt, PROGRAM, ReaderError::Read(side), 2);
+    if let Some(side) = closed_side(call.rt, &parsed) {
+        return call.fail(ReaderError::Read(side), call.failure);
     }
-    match open_both(&rt, &parsed) {
-        Ok(inputs) => run_parsed(&rt, &parsed, inputs),
-        Err(error) => fail(&rt, PROGRAM, error, 2),
+    match open_both(call.rt, &parsed) {
+        Ok(inputs) => run_parsed(call, &parsed, inputs),
+        Err(error) => call.fail(error, 2),
     }
 }

@@ -1,6 +1,6 @@
 //! The two inputs.
 
-use crate::arguments::Arguments;
+use crate::diff::arguments::Arguments;
 use command_line::{Input, OpenError, input_size, is_stdin_open, open};
 use replay_bench::Side;
 
