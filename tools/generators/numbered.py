@@ -4,6 +4,7 @@ version 7 as it is written, their definitions and proofs, and planted bugs that 
 All else of these files is written by hand. The numbers are found by the text around them, in which the name of a field
 in braces is where its number is.
 """
+import itertools
 import re
 
 from . import ROOT, Refused, laid_out
@@ -176,6 +177,11 @@ def written_number(number, how):
     return number + 1 if how == "+1" else (16 if number < 16 else 1) if how == "~" else number
 
 
+def joined(around, numbers):
+    """Texts with the numbers between them."""
+    return "".join(text + number for text, number in itertools.zip_longest(around, numbers, fillvalue=""))
+
+
 def with_numbers(path, text, name, patterns):
     """A text in which the numbers of a message's fields are those of the description."""
     numbers = {
@@ -183,12 +189,14 @@ def with_numbers(path, text, name, patterns):
     }
     for pattern in patterns:
         parts = re.split(r"\{(\w+(?:\+1|~)?)\}", pattern)
-        found = "".join(r"\d+" if at % 2 else re.escape(part) for at, part in enumerate(parts))
-        for at in range(1, len(parts), 2):
-            name_of_field, how = re.fullmatch(r"(\w+)(.*)", parts[at]).groups()
-            parts[at] = str(written_number(numbers[name_of_field], how))
-        written = "".join(parts)
-        text, count = re.subn(rf"(?<!\d){found}", lambda _, written=written: written, text)
+        # a line may end where the pattern has a blank
+        around = [re.escape(part).replace("\\ ", r"\s+") for part in parts[::2]]
+        written = []
+        for part in parts[1::2]:
+            name_of_field, how = re.fullmatch(r"(\w+)(.*)", part).groups()
+            written.append(str(written_number(numbers[name_of_field], how)))
+        groups = "".join(f"({part})" + (r"\d+" if at < len(written) else "") for at, part in enumerate(around))
+        text, count = re.subn(rf"(?<!\d){groups}", lambda found, written=written: joined(found.groups(), written), text)
         if not count:
             raise Refused([f"numbered: {path} has no text {pattern}, in which the number is that of {name}"])
     return text
