@@ -140,17 +140,3 @@ lacks_nothing message id result found means there here =
     returns_held message id result (Ok found) means
     (subst (λ (b : Bool). ReturnsLacking message (held_field b (is_present result)) (Ok found)) (sym there)
     (subst (λ (b : Bool). ReturnsLacking message (held_field true b) (Ok found)) (sym here) tt))
-
--- if a well-formed payload is rejected, an allocation failed
-pub rejected_for_memory : (message : RawMessage) (failure : DecodingError) (lacking : Option (List ℕ)) → RejectsPayload notification_template message failure → IsAccepted notification_template message.payload
-    → ReturnsLacking message lacking (Err failure)
-rejected_for_memory message failure lacking rejected accepted =
-    elim failure as (λ failure. RejectsPayload notification_template message failure → ReturnsLacking message lacking (Err failure)) [
-      | DecodeMessage found error ↦ λ rejected. absurd (rejected.2 accepted)
-      | OutOfMemory ↦ λ _. memory_lacks lacking
-      | _ ↦ λ rejected. absurd rejected
-    ] rejected
-  where
-    memory_lacks : (lacking : Option (List ℕ)) → ReturnsLacking message lacking (Err OutOfMemory)
-    memory_lacks None = refl
-    memory_lacks (Some field) = inr refl

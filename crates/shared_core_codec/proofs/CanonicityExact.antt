@@ -354,7 +354,7 @@ module _ (nested : NestedAcceptance) (left : ℕ) (back : (t : ℕ) (ps : Parts)
 
   -- ---- the whole list
 
-  value_comes : (v : Parts) (rows : List Row) → are_distinct (all_numbers rows) ≡ true → list_all may_be_empty rows ≡ true → Fits table v rows → levels v ≤ left → list_all encodable (message_records table v rows) ≡ true
+  pub value_comes : (v : Parts) (rows : List Row) → are_distinct (all_numbers rows) ≡ true → list_all may_be_empty rows ≡ true → Fits table v rows → levels v ≤ left → list_all encodable (message_records table v rows) ≡ true
       → all_come nested (rows, total_size (message_records table v rows)) (message_records table v rows) ≡ true
   unfolding PartFits part_values levels total_size
   value_comes nil [] d m h l c = refl
@@ -371,13 +371,13 @@ module _ (nested : NestedAcceptance) (left : ℕ) (back : (t : ℕ) (ps : Parts)
 
 -- ---- at any nesting depth
 
-records_encoded : (left : ℕ) (rs : List FieldRecord) → list_all encodable rs ≡ true → record_list left (record_list_bytes rs) ≡ Some rs
+pub records_encoded : (left : ℕ) (rs : List FieldRecord) → list_all encodable rs ≡ true → record_list left (record_list_bytes rs) ≡ Some rs
 records_encoded left [] h = records_empty left
 records_encoded left (r ∷ rs) h =
     let e = and_split _ _ h in
     records_append left (record_bytes r) (record_list_bytes rs) (r ∷ []) rs (record_encoded left r e.0) (records_encoded left rs e.1)
 
-records_encode : (left s : ℕ) (v : Parts) → Fits table v (table s) → levels v ≤ left → length (canonical_payload table s v) < 2 ^ 64 → list_all encodable (message_records table v (table s)) ≡ true
+pub records_encode : (left s : ℕ) (v : Parts) → Fits table v (table s) → levels v ≤ left → length (canonical_payload table s v) < 2 ^ 64 → list_all encodable (message_records table v (table s)) ≡ true
 unfolding accepts_message message_overlay
 records_encode zero s v h l z =
     (level_back table (message_overlay table zero) (accepts_message table zero) zero (λ t ps f k c. absurd (omega arith)) v (table s) (are_schemas s) h l z).encodes

@@ -134,9 +134,6 @@ no_message left s (Fixed32 bytes) h = refl
 abbrev pub Joins : ℕ → List ℕ → List (List ℕ) → Parts → Type 0
 Joins s first rest v = All (IsAccepted s) rest × IsAccepted s (first ++ concat rest) × (v ≡ payload_meaning s (first ++ concat rest))
 
-pub joins_nil : (s : ℕ) (first : List ℕ) (v : Parts) → IsAccepted s first → v ≡ payload_meaning s first → Joins s first [] v
-joins_nil s first v h e = rw append-nil (All-nil (IsAccepted s), h, e)
-
 pub joins_cons : (s : ℕ) (first : List ℕ) (rest : List (List ℕ)) (part : List ℕ) (v w : Parts) → Joins s first rest v → IsAccepted s part → w ≡ merged_payload s v part → Joins s first (rest ++ part ∷ []) w
 joins_cons s first rest part v w h g e =
     let whole : first ++ concat (rest ++ part ∷ []) ≡ (first ++ concat rest) ++ part =

@@ -60,7 +60,7 @@ pub record AreLeft (rows left : List Row) : Type 0 where
 pub all_left : (s : ℕ) → AreLeft (table s) (table s)
 all_left s = record { distinct = (and_split _ _ (are_schemas s)).1; finds = λ n f e. e }
 
-later_left : (rows : List Row) (row : Row) (left : List Row) → AreLeft rows (row ∷ left) → AreLeft rows left
+pub later_left : (rows : List Row) (row : Row) (left : List Row) → AreLeft rows (row ∷ left) → AreLeft rows left
 later_left rows row left a = record {
   distinct = distinct_back (numbers row) (all_numbers left) a.distinct;
   finds = λ n f e. a.finds n f (finds_later row left n f a.distinct e);

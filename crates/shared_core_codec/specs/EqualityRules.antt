@@ -1,5 +1,7 @@
 -- Rules by which a test on fields decides whether their parts are equal; the search for the equality law of a record
 -- uses them.
+-- They are in specs, since a law of an impl may cite the specs of its own crate alone. The parts of an enum are an
+-- injection of all integers, those out of its range too, since in a law an integer has no range.
 use Rattle.std.specs.Prelude.{ℕ, ℤ, pos, negsuc, ◌≡◌, ◌+◌, ◌-◌, ◌*◌, ◌^◌, ◌<◌, ◌≤◌, Bool, true, false, ◌&&◌, List, [], ◌∷◌, Option, Some, None, String, string_bytes, string_eq, refl}
 use Rattle.std.specs.Cmp.{IsEquivalence, IsPartialEquivalence, partial_equiv_from_equiv, on_equiv}
 use Rattle.std.specs.Option.{option_eq}
@@ -182,10 +184,6 @@ agree : (s t : Bool) → (s ≡ true → t ≡ true) → (t ≡ true → s ≡ t
 agree true t f g = sym (f refl)
 agree false true f g = g refl
 agree false false f g = refl
-
--- A test that decides whether values are equal is the test of values.
-pub parts_test_is : (t : Bool) (a b : Parts) → DecidesEquality t a b → t ≡ parts_equal a b
-parts_test_is t a b h = agree t (parts_equal a b) (λ k. (parts_equal_decides a b).complete (h.sound k)) (λ k. h.complete ((parts_equal_decides a b).sound k))
 
 -- A test that decides whether parts are equal is the test of parts.
 pub part_test_is : (t : Bool) (a b : Part) → DecidesEquality t a b → t ≡ part_equal a b

@@ -4,7 +4,7 @@ use Rattle.std.specs.Fmt.{decimal, comma_space}
 use Rattle.std.specs.List.{FoldsTo, join_by, list_any}
 use Rattle.std.specs.declared.fmt.Error.{Error}
 use Rattle.shared_core_base.specs.Differences.{bytes_text, diff_line}
-use Rattle.shared_core_wire.specs.Schema.{Kind, Row, Text, ByteString, Message, Plain, Optional, Repeated, OneOf, numbers, includes, member_kind}
+use Rattle.shared_core_wire.specs.Schema.{Kind, Row, Boolean, Text, ByteString, Message, Plain, Optional, Repeated, OneOf, numbers, includes, member_kind}
 use Rattle.shared_core_wire.specs.Value.{Part, Parts, Number, Bytes, Nested, Elements, Member, nil, cons}
 use Rattle.shared_core_wire.specs.Template.{part_at}
 use Rattle.shared_core_codec.specs.Table.{table}
@@ -50,11 +50,12 @@ message_text s v =
     else (if nat_eq s schema.workflow_target then codes "WorkflowTarget"
     else []))))))
 
--- What a part of a kind prints.
+-- What a part of a kind prints: a number in decimal digits, which are those of the low 32 bits of a negative enum.
 abbrev pub kind_text : Kind → Part → List ℕ
 kind_text Text (Bytes b) = b
 kind_text ByteString (Bytes b) = bytes_text b
 kind_text (Message s) (Nested v) = message_text s v
+kind_text Boolean (Number n) = if nat_eq n 0 then codes "false" else codes "true"
 kind_text k (Number n) = decimal n
 kind_text k p = []
 

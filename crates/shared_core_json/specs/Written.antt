@@ -90,7 +90,8 @@ items_tokens texts nested fields open_list (Ok r ∷ items) =
 items_tokens texts nested fields open_list (Err e ∷ items) = items_tokens texts nested fields open_list items
 
 -- The tokens of a payload of the schema s that may be nested this deep, itself included; null if the depth is 0. Groups,
--- which no schema has, are not read.
+-- which no schema has, are not read. It goes over any bytes, so that no second definition says which values a payload
+-- has; what is written is promised of canonical payloads alone.
 unfoldable pub payload_tokens : Bool → ℕ → ℕ → List ℕ → List Token
 payload_tokens texts zero s bytes = null ∷ []
 payload_tokens texts (suc left) s bytes =

@@ -45,20 +45,6 @@ byte_then (x ∷ xs) b bs = by_test (eqb x b)
     by_test true = refl
     by_test false = refl
 
--- the same for a byte of a name
-pub original_then : (text : List ℕ) (c : ℕ) (cs : List ℕ) → bytes_eq text (original_name (c ∷ cs)) ≡ elim (after_original c text) as (λ _. Bool) [ None ↦ false | Some rest ↦ bytes_eq rest (original_name cs) ]
-original_then text c cs = by_test (leb 65 c && leb c 90)
-  where
-    then_small : (o : Option (List ℕ)) → elim o as (λ _. Bool) [ None ↦ false | Some rest ↦ bytes_eq rest ((c + 32) ∷ original_name cs) ]
-        ≡ elim (option_and_then (after_byte (c + 32)) o) as (λ _. Bool) [ None ↦ false | Some rest ↦ bytes_eq rest (original_name cs) ]
-    then_small None = refl
-    then_small (Some rest) = byte_then rest (c + 32) (original_name cs)
-
-    by_test : (t : Bool) → bytes_eq text (cond t (95 ∷ (c + 32) ∷ []) (c ∷ []) ++ original_name cs)
-        ≡ elim (cond t (option_and_then (after_byte (c + 32)) (after_byte 95 text)) (after_byte c text)) as (λ _. Bool) [ None ↦ false | Some rest ↦ bytes_eq rest (original_name cs) ]
-    by_test true = byte_then text 95 ((c + 32) ∷ original_name cs) ∙ then_small (after_byte 95 text)
-    by_test false = byte_then text c (original_name cs)
-
 pub text_is : (j : Json) (s t : List ℕ) → Some s ≡ as_str j → t ≡ s → is_utf8 t ≡ true → text_read j ≡ Some t
 text_is j s t e q u = ap (λ (o : Option (List ℕ)). option_and_then utf8_text o) (sym e) ∙ ap utf8_text (sym q) ∙ ap (λ (b : Bool). cond b (Some t) None) u
 

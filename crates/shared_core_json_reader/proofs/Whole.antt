@@ -50,11 +50,5 @@ payload_means s j out e z =
 
 -- ---- the payload of a text
 
-pub text_of_none : (s : ℕ) (text : List ℕ) → json_of_text text ≡ None → text_payload s text ≡ None
-text_of_none s text e = ap (λ (o : Option Json). option_map (canonical_payload table s) (option_and_then (message_read 101 s) o)) e
-
 pub text_of_value : (s : ℕ) (text : List ℕ) (j : Json) → json_of_text text ≡ Some j → text_payload s text ≡ value_payload s j
 text_of_value s text j e = ap (λ (o : Option Json). option_map (canonical_payload table s) (option_and_then (message_read 101 s) o)) e
-
-pub text_means : (s : ℕ) (text : List ℕ) (j : Json) → json_of_text text ≡ Some j → text_meaning s text ≡ message_read 101 s j
-text_means s text j e = ap (λ (o : Option Json). option_and_then (message_read 101 s) o) e

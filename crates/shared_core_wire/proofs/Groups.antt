@@ -12,10 +12,6 @@ pub record_is : (group : ℕ → List ℕ → Option (List ℕ × List ℕ)) (by
 unfolding record_with
 record_is group bytes after rest n w v k e = rw (k, e) refl
 
-pub record_no_key : (group : ℕ → List ℕ → Option (List ℕ × List ℕ)) (bytes : List ℕ) → key_at bytes ≡ None → record_with group bytes ≡ None
-unfolding record_with
-record_no_key group bytes k = rw k refl
-
 pub record_no_value : (group : ℕ → List ℕ → Option (List ℕ × List ℕ)) (bytes after : List ℕ) (n w : ℕ) → key_at bytes ≡ Some (n, w, after) → value_with group n w after ≡ None → record_with group bytes ≡ None
 unfolding record_with
 record_no_value group bytes after n w k e = rw (k, e) refl
