@@ -109,8 +109,8 @@ enough zero (suc b) level f h l = sym (ap (λ (es : List LevelField). (level, f)
 enough (suc a) zero level f h l = ap (λ (es : List LevelField). (level, f) ∷ es) (none_within _ f.2 f.1.0 l)
 enough (suc a) (suc b) level f h l =
     ap (λ (es : List LevelField). (level, f) ∷ es) (same_within _ _ f.2 f.1.0 (λ s ps e.
-      same_entries (field_entries a (level + 1)) (field_entries b (level + 1)) (levels ps) (message_fields (table s) ps) (own_low s ps)
-      (λ g j. let in_a = message_low a f.2 ps e h in let in_b = message_low b f.2 ps e l in enough a b (level + 1) g (omega (arith, in_a, j)) (omega (arith, in_b, j)))))
+    same_entries (field_entries a (level + 1)) (field_entries b (level + 1)) (levels ps) (message_fields (table s) ps) (own_low s ps)
+    (λ g j. let in_a = message_low a f.2 ps e h in let in_b = message_low b f.2 ps e l in enough a b (level + 1) g (omega (arith, in_a, j)) (omega (arith, in_b, j)))))
 
 pub all_entries : (left level s : ℕ) (v : Parts) → levels v ≤ left → flat_map (field_entries left level) (message_fields (table s) v) ≡ message_entries level s v
 all_entries left level s v h =

@@ -48,7 +48,7 @@ fn append_within<'a>(
     requires { level + left ≤ 100 }
     ensures { OnOk result (map entry_view out.new.items ≡ map entry_view out.old.items
         ++ flat_map (field_entries left level)
-            (message_fields (table payload.entry.schema) (payload_meaning payload.entry.schema payload.entry.bytes.now))) }
+        (message_fields (table payload.entry.schema) (payload_meaning payload.entry.schema payload.entry.bytes.now))) }
 {
     for field in payload.fields() {
         out.push(Entry { level, field })?;
