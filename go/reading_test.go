@@ -3,6 +3,7 @@ package pendratsoa
 import (
 	"bytes"
 	"errors"
+	"fmt"
 	"strings"
 	"testing"
 )
@@ -60,7 +61,7 @@ func TestJSONThatIsNotTaken(t *testing.T) {
 		t.Error(err)
 	}
 	_, err = Payload(Schemas, []byte("{}"))
-	wantError(t, err, ErrUnknown, "pendratsoa: Payload: schema 53: unknown, or not of the kind that the call is for")
+	wantError(t, err, ErrUnknown, fmt.Sprintf("pendratsoa: Payload: schema %d: unknown, or not of the kind that the call is for", Schemas))
 	for _, kind := range []uint64{9, 1 << 63} {
 		if _, err := readingOf([]uint64{kind, 0}, nil); !errors.Is(err, ErrUnexpected) {
 			t.Errorf("kind %d: %v", kind, err)

@@ -3,6 +3,7 @@ package pendratsoa
 import (
 	"bytes"
 	"errors"
+	"fmt"
 	"math"
 	"regexp"
 	"strconv"
@@ -82,7 +83,7 @@ func TestUnknownNumbersAndNames(t *testing.T) {
 	_, err = Frame(8, 0xfc01, nil)
 	wantError(t, err, ErrUnknown, "pendratsoa: Frame: code 0xfc01"+unknown)
 	_, err = Canonical(Schemas, nil)
-	wantError(t, err, ErrUnknown, "pendratsoa: Canonical: schema 53"+unknown)
+	wantError(t, err, ErrUnknown, fmt.Sprintf("pendratsoa: Canonical: schema %d", Schemas)+unknown)
 }
 
 func TestNoNumberIsCut(t *testing.T) {

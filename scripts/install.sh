@@ -89,6 +89,7 @@ done
 command -v rt > /dev/null || not_installed 'there is no rt, the command of the Rattle toolchain'
 
 sh "$top/scripts/static_library.sh" --target "$machine" journal_ffi
+# one after the other: rt locks a crate and those below it, and proves its functions side by side
 for program in $programs; do
   sh "$top/scripts/program.sh" "$program" > /dev/null || not_installed "$program is not proved"
 done

@@ -6,7 +6,7 @@ has to reject. Of the crates that are named, with --above also of all crates tha
 with no name, of all crates. The gate tries must-fail/ alone, since a mutant takes seconds to a minute.
 
 It works on a copy of crates/ in a temporary folder (below TMPDIR, or /tmp), with what earlier checks kept in out/, so
-nothing here changes and other checks can run beside it. What is not yet proved of a crate and of those below it is
+nothing in crates/ changes and other checks can run beside it. What is not yet proved of a crate and of those below it is
 proved first: minutes on a fresh clone. N crates are tried at once, 2 by default, each in up to 3 GB of memory. A
 line for each mutant, once its crate is through:
 
@@ -18,12 +18,15 @@ line for each mutant, once its crate is through:
   not tried CRATE/NAME: the prover ended before it
 
 The last line is 'N passed, M failed', where only the refused ones have passed. The status is 0 where none failed, 2
-for a wrong argument, else 1.
+for a wrong argument, else 1. If crates/ is as the last commit has it, docs/mutants.tried says afterwards that those
+which were refused were tried over that commit.
 """
 from __future__ import annotations
 
 import argparse
+import collections.abc
 import concurrent.futures
+import datetime
 import fcntl
 import os
 import pathlib
@@ -55,6 +58,13 @@ VERDICTS = (
 
 # The last lines of a log that is shown.
 LOG_LINES = 20
+
+# Which mutants were refused over which commit, and when: after a comment a line for each, sorted.
+TRIED = pathlib.Path("docs/mutants.tried")
+COMMENT = "# CRATE/MUTANT COMMIT DATE: each was refused over this commit. scripts/mutants.sh writes it.\n"
+
+# What a mutant is tried over.
+SOURCES = ("crates", "crates.txt", "HANDLES")
 
 
 class Stop(Exception):
@@ -242,8 +252,53 @@ def written(file: pathlib.Path) -> tuple[int, int] | None:
     return state.st_ino, state.st_mtime_ns
 
 
+def is_mutant(name: str) -> bool:
+    """Whether there is a mutant CRATE/NAME."""
+    crate, _, stem = name.partition("/")
+    return any(os.path.exists(f"crates/{crate}/{folder}/{stem}.edit") for folder in FOLDERS)
+
+
+def with_tried(
+    text: str, verdicts: list[str], commit: str, date: str, is_there: collections.abc.Callable[[str], bool]
+) -> str:
+    """The text of TRIED after a run with these lines: what was refused was tried over this commit. It says nothing of
+    what was tried and not refused, and of mutants that are not there any more."""
+    tried = {line.split()[0]: line for line in text.splitlines() if line and not line.startswith("#")}
+    for line in verdicts:
+        verdict = re.match(f"({'|'.join({how for _, how in VERDICTS})}) ([a-z0-9_]+/[a-z0-9_]+)(:|$)", line)
+        if verdict and verdict[1] == "refused":
+            tried[verdict[2]] = f"{verdict[2]} {commit} {date}"
+        elif verdict and verdict[1] != "not tried":
+            tried.pop(verdict[2], None)
+    return COMMENT + "".join(f"{tried[name]}\n" for name in sorted(tried) if is_there(name))
+
+
+def git(*words: str) -> str | None:
+    """What git prints; nothing where it fails."""
+    try:
+        return subprocess.run(["git", *words], capture_output=True, text=True, check=True).stdout.strip()
+    except (OSError, subprocess.CalledProcessError):
+        return None
+
+
+def clean_commit() -> str | None:
+    """The last commit, if what mutants are tried over is as it has it."""
+    return git("rev-parse", "--short=7", "HEAD") if git("status", "--porcelain", "--", *SOURCES) == "" else None
+
+
+def note_tried(verdicts: list[str], commit: str | None) -> None:
+    """Writes in TRIED what was tried over a commit."""
+    if commit is None:
+        print(f"mutants.sh: {TRIED} stays as it is, since crates/ is not that of a commit", file=sys.stderr)
+        return
+    date = datetime.datetime.now(datetime.timezone.utc).date().isoformat()
+    text = TRIED.read_text(encoding="utf-8") if TRIED.exists() else ""
+    TRIED.write_text(with_tried(text, verdicts, commit, date, is_mutant), encoding="utf-8")
+
+
 def try_mutants(room: pathlib.Path, jobs: int, words: list[str]) -> int:
     """Tries these mutants, prints the lines and the tally, and returns the status."""
+    commit = clean_commit()
     copied = Copy(room, jobs)
     for word in words:
         crate, _, name = word.partition("/")
@@ -258,6 +313,7 @@ def try_mutants(room: pathlib.Path, jobs: int, words: list[str]) -> int:
         lines = copied.try_all(names)
     finally:
         copied.end()
+    note_tried(lines, commit)
     passed = sum(line.startswith("refused ") for line in lines)
     failed = sum(not line.startswith((" ", "refused ")) for line in lines)
     print(f"{passed} passed, {failed} failed")

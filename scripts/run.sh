@@ -34,6 +34,7 @@ page() {
     is_shown' "$top/docs/PROGRAMS.md"
 }
 
+# Arguments are given to the program as they are: a parser here would have to follow each of its options.
 how=--unproved
 if [ "${1-}" = --proved ]; then
   how=

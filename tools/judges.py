@@ -10,7 +10,7 @@ import sys
 sys.dont_write_bytecode = True
 
 from generators import ROOT, comparisons  # noqa: E402
-from generators.proto import OneOf, command_types, earlier, messages, schemas, typed  # noqa: E402
+from generators.proto import OneOf, earlier, messages, typed  # noqa: E402
 
 counts = [0, 0]
 
@@ -80,6 +80,8 @@ def compared():
     }
     for about, found in hand.items():
         same(f"what is {about}, in tools/generators/comparisons.py", lines[about], found)
+    for what in ("what is never compared", "what is a payload", "what is printed"):
+        same(f"{what}, on the page conformance/README.md", {what}, {what} - set(comparisons.said_on_the_page()))
 
 
 def rules():
@@ -89,9 +91,6 @@ def rules():
 
 
 def main():
-    # both reject a description that contradicts itself
-    command_types()
-    schemas()
     for judge in (frames, compared, rules):
         judge()
     print(f"{counts[0]} passed, {counts[1]} failed")

@@ -27,7 +27,7 @@ sys.dont_write_bytecode = True
 
 from generators import ROOT  # noqa: E402
 from generators.commands import name_number  # noqa: E402
-from generators.proto import COMMANDS, HAND_WRITTEN, NOTIFICATIONS, PROTO, TEMPLATE, fields_of, messages, schemas  # noqa: E402
+from generators.proto import COMMANDS, HAND_WRITTEN, NOTIFICATIONS, PROTO, TEMPLATE, fields_of, messages, of_text, schemas  # noqa: E402
 
 # The type that stays: its code is the last one of notifications.
 LAST_TYPE = "SignalNotificationMessage"
@@ -148,7 +148,7 @@ def main():
     codes = type_codes(draw, found)
     text, said = with_numbers(PROTO.read_text(encoding="utf-8"), found, numbers, codes, schema_places(draw))
     # what the description cannot say is rejected before it is written
-    messages(text)
+    of_text(text)
     PROTO.write_text(text, encoding="utf-8")
     print("\n".join(said))
     old = {field.line: field.number for message in found for field in fields_of(message)}

@@ -65,7 +65,13 @@ class TestErrors(unittest.TestCase):
                 BAD,
                 "frame: payload b'\\x12' is not well-formed",
             ),
-            (lambda: pendratsoa.canonical(53, b""), Unknown, "schema", 53, "canonical: there is no schema 53"),
+            (
+                lambda: pendratsoa.canonical(pendratsoa.SCHEMAS, b""),
+                Unknown,
+                "schema",
+                pendratsoa.SCHEMAS,
+                f"canonical: there is no schema {pendratsoa.SCHEMAS}",
+            ),
             (
                 lambda: pendratsoa.to_json("Sleep", b""),
                 Unknown,

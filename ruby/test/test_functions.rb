@@ -73,7 +73,7 @@ class TestNames < Minitest::Test
       "header: code 8 is not that of a type" => -> { Pendratsoa.header(8, 8, 0) },
       "frame: there is no version 10" => -> { Pendratsoa.frame(10, 0, "") },
       "frame: code 64513 is not that of a named type" => -> { Pendratsoa.frame(8, 64_513, "") },
-      "canonical: there is no schema 53" => -> { Pendratsoa.canonical(53, "") },
+      "canonical: there is no schema #{Pendratsoa::SCHEMAS}" => -> { Pendratsoa.canonical(Pendratsoa::SCHEMAS, "") },
       "notification: code 1037 is not that of a notification" => -> { Pendratsoa.notification(1037, "") },
       "header_eq?: code 0 is not that of a command" => -> { Pendratsoa.header_eq?(0, "", "") },
       "difference: code 0 is not that of a command" => -> { Pendratsoa.difference(0, "", "") },

@@ -99,7 +99,7 @@ class TestArguments < Minitest::Test
   def random_value(random, kind, value, bytes)
     case kind
     when :bytes then bytes.sample(random: random)
-    when :schema then random.rand(-1..53)
+    when :schema then random.rand(-1..Pendratsoa::SCHEMAS)
     when :version then random.rand(4..10)
     else random.rand(2).zero? ? value : random.rand(1 << 16)
     end

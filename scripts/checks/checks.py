@@ -10,8 +10,10 @@ import dataclasses
 import itertools
 import os
 import pathlib
+import re
 import resource
 import shutil
+import signal
 import subprocess
 import sys
 import tempfile
@@ -21,6 +23,7 @@ ROOT = pathlib.Path(__file__).resolve().parents[2]
 sys.path[1:1] = [str(ROOT / "scripts"), str(ROOT / "tools")]
 
 import crates  # noqa: E402
+import tally  # noqa: E402
 
 # The programs that are installed.
 PROGRAMS = ("journal_list", "journal_diff", "journal_dump", "journal_make")
@@ -62,21 +65,43 @@ class Run:
         return f"status {self.status}, standard output and standard error:\n{beginning(self.out)}{beginning(self.err)}"
 
 
+# What a program reads: bytes, through a pipe, or a file or a folder.
+Given = typing.Union[bytes, str, pathlib.Path]
+
+
 def run(
-    words: collections.abc.Sequence[str | pathlib.Path],
-    given: bytes = b"",
-    env: dict[str, str] | None = None,
-    cwd: pathlib.Path | None = None,
+    words: collections.abc.Sequence[str | bytes | pathlib.Path],
+    given: Given = b"",
     kibibytes: int | None = None,
+    file_size: int | None = None,
+    closed: collections.abc.Sequence[int] = (),
+    **how: typing.Any,
 ) -> Run:
-    """Runs a program with this standard input, and with so many KiB of address space."""
+    """Runs a program with this standard input, with so many KiB of address space, with files that do not grow past a
+    number of bytes, and with these descriptors closed. What it writes is kept, unless `stdout` or `stderr` says where
+    it goes."""
 
-    def bound() -> None:
-        resource.setrlimit(resource.RLIMIT_AS, (kibibytes * 1024, resource.getrlimit(resource.RLIMIT_AS)[1]))
+    def prepare() -> None:
+        if kibibytes is not None:
+            resource.setrlimit(resource.RLIMIT_AS, (kibibytes * 1024, resource.getrlimit(resource.RLIMIT_AS)[1]))
+        if file_size is not None:
+            signal.signal(signal.SIGXFSZ, signal.SIG_IGN)
+            resource.setrlimit(resource.RLIMIT_FSIZE, (file_size, file_size))
+        for descriptor in closed:
+            os.close(descriptor)
 
-    preexec = bound if kibibytes is not None else None
-    ended = subprocess.run(words, input=given, capture_output=True, env=env, cwd=cwd, preexec_fn=preexec)
-    return Run(ended.returncode, ended.stdout, ended.stderr)
+    # by name, since a program may also be given a folder, which Python does not open
+    source = None if isinstance(given, bytes) else os.open(given, os.O_RDONLY)
+    if kibibytes is not None or file_size is not None or closed:
+        how["preexec_fn"] = prepare
+    try:
+        how = {"stdout": subprocess.PIPE, "stderr": subprocess.PIPE, **how}
+        where = {"input": given} if source is None else {"stdin": source}
+        ended = subprocess.run(words, **where, **how)
+    finally:
+        if source is not None:
+            os.close(source)
+    return Run(ended.returncode, ended.stdout or b"", ended.stderr or b"")
 
 
 class NotRun(Exception):
@@ -110,6 +135,19 @@ class Check:
         ended = run(words, **how)
         return self.case(name, ended.status == 0, ended)
 
+    def counted(self, name: str, words: collections.abc.Sequence[str | pathlib.Path], **how: typing.Any) -> Run:
+        """Adds what a command has counted, whose last line is 'N passed, M failed', and shows what it says of failures."""
+        ended = run(words, **how)
+        counts = re.search(rb"^(\d+) passed, (\d+) failed\n\Z", ended.out, re.MULTILINE)
+        if not counts:
+            self.case(name, False, ended)
+            return ended
+        self.passed += int(counts[1])
+        self.failed += int(counts[2])
+        if int(counts[2]):
+            print(beginning(ended.out), end="")
+        return ended
+
     def same(self, name: str, expected: Text, found: Text) -> bool:
         """Counts a case, which is right where both are the same and not empty."""
         return self.case(name, found == expected and bool(found), difference(expected, found))
@@ -139,16 +177,17 @@ class Check:
         if not shutil.which(tool):
             raise NotRun(f"there is no {tool}; the Debian package {package} has it")
 
-    def program(self, crate: str) -> pathlib.Path:
-        """The proved program of a crate, which rt ci or scripts/run.sh --proved leaves in out/; else the check ends."""
-        place = f"crates/{crate}/out/{crate}"
+    def program(self, name: str) -> pathlib.Path:
+        """The proved program of this name; where there is none, or it is older than a source, the check ends."""
+        place = program_path(name)
+        shown = place.relative_to(ROOT)
         if not os.access(place, os.X_OK):
-            why = f"there is no {place}"
-        elif not crates.is_up_to_date(ROOT / place, crate):
-            why = f"{place} is older than a source"
+            why = f"there is no {shown}"
+        elif not crates.is_up_to_date(place, name):
+            why = f"{shown} is older than a source"
         else:
-            return ROOT / place
-        raise NotRun(f"{why}; sh scripts/run.sh --proved {crate.removeprefix('journal_')} builds it")
+            return place
+        raise NotRun(f"{why}; sh scripts/run.sh --proved {name.removeprefix('journal_')} builds it")
 
     def static_library(self) -> None:
         """Builds the proved static library for C where it is not there; where it cannot be built the check ends."""
@@ -161,6 +200,22 @@ class Check:
         if status != 0:
             self.failed += 1
             raise Stopped
+
+
+def program_path(name: str) -> pathlib.Path:
+    """Where rt ci or scripts/run.sh --proved leaves a program."""
+    return ROOT / "crates" / name / "out" / name
+
+
+def python_with_protobuf() -> str:
+    """A Python that has protobuf, or '' where there is none, or no protoc with the file that proto/journal.proto
+    imports."""
+    if shutil.which("protoc") is None:
+        return ""
+    if run(["protoc", "-Iproto", "--descriptor_set_out=/dev/null", "journal.proto"], cwd=ROOT).status != 0:
+        return ""
+    pythons = (python for python in ("/usr/bin/python3", "python3") if shutil.which(python))
+    return next((python for python in pythons if run([python, "-c", "import google.protobuf"]).status == 0), "")
 
 
 def library_version() -> str:
@@ -190,3 +245,14 @@ def perform(body: collections.abc.Callable[[Check], None]) -> typing.NoReturn:
             pass
     print(f"{check.passed} passed, {check.failed} failed")
     sys.exit(check.failed > 0)
+
+
+def perform_tests(programs: collections.abc.Sequence[str]) -> typing.NoReturn:
+    """Performs a check that is Python's unittest, over these proved programs; words name some of its tests."""
+
+    def body(check: Check) -> None:
+        for name in programs:
+            check.program(name)
+        check.passed, check.failed = tally.count(sys.argv[1:])
+
+    perform(body)

@@ -1,6 +1,7 @@
 """Runs a command once for each of its allocations, with that one failing, and at last with none.
 
-The command has tests/c/refuse.c, by LD_PRELOAD or linked into it.
+The command has tests/c/refuse.c, by LD_PRELOAD or linked into it. failing_allocations.py PROGRAM runs a program so with
+the name of each test that is a line of the standard input; it has to succeed.
 """
 from __future__ import annotations
 
@@ -9,6 +10,7 @@ import concurrent.futures
 import dataclasses
 import os
 import pathlib
+import sys
 
 import checks
 
@@ -40,7 +42,7 @@ def sweep(words: list[str], given: bytes, is_right: IsRight, first: int, counted
     is_failing = True
     while is_failing and len(found.wrong) < WRONG:
         env = {**os.environ, "REFUSE": str(number)}
-        run = checks.run(["sh", "-c", 'exec 3> "$0"; exec "$@"', counted, *words], given, env)
+        run = checks.run(["sh", "-c", 'exec 3> "$0"; exec "$@"', counted, *words], given, env=env)
         found.allocations = int(counted.read_text() or 0)
         is_failing = found.allocations >= number
         if not is_right(run, is_failing):
@@ -66,3 +68,12 @@ def each_fails(check: checks.Check, name: str, words: list[str], given: bytes, i
     print(f"{name}: {right} of {allocations} allocations failed in turn")
     if allocations == 0:
         check.case(f"{name}: no allocation is seen", False)
+
+
+def main(check: checks.Check) -> None:
+    for test in sys.stdin.read().split():
+        each_fails(check, test, [sys.argv[1], test], b"", lambda run, is_failing: run.status == 0)
+
+
+if __name__ == "__main__":
+    checks.perform(main)

@@ -75,7 +75,7 @@ class Installation:
         ]
         for (name, *words), expected in results:
             env = {"PATH": os.environ["PATH"]}
-            ended = checks.run([self.prefix / "bin" / name, *words], given, env, self.check.work)
+            ended = checks.run([self.prefix / "bin" / name, *words], given, env=env, cwd=self.check.work)
             self.check.case(f"{' '.join(map(str, (name, *words)))}, installed", ended == expected, ended)
 
     def man_pages(self) -> None:

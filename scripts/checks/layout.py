@@ -1,5 +1,5 @@
 #!/usr/bin/env python3
-"""The layout of `rt fmt`, lines of at most 120 characters, and mutants whose old texts occur once.
+"""The layout of `rt fmt`, lines of at most 120 characters, mutants whose old texts occur once, and which were tried.
 
 The gate proves nothing of a crate with a file in another layout, and a mutant whose text has moved shows nothing; both
 are seen here within seconds.
@@ -12,12 +12,16 @@ import re
 import shutil
 
 import checks
+import mutants as trying
 from generators import rattle
 
 WIDTH = 120
 
 # What `rt fmt` keeps on one line: a path, an attribute, a text.
 IS_KEPT = re.compile(r' *(ghost use|#\[)|.*"')
+
+# Files of definitions and proofs that still have longer lines, sorted. The list may only become shorter.
+STILL_LONG = pathlib.Path("scripts/checks/long_lines.txt")
 
 
 def files(*folders: str, endings: tuple[str, ...]) -> list[pathlib.Path]:
@@ -45,14 +49,31 @@ def layout(check: checks.Check) -> None:
     check.command("the layout of tests/", [*words, *copies])
 
 
+def too_long(file: pathlib.Path) -> list[str]:
+    """The lines of a file that are too long, each with its place."""
+    lines = enumerate(file.read_text(encoding="utf-8").splitlines(), 1)
+    return [f"\n{file}:{number}:{line}" for number, line in lines if len(line) > WIDTH]
+
+
 def long_lines(check: checks.Check) -> None:
-    """Lines have at most 120 characters, but for what `rt fmt` keeps on one line."""
-    found = []
-    for file in files("crates", "tests", "examples", endings=(".rt", ".rt.in")):
-        for number, line in enumerate(file.read_text(encoding="utf-8").splitlines(), 1):
-            if len(line) > WIDTH and not IS_KEPT.match(line):
-                found.append(f"\n{file}:{number}:{line}")
+    """Lines of code have at most 120 characters, but for what `rt fmt` keeps on one line."""
+    found = [
+        place for file in files("crates", "tests", "examples", endings=(".rt", ".rt.in")) for place in too_long(file)
+        if not IS_KEPT.match(place.split(":", 2)[2])
+    ]
     check.case(f"lines of at most {WIDTH} characters", not found, "".join(found[:checks.LINES]))
+
+
+def long_definitions(check: checks.Check) -> None:
+    """Lines of definitions and proofs too, but for the files that are listed."""
+    listed = STILL_LONG.read_text(encoding="utf-8").splitlines()
+    check.case(f"{STILL_LONG} is sorted", listed == sorted(set(listed)))
+    long = {str(file): places for file in files("crates", endings=(".antt",)) if (places := too_long(file))}
+    for file in sorted({*listed, *long}):
+        if file not in listed:
+            check.case(f"lines of at most {WIDTH} characters", False, "".join(long[file][:checks.LINES]))
+        else:
+            check.case(f"{file} has no longer line: take it off {STILL_LONG}", file in long)
 
 
 def complaint(edit: pathlib.Path) -> str | None:
@@ -83,10 +104,30 @@ def mutants(check: checks.Check) -> None:
         check.case(str(edit), why is None, why)
 
 
+def tried_mutants(check: checks.Check) -> None:
+    """Which mutants were tried is written as it should be, of those that are there."""
+    text = trying.TRIED.read_text(encoding="utf-8")
+    check.same(f"{trying.TRIED}, as written anew", trying.with_tried(text, [], "", "", trying.is_mutant), text)
+    for line in text.removeprefix(trying.COMMENT).splitlines():
+        check.case(f"{trying.TRIED}: {line}", bool(re.fullmatch("[a-z_]+/[a-z0-9_]+ [0-9a-f]{7,} 20[0-9-]{8}", line)))
+
+    # after a run with each kind of line
+    before = f"{trying.COMMENT}a/gone 1111111 2020-01-01\na/let 1111111 2020-01-01\na/not 1111111 2020-01-01\n"
+    verdicts = [
+        "refused b/new: error: f", "    refused a/deeper: a line that goes on", "let through a/let: f",
+        "not tried a/not", "cannot be applied a/bad: why", "says little a/little", "refused a/old",
+    ]
+    after = "a/not 1111111 2020-01-01\na/old 2222222 2020-02-02\nb/new 2222222 2020-02-02\n"
+    found = trying.with_tried(before, verdicts, "2222222", "2020-02-02", lambda name: name != "a/gone")
+    check.same("which mutants were tried, after a run", trying.COMMENT + after, found)
+
+
 def main(check: checks.Check) -> None:
     layout(check)
     long_lines(check)
+    long_definitions(check)
     mutants(check)
+    tried_mutants(check)
 
 
 if __name__ == "__main__":

@@ -61,7 +61,7 @@ def programs(check: checks.Check, root: pathlib.Path) -> None:
     words = ["cc", "-I", root / "usr/include", "examples/c/listing.c", library, "-o", listing]
     if check.command(f"cc, {name}", words):
         env = {**os.environ, "LD_LIBRARY_PATH": str(root / LIBRARIES)}
-        ended = checks.run([listing], stream.read_bytes(), env)
+        ended = checks.run([listing], stream.read_bytes(), env=env)
         check.same(name, (STREAMS / "replay.stdout").read_bytes(), ended.out)
 
 

@@ -1,7 +1,7 @@
 #!/usr/bin/env python3
 """Links, paths, worked lines and the names in tables of promises exist; the README shows what runs.
 
-Each link, anchor and path of this repository in `code`, the length of lines, the index of decisions, each worked line
+Each link, anchor and path of this repository in `code`, the length of lines, the form of decisions, each worked line
 of conformance, the test vectors of each rule, the README's page of code and the dump that it shows, each name in a
 table of promises, in the crates of its section, and the version of the library. What is missing is shown before the
 last line.
@@ -59,8 +59,6 @@ VERSIONS = (
     ("ruby/README.md", r"pendratsoa-"),
     ("ruby/lib/pendratsoa/functions.rb", r'The version of the library, as "'),
     ("ruby/lib/pendratsoa/version.rb", r'VERSION = "'),
-    ("scripts/checks/diff.sh", r"'journal_diff "),
-    ("scripts/checks/dump.sh", r"'journal_dump "),
 )
 
 
@@ -146,10 +144,15 @@ def long_lines() -> Found:
 
 
 def decisions() -> Found:
-    """Each decision is in the index."""
+    """Each section of the decisions is in the index, and each decision says what was rejected."""
     page = "docs/DECISIONS.md"
-    for anchor in headings(page):
-        yield page, f"the index lacks #{anchor}", anchor == "decisions" or f"(#{anchor})" in text(page)
+    index, *sections = re.split("^## ", text(page), flags=re.MULTILINE)
+    for section in sections:
+        name, *entries = re.split("^### ", section, flags=re.MULTILINE)
+        yield page, f"the index lacks {name.strip()}", f"[{name.strip()}](#" in " ".join(index.split())
+        for entry in entries:
+            title = entry.partition("\n")[0]
+            yield page, f"{title}: nothing begins with 'Rejected: '", "\n\nRejected: " in entry
 
 
 def worked_lines() -> Found:

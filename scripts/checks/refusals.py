@@ -1,62 +1,28 @@
 #!/usr/bin/env python3
-"""Each allocation of journal_list and journal_diff fails in turn; that of the tests is in tests.sh.
+"""Each allocation of the programs fails in turn; that of the tests is in tests.py.
 
-The programs run once for each allocation that they make, with that one failing, and at last with none. journal_list has
-to write its listing, or whole lines at the beginning of it and that it is out of memory, and journal_diff its verdict,
-or nothing and that it is out of memory; both succeed if no allocation fails.
+The programs run once for each allocation that they make, with that one failing, and at last with none. journal_list and
+journal_dump have to write their lines, or whole lines at the beginning of them and that they are out of memory,
+journal_diff and journal_make all, or nothing and that they are out of memory; all succeed if no allocation fails.
 
-It takes the programs that rt ci has proved and built, and tests/c/refuse.c, which counts their allocations and makes
-one of them fail. Each failed allocation counts as one.
+It takes the proved programs, and tests/c/refuse.c, which counts their allocations and makes one of them fail. Each
+failed allocation counts as one.
 """
 from __future__ import annotations
 
-import os
 import pathlib
 import re
-import shutil
 
 import checks
 from failing_allocations import each_fails
 
 STREAMS = pathlib.Path("examples/streams")
-JOURNALS = ("crates/journal_diff/data/recorded", "crates/journal_diff/data/replayed")
+DIFF = pathlib.Path("crates/journal_diff")
+JOURNALS = f"{DIFF}/data/recorded {DIFF}/data/replayed"
 SIZES = ("3", "4096")
 
 # At v9 an unknown message is skipped with its payload.
 SKIPPED = b"skipped 0x8 8\nrest 0\n"
-
-
-class Refusals:
-    """The programs over what makes an allocation fail."""
-
-    def __init__(self, check: checks.Check):
-        self.check = check
-        self.preload = f"LD_PRELOAD={check.work}/refuse.so"
-
-    def each_fails(self, program: str, words: tuple[str, ...], stream: pathlib.Path, name: str, is_right) -> None:
-        path = f"crates/{program}/out/{program}"
-        each_fails(self.check, name, ["env", self.preload, path, *words], stream.read_bytes(), is_right)
-
-    def listing(self, stream: pathlib.Path, listing: bytes, *words: str) -> None:
-        """journal_list on a stream, which is to write this listing."""
-
-        def is_right(run: checks.Run, is_failing: bool) -> bool:
-            if is_failing and run.status == 1:
-                is_whole = run.out == b"" or run.out.endswith(b"\n")
-                return run.err == b"journal_list: out of memory\n" and listing.startswith(run.out) and is_whole
-            return run == checks.Run(0, listing, b"")
-
-        self.each_fails("journal_list", words, stream, f"journal_list {' '.join(words)} < {stream}", is_right)
-
-    def verdict(self, status: int, verdict: bytes, *words: str) -> None:
-        """journal_diff, which is to end with this status and to write this verdict."""
-
-        def is_right(run: checks.Run, is_failing: bool) -> bool:
-            if is_failing and run.status == 2:
-                return run == checks.Run(2, b"", b"journal_diff: out of memory\n")
-            return run == checks.Run(status, verdict, b"")
-
-        self.each_fails("journal_diff", words, STREAMS / "recorded", f"journal_diff {' '.join(words)}", is_right)
 
 
 def colored(verdict: bytes) -> bytes:
@@ -66,33 +32,64 @@ def colored(verdict: bytes) -> bytes:
     return re.sub(rb"(?m)^(   value: )(.*) != (.*)", values, verdict)
 
 
+class Refusals:
+    """The programs over what makes an allocation fail."""
+
+    def __init__(self, check: checks.Check):
+        self.check = check
+        self.preload = f"LD_PRELOAD={check.work}/refuse.so"
+
+    def each_fails(self, name: str, words: str, stream: str, expected: checks.Run, failure: int, begins: bool) -> None:
+        """A program on a stream, which is to end so, or with the status `failure` if an allocation fails; then it
+        begins to write whole lines, or has written nothing."""
+        said = f"{name}: out of memory\n".encode()
+
+        def is_right(run: checks.Run, is_failing: bool) -> bool:
+            if not is_failing or run.status != failure or run == expected:
+                return run == expected
+            is_beginning = begins and run.out.endswith(b"\n") and expected.out.startswith(run.out)
+            return run.err == said and (run.out == b"" or is_beginning)
+
+        command = ["env", self.preload, self.check.program(name), *words.split()]
+        each_fails(self.check, f"{name} {words} < {stream}", command, (STREAMS / stream).read_bytes(), is_right)
+
+    def listing(self, words: str, stream: str, listing: bytes) -> None:
+        self.each_fails("journal_list", words, stream, checks.Run(0, listing, b""), 1, begins=True)
+
+    def dump(self, words: str) -> None:
+        """journal_dump, which is to write what it writes if no allocation fails."""
+        stream = "cut_short"
+        expected = checks.run([self.check.program("journal_dump"), *words.split()], (STREAMS / stream).read_bytes())
+        said = b"journal_dump: offset 21: 8 bytes after the last whole item\n"
+        is_right = expected.status == 0 and expected.out.count(b'"offset"') > 1 and expected.err == said
+        self.check.case(f"journal_dump {words}", is_right, expected)
+        self.each_fails("journal_dump", words, stream, expected, 1, begins=True)
+
+    def verdict(self, words: str, status: int, verdict: bytes) -> None:
+        self.each_fails("journal_diff", words, "recorded", checks.Run(status, verdict, b""), 2, begins=False)
+
+
 def main(check: checks.Check) -> None:
-    if not shutil.which("cc"):
-        raise checks.NotRun("there is no cc")
+    check.needs("cc", "gcc")
     words = ["cc", "-O2", "-shared", "-fPIC", "-o", check.work / "refuse.so", "tests/c/refuse.c", "-ldl"]
-    built = checks.run(words)
-    if built.status != 0:
-        check.case("cc tests/c/refuse.c", False, built)
-        return
+    check.command("cc tests/c/refuse.c", words)
+    check.stop_if_failed()
     refusals = Refusals(check)
 
-    if os.access("crates/journal_list/out/journal_list", os.X_OK):
+    for size in SIZES:
         for stream in ("replay", "unknown_type", "cut_short"):
-            for size in SIZES:
-                refusals.listing(STREAMS / stream, (STREAMS / f"{stream}.stdout").read_bytes(), size)
-        for size in SIZES:
-            refusals.listing(STREAMS / "unknown_type", SKIPPED, size, "v9")
-    else:
-        check.without("journal_list", "crates/journal_list/out/journal_list")
+            refusals.listing(size, stream, (STREAMS / f"{stream}.stdout").read_bytes())
+        refusals.listing(f"{size} v9", "unknown_type", SKIPPED)
 
-    if os.access("crates/journal_diff/out/journal_diff", os.X_OK):
-        verdict = pathlib.Path("crates/journal_diff/stdout").read_bytes()
-        refusals.verdict(1, verdict, *JOURNALS)
-        same = ("--ignore-payloads", "--protocol", "9", "-", str(STREAMS / "replayed_other_payload"))
-        refusals.verdict(0, b"same, 4 commands\n", *same)
-        refusals.verdict(1, colored(verdict), "--color", "always", *JOURNALS)
-    else:
-        check.without("journal_diff", "crates/journal_diff/out/journal_diff")
+    verdict = (DIFF / "stdout").read_bytes()
+    refusals.verdict(JOURNALS, 1, verdict)
+    refusals.verdict(f"--ignore-payloads --protocol 9 - {STREAMS}/replayed_other_payload", 0, b"same, 4 commands\n")
+    refusals.verdict(f"--color always {JOURNALS}", 1, colored(verdict))
+
+    refusals.dump("")
+    refusals.dump("--pretty")
+    made = checks.Run(0, (STREAMS / "replay").read_bytes(), b"")
+    refusals.each_fails("journal_make", "", "replay.dump", made, 2, begins=False)
 
 
 if __name__ == "__main__":

@@ -1,4 +1,5 @@
-"""The programs on a terminal: terminal.py LIST DUMP DIFF MAKE, the paths of the four programs.
+#!/usr/bin/env python3
+"""The programs on a terminal: a journal whose texts hold what a terminal takes as commands; notes, colors, progress.
 
 A journal is somebody else's bytes. Each test runs a program with a pseudo-terminal as its standard output, its standard
 error or both, and compares all of what is shown with what the same run writes to a pipe.
@@ -10,14 +11,17 @@ import pathlib
 import pty
 import re
 import subprocess
-import sys
 import tempfile
 import termios
 import threading
+import time
 import unittest
 
-LIST, DUMP, DIFF, MAKE = sys.argv[1:5]
-STREAMS = pathlib.Path(__file__).resolve().parent.parent.parent / "examples" / "streams"
+import checks
+
+PROGRAMS = ("journal_list", "journal_dump", "journal_diff", "journal_make")
+LIST, DUMP, DIFF, MAKE = map(checks.program_path, PROGRAMS)
+STREAMS = checks.ROOT / "examples" / "streams"
 FOLDER = tempfile.TemporaryDirectory()
 WORK = pathlib.Path(FOLDER.name)
 
@@ -276,32 +280,34 @@ class Programs(unittest.TestCase):
                 self.assertEqual(errors, f"{said}, not shown on a terminal\n{asked}")
             self.assertNotIn("terminal", run(DUMP, "--no-payload", rest, out=True)[2])
 
-    def test_closed_input(self):
-        recorded = STREAMS / "recorded"
-        cases = [
-            (2, "journal_diff: reading the recorded journal failed\n", (DIFF, "-", recorded)),
-            (2, "journal_diff: reading the replayed journal failed\n", (DIFF, recorded, "-")),
-            (1, "journal_dump: input failed\n", (DUMP, "-")),
-            (1, "journal_list: input failed\n", (LIST, "-")),
-            (2, "journal_make: input failed\n", (MAKE, "-")),
-        ]
-        for status, said, words in cases:
-            with self.subTest(words=words):
-                self.assertEqual(run(*words, closed=[0]), (status, "", said))
-        same = "same, 4 commands\n"
-        self.assertEqual(run(DIFF, recorded, recorded, closed=[0]), (0, same, ""))
-
-    def test_output_that_fails(self):
-        line = json.dumps(INPUT).encode()
-        cases = [(1, LIST, ()), (1, DUMP, ()), (2, DIFF, (STREAMS / "recorded", "-")), (2, MAKE, ())]
-        for status, program, words in cases:
-            data = line if program == MAKE else (STREAMS / "recorded").read_bytes()
-            with self.subTest(program=program), open("/dev/full", "wb") as full:
-                done = subprocess.run(
-                    [program, *words], input=data, stdout=full, stderr=subprocess.PIPE, check=False
+    def test_progress_of_a_slow_input(self):
+        """An input that takes more than a second: a line says how much is read, and is removed at the end."""
+        data = (STREAMS / "recorded").read_bytes()
+        runs = []
+        for words in (LIST, "3"), (DUMP,), (DIFF, "-", STREAMS / "recorded"):
+            for terminal in Terminal(), None:
+                process = subprocess.Popen(
+                    words,
+                    stdin=subprocess.PIPE,
+                    stdout=subprocess.PIPE,
+                    stderr=terminal.slave if terminal else subprocess.PIPE,
+                    env={**os.environ, "TERM": "xterm"},
                 )
-                name = pathlib.Path(program).name
-                self.assertEqual((done.returncode, done.stderr.decode()), (status, f"{name}: output failed\n"))
+                process.stdin.write(data[:9])
+                process.stdin.flush()
+                runs.append((words, terminal, process))
+        time.sleep(2)
+        for words, terminal, process in runs:
+            output, errors = process.communicate(data[9:], timeout=120)
+            with self.subTest(words=words, terminal=terminal):
+                piped = subprocess.run(words, input=data, stdout=subprocess.PIPE, check=True).stdout
+                self.assertEqual((process.returncode, output), (0, piped))
+                if not terminal:
+                    self.assertEqual(errors, b"")
+                    continue
+                name = os.path.basename(words[0]).encode()
+                # it may be shown more than once
+                self.assertRegex(terminal.end(), rb"\A(\r" + name + rb": read 0 MB\x1b\[K)+\r\x1b\[K\Z")
 
     def test_progress_of_files(self):
         zeros = WORK / "zeros"
@@ -325,7 +331,4 @@ class Programs(unittest.TestCase):
 
 
 if __name__ == "__main__":
-    runner = unittest.TextTestRunner(stream=sys.stdout)
-    result = unittest.main(argv=sys.argv[:1] + sys.argv[5:], exit=False, testRunner=runner).result
-    wrong = {getattr(test, "test_case", test) for test, _ in result.failures + result.errors}
-    print(f"{result.testsRun - len(wrong)} passed, {len(wrong)} failed")
+    checks.perform_tests(PROGRAMS)

@@ -8,7 +8,6 @@
 set -u
 cd "$(dirname "$0")/../.." || exit 1
 . scripts/checks/lib.sh
-. scripts/checks/each_refused.sh
 . scripts/keeping_kit.sh
 
 if [ $# -eq 0 ]; then
@@ -31,9 +30,9 @@ case " $* " in
   *) more='' ;;
 esac
 # shellcheck disable=SC2086 # the names are split
-unproved_crate tests replay_bench shared_core_json shared_core_json_reader stream_lines shared_core shared_core_stream \
-  shared_core_base shared_core_wire shared_core_codec shared_core_message shared_core_parts shared_core_runtime \
-  shared_core_state_commands shared_core_call_commands shared_core_notifications anyhow bytes hex json \
+unproved_crate tests replay_bench shared_core_fields shared_core_json shared_core_json_reader stream_lines shared_core \
+  shared_core_stream shared_core_base shared_core_wire shared_core_codec shared_core_message shared_core_parts \
+  shared_core_runtime shared_core_state_commands shared_core_call_commands shared_core_notifications anyhow bytes hex json \
   $more
 {
   echo '//! Tests.'
@@ -96,10 +95,6 @@ done
 awk '/^test / { shown = / \.\.\. / && !/ \.\.\. ok$/ && !/^test result: / } shown' "$out"
 [ "$status" -eq 0 ] || [ "$failed" -gt 0 ] || outcome 'rt try --test' 1
 
-is_right_test() {
-  [ "$status" -eq 0 ]
-}
-
 if [ ! -d "$crate/src/out_of_memory" ]; then
   finish
 elif [ "$can_refuse" = no ]; then
@@ -109,7 +104,7 @@ fi
 # nothing is looked for after the end of a run
 ASAN_OPTIONS=detect_leaks=0
 export ASAN_OPTIONS
-for test in $(sed -n 's/^test \(out_of_memory::.*\) \.\.\. ok$/\1/p' "$out"); do
-  refuse_each "$test" is_right_test /dev/null "$work/program" "$test"
-done
+sed -n 's/^test \(out_of_memory::.*\) \.\.\. ok$/\1/p' "$out" > "$work/names"
+counted 'each allocation failing' python3 -B scripts/checks/failing_allocations.py "$work/program" < "$work/names"
+grep ' failed in turn$' "$work/log"
 finish

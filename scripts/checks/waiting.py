@@ -1,26 +1,25 @@
-"""What journal_list, journal_dump and journal_make write before they read again: waiting.py LIST DUMP MAKE, the paths
-of the three programs.
+#!/usr/bin/env python3
+"""When journal_list, journal_dump and journal_make write: an item's output is there before they read again.
 
 The input is a fifo into which one whole item and a part of the next one are written. What the program writes of that
 item has to be there before the fifo gets more.
 """
 import os
-import pathlib
 import select
 import subprocess
-import sys
 import tempfile
 import time
 import unittest
 
-from tally import tell
+import checks
 
-STREAMS = pathlib.Path(__file__).resolve().parents[2] / "examples" / "streams"
+STREAMS = checks.ROOT / "examples" / "streams"
 
 # A program that has not written by then is one that waits: a bound for failures, and no measure of speed.
 SECONDS = 30
 
-LIST, DUMP, MAKE = sys.argv[1:4]
+PROGRAMS = ("journal_list", "journal_dump", "journal_make")
+LIST, DUMP, MAKE = map(checks.program_path, PROGRAMS)
 
 HEADER = 8
 
@@ -128,4 +127,4 @@ class Waiting(unittest.TestCase):
 
 
 if __name__ == "__main__":
-    tell(sys.argv[4:])
+    checks.perform_tests(PROGRAMS)

@@ -12,14 +12,26 @@ import tempfile
 
 ROOT = pathlib.Path(__file__).resolve().parents[2]
 
+
+
+class Refused(SystemExit):
+    """What is wrong with what is read, a line each. A program that does not catch it ends, and shows these lines."""
+
+    def __init__(self, problems):
+        super().__init__("\n".join(f"generate.py: {problem}" for problem in problems))
+        self.problems = problems
+
+
 # The generators, each a module of the package, in the order in which they take from each other.
 NAMES = (
+    "description",
     "message_types",
     "tables",
     "row_table",
     "lists",
     "bindings",
     "records",
+    "numbered",
     "dispatch",
     "commands",
     "json_names",
@@ -105,6 +117,20 @@ def shortened(text):
         else:
             lines += broken_clause(line)
     return "\n".join(lines)
+
+
+def bracketed(elements):
+    """A list in brackets, which is an element of a list of a definition: in a line or, if it is too long, in several."""
+    words = [*(f"{element} ∷" for element in elements), "[]"]
+    line = " ".join(words)
+    if len(f"    ∷ ({line})") <= WIDTH:
+        return f"({line})"
+    rows = [""]
+    for word in words:
+        if rows[-1] and len(f"      {rows[-1]} {word}") > WIDTH:
+            rows.append("")
+        rows[-1] = f"{rows[-1]} {word}".lstrip()
+    return "(\n" + "".join(f"      {row}\n" for row in rows) + "    )"
 
 
 def laid_out(texts):

@@ -1,7 +1,8 @@
 """Which files git takes as they are, and which are generated, .gitattributes."""
 import importlib
+from pathlib import PurePosixPath
 
-from . import NAMES, missing  # noqa: F401
+from . import NAMES, ROOT, missing  # noqa: F401
 
 ABOUT = "What git knows of files."
 SOURCE = "the lists of generated files"
@@ -10,19 +11,41 @@ SOURCE = "the lists of generated files"
 AS_THEY_ARE = ("examples/streams/*", "crates/*/stdin")
 
 # The generators whose files are hand-written but for some numbers, and this one.
-LEFT_OUT = ("pages", "attributes")
+LEFT_OUT = ("pages", "numbered", "attributes")
 
 
 def paths():
     return [".gitattributes"]
 
 
-def files():
-    lines = [f"{path} -text\n" for path in AS_THEY_ARE]
+def generated():
+    """The paths of all generated files."""
+    found = set()
     for name in NAMES:
-        if name in LEFT_OUT:
-            continue
-        maker = importlib.import_module(f"{__package__}.{name}")
-        made = maker.paths() if hasattr(maker, "paths") else maker.files()
-        lines += [f"{path} linguist-generated\n" for path in sorted(made)]
+        if name not in LEFT_OUT:
+            maker = importlib.import_module(f"{__package__}.{name}")
+            found.update(maker.paths() if hasattr(maker, "paths") else maker.files())
+    return found
+
+
+def is_generated(folder, made):
+    """Whether all files of a folder are generated."""
+    files = (path.relative_to(ROOT).as_posix() for path in (ROOT / folder).rglob("*") if path.is_file())
+    return all(path in made for path in files)
+
+
+def pattern(path, made):
+    """The widest pattern that names a generated file and generated ones alone: a folder of them, or the file."""
+    widest = path
+    for folder in PurePosixPath(path).parents:
+        if not is_generated(folder, made):
+            break
+        widest = f"{folder}/**"
+    return widest
+
+
+def files():
+    made = generated()
+    lines = [f"{path} -text\n" for path in AS_THEY_ARE]
+    lines += [f"{line} linguist-generated\n" for line in sorted({pattern(path, made) for path in made})]
     return {".gitattributes": "".join(lines)}

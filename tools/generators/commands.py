@@ -1,12 +1,11 @@
 """How the commands of proto/journal.proto are compared, and how their differences are printed.
 
-One file a command, one for each oneof that several commands share, the root file of the crate, and for a command with printed fields
+One file a command, one for each oneof that several commands share, the module of these, and for a command with printed fields
 the proof that they follow each other.
 """
-import collections
-
 from . import laid_out
-from .proto import OneOf, camel, fields_of, messages, numbers, refuse, snake
+from .forms import bound, writer
+from .proto import OneOf, camel, fields_of, messages, numbers, snake
 from .records import COMMAND_CRATES, CRATES, missing, shared_oneofs  # noqa: F401
 
 CRATE = "shared_core_compare"
@@ -14,35 +13,12 @@ CRATE = "shared_core_compare"
 ABOUT = "How commands are compared and printed, in Rattle."
 SOURCE = "proto/journal.proto"
 
-HEADING = "Commands compared: their names, whether two are the same but for what replay may change, and how they differ."
-
-# Modules that are written by hand, and whether other crates see them. What is written holds impls alone, which need no
-# name.
-BY_HAND = {"difference": True, "equality": True, "laws": True, "name": True, "printed": False}
-
-# The function that writes a field in which two commands differ, by its presence and its kind.
-WRITERS = {
-    ("plain", "u32"): "write_number",
-    ("plain", "text"): "write_text",
-    ("plain", "bytes"): "write_bytes",
-    ("optional", "text"): "write_optional_text",
-    ("message", "message"): "write_message",
-}
-
-# The presences and kinds that `==` compares.
-COMPARED = {(presence, kind) for presence in ("plain", "optional") for kind in ("u32", "u64", "bool", "enum", "text", "bytes")}
+HEADING = "The impls of each command and of each oneof that a difference prints: other modules need no name of theirs."
 
 
 def name_number():
     """The number of the field that names a command, one for all commands."""
-    named = [(row.number, message) for message in messages() if message.is_command() for row in message.rows if row.name == "name"]
-    if not named:
-        refuse("no command has a text name")
-    number = collections.Counter(number for number, _ in named).most_common(1)[0][0]
-    for other, message in named:
-        if other != number:
-            refuse(f"{message.name} has its name at {other}, where that of other commands is {number}", message.line)
-    return number
+    return next(row.number for message in messages() if message.is_command() for row in message.rows if row.name == "name")
 
 
 class Entry:
@@ -54,12 +30,6 @@ class Entry:
         self.not_compared = sorted(field.number for field in fields if field.not_compared)
         self.payloads = sorted(field.number for field in fields if field.payload)
         lines = sorted((row.printed, min(numbers(row)), row.name) for row in message.rows if row.printed is not None)
-        if [place for place, _, _ in lines] != list(range(1, len(lines) + 1)):
-            refuse(
-                f"the lines that {message.name} prints are {', '.join(str(place) for place, _, _ in lines)}: they are numbered "
-                "from 1 on by (printed), each once",
-                message.line,
-            )
         self.printed = [(number, name) for _, number, name in lines]
 
 
@@ -71,16 +41,6 @@ class Command:
         self.crate = crate
         self.entry = entry
         self.module = snake(message.name)
-        self.check_entry()
-
-    def check_entry(self):
-        """Rejects a command without a name, and a field that is compared and neither printed nor the name."""
-        name = self.row(name_number())
-        if name is None or isinstance(name, OneOf) or (name.presence, name.kind) != ("plain", "text"):
-            refuse(f"{self.message.name} has no text {name_number()}, its name", self.message.line)
-        for row in self.compared():
-            if row is not name and row not in self.printed():
-                refuse(f"{row.name} of {self.message.name} is compared, and so has to be printed: it lacks (printed)", row.line)
 
     def row(self, number):
         """The field of this number, or the oneof whose least number it is."""
@@ -173,17 +133,13 @@ def same(source, command, row):
             return test
         return f"if ignore_payload_equality {{ same_but_payload{lent} }} else {{ {test} }}"
     if command.is_payload(row):
-        if row.presence == "message":
+        if row.message:
             return f"if ignore_payload_equality {{ {both[0]}.is_some() == {both[1]}.is_some() }} else {{ {equal} }}"
-        if (row.presence, row.kind) == ("plain", "bytes"):
-            return f"(ignore_payload_equality || {equal})"
-    elif row.presence == "message":
-        return source.use("crate::equality", "same_message") + lent
-    elif (row.presence, row.kind) == ("repeated", "message"):
-        return source.use("crate::equality", "same_messages") + lent
-    elif (row.presence, row.kind) in COMPARED:
-        return equal
-    refuse(f"there is no form yet that compares {row.name} of {command.message.name}", row.line)
+        return f"(ignore_payload_equality || {equal})"
+    if row.presence == "repeated":
+        module, function = ("equality", "same_messages") if row.message else ("values", "same_list")
+        return source.use(f"crate::{module}", function) + lent
+    return source.use("crate::equality", "same_message") + lent if row.message else equal
 
 
 def write_equality(source, command):
@@ -215,14 +171,16 @@ def write_printed_oneof(source, path, oneof):
     source.use("std::fmt", "Formatter")
     arms = ""
     for member in oneof.members:
+        local = bound(member)
         if member.kind == "message":
             source.use("crate::printed", "PrintedMessage")
-            print_member = f"{member.name}.write_message(f)"
+            print_member = f"{local}.write_message(f)"
         elif member.kind in ("u32", "text"):
-            print_member = f'write!(f, "{{{member.name}}}")'
+            print_member = f'write!(f, "{{{local}}}")'
         else:
-            refuse(f"there is no form yet that prints {member.name} of a oneof", member.line)
-        arms += f"            {enum}::{camel(member.name)}({member.name}) => {print_member},\n"
+            source.use("crate::values", "PrintedValue")
+            print_member = f"{local}.write_text(f)"
+        arms += f"            {enum}::{camel(member.name)}({local}) => {print_member},\n"
     source.body.append(
         f"impl PrintedOneOf for {enum} {{\n"
         "    fn write_member<W: fmt::Write>(&self, f: &mut Formatter<W>) -> fmt::Result {\n"
@@ -230,15 +188,9 @@ def write_printed_oneof(source, path, oneof):
     )
 
 
-def writer(command, row):
-    """The function that writes a field in which two commands differ."""
-    if isinstance(row, OneOf):
-        return "write_oneof"
-    if (row.presence, row.message) == ("repeated", "Header"):
-        return "write_headers"
-    if (row.presence, row.kind) not in WRITERS:
-        refuse(f"there is no form yet that prints {row.name} of {command.message.name}", row.line)
-    return WRITERS[row.presence, row.kind]
+def writing(row):
+    """The module and the function that write a field in which two commands differ."""
+    return ("difference", "write_oneof") if isinstance(row, OneOf) else writer(row)
 
 
 def write_difference(source, command):
@@ -249,8 +201,9 @@ def write_difference(source, command):
     source.ghost("std.specs.Prelude", "refl")
     calls = []
     for row in command.printed():
-        by = "" if writer(command, row) == "write_number" else "&"
-        function = source.use("crate::difference", writer(command, row))
+        module, name = writing(row)
+        by = "" if name == "write_number" else "&"
+        function = source.use(f"crate::{module}", name)
         calls.append(f'{function}(form, out, "{row.name}", {by}self.{row.name}, {by}expected.{row.name})')
     unused = "" if calls else "_"
     lines = "".join(f"        {call}?;\n" for call in calls[:-1]) + f"        {calls[-1] if calls else 'Ok(())'}\n"
@@ -284,13 +237,14 @@ def write_command(command, shared):
 
 
 def chained_fields(command):
-    """The proof that a command's fields follow each other."""
-    path = f"Rattle.{CRATE}.proofs.{command.module}.{command.message.name}CommandMessageHeaderDiff.write_fields.Goals"
+    """The proof that a command's fields follow each other, which the prover does not find by itself beyond six, or through definitions that it
+    must not open."""
+    path = f"Rattle.{CRATE}.proofs.commands.{command.module}.{command.message.name}CommandMessageHeaderDiff.write_fields.Goals"
     counts = {}
     steps = ""
     rows = command.printed()
     for at, row in enumerate(rows, 1):
-        call = writer(command, row)
+        _, call = writing(row)
         counts[call] = counts.get(call, 0) + 1
         if counts[call] > 1:
             call += f"-{counts[call]}"
@@ -312,9 +266,9 @@ def texts():
     """The files of the crate by their paths, not yet laid out."""
     crates = {name: CRATES[name][1] for name in COMMAND_CRATES}
     table = {message.name: message for message in messages()}
-    sources = f"crates/{CRATE}/src"
+    sources = f"crates/{CRATE}/src/commands"
     found = {}
-    modules = dict(BY_HAND)
+    modules = set()
     homes = {}
     for crate in crates:
         for module, enum, _, oneof, users in shared_oneofs(crate, table):
@@ -324,21 +278,21 @@ def texts():
     for command in commands(crates, table):
         shared = homes.get(command.message.name, {})
         found[f"{sources}/{command.module}.rt"] = write_command(command, shared)
-        modules[command.module] = False
+        modules.add(command.module)
         for row in command.printed():
             if row.name in shared:
                 crate, module, enum, oneof = shared[row.name]
                 printed[module] = (f"{crate}::{module}", enum), oneof
         if command.printed():
-            proofs = f"crates/{CRATE}/proofs/{command.module}/{command.message.name}CommandMessageHeaderDiff/write_fields"
+            proofs = f"crates/{CRATE}/proofs/commands/{command.module}/{command.message.name}CommandMessageHeaderDiff/write_fields"
             found[f"{proofs}/Answers.antt"] = chained_fields(command)
     for module, (path, oneof) in printed.items():
         source = Source(f"`{path[1]}` printed.")
         write_printed_oneof(source, path, oneof)
         found[f"{sources}/{module}.rt"] = source.text()
-        modules[module] = False
-    declared = "".join(f"{'pub ' if seen else ''}mod {module};\n" for module, seen in sorted(modules.items()))
-    found[f"{sources}/lib.rt"] = f"//! {HEADING}\n#![tactic(auto)]\n\n{declared}"
+        modules.add(module)
+    declared = "".join(f"mod {module};\n" for module in sorted(modules))
+    found[f"{sources}.rt"] = f"//! {HEADING}\n\n{declared}"
     return found
 
 

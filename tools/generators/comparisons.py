@@ -3,13 +3,15 @@
 Each line compares two commands, the one that was recorded and the one that the code makes now. Which fields count,
 which are printed and how is said here once more, from the protocol's description alone: neither the library nor the
 tables that its contracts cite take part. The payloads are put together from the fields of proto/journal.proto. Where a
-text is beside a case, it was written by hand, and has to be the one that the tables give.
+text is beside a case, it was written by hand, and has to be the one that the tables give. A field that these tables do
+not have yet is taken as the description says; the check 'table' names it.
 """
 import re
-import sys
 
-from . import ROOT, missing  # noqa: F401
-from .proto import OneOf, messages
+from . import ROOT, Refused, missing  # noqa: F401
+from .payloads import field_of, lengthy, unknown, varint
+from .payloads import record as record_of
+from .proto import OneOf, members_of, messages
 
 ABOUT = "Test vectors of commands compared."
 SOURCE = "tools/generators/comparisons.py"
@@ -75,25 +77,82 @@ NAMED_ESCAPES = {10: "\\n", 13: "\\r", 9: "\\t", 0: "\\0", 92: "\\\\", 34: '\\"'
 TABLE = {message.name: message for message in messages()}
 
 
+def refuse(text):
+    raise Refused([f"comparisons: {text}"])
+
+
 def rows_of(command):
     return TABLE[f"{command}CommandMessage"].rows
 
 
+# What the tables say, and the description of the fields that they do not have.
+
+
+def new_rows(command):
+    """The rows of a command that no table has."""
+    actual = PAIRS.get(command, ({}, {}, None))[0]
+    return [row for row in rows_of(command) if row.name not in actual or not fits(row, actual[row.name])]
+
+
+def fits(row, value):
+    """Whether a row can have a value, by its kind."""
+    if isinstance(row, OneOf):
+        return isinstance(value, tuple)
+    if row.presence == "repeated":
+        return isinstance(value, list)
+    return isinstance(value, {"message": dict, "text": str, "bytes": bytes}.get(row.kind, int))
+
+
+def printed_fields(command):
+    """The fields that a difference prints, in order."""
+    added = sorted((row.printed, row.name) for row in new_rows(command) if row.printed is not None)
+    known = [name for name in PRINTED.get(command, "").split() if name not in {row.name for row in new_rows(command)}]
+    return known + [name for _, name in added]
+
+
+def never_compared(command):
+    added = [row.name for row in new_rows(command) if any(field.not_compared for field in members_of(row))]
+    return NEVER_COMPARED.get(command, "").split() + added
+
+
+def payloads(command):
+    """The fields that hold a payload, each with the member of a oneof that does."""
+    added = [(row.name, field.name if isinstance(row, OneOf) else None) for row in new_rows(command) for field in members_of(row) if field.payload]
+    return ([PAYLOADS[command]] if command in PAYLOADS else []) + added
+
+
+def sample(field, place):
+    """A value that a field may hold, another for each place."""
+    if field.kind == "message":
+        rows = TABLE[field.message].rows
+        return {row.name: row_sample(row, place) for row in rows}
+    return {"text": "ab"[place], "bytes": (b"a", b"b")[place], "bool": 1 - place}.get(field.kind, place + 1)
+
+
+def row_sample(row, place):
+    """What a row may have, another for each place."""
+    if isinstance(row, OneOf):
+        member = row.members[-place]
+        return member.name, sample(member, place)
+    value = sample(row, place)
+    return [value] if row.presence == "repeated" else value
+
+
+def pairs():
+    """For each command two that differ in every field, and the text of their difference, if that is hand-written."""
+    for message in TABLE.values():
+        if not message.is_command():
+            continue
+        command = message.name.removesuffix("CommandMessage")
+        actual, expected, text = PAIRS.get(command, ({}, {}, None))
+        added = new_rows(command)
+        if added:
+            actual, expected = ({**known, **{row.name: row_sample(row, place) for row in added}} for place, known in enumerate((actual, expected)))
+            text = None
+        yield command, actual, expected, text
+
+
 # Payloads. A message is a dictionary of what is present, a oneof the name of its member and what that holds.
-
-
-def varint(number):
-    """The shortest encoding of a number."""
-    out = bytearray()
-    while number >= 128:
-        out.append(number % 128 + 128)
-        number //= 128
-    return bytes(out) + bytes([number])
-
-
-def lengthy(number, content):
-    """A record of a field with a length."""
-    return varint(8 * number + 2) + varint(len(content)) + content
 
 
 def record(field, value):
@@ -107,13 +166,21 @@ def record(field, value):
     return varint(8 * field.number) + varint(value)
 
 
+class OtherKind(Exception):
+    """A field is of another kind than the value that is written here has, so that the case is left out."""
+
+
 def row_payload(row, value):
     """The records of a row, of which None is absent."""
     if value is None:
         return b""
+    if not fits(row, value):
+        raise OtherKind
     if isinstance(row, OneOf):
         member, content = value
         return record(next(field for field in row.members if field.name == member), content)
+    if row.presence == "repeated" and row.kind == "u32":
+        return lengthy(row.number, b"".join(map(varint, value))) if value else b""
     if row.presence == "repeated":
         return b"".join(record(row, element) for element in value)
     if row.presence == "plain" and not value:
@@ -125,7 +192,7 @@ def payload(rows, message):
     """The one canonical payload: two messages are the same exactly if theirs are."""
     unknown = set(message) - {row.name for row in rows}
     if unknown:
-        sys.exit(f"generate.py: comparisons: no such fields: {unknown}")
+        refuse(f"there are no fields {', '.join(sorted(unknown))}")
     return b"".join(row_payload(row, message.get(row.name)) for row in rows)
 
 
@@ -134,9 +201,8 @@ def payload(rows, message):
 
 def erased(command, message, ignore_payloads):
     """What is left of a command to be compared."""
-    left = {name: value for name, value in message.items() if name not in NEVER_COMPARED.get(command, "").split()}
-    if ignore_payloads and command in PAYLOADS:
-        name, member = PAYLOADS[command]
+    left = {name: value for name, value in message.items() if name not in never_compared(command)}
+    for name, member in payloads(command) if ignore_payloads else ():
         value = left.get(name)
         if isinstance(value, bytes):
             del left[name]
@@ -232,7 +298,13 @@ MESSAGE_TEXTS = {
 def element_text(field, value):
     """How what a field holds is printed."""
     if field.kind == "message":
+        if field.message not in MESSAGE_TEXTS:
+            refuse(f"there is no text of {field.message}")
         return MESSAGE_TEXTS[field.message](value)
+    if field.kind == "bool":
+        return "true" if value else "false"
+    if field.kind == "enum":
+        return str(value % (1 << 32))
     return bytes_text(value) if field.kind == "bytes" else str(value)
 
 
@@ -256,7 +328,7 @@ def difference(command, actual, expected):
     """The text of a difference: a line for each printed field that differs."""
     rows = {row.name: row for row in rows_of(command)}
     text = ""
-    for name in PRINTED[command].split():
+    for name in printed_fields(command):
         row, left, right = rows[name], actual.get(name), expected.get(name)
         if row_payload(row, left) != row_payload(row, right):
             text += f"\n{INDENTATION}{name}: {row_text(row, left)} != {row_text(row, right)}"
@@ -284,18 +356,26 @@ def question(command, actual, expected):
 def case(about, command, actual, expected, verdicts=None, text=None, encoded=(None, None)):
     """The line of two commands, and above it what it is. Verdicts and text that are given are hand-written. A
     payload that is not canonical is given too."""
+    try:
+        return made_case(about, command, actual, expected, verdicts, text, encoded)
+    except OtherKind:
+        return ""
+
+
+def made_case(about, command, actual, expected, verdicts, text, encoded):
+    """The same, where each field is of the kind of the value that is written here."""
     found = [sameness(command, actual, expected, ignore_payloads) for ignore_payloads in (False, True)]
     lines = difference(command, actual, expected)
     if verdicts is not None and found != verdicts.split():
-        sys.exit(f"generate.py: comparisons: {about}: {found}, and not {verdicts}")
+        refuse(f"{about}: {found}, and not {verdicts}")
     if text is not None and lines != text:
-        sys.exit(f"generate.py: comparisons: {about}: {lines!r}, and not {text!r}")
+        refuse(f"{about}: {lines!r}, and not {text!r}")
     payloads = [
         given if given is not None else payload(rows_of(command), message)
         for message, given in zip((actual, expected), encoded)
     ]
     remarks = [f"# {command}: {about}"]
-    for name in PRINTED[command].split():
+    for name in printed_fields(command):
         # A line of its own for each field, though a text in it may have line feeds.
         only = difference(command, {name: actual.get(name)}, {name: expected.get(name)})
         if only:
@@ -306,7 +386,35 @@ def case(about, command, actual, expected, verdicts=None, text=None, encoded=(No
 
 def malformed(about, command, actual, expected):
     """The line of two payloads of which one is no command."""
-    return f"# {command}: {about}\n{question(command, bytes.fromhex(actual), bytes.fromhex(expected))} = malformed\n"
+    return f"# {command}: {about}\n{question(command, actual, expected)} = malformed\n"
+
+
+def records(command, *fields):
+    """The records of fields, each a name and a value, in this order; a message is given as the dictionary of its fields."""
+    out = b""
+    for name, held in fields:
+        field = field_of(f"{command}CommandMessage", name)
+        out += record(field, held) if isinstance(held, dict) else record_of(f"{command}CommandMessage", name, held)
+    return out
+
+
+def number_of(command, name):
+    return field_of(f"{command}CommandMessage", name).number
+
+
+def number_key(command, name):
+    """The key of a record with a number."""
+    return varint(8 * number_of(command, name))
+
+
+def value_key(command, name):
+    """The key of a record with a length."""
+    return varint(8 * number_of(command, name) + 2)
+
+
+def unknown_number(command):
+    """A number that no field of a command has."""
+    return unknown(99, f"{command}CommandMessage")
 
 
 def value(content):
@@ -615,19 +723,25 @@ def worked_cases():
 
 def whole_cases():
     yield "Each command: every field another."
-    for command, (actual, expected, text) in PAIRS.items():
+    for command, actual, expected, text in pairs():
         verdicts = "same same" if command == "Input" else "other other"
         yield case("every field another", command, actual, expected, verdicts, text)
 
     yield "Each command: the same, with every field and with none."
-    for command, (actual, _, _) in PAIRS.items():
+    for command, actual, _, _ in pairs():
         yield case("the same", command, actual, actual, "same same", "")
         yield case("nothing, and nothing", command, {}, {}, "same same", "")
 
 
+def contents_of(member):
+    """What a member of a oneof may hold, and then others."""
+    known = CONTENTS.get(member.message or member.kind)
+    return known or (sample(member, 0), [("another content", sample(member, 1))])
+
+
 def oneof_cases(command, base, row, brief):
     """A oneof with each of its members against each other, against itself with other content, and against none."""
-    contents = {member.name: CONTENTS[member.message or member.kind] for member in row.members}
+    contents = {member.name: contents_of(member) for member in row.members}
     for name, (content, others) in contents.items():
         message = with_row(base, row.name, (name, content))
         for other, (other_content, _) in contents.items():
@@ -643,25 +757,23 @@ def oneof_cases(command, base, row, brief):
         yield case(f"{row.name} is absent, and {name}", command, without, message)
 
 
-def optional_cases(command, base, name, other):
+def optional_cases(command, base, row, other):
+    name, empty = row.name, {"text": "", "bytes": b"", "message": {}}.get(row.kind, 0)
     yield case(f"another {name}", command, base, with_row(base, name, other))
     yield case(f"{name} is absent, and present", command, with_row(base, name, None), base)
-    yield case(f"{name} is present, and empty", command, base, with_row(base, name, ""))
-    yield case(f"{name} is empty, and absent", command, with_row(base, name, ""), with_row(base, name, None))
+    yield case(f"{name} is present, and empty", command, base, with_row(base, name, empty))
+    yield case(f"{name} is empty, and absent", command, with_row(base, name, empty), with_row(base, name, None))
 
 
 def field_cases():
-    for command, (actual, expected, _) in PAIRS.items():
-        for row in rows_of(command):
-            if row.name not in actual or row.name not in expected:
-                sys.exit(f"generate.py: comparisons: PAIRS has no {row.name} for {command}, and it has every field of each")
+    for command, actual, expected, _ in pairs():
         yield f"{command}: each field alone."
         for row in rows_of(command):
             if isinstance(row, OneOf):
                 # the two commands on an invocation share their target
                 yield from oneof_cases(command, actual, row, command == "GetInvocationOutput")
             elif row.presence == "optional":
-                yield from optional_cases(command, actual, row.name, expected[row.name])
+                yield from optional_cases(command, actual, row, expected[row.name])
             else:
                 about = f"other {row.name}" if row.presence == "repeated" else f"another {row.name}"
                 yield case(about, command, actual, with_row(actual, row.name, expected[row.name]))
@@ -880,37 +992,48 @@ def encoding_cases():
     sleep = {"wake_up_time": 300, "result_completion_id": 1, "name": "a"}
     yield case(
         "the fields in another order, and longer numbers", "Sleep", sleep, sleep,
-        encoded=(None, bytes.fromhex("62016158810008ac8200")),
+        encoded=(
+            None,
+            records("Sleep", ("name", "a"))
+            + number_key("Sleep", "result_completion_id") + b"\x81\x00"
+            + number_key("Sleep", "wake_up_time") + b"\xac\x82\x00",
+        ),
     )
     run = {"result_completion_id": 2, "name": "a"}
     canonical = payload(rows_of("Run"), run)
     yield case(
-        "a field twice, of which the last counts", "Run", run, run, encoded=(bytes.fromhex("5801") + canonical, None)
+        "a field twice, of which the last counts", "Run", run, run, encoded=(records("Run", ("result_completion_id", 1)) + canonical, None)
     )
-    yield case(
-        "fields that no command has", "Run", run, run, encoded=(bytes.fromhex("9806079b0608019c06") + canonical, None)
-    )
-    yield case("defaults that are written", "ClearState", {}, {}, encoded=(bytes.fromhex("0a006200"), None))
+    number = unknown_number("Run")
+    further = varint(8 * number) + b"\x07" + varint(8 * number + 3) + b"\x08\x01" + varint(8 * number + 4)
+    yield case("fields that no command has", "Run", run, run, encoded=(further + canonical, None))
+    empty = records("ClearState", ("key", b""), ("name", ""))
+    yield case("defaults that are written", "ClearState", {}, {}, encoded=(empty, None))
     failed = {"result": ("failure", failure(5, "x"))}
     yield case(
         "the last member of a oneof counts, and its records are joined", "Output", failed, failed,
-        encoded=(bytes.fromhex("72030a01787a0208057a03120178"), None),
+        encoded=(
+            records("Output", ("value", value(b"x")), ("failure", {"code": 5}), ("failure", {"message": "x"})), None
+        ),
     )
     yield case(
         "a value in two records", "SetState", {"key": b"a", "value": value(b"y")}, {"key": b"a", "value": value(b"x")},
-        encoded=(bytes.fromhex("0a01611a030a01781a030a0179"), None),
+        encoded=(records("SetState", ("key", b"a"), ("value", value(b"x")), ("value", value(b"y"))), None),
     )
 
 
 def malformed_cases():
     yield "Payloads that are not well-formed: then nothing is compared."
-    yield malformed("the recorded one is cut off", "Run", "5801620161"[:-2], "5801620161")
-    yield malformed("the made one is cut off", "Run", "5801620161", "5801620161"[:-2])
-    yield malformed("both are", "Run", "58", "58")
-    yield malformed("where nothing is compared, too", "Input", "72", "")
-    yield malformed("a name that is not UTF-8", "ClearAllState", "6201ff", "6201ff")
-    yield malformed("a number where bytes are expected", "GetEagerStateKeys", "7001", "7001")
-    yield malformed("an end of a group that did not begin", "SendSignal", "", "9c06")
+    run = records("Run", ("result_completion_id", 1), ("name", "a"))
+    yield malformed("the recorded one is cut off", "Run", run[:-1], run)
+    yield malformed("the made one is cut off", "Run", run, run[:-1])
+    yield malformed("both are", "Run", number_key("Run", "result_completion_id"), number_key("Run", "result_completion_id"))
+    yield malformed("where nothing is compared, too", "Input", value_key("Input", "value"), b"")
+    name = records("ClearAllState", ("name", b"\xff"))
+    yield malformed("a name that is not UTF-8", "ClearAllState", name, name)
+    number = number_key("GetEagerStateKeys", "value") + b"\x01"
+    yield malformed("a number where bytes are expected", "GetEagerStateKeys", number, number)
+    yield malformed("an end of a group that did not begin", "SendSignal", b"", varint(8 * unknown_number("SendSignal") + 4))
 
 
 MAKERS = (
@@ -934,7 +1057,7 @@ def comparisons():
     parts = [HEAD]
     for maker in MAKERS:
         for part in maker():
-            parts.append(part if part.endswith("\n") else f"\n# {part}\n\n")
+            parts.append(part if part.endswith("\n") or not part else f"\n# {part}\n\n")
     return "".join(parts)
 
 
@@ -978,6 +1101,4 @@ def paths():
 
 
 def files():
-    for what in said_on_the_page():
-        sys.exit(f"generate.py: comparisons: conformance/README.md says otherwise {what}")
     return {path: comparisons() for path in paths()}

@@ -6,7 +6,7 @@ import subprocess
 import sys
 import tempfile
 
-from . import ROOT
+from . import record_vectors, tables
 from .proto import without_protoc
 
 ABOUT = "The stored run of journal_dump, and the JSON of each message."
@@ -37,5 +37,9 @@ def paths():
 
 def files():
     with tempfile.TemporaryDirectory() as work:
-        subprocess.run([interpreter(), "-B", MAKER, "--write", work], check=True)
+        # these may not be written yet
+        for path, text in {record_vectors.FILE: record_vectors.records(), "proto/types.txt": tables.types()}.items():
+            (pathlib.Path(work) / path).parent.mkdir(parents=True, exist_ok=True)
+            (pathlib.Path(work) / path).write_text(text, encoding="utf-8")
+        subprocess.run([interpreter(), "-B", MAKER, "--write", work, work], check=True)
         return {path: (pathlib.Path(work) / path).read_bytes() for path in paths()}

@@ -1,8 +1,8 @@
 """The names that JSON has for the fields of the protocol's messages, in the order of the schemas of shared_core_codec: the table that the
 contracts of shared_core_json cite, and that of the program, which is proved to be the same.
 """
-from . import laid_out
-from .proto import fields_of, schemas
+from . import bracketed, laid_out
+from .proto import fields_of, json_name, schemas
 from .records import missing  # noqa: F401
 
 ABOUT = "The names of fields in JSON, for contracts and for the program."
@@ -26,12 +26,6 @@ use crate::names::Name;
 """
 
 
-def json_name(name):
-    """A field's name in lower camel case."""
-    first, *others = name.split("_")
-    return first + "".join(word[:1].upper() + word[1:] for word in others)
-
-
 def texts():
     """Both tables, not yet laid out."""
     order = schemas()
@@ -39,8 +33,8 @@ def texts():
     rows = []
     for message in order:
         name, fields = message.name, fields_of(message)
-        pairs = "".join(f'({field.number}, codes "{json_name(field.name)}") ∷ ' for field in fields)
-        names.append(f"    -- {name}\n    {'∷ ' if names else ''}({pairs}[])\n")
+        pairs = bracketed([f'({field.number}, codes "{json_name(field.name)}")' for field in fields])
+        names.append(f"    -- {name}\n    {'∷ ' if names else ''}{pairs}\n")
         listed = [f'Name({field.number}, "{json_name(field.name)}")' for field in fields]
         rows.append(f"    // {name}\n    &[{', '.join(listed)}],\n")
     return {

@@ -4,9 +4,9 @@ The results are hand-written, but for those of each field, which follow from its
 part.
 """
 from . import missing  # noqa: F401
-from .json_names import json_name
-from .long_vectors import lengthy, varint
-from .proto import OneOf, schemas
+from .payloads import lengthy, varint
+from .payloads import payload as payload_of
+from .proto import OneOf, json_name, schemas
 
 ABOUT = "Test vectors of JSON that is read."
 SOURCE = "tools/generators/json_readings.py and proto/journal.proto"
@@ -18,46 +18,46 @@ HEAD = """\
 # is in the comment above it, if it can be printed.
 """
 
-# A title, and its lines: the schema, the text, and the result: a payload, or the kind of the error with an offset or a path.
+# A title, and its lines: the schema, the text, and the result: the fields of a message, or the kind of the error with an offset or a path.
 WRITTEN = [
     ("Members in any order, by either name, with spaces and escapes", [
-        ("StartMessage", '{"knownEntries":3}', "1803"),
-        ("StartMessage", '{"known_entries":3}', "1803"),
-        ("StartMessage", ' { "\\u006bnownEntries" : 3 } ', "1803"),
-        ("StartMessage", '\t\n\r {"knownEntries"\t:\n3\r}\n', "1803"),
-        ("StartMessage", '{"randomSeed":1,"knownEntries":3}', "18034801"),
-        ("StartMessage", '{"knownEntries":3,"random_seed":1}', "18034801"),
-        ("StartMessage", "{}", ""),
-        ("Void", "{}", ""),
-        ("Void", " {} ", ""),
+        ("StartMessage", '{"knownEntries":3}', {"known_entries": 3}),
+        ("StartMessage", '{"known_entries":3}', {"known_entries": 3}),
+        ("StartMessage", ' { "\\u006bnownEntries" : 3 } ', {"known_entries": 3}),
+        ("StartMessage", '\t\n\r {"knownEntries"\t:\n3\r}\n', {"known_entries": 3}),
+        ("StartMessage", '{"randomSeed":1,"knownEntries":3}', {"known_entries": 3, "random_seed": 1}),
+        ("StartMessage", '{"knownEntries":3,"random_seed":1}', {"known_entries": 3, "random_seed": 1}),
+        ("StartMessage", "{}", {}),
+        ("Void", "{}", {}),
+        ("Void", " {} ", {}),
     ]),
     ("What is null, a default or empty", [
-        ("StartMessage", '{"id":null,"knownEntries":3,"scope":null,"stateMap":null,"partialState":null}', "1803"),
-        ("StartMessage", '{"partialState":false,"knownEntries":3,"id":"","debugId":"","stateMap":[],"randomSeed":0}', "1803"),
-        ("StartMessage", '{"scope":""}', "5200"),
-        ("Future", '{"waitingCompletions":[],"nestedFutures":[]}', ""),
-        ("ProposeRunCompletionMessage", '{"value":""}', "7200"),
-        ("ProposeRunCompletionMessage", '{"failure":{}}', "7a00"),
-        ("ProposeRunCompletionMessage", '{"failure":{"code":5},"value":null}', "7a020805"),
+        ("StartMessage", '{"id":null,"knownEntries":3,"scope":null,"stateMap":null,"partialState":null}', {"known_entries": 3}),
+        ("StartMessage", '{"partialState":false,"knownEntries":3,"id":"","debugId":"","stateMap":[],"randomSeed":0}', {"known_entries": 3}),
+        ("StartMessage", '{"scope":""}', {"scope": ""}),
+        ("Future", '{"waitingCompletions":[],"nestedFutures":[]}', {}),
+        ("ProposeRunCompletionMessage", '{"value":""}', {"value": b""}),
+        ("ProposeRunCompletionMessage", '{"failure":{}}', {"failure": {}}),
+        ("ProposeRunCompletionMessage", '{"failure":{"code":5},"value":null}', {"failure": {"code": 5}}),
     ]),
     ("Numbers: as numbers and in strings, with a point or an exponent if they are whole", [
-        ("StartMessage", '{"knownEntries":"3"}', "1803"),
-        ("StartMessage", '{"knownEntries":3.0}', "1803"),
-        ("StartMessage", '{"knownEntries":30e-1}', "1803"),
-        ("StartMessage", '{"knownEntries":"0.3E+1"}', "1803"),
-        ("StartMessage", '{"knownEntries":0.00000000000000000000000000003e29}', "1803"),
-        ("StartMessage", '{"knownEntries":-0}', ""),
-        ("StartMessage", '{"knownEntries":0e999999999}', ""),
-        ("StartMessage", '{"knownEntries":4294967295}', "18ffffffff0f"),
+        ("StartMessage", '{"knownEntries":"3"}', {"known_entries": 3}),
+        ("StartMessage", '{"knownEntries":3.0}', {"known_entries": 3}),
+        ("StartMessage", '{"knownEntries":30e-1}', {"known_entries": 3}),
+        ("StartMessage", '{"knownEntries":"0.3E+1"}', {"known_entries": 3}),
+        ("StartMessage", '{"knownEntries":0.00000000000000000000000000003e29}', {"known_entries": 3}),
+        ("StartMessage", '{"knownEntries":-0}', {}),
+        ("StartMessage", '{"knownEntries":0e999999999}', {}),
+        ("StartMessage", '{"knownEntries":4294967295}', {"known_entries": 4294967295}),
         ("StartMessage", '{"knownEntries":4294967296}', "out_of_range knownEntries"),
         ("StartMessage", '{"knownEntries":-1}', "out_of_range knownEntries"),
         ("StartMessage", '{"knownEntries":1.5}', "out_of_range knownEntries"),
         ("StartMessage", '{"knownEntries":"15e-1"}', "out_of_range knownEntries"),
         ("StartMessage", '{"knownEntries":1e999999999}', "out_of_range knownEntries"),
         ("StartMessage", '{"knownEntries":1e-999999999}', "out_of_range knownEntries"),
-        ("StartMessage", '{"randomSeed":18446744073709551615}', "48ffffffffffffffffff01"),
-        ("StartMessage", '{"randomSeed":"18446744073709551615"}', "48ffffffffffffffffff01"),
-        ("StartMessage", '{"randomSeed":1.8446744073709551615e19}', "48ffffffffffffffffff01"),
+        ("StartMessage", '{"randomSeed":18446744073709551615}', {"random_seed": 18446744073709551615}),
+        ("StartMessage", '{"randomSeed":"18446744073709551615"}', {"random_seed": 18446744073709551615}),
+        ("StartMessage", '{"randomSeed":1.8446744073709551615e19}', {"random_seed": 18446744073709551615}),
         ("StartMessage", '{"randomSeed":18446744073709551616}', "out_of_range randomSeed"),
         ("StartMessage", '{"randomSeed":-1}', "out_of_range randomSeed"),
         ("StartMessage", '{"knownEntries":"+1"}', "wrong_kind knownEntries"),
@@ -72,13 +72,13 @@ WRITTEN = [
         ("StartMessage", '{"knownEntries":[1]}', "wrong_kind knownEntries"),
     ]),
     ("Enums, by any number of 32 bits or by a name", [
-        ("ErrorMessage", '{"behavior":"PAUSE"}', "4801"),
-        ("ErrorMessage", '{"behavior":1}', "4801"),
-        ("ErrorMessage", '{"behavior":"1.0"}', "4801"),
-        ("Future", '{"combinatorType":"COMBINATOR_TYPE_ZERO"}', ""),
-        ("Future", '{"combinatorType":2147483647}', "28ffffffff07"),
-        ("Future", '{"combinatorType":-7}', "28f9ffffffffffffffff01"),
-        ("Future", '{"combinatorType":"-2147483648"}', "2880808080f8ffffffff01"),
+        ("ErrorMessage", '{"behavior":"PAUSE"}', {"behavior": 1}),
+        ("ErrorMessage", '{"behavior":1}', {"behavior": 1}),
+        ("ErrorMessage", '{"behavior":"1.0"}', {"behavior": 1}),
+        ("Future", '{"combinatorType":"COMBINATOR_TYPE_ZERO"}', {}),
+        ("Future", '{"combinatorType":2147483647}', {"combinator_type": 2147483647}),
+        ("Future", '{"combinatorType":-7}', {"combinator_type": -7}),
+        ("Future", '{"combinatorType":"-2147483648"}', {"combinator_type": -2147483648}),
         ("Future", '{"combinatorType":2147483648}', "out_of_range combinatorType"),
         ("Future", '{"combinatorType":-2147483649}', "out_of_range combinatorType"),
         ("Future", '{"combinatorType":0.5}', "out_of_range combinatorType"),
@@ -87,14 +87,14 @@ WRITTEN = [
         ("ErrorMessage", '{"behavior":true}', "wrong_kind behavior"),
     ]),
     ("Bytes, in base64 of one alphabet, with its padding, a part of it or none", [
-        ("StartMessage", '{"id":"+/8="}', "0a02fbff"),
-        ("StartMessage", '{"id":"+/8"}', "0a02fbff"),
-        ("StartMessage", '{"id":"-_8="}', "0a02fbff"),
-        ("StartMessage", '{"id":"-_8"}', "0a02fbff"),
-        ("StartMessage", '{"id":"\\u002b\\/8"}', "0a02fbff"),
-        ("StartMessage", '{"id":"YQ=="}', "0a0161"),
-        ("StartMessage", '{"id":"YQ="}', "0a0161"),
-        ("StartMessage", '{"id":"YQ"}', "0a0161"),
+        ("StartMessage", '{"id":"+/8="}', {"id": b"\xfb\xff"}),
+        ("StartMessage", '{"id":"+/8"}', {"id": b"\xfb\xff"}),
+        ("StartMessage", '{"id":"-_8="}', {"id": b"\xfb\xff"}),
+        ("StartMessage", '{"id":"-_8"}', {"id": b"\xfb\xff"}),
+        ("StartMessage", '{"id":"\\u002b\\/8"}', {"id": b"\xfb\xff"}),
+        ("StartMessage", '{"id":"YQ=="}', {"id": b"a"}),
+        ("StartMessage", '{"id":"YQ="}', {"id": b"a"}),
+        ("StartMessage", '{"id":"YQ"}', {"id": b"a"}),
         ("StartMessage", '{"id":"YQ==="}', "not_base64 id"),
         ("StartMessage", '{"id":"YWE=="}', "not_base64 id"),
         ("StartMessage", '{"id":"a"}', "not_base64 id"),
@@ -105,10 +105,10 @@ WRITTEN = [
         ("StartMessage", '{"id":1}', "wrong_kind id"),
     ]),
     ("Bytes that are UTF-8, as the text of an object with the one member `text`", [
-        ("StartMessage", '{"id":{"text":"\\u00e9"}}', "0a02c3a9"),
-        ("StartMessage", '{"id":{"text":""}}', ""),
-        ("StartMessage", '{"id":{"text":"YQ=="}}', "0a0459513d3d"),
-        ("StateKeys", '{"keys":[{"text":"a"},"Yg=="]}', "0a01610a0162"),
+        ("StartMessage", '{"id":{"text":"\\u00e9"}}', {"id": b"\xc3\xa9"}),
+        ("StartMessage", '{"id":{"text":""}}', {}),
+        ("StartMessage", '{"id":{"text":"YQ=="}}', {"id": b"YQ=="}),
+        ("StateKeys", '{"keys":[{"text":"a"},"Yg=="]}', {"keys": [b"a", b"b"]}),
         ("StartMessage", '{"id":{}}', "wrong_kind id"),
         ("StartMessage", '{"id":{"text":1}}', "wrong_kind id"),
         ("StartMessage", '{"id":{"text":null}}', "wrong_kind id"),
@@ -118,9 +118,9 @@ WRITTEN = [
         ("ErrorMessage", '{"message":{"text":"a"}}', "wrong_kind message"),
     ]),
     ("Texts", [
-        ("ErrorMessage", '{"message":"\\u00e9\\ud83d\\ude00\\u0000"}', "1207c3a9f09f988000"),
-        ("ErrorMessage", '{"message":"é😀"}', "1206c3a9f09f9880"),
-        ("ErrorMessage", '{"message":"\\"\\\\\\/\\b\\f\\n\\r\\t"}', "1208225c2f080c0a0d09"),
+        ("ErrorMessage", '{"message":"\\u00e9\\ud83d\\ude00\\u0000"}', {"message": "é😀\0"}),
+        ("ErrorMessage", '{"message":"é😀"}', {"message": "é😀"}),
+        ("ErrorMessage", '{"message":"\\"\\\\\\/\\b\\f\\n\\r\\t"}', {"message": "\"\\/\b\f\n\r\t"}),
         ("ErrorMessage", '{"message":1}', "wrong_kind message"),
         ("ErrorMessage", '{"message":false}', "wrong_kind message"),
     ]),
@@ -128,9 +128,9 @@ WRITTEN = [
         (
             "Future",
             '{"nestedFutures":[{},{"combinatorType":2}],"waitingNamedSignals":["a",""],"waitingCompletions":[1,"300"]}',
-            "0a0301ac021a01611a00220022022802",
+            {"waiting_completions": [1, 300], "waiting_named_signals": ["a", ""], "nested_futures": [{}, {"combinator_type": 2}]},
         ),
-        ("StartMessage", '{"partialState":true}', "2801"),
+        ("StartMessage", '{"partialState":true}', {"partial_state": 1}),
         ("StartMessage", '{"partialState":1}', "wrong_kind partialState"),
         ("StartMessage", '{"partialState":"true"}', "wrong_kind partialState"),
         ("StartMessage", '{"stateMap":{}}', "wrong_kind stateMap"),
@@ -245,7 +245,7 @@ def nested(levels):
     text, payload = "{}", b""
     for _ in range(levels):
         text = f'{{"nestedFutures":[{text}]}}'
-        payload = lengthy(4, payload)
+        payload = payload_of("Future", nested_futures=[payload])
     return text, payload
 
 
@@ -271,7 +271,9 @@ def written():
         for schema, text, result in lines:
             if isinstance(text, str) and text.isprintable():
                 yield f"# {text}\n"
-            yield line(schema, text, result)
+            # what a text means is said by the names of fields
+            meant = payload_of(schema, **result).hex() if isinstance(result, dict) else result
+            yield line(schema, text, meant)
 
 
 # A value of each kind, as JSON and as the record of a field with this number, and one of another kind.

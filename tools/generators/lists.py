@@ -45,7 +45,9 @@ def listed_types():
         for message in commands
     )
     return (
-        "//! The types with their codes, and the commands with their texts.\n\nuse shared_core_base::header::CommandType;\n\n"
+        "//! The types with their codes, the commands with their texts, and the number of schemas.\n\n"
+        "use shared_core_base::header::CommandType;\n\n"
+        f"/// The number of schemas: the least number that no schema has.\npub const SCHEMAS: u32 = {len(schemas())};\n\n"
         f"/// The code and the name of each type, in the order of codes.\npub const NAMED: [(u16, &str); {len(types)}] = [\n{named}];\n\n"
         "/// The code of each command, the command type that it converts to, the text that both print, and the code that the\n"
         f"/// command type is sent with.\npub const COMMANDS: [(u16, CommandType, &str, u16); {len(commands)}] = [\n{rows}];\n"

@@ -1,10 +1,12 @@
 """The lines that are too long to write by hand, conformance/levels.txt and long.txt.
 
-What a payload means follows from how it is put together here; no reader of payloads takes part.
+What a payload means follows from how it is put together here, by the names of fields; no reader of payloads takes part.
 """
 import textwrap
 
 from . import missing  # noqa: F401
+from .payloads import code, lengthy, record, unknown, varint
+from .payloads import payload as payload_of
 
 ABOUT = "Test vectors that are long."
 SOURCE = "tools/generators/long_vectors.py"
@@ -12,18 +14,8 @@ SOURCE = "tools/generators/long_vectors.py"
 MALFORMED = "malformed"
 
 
-def varint(number):
-    """The shortest encoding of a number."""
-    out = bytearray()
-    while number >= 128:
-        out.append(number % 128 + 128)
-        number //= 128
-    return bytes(out) + bytes([number])
-
-
-def lengthy(number, content):
-    """A record of a field with a length."""
-    return varint(8 * number + 2) + varint(len(content)) + content
+# A number that neither futures nor suspensions have.
+UNKNOWN = unknown(9, "Future", "SuspensionMessage")
 
 
 def written(result):
@@ -39,26 +31,47 @@ def payload(schema, content, result):
     return line("payload", schema, content, result=result)
 
 
-def header(code, length, flag=0):
-    return code.to_bytes(2, "big") + bytes([flag, 0]) + length.to_bytes(4, "big")
+def header(type_name, length, flag=0):
+    return code(type_name).to_bytes(2, "big") + bytes([flag, 0]) + length.to_bytes(4, "big")
 
 
-def chain(futures, innermost=b"", outer=lambda number: b""):
-    """A future that is the first of a chain, each nested in the one before. Each but the innermost begins with what
+def future(**fields):
+    return payload_of("Future", **fields)
+
+
+def chain(futures, innermost=b"", outer=lambda number: {}):
+    """A future that is the first of a chain, each nested in the one before. Each but the innermost has the fields that
     `outer` gives for its number, from 1."""
     content = innermost
     for number in range(futures - 1, 0, -1):
-        content = outer(number) + lengthy(4, content)
+        content = future(nested_futures=[content], **outer(number))
     return content
 
 
-def suspension(future):
-    return lengthy(4, future)
+def suspension(awaited):
+    return payload_of("SuspensionMessage", awaiting_on=awaited)
 
 
-def groups(count, content=b"", number=9):
+def awaiting(awaited):
+    return payload_of("AwaitingOnMessage", awaiting_on=awaited)
+
+
+def completions(ids):
+    """The three lists of a suspension before version 7, of which one has elements."""
+    return payload_of("SuspensionMessageV6", waiting_completions=ids)
+
+
+def begin(number=UNKNOWN):
+    return varint(8 * number + 3)
+
+
+def end(number=UNKNOWN):
+    return varint(8 * number + 4)
+
+
+def groups(count, content=b"", number=UNKNOWN):
     """Groups in one another."""
-    return varint(8 * number + 3) * count + content + varint(8 * number + 4) * count
+    return begin(number) * count + content + end(number) * count
 
 
 def chains_of_futures():
@@ -75,15 +88,18 @@ def chains_of_futures():
     yield "# A future that is decoded by itself is on level 0, and the future in a suspension on level 1."
     yield payload("Future", chain(101), chain(101))
     yield payload("Future", chain(102), MALFORMED)
-    yield payload("AwaitingOnMessage", lengthy(1, chain(100)), lengthy(1, chain(100)))
-    yield payload("AwaitingOnMessage", lengthy(1, chain(101)), MALFORMED)
+    yield payload("AwaitingOnMessage", awaiting(chain(100)), awaiting(chain(100)))
+    yield payload("AwaitingOnMessage", awaiting(chain(101)), MALFORMED)
 
     yield "# Numbers, texts and empty messages of fields are accepted on the last level as on any other."
-    innermost = bytes.fromhex("0a0201021201111a016128ffffffffffffffffff01")
+    innermost = future(
+        waiting_completions=[1, 2], waiting_signals=[17], waiting_named_signals=["a"], combinator_type=-1
+    )
+    empty = future(nested_futures=[b""])
     yield payload("SuspensionMessage", suspension(chain(100, innermost)), suspension(chain(100, innermost)))
-    yield payload("SuspensionMessage", suspension(chain(100, b"\x22\x00")), MALFORMED)
+    yield payload("SuspensionMessage", suspension(chain(100, empty)), MALFORMED)
     yield payload(
-        "SuspensionMessage", suspension(chain(99, b"\x22\x00\x22\x00")), suspension(chain(99, b"\x22\x00\x22\x00"))
+        "SuspensionMessage", suspension(chain(99, empty * 2)), suspension(chain(99, empty * 2))
     )
 
 
@@ -96,7 +112,7 @@ def groups_of_an_unknown_field():
 
     yield "# A group without its end, and one with an end too many."
     yield payload("EndMessage", groups(100)[:-1], MALFORMED)
-    yield payload("EndMessage", groups(100) + b"\x4c", MALFORMED)
+    yield payload("EndMessage", groups(100) + end(), MALFORMED)
 
     yield "# A group of another number within the groups."
     yield payload("EndMessage", groups(99, b"\x0b\x0c"), b"")
@@ -108,9 +124,9 @@ def groups_of_an_unknown_field():
 
 def groups_below_futures():
     yield "# Levels of futures and of groups add up."
-    yield payload("SuspensionMessage", suspension(chain(99, b"\x4b\x4c")), suspension(chain(99)))
-    yield payload("SuspensionMessage", suspension(chain(99, b"\x4b\x4b\x4c\x4c")), MALFORMED)
-    yield payload("SuspensionMessage", suspension(chain(100, b"\x4b\x4c")), MALFORMED)
+    yield payload("SuspensionMessage", suspension(chain(99, groups(1))), suspension(chain(99)))
+    yield payload("SuspensionMessage", suspension(chain(99, groups(2))), MALFORMED)
+    yield payload("SuspensionMessage", suspension(chain(100, groups(1))), MALFORMED)
     yield payload("SuspensionMessage", suspension(chain(50, groups(50))), suspension(chain(50)))
     yield payload("SuspensionMessage", suspension(chain(50, groups(51))), MALFORMED)
 
@@ -121,8 +137,8 @@ def groups_below_futures():
     for record in ("1000", "110102030405060708", "1501020304", "120161"):
         skipped = bytes.fromhex(record)
         yield payload("EndMessage", groups(100, skipped), b"")
-    yield payload("SuspensionMessage", suspension(chain(100, bytes.fromhex("7801"))), suspension(chain(100)))
-    yield payload("Future", chain(101, bytes.fromhex("3a020101")), chain(101))
+    yield payload("SuspensionMessage", suspension(chain(100, varint(8 * unknown(15, "Future")) + b"\x01")), suspension(chain(100)))
+    yield payload("Future", chain(101, lengthy(unknown(7, "Future"), b"\x01\x01")), chain(101))
 
     yield "# One level above, all readers accept them."
     for record in ("1000", "110102030405060708", "1501020304", "120161"):
@@ -144,11 +160,12 @@ def far_below_the_last_level():
 def merged_chains():
     yield "# Merging does not add levels: each payload counts its own."
     whole = suspension(chain(100))
-    yield line("merge", "SuspensionMessage", whole, b"\x22\x00", result=whole)
-    yield line("merge", "SuspensionMessage", whole, whole, result=suspension(lengthy(4, chain(99)) * 2))
-    yield line("merge", "Future", chain(101), b"\x22\x00", result=chain(101) + b"\x22\x00")
-    yield line("merge", "SuspensionMessage", suspension(chain(101)), b"\x22\x00", result=MALFORMED)
-    yield line("merge", "SuspensionMessage", b"\x22\x00", suspension(chain(101)), result=MALFORMED)
+    empty, nested = suspension(b""), future(nested_futures=[b""])
+    yield line("merge", "SuspensionMessage", whole, empty, result=whole)
+    yield line("merge", "SuspensionMessage", whole, whole, result=suspension(chain(100) * 2))
+    yield line("merge", "Future", chain(101), nested, result=chain(101) + nested)
+    yield line("merge", "SuspensionMessage", suspension(chain(101)), empty, result=MALFORMED)
+    yield line("merge", "SuspensionMessage", empty, suspension(chain(101)), result=MALFORMED)
 
 
 def frames_of_chains():
@@ -156,15 +173,15 @@ def frames_of_chains():
         "# A chain of 100 futures, each with the completion of its number: a list before version 7, and from then "
         "on a chain."
     )
-    whole = suspension(chain(100, b"\x0a\x01\x64", lambda number: lengthy(1, varint(number))))
-    lists = lengthy(1, bytes(range(1, 101)))
+    whole = suspension(chain(100, future(waiting_completions=[100]), lambda number: {"waiting_completions": [number]}))
+    lists = completions(range(1, 101))
     for version in (5, 6):
-        yield line("frame", "Suspension", str(version), whole, result=header(1, len(lists)) + lists)
+        yield line("frame", "Suspension", str(version), whole, result=header("Suspension", len(lists)) + lists)
     for version in (7, 8):
-        yield line("frame", "Suspension", str(version), whole, result=header(1, len(whole)) + whole)
+        yield line("frame", "Suspension", str(version), whole, result=header("Suspension", len(whole)) + whole)
 
     yield "# There is no frame of 101 futures, since they are no payload."
-    whole = suspension(chain(101, b"\x0a\x01\x01", lambda number: b"\x0a\x01\x01"))
+    whole = suspension(chain(101, future(waiting_completions=[1]), lambda number: {"waiting_completions": [1]}))
     for version in (5, 6, 7, 8):
         yield line("frame", "Suspension", str(version), whole, result=MALFORMED)
 
@@ -172,10 +189,10 @@ def frames_of_chains():
         "# A value of 101 futures, which no payload means, is a list before version 7: this is the payload of its "
         "frame, and the frame."
     )
-    lists = lengthy(1, b"\x01" * 101)
+    lists = completions([1] * 101)
     yield payload("SuspensionMessageV6", lists, lists)
-    yield line("stream", "6", header(1, len(lists)) + lists, result="Suspension 103, rest 0")
-    lists = lengthy(1, bytes(range(1, 102)))
+    yield line("stream", "6", header("Suspension", len(lists)) + lists, result="Suspension 103, rest 0")
+    lists = completions(range(1, 102))
     yield payload("SuspensionMessageV6", lists, lists)
 
 
@@ -191,7 +208,7 @@ def letters(length):
 def lengths():
     yield "# Values around the lengths at which a length has another byte."
     for length in (127, 128, 129, 16_383, 16_384):
-        value = lengthy(1, pattern(length))
+        value = payload_of("Value", content=pattern(length))
         yield payload("Value", value, value)
 
     yield (
@@ -199,26 +216,29 @@ def lengths():
         "middle of a letter."
     )
     text = ("a\u00e9\u4e2d\U0001f980" * 150).encode()
-    yield payload("ClearAllStateCommandMessage", lengthy(12, text), lengthy(12, text))
-    yield payload("ClearAllStateCommandMessage", lengthy(12, text[:-1]), MALFORMED)
-    yield payload("ClearAllStateCommandMessage", lengthy(12, letters(2_000)), lengthy(12, letters(2_000)))
+    for content in (text, text[:-1], letters(2_000)):
+        named = payload_of("ClearAllStateCommandMessage", name=content)
+        yield payload("ClearAllStateCommandMessage", named, MALFORMED if content == text[:-1] else named)
 
     yield "# Lists of a thousand elements: numbers in one record, each in a record of its own, and texts."
-    run = b"".join(varint(number) for number in range(1_000))
-    alone = b"".join(b"\x08" + varint(number) for number in range(1_000))
-    yield payload("SuspensionMessageV6", lengthy(1, run), lengthy(1, run))
-    yield payload("SuspensionMessageV6", alone, lengthy(1, run))
-    texts = b"".join(lengthy(3, str(number).encode()) for number in range(1_000))
+    run = completions(range(1_000))
+    alone = b"".join(record("SuspensionMessageV6", "waiting_completions", number) for number in range(1_000))
+    yield payload("SuspensionMessageV6", run, run)
+    yield payload("SuspensionMessageV6", alone, run)
+    texts = payload_of("SuspensionMessageV6", waiting_named_signals=[str(number) for number in range(1_000)])
     yield payload("SuspensionMessageV6", texts, texts)
 
     yield "# A thousand records of a plain field, of which the last counts; and a thousand of a message field."
-    yield payload("ProposeRunCompletionAckMessage", b"\x08\x01" * 1_000 + b"\x08\x02", b"\x08\x02")
-    yield payload("InputCommandMessage", b"\x72\x00" * 999 + b"\x72\x03\x0a\x01\x78", b"\x72\x03\x0a\x01\x78")
-    yield payload("SuspensionMessage", b"\x22\x02\x08\x07" * 300, suspension(lengthy(1, b"\x07" * 300)))
+    first, last = (payload_of("ProposeRunCompletionAckMessage", completion_id=number) for number in (1, 2))
+    yield payload("ProposeRunCompletionAckMessage", first * 1_000 + last, last)
+    empty, held = (payload_of("InputCommandMessage", value=value) for value in (b"", payload_of("Value", content=b"x")))
+    yield payload("InputCommandMessage", empty * 999 + held, held)
+    single = suspension(record("Future", "waiting_completions", 7))
+    yield payload("SuspensionMessage", single * 300, suspension(future(waiting_completions=[7] * 300)))
 
     yield "# A payload of more than 65,535 bytes decoded and encoded, and its frame in chunks."
-    key = lengthy(1, pattern(65_536))
-    frame = header(0x0402, len(key)) + key
+    key = payload_of("GetLazyStateCommandMessage", key=pattern(65_536))
+    frame = header("GetLazyStateCommand", len(key)) + key
     yield line("frame", "GetLazyStateCommand", "8", key, result=frame)
     yield line(
         "stream", "8", frame[:5], frame[5:20_000], frame[20_000:], result=f"GetLazyStateCommand {len(key)}, rest 0"

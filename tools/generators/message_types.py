@@ -70,18 +70,18 @@ def header():
 
 def type_table():
     """The codes and names of message types."""
-    codes = "".join(f"code_of {message.type_name()} = {code(message)}\n" for message in typed())
-    listed = "    ∷ ".join(f"{name}\n" for name in names())
-    texts = "".join(f'variant_name_of {name} = codes "{name}"\n' for name in names())
+    codes = "".join(f"code_of types.{message.type_name()} = {code(message)}\n" for message in typed())
+    listed = "    ∷ ".join(f"types.{name}\n" for name in names())
+    texts = "".join(f'variant_name_of types.{name} = codes "{name}"\n' for name in names())
     return (
         "-- The codes and the names of the types of messages.\n"
         "use Rattle.std.specs.Prelude.{ℕ, codes, List, [], ◌∷◌}\n"
-        f"use {TYPE}.{{MessageType}}\nuse {TYPE}.TheVariants.{{{', '.join([*names(), 'CustomEntry'])}}}\n\n"
+        f"use {TYPE}.{{MessageType}}\nuse {TYPE}.TheVariants as types\n\n"
         "-- The code that denotes a type: a named type has the code of this table, a custom entry its own.\n"
-        f"abbrev pub code_of : MessageType → ℕ\n{codes}code_of (CustomEntry code) = code\n\n"
+        f"abbrev pub code_of : MessageType → ℕ\n{codes}code_of (types.CustomEntry code) = code\n\n"
         f"-- The {len(names())} types that have a name.\nunfoldable pub named_types : List MessageType\nnamed_types =\n    {listed}    ∷ []\n\n"
         "-- The name of a type's variant.\nabbrev pub variant_name_of : MessageType → List ℕ\n"
-        f'{texts}variant_name_of (CustomEntry code) = codes "CustomEntry"\n'
+        f'{texts}variant_name_of (types.CustomEntry code) = codes "CustomEntry"\n'
     )
 
 

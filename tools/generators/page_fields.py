@@ -4,8 +4,7 @@ its fields, as JSON names them, with the kind of each. So the page knows which t
 import json
 
 from . import missing  # noqa: F401
-from .json_names import json_name
-from .proto import earlier, fields_of, schemas, typed
+from .proto import earlier, fields_of, json_name, schemas, typed
 
 ABOUT = "The types and the fields of their messages, for the page of view/."
 SOURCE = "proto/journal.proto"

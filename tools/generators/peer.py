@@ -4,11 +4,8 @@ bench/src/records.rs has the records of proto/journal.proto as prost-build would
 what depends on their numbers: the fields of each schema, the code of each message type, and macros that lead from a number to the record.
 json.rs has how serde writes the records, in proto3's JSON form, and read_json.rs how it reads them.
 """
-import re
-
 from . import missing  # noqa: F401
-from .json_names import json_name
-from .proto import PROTO, OneOf, camel, messages, schemas, snake, typed
+from .proto import OneOf, camel, enums, json_name, messages, schemas, snake, typed
 
 ABOUT = "The records and the tables of the peer, in Rust."
 SOURCE = "proto/journal.proto"
@@ -27,12 +24,6 @@ KINDS = {"u32": "U32", "u64": "U64", "bool": "Bool", "enum": "Enum", "text": "Te
 IS_SET = {"bool": "{0}", "text": "!{0}.is_empty()", "bytes": "!{0}.is_empty()"}
 WRITTEN = {"u64": "&Quoted({0})", "bytes": "&Base64({0})"}
 LABELS = {"plain": "Plain", "optional": "Optional", "message": "Optional", "repeated": "Repeated"}
-
-
-def enums(text):
-    """The enums, each with its constants and their numbers."""
-    for name, body in re.findall(r"^enum (\w+) \{\n(.*?)^\}", text, re.M | re.S):
-        yield name, re.findall(r"^  (\w+) = (\d+);", body, re.M)
 
 
 def enumeration(name, constants):
@@ -99,12 +90,12 @@ class Records:
         return text
 
 
-def records(text):
+def records():
     """The source of src/records.rs."""
     writer = Records()
     parts = ["//! The records of proto/journal.proto for prost.\n"]
-    parts += [enumeration(name, constants) for name, constants in enums(text)]
-    parts += [writer.message(message) for message in messages(text)]
+    parts += [enumeration(name, constants) for name, constants in enums().items()]
+    parts += [writer.message(message) for message in messages()]
     return "\n".join(parts)
 
 
@@ -148,14 +139,14 @@ def least_number(row):
     return min(member.number for member in row.members) if isinstance(row, OneOf) else row.number
 
 
-def json(text):
+def json():
     """The source of src/json.rs."""
     parts = [
         "//! How serde writes the records, in proto3's JSON form.\n",
         "use serde::ser::{Serialize, SerializeMap, Serializer};\n",
         "use crate::dump::{Base64, Base64List, Quoted};\nuse crate::records::*;\n",
     ]
-    for message in messages(text):
+    for message in messages():
         members = "".join(
             written_one_of(message, row) if isinstance(row, OneOf) else written_field(row)
             for row in sorted(message.rows, key=least_number)
@@ -220,17 +211,17 @@ def read_message(message):
     )
 
 
-def read_json(text):
+def read_json():
     """The source of src/read_json.rs."""
     parts = [
         "//! How serde reads the records, in proto3's JSON form.\n",
         "use serde::de::{Deserialize, Deserializer, MapAccess};\n",
         "use crate::make::{member, one_of, read, unknown, Binary, Enumeration, Key, Named, Number, Read};\nuse crate::records::*;\n",
     ]
-    for name, constants in enums(text):
+    for name, constants in enums().items():
         names = ", ".join(f'("{constant}", {number})' for constant, number in constants)
         parts.append(f"impl Named for {name} {{\n    const NAMES: &'static [(&'static str, i32)] = &[{names}];\n}}\n")
-    parts += [read_message(message) for message in messages(text)]
+    parts += [read_message(message) for message in messages()]
     return "\n".join(parts)
 
 
@@ -311,5 +302,4 @@ def table():
 
 
 def files():
-    text = PROTO.read_text()
-    return {"bench/src/records.rs": records(text), "bench/src/json.rs": json(text), "bench/src/read_json.rs": read_json(text), "bench/src/table.rs": table()}
+    return {"bench/src/records.rs": records(), "bench/src/json.rs": json(), "bench/src/read_json.rs": read_json(), "bench/src/table.rs": table()}

@@ -1,6 +1,8 @@
 """Streams and their dumps, with protobuf's own JSON printer as the judge:
 
-    protobuf_dumps.py --write FOLDER     writes the stored run of journal_dump and the JSON of each message below a folder, for tools/generate.py
+    protobuf_dumps.py --write FOLDER FROM
+                                         writes the stored run of journal_dump and the JSON of each message below a folder, for tools/generate.py,
+                                         from the records and the types below another one
     protobuf_dumps.py --random SEED COUNT PROGRAM [WORD..]
                                          COUNT random payloads of each message type in one stream, dumped by the program and printed by protobuf
 
@@ -20,7 +22,7 @@ from google.protobuf import json_format
 from google.protobuf.descriptor import FieldDescriptor
 
 ROOT = pathlib.Path(__file__).resolve().parents[2]
-RECORDS = ROOT / "conformance" / "records.txt"
+RECORDS = "conformance/records.txt"
 
 HEAD = """# The JSON of each message: with every field present, with each member of its oneofs in turn, and with nothing present. The payloads are those of
 # conformance/records.txt, which are protoc's; the JSON is protobuf's own.
@@ -37,10 +39,10 @@ def load():
         return journal_pb2
 
 
-def types():
+def types(root):
     """The names of types and their codes."""
     found = {}
-    for line in (ROOT / "proto" / "types.txt").read_text().splitlines():
+    for line in (root / "proto" / "types.txt").read_text().splitlines():
         if line and not line.startswith("#"):
             code, name = line.split()[:2]
             found[name] = int(code, 16)
@@ -78,9 +80,9 @@ def header_of(more, plain):
 class Stream:
     """A stream, and the lines of its dump."""
 
-    def __init__(self, kinds):
+    def __init__(self, kinds, root=ROOT):
         self.kinds = kinds
-        self.codes = types()
+        self.codes = types(root)
         self.bytes = b""
         self.lines = []
 
@@ -107,17 +109,17 @@ class Stream:
         return self.bytes, "".join(line + "\n" for line in self.lines)
 
 
-def records():
+def records(root):
     """The messages of conformance/records.txt and their payloads."""
-    for line in RECORDS.read_text().splitlines():
+    for line in (root / RECORDS).read_text().splitlines():
         words = line.split(" ")
         if words[0] == "record":
             yield words[1], b"" if words[2] == "-" else bytes.fromhex(words[2])
 
 
-def json_lines(kinds):
+def json_lines(kinds, root):
     """The JSON of these payloads, a line each."""
-    lines = [f"json {name} {payload.hex() or '-'} = {text_of(printed(getattr(kinds, name), payload))}\n" for name, payload in records()]
+    lines = [f"json {name} {payload.hex() or '-'} = {text_of(printed(getattr(kinds, name), payload))}\n" for name, payload in records(root)]
     return HEAD + "".join(lines)
 
 
@@ -128,11 +130,11 @@ def future_of(kinds, levels):
     return future
 
 
-def stored(kinds):
+def stored(kinds, root):
     """The stream of the stored run: each message with every field, with each member of its oneofs, and empty; texts with every escape; ninety
     levels; a malformed payload between two good ones; headers with bits that say nothing; items that are no messages; and a rest."""
-    stream = Stream(kinds)
-    for name, payload in records():
+    stream = Stream(kinds, root)
+    for name, payload in records(root):
         if name.endswith("Message"):
             short = name[: -len("Message")]
             stream.message(short, payload, 0x8000 if payload and short == "ProposeRunCompletion" else 0)
@@ -236,13 +238,14 @@ def main():
     words = sys.argv[1:]
     if words[:1] == ["--random"] and len(words) >= 4:
         return dump_random(kinds, int(words[1]), int(words[2]), words[3:])
-    if words[:1] != ["--write"] or len(words) != 2:
+    if words[:1] != ["--write"] or len(words) != 3:
         sys.exit(__doc__)
-    given, wanted = stored(kinds)
+    root = pathlib.Path(words[2])
+    given, wanted = stored(kinds, root)
     files = {
         "crates/journal_dump/stdin": given,
         "crates/journal_dump/stdout": wanted.encode(),
-        "conformance/json/records.txt": json_lines(kinds).encode(),
+        "conformance/json/records.txt": json_lines(kinds, root).encode(),
     }
     for path, data in files.items():
         target = pathlib.Path(words[1]) / path

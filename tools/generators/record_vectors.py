@@ -11,12 +11,11 @@ import re
 import subprocess
 
 from . import ROOT
-from .proto import PROTO, OneOf, camel, messages, without_protoc
+from .proto import PROTO, OneOf, camel, description, messages, without_protoc
 
 ABOUT = "Test vectors of each message, by protoc."
 SOURCE = "proto/journal.proto, by protoc"
 
-PACKAGE = "pendratsoa.journal"
 FOLDER = ROOT / "conformance"
 FILE = "conformance/records.txt"
 
@@ -106,7 +105,7 @@ def absent(row):
 def encoded(name, text):
     """The bytes that protoc makes of a text."""
     made = subprocess.run(
-        ["protoc", f"--proto_path={PROTO.parent}", f"--encode={PACKAGE}.{name}", PROTO.name],
+        ["protoc", f"--proto_path={PROTO.parent}", f"--encode={description().package}.{name}", PROTO.name],
         input=text.encode(),
         stdout=subprocess.PIPE,
         check=True,

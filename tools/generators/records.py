@@ -7,14 +7,14 @@ import re
 import shutil
 import textwrap
 
-from . import ROOT, laid_out
-from .proto import HAND_WRITTEN, OneOf, camel, earlier, fields_of, messages, refuse, schema_name, snake
+from . import laid_out
+from .forms import BY_HAND, HAND_WRITTEN, INNER, PARTS_CRATE, TYPES, bound
+from .proto import OneOf, camel, earlier, messages, schema_name, snake
 
 ABOUT = "The records of the messages in Rattle."
 SOURCE = "proto/journal.proto"
 
 # The crates of the records, each with a line on what it holds.
-PARTS_CRATE = "shared_core_parts"
 ABOUT_CRATES = {
     PARTS_CRATE: "The nested messages, and the template of notifications.",
     "shared_core_runtime": "The records of the protocol's core: how an invocation starts, suspends, fails and ends.",
@@ -96,16 +96,8 @@ TYPE_OF = {message.name: last.type_name() for message, last in earlier()}
 # What the enums of oneofs derive beside Debug, PartialEq and Drop, by message and oneof.
 DERIVED = {("NotificationTemplate", "id"): ["Eq", "Hash"]}
 
-# Modules that are written by hand, those that other crates see and those that they do not, and what is shown of them
-# beside records.
-BY_HAND = {
-    PARTS_CRATE: ["conversions", "laws", "notification", "texts", *(snake(name) for name in HAND_WRITTEN)],
-    "shared_core_runtime": ["flat_suspension", "versions"],
-}
-INNER = {PARTS_CRATE: ["escape"]}
+# What is shown of hand-written modules beside records.
 SHOWN = {PARTS_CRATE: ["texts::{HeadersText, StateKeysText}"]}
-
-TYPES = {"u32": "u32", "u64": "u64", "bool": "bool", "enum": "i32", "text": "String", "bytes": "Bytes"}
 
 # By kind: the part that a field is, and the name of its kind in schemas.
 PARTS = {
@@ -161,6 +153,7 @@ class Source:
         return f"{name} {value}".rstrip()
 
     def result(self):
+        """The standard library's `Result`, where an enum of a oneof has that name, as prost gives it."""
         return "result::Result" if self.shadowed else "Result"
 
     def lines(self, presence, number, name):
@@ -238,6 +231,7 @@ def write_oneof(source, module, name, oneof, about, derived=()):
     law_lines, declared = [], ""
     for member in oneof.members:
         variant = camel(member.name)
+        local = bound(member)
         number = member.number
         rules = ["equality_rules"]
         if member.kind == "message":
@@ -259,8 +253,8 @@ def write_oneof(source, module, name, oneof, about, derived=()):
                 f"                if !matches!(oneof, Some({name}::{variant}(_))) {{\n"
                 f"                    *oneof = Some({name}::{variant}(FieldKind::empty_value(field.alloc)));\n"
                 "                }\n"
-                f"                if let Some({name}::{variant}({member.name})) = oneof {{\n"
-                f"                    {member.name}.merge_value(field)?;\n"
+                f"                if let Some({name}::{variant}({local})) = oneof {{\n"
+                f"                    {local}.merge_value(field)?;\n"
                 "                }\n"
                 "            }\n"
             )
@@ -270,8 +264,8 @@ def write_oneof(source, module, name, oneof, about, derived=()):
         members.append(f"({number}, {kind})")
         parts.append(f"      | {variants}.{variant} x ↦ Member {number} ({source.part(member.kind, member.message, 'x')})\n")
         merges.append(merge)
-        sizes.append(f"            {name}::{variant}({member.name}) => {member.name}.measure_value(size, {number}),\n")
-        writes.append(f"            {name}::{variant}({member.name}) => {member.name}.write_value(out, end, {number}),\n")
+        sizes.append(f"            {name}::{variant}({local}) => {local}.measure_value(size, {number}),\n")
+        writes.append(f"            {name}::{variant}({local}) => {local}.write_value(out, end, {number}),\n")
         presents.append(f"{variants}.{variant} x ↦ refl")
         search = f"({', '.join(rules)})" if len(rules) > 1 else rules[0]
         equals.append(
@@ -461,11 +455,12 @@ def shared_oneofs(crate, table):
     for module, enum, about, names in SHARED.get(crate, []):
         oneof, users = None, []
         for name in names:
-            for row in table[name].rows:
+            for row in table[name].rows if name in table else ():
                 if isinstance(row, OneOf) and (oneof is None or is_alike(row, oneof)):
                     oneof = oneof or row
                     users.append((name, row.name))
-        found.append((module, enum, about, oneof, users))
+        if users:
+            found.append((module, enum, about, oneof, users))
     return found
 
 
@@ -507,7 +502,8 @@ def crate_files(crate):
             text = f"{head}\n\n{shows}\nuse {rest}"
         files[f"{folder}/{module}.rt"] = text
         modules.append(module)
-    modules = [(module, "pub ") for module in modules + BY_HAND.get(crate, [])] + [(module, "") for module in INNER.get(crate, [])]
+    by_hand = BY_HAND.get(crate, []) + ([snake(name) for name in HAND_WRITTEN] if crate == PARTS_CRATE else [])
+    modules = [(module, "pub ") for module in modules + by_hand] + [(module, "") for module in INNER.get(crate, [])]
     lib = f"//! {about}\n#![tactic(auto)]\n\n" + "".join(f"{seen}mod {module};\n" for module, seen in sorted(modules))
     names = names + (list(HAND_WRITTEN) if crate == PARTS_CRATE else [])
     shown = [f"{snake(name)}::{name}" for name in names] + SHOWN.get(crate, [])
@@ -516,32 +512,8 @@ def crate_files(crate):
     return files
 
 
-def check_hand_written():
-    """Rejects a description whose hand-written record has other fields, at other numbers or of other kinds."""
-    table = {message.name: message for message in messages()}
-    for name in HAND_WRITTEN:
-        path = f"crates/{PARTS_CRATE}/src/{snake(name)}.rt"
-        source = (ROOT / path).read_text(encoding="utf-8")
-        held = re.search(rf"^pub struct {name} \{{\n(.*?)^\}}", source, re.M | re.S)
-        found = set(re.findall(r"^    pub (\w+): (.+),$", held[1], re.M)) if held else set()
-        numbered = set(re.findall(r"^        (\d+) => \w+(?:::merge)?\(&mut \w+\.(\w+), field\)\?,$", source, re.M))
-        for field in fields_of(table[name]):
-            if (field.name, held_type(field)) not in found or (str(field.number), field.name) not in numbered:
-                refuse(f"{path} is hand-written, and has no {field.name} at {field.number}, a {held_type(field)}", field.line)
-        for about, names in (("field", found), ("number", {(name, number) for number, name in numbered})):
-            if other := {name for name, _ in names} - {field.name for field in fields_of(table[name])}:
-                refuse(f"{path} is hand-written, and has a {about} for {', '.join(sorted(other))}, which {name} has not", table[name].line)
-
-
-def held_type(field):
-    """The type of a field of a struct."""
-    held = field.message or TYPES[field.kind]
-    return {"repeated": f"Vec<{held}>", "plain": held}.get(field.presence, f"Option<{held}>")
-
-
 def texts():
     """The files of all crates, not yet laid out."""
-    check_hand_written()
     return {path: text for crate in CRATES for path, text in crate_files(crate).items()}
 
 

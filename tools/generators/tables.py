@@ -1,9 +1,9 @@
 """The tables that contracts cite, each a definition with a row for what proto/journal.proto says once: schemas, the schema of each type, and
 what of a command is compared and printed. And the list of types for the scripts that write and list streams.
 """
-from . import laid_out
+from . import bracketed, laid_out
 from .commands import Entry, name_number
-from .proto import TEMPLATE, OneOf, earlier, fields_of, messages, refuse, schema_name, schemas, typed
+from .proto import TEMPLATE, OneOf, earlier, fields_of, messages, schema_name, schemas, typed
 from .records import KINDS, missing  # noqa: F401
 
 ABOUT = "The tables of schemas, of message types and of compared commands, for contracts."
@@ -17,7 +17,8 @@ TABLE = """\
 -- The schemas of the protocol's messages (this project's own, but for SuspensionMessageV6), each with a name for its
 -- index in the table. Rows are in the order of their numbers, a oneof at its least number.
 use Rattle.std.specs.Prelude.{ℕ, List, [], ◌∷◌}
-use Rattle.shared_core_wire.specs.Schema.{Row, Table, U32, U64, Boolean, Enumeration, Text, ByteString, Message, Plain, Optional, Repeated, OneOf, table_of}
+use Rattle.shared_core_wire.specs.Schema.{Row, Table, Plain, Optional, Repeated, OneOf, table_of}
+use Rattle.shared_core_wire.specs.Schema.{U32, U64, Boolean, Enumeration, Text, ByteString, Message}
 """
 
 TEMPLATE_PARTS = """\
@@ -88,8 +89,8 @@ def table():
         parts.append(f"\n-- The schema of {message.name}.\nabbrev pub {name} : ℕ\n{name} = {message.schema}\n")
     parts.append("\n-- The schemas, in the order of the names above.\nabbrev pub schemas : List (List Row)\nschemas =\n")
     for message in schemas():
-        rows = "".join(f"{row(one)} ∷ " for one in sorted(message.rows, key=least))
-        parts.append(f"    -- {message.name}\n    {'∷ ' if message.schema else ''}({rows}[])\n")
+        rows = bracketed([row(one) for one in sorted(message.rows, key=least)])
+        parts.append(f"    -- {message.name}\n    {'∷ ' if message.schema else ''}{rows}\n")
     parts.append(
         "    ∷ []\n\n-- The number of schemas.\nabbrev pub schema_count : ℕ\n"
         f"schema_count = {len(schemas())}\n"
@@ -101,16 +102,12 @@ def table():
 def part_fields():
     """The numbers of the fields of messages without a code, by their names."""
     parts = [FIELDS]
-    known = {}
     for message in schemas():
         if message.code is not None:
             continue
         for field in fields_of(message):
             name = f"{schema_name(message.name)}_{field.name}"
-            if name in known:
-                refuse(f"{field.name} of {message.name} and {known[name]} have one name in the table of fields, {name}")
-            known[name] = f"{field.name} of {message.name}"
-            parts.append(f"\n-- The number of {known[name]}.\nabbrev pub {name} : ℕ\n{name} = {field.number}\n")
+            parts.append(f"\n-- The number of {field.name} of {message.name}.\nabbrev pub {name} : ℕ\n{name} = {field.number}\n")
     return "".join(parts)
 
 
@@ -124,26 +121,21 @@ def template_parts():
     return f"{TEMPLATE_PARTS % ('Part → ' * len(names))}template_parts {' '.join(sorted(names))} = {parts}\n"
 
 
-def variants(and_custom=True):
-    """The names of the types as a list in braces."""
-    return ", ".join([message.type_name() for message in typed()] + (["CustomEntry"] if and_custom else []))
-
-
 def message_schemas():
     """The schema of each type."""
-    rows = "".join(f"message_schema {message.type_name()} = Some schema.{schema_name(message.name)}\n" for message in typed())
+    rows = "".join(f"message_schema types.{message.type_name()} = Some schema.{schema_name(message.name)}\n" for message in typed())
     others = "".join(
-        f" ⊎ ((ty ≡ {last.type_name()}) × (s ≡ schema.{schema_name(message.name)}))" for message, last in earlier()
+        f" ⊎ ((ty ≡ types.{last.type_name()}) × (s ≡ schema.{schema_name(message.name)}))" for message, last in earlier()
     )
     said = ", or ".join(
         ["The schema is that of the type's payloads"]
         + [f"the one that {last.type_name().lower()}s have before V{message.before_version}" for message, last in earlier()]
     )
     return (
-        f"{MESSAGES}use Rattle.shared_core_base.specs.declared.header.MessageType.TheVariants.{{{variants()}}}\n"
+        f"{MESSAGES}use Rattle.shared_core_base.specs.declared.header.MessageType.TheVariants as types\n"
         "use Rattle.shared_core_codec.specs.Table as schema\n\n"
         "-- The schema of a named type's payloads; a custom entry has none.\nabbrev pub message_schema : MessageType → Option ℕ\n"
-        f"{rows}message_schema (CustomEntry code) = None\n\n"
+        f"{rows}message_schema (types.CustomEntry code) = None\n\n"
         f"-- {said}.\nabbrev pub IsSchemaOf : MessageType → ℕ → Type 0\n"
         f"IsSchemaOf ty s = (message_schema ty ≡ Some s){others}\n"
     )

@@ -47,6 +47,7 @@ pub fn open<'a>(rt: &HostRuntime, path: &'a str) -> Result<Input, OpenError<'a>>
 /// before any is.
 pub fn is_stdin_open(rt: &HostRuntime) -> bool {
     // a read of no bytes takes none, and fails if there is nothing to read from
+    // (std has no call that says it, and to open the null device first would need a path that exists everywhere)
     rt.stdin().read(&mut []).is_ok()
 }
 

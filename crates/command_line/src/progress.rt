@@ -1,4 +1,7 @@
 //! How much of the inputs is read, in a line on a terminal while that takes long.
+//!
+//! It is counted by a reader around the input, of which the engines of programs know nothing. Two inputs of a program
+//! have one count, in a cell, of which no contract can speak, as of clocks and terminals: the line is tested.
 
 use crate::terminal::takes_sequences;
 use std::cell::Cell;

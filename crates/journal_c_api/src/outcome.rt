@@ -1,4 +1,7 @@
 //! The results of the calls: their errors, and what they write.
+//!
+//! What is given the result of a call, or of a notification, names it `outcome`: in a contract `result` is what the
+//! function itself returns.
 
 ghost use Rattle.std.specs.Prelude.{◌≡◌, MatchOption};
 ghost use Rattle.journal_c_api.specs.Outcomes.{outcome_number, bytes_of, supported_version};
@@ -135,6 +138,7 @@ pub fn write_over<T: Copy>(elements: &[T], out: &mut [T])
 
 /// Writes the bytes of a result at the front of a slice if it has room for all of them, otherwise nothing. Returns the
 /// number of the bytes in both cases.
+// a `Vec` that is copied and dropped: as `Bytes` the result would cost one more allocation
 pub fn write_outcome(
     outcome: Result<Vec<u8>, CallError>,
     out: &mut [u8],

@@ -52,6 +52,8 @@ pub fn run<R: Read, W: Write>(
 }
 
 /// The line for the standard error, empty after a whole listing.
+// The usage names a chunk size and `v9` alone, and stays so, since the contract names it. It is printed only for
+// arguments that can be meant so; of all others clap prints what is wrong, and the whole usage.
 pub fn message(outcome: &Outcome) -> &'static str
     ensures { result.now ≡ message_of outcome.now }
 {

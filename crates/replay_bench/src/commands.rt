@@ -1,4 +1,8 @@
 //! The commands of one journal.
+//!
+//! What the first command means is said whatever follows it (`LeadsTo`): chunks that come later change nothing, and an
+//! early verdict holds for all that was not read. Counting the bytes decides `TooLong`, and keeps an index small enough
+//! for the texts, since a command takes eight bytes at least.
 
 ghost use Rattle.std.specs.Prelude.{◌≡◌, ◌+◌, ◌≤◌, ◌<◌, ◌^◌, ◌++◌, ℕ, Bool, List, Option, []};
 ghost use Rattle.std.specs.Prelude.{is_none, is_some, if◌then◌else◌};

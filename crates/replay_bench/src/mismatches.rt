@@ -108,6 +108,7 @@ impl<'a> CommandVisitor for Pair<'a> {
         }
         let fields = list_fields(self.alloc, self.is_listed, &recorded, &replayed)?;
         let mismatch = CommandMismatchError::new(self.index as i64, recorded, replayed);
+        // made at once, so that a verdict holds no payload
         let text = mismatch.to_string(self.alloc)?;
         let verdict = Verdict::HeaderMismatch {
             index: self.index,

@@ -2,140 +2,140 @@
 -- The codes and the names of the types of messages.
 use Rattle.std.specs.Prelude.{ℕ, codes, List, [], ◌∷◌}
 use Rattle.shared_core_base.specs.declared.header.MessageType.{MessageType}
-use Rattle.shared_core_base.specs.declared.header.MessageType.TheVariants.{Start, Suspension, Error, End, ProposeRunCompletion, AwaitingOn, ProposeRunCompletionAck, GetStateEphemeralCommand, GetStateEphemeralNotification, InputCommand, OutputCommand, GetLazyStateCommand, SetStateCommand, ClearStateCommand, ClearAllStateCommand, GetLazyStateKeysCommand, GetEagerStateCommand, GetEagerStateKeysCommand, GetPromiseCommand, PeekPromiseCommand, CompletePromiseCommand, SleepCommand, CallCommand, OneWayCallCommand, SendSignalCommand, RunCommand, AttachInvocationCommand, GetInvocationOutputCommand, CompleteAwakeableCommand, GetLazyStateCompletionNotification, GetLazyStateKeysCompletionNotification, GetPromiseCompletionNotification, PeekPromiseCompletionNotification, CompletePromiseCompletionNotification, SleepCompletionNotification, CallCompletionNotification, CallInvocationIdCompletionNotification, RunCompletionNotification, AttachInvocationCompletionNotification, GetInvocationOutputCompletionNotification, SignalNotification, CustomEntry}
+use Rattle.shared_core_base.specs.declared.header.MessageType.TheVariants as types
 
 -- The code that denotes a type: a named type has the code of this table, a custom entry its own.
 abbrev pub code_of : MessageType → ℕ
-code_of Start = 0x0000
-code_of Suspension = 0x0001
-code_of Error = 0x0002
-code_of End = 0x0003
-code_of ProposeRunCompletion = 0x0005
-code_of AwaitingOn = 0x0006
-code_of ProposeRunCompletionAck = 0x0007
-code_of GetStateEphemeralCommand = 0x0200
-code_of GetStateEphemeralNotification = 0x0300
-code_of InputCommand = 0x0400
-code_of OutputCommand = 0x0401
-code_of GetLazyStateCommand = 0x0402
-code_of SetStateCommand = 0x0403
-code_of ClearStateCommand = 0x0404
-code_of ClearAllStateCommand = 0x0405
-code_of GetLazyStateKeysCommand = 0x0406
-code_of GetEagerStateCommand = 0x0407
-code_of GetEagerStateKeysCommand = 0x0408
-code_of GetPromiseCommand = 0x0409
-code_of PeekPromiseCommand = 0x040A
-code_of CompletePromiseCommand = 0x040B
-code_of SleepCommand = 0x040C
-code_of CallCommand = 0x040D
-code_of OneWayCallCommand = 0x040E
-code_of SendSignalCommand = 0x0410
-code_of RunCommand = 0x0411
-code_of AttachInvocationCommand = 0x0412
-code_of GetInvocationOutputCommand = 0x0413
-code_of CompleteAwakeableCommand = 0x0414
-code_of GetLazyStateCompletionNotification = 0x8002
-code_of GetLazyStateKeysCompletionNotification = 0x8006
-code_of GetPromiseCompletionNotification = 0x8009
-code_of PeekPromiseCompletionNotification = 0x800A
-code_of CompletePromiseCompletionNotification = 0x800B
-code_of SleepCompletionNotification = 0x800C
-code_of CallCompletionNotification = 0x800D
-code_of CallInvocationIdCompletionNotification = 0x800E
-code_of RunCompletionNotification = 0x8011
-code_of AttachInvocationCompletionNotification = 0x8012
-code_of GetInvocationOutputCompletionNotification = 0x8013
-code_of SignalNotification = 0xFBFF
-code_of (CustomEntry code) = code
+code_of types.Start = 0x0000
+code_of types.Suspension = 0x0001
+code_of types.Error = 0x0002
+code_of types.End = 0x0003
+code_of types.ProposeRunCompletion = 0x0005
+code_of types.AwaitingOn = 0x0006
+code_of types.ProposeRunCompletionAck = 0x0007
+code_of types.GetStateEphemeralCommand = 0x0200
+code_of types.GetStateEphemeralNotification = 0x0300
+code_of types.InputCommand = 0x0400
+code_of types.OutputCommand = 0x0401
+code_of types.GetLazyStateCommand = 0x0402
+code_of types.SetStateCommand = 0x0403
+code_of types.ClearStateCommand = 0x0404
+code_of types.ClearAllStateCommand = 0x0405
+code_of types.GetLazyStateKeysCommand = 0x0406
+code_of types.GetEagerStateCommand = 0x0407
+code_of types.GetEagerStateKeysCommand = 0x0408
+code_of types.GetPromiseCommand = 0x0409
+code_of types.PeekPromiseCommand = 0x040A
+code_of types.CompletePromiseCommand = 0x040B
+code_of types.SleepCommand = 0x040C
+code_of types.CallCommand = 0x040D
+code_of types.OneWayCallCommand = 0x040E
+code_of types.SendSignalCommand = 0x0410
+code_of types.RunCommand = 0x0411
+code_of types.AttachInvocationCommand = 0x0412
+code_of types.GetInvocationOutputCommand = 0x0413
+code_of types.CompleteAwakeableCommand = 0x0414
+code_of types.GetLazyStateCompletionNotification = 0x8002
+code_of types.GetLazyStateKeysCompletionNotification = 0x8006
+code_of types.GetPromiseCompletionNotification = 0x8009
+code_of types.PeekPromiseCompletionNotification = 0x800A
+code_of types.CompletePromiseCompletionNotification = 0x800B
+code_of types.SleepCompletionNotification = 0x800C
+code_of types.CallCompletionNotification = 0x800D
+code_of types.CallInvocationIdCompletionNotification = 0x800E
+code_of types.RunCompletionNotification = 0x8011
+code_of types.AttachInvocationCompletionNotification = 0x8012
+code_of types.GetInvocationOutputCompletionNotification = 0x8013
+code_of types.SignalNotification = 0xFBFF
+code_of (types.CustomEntry code) = code
 
 -- The 41 types that have a name.
 unfoldable pub named_types : List MessageType
 named_types =
-    Start
-    ∷ Suspension
-    ∷ Error
-    ∷ End
-    ∷ ProposeRunCompletion
-    ∷ AwaitingOn
-    ∷ ProposeRunCompletionAck
-    ∷ GetStateEphemeralCommand
-    ∷ GetStateEphemeralNotification
-    ∷ InputCommand
-    ∷ OutputCommand
-    ∷ GetLazyStateCommand
-    ∷ SetStateCommand
-    ∷ ClearStateCommand
-    ∷ ClearAllStateCommand
-    ∷ GetLazyStateKeysCommand
-    ∷ GetEagerStateCommand
-    ∷ GetEagerStateKeysCommand
-    ∷ GetPromiseCommand
-    ∷ PeekPromiseCommand
-    ∷ CompletePromiseCommand
-    ∷ SleepCommand
-    ∷ CallCommand
-    ∷ OneWayCallCommand
-    ∷ SendSignalCommand
-    ∷ RunCommand
-    ∷ AttachInvocationCommand
-    ∷ GetInvocationOutputCommand
-    ∷ CompleteAwakeableCommand
-    ∷ GetLazyStateCompletionNotification
-    ∷ GetLazyStateKeysCompletionNotification
-    ∷ GetPromiseCompletionNotification
-    ∷ PeekPromiseCompletionNotification
-    ∷ CompletePromiseCompletionNotification
-    ∷ SleepCompletionNotification
-    ∷ CallCompletionNotification
-    ∷ CallInvocationIdCompletionNotification
-    ∷ RunCompletionNotification
-    ∷ AttachInvocationCompletionNotification
-    ∷ GetInvocationOutputCompletionNotification
-    ∷ SignalNotification
+    types.Start
+    ∷ types.Suspension
+    ∷ types.Error
+    ∷ types.End
+    ∷ types.ProposeRunCompletion
+    ∷ types.AwaitingOn
+    ∷ types.ProposeRunCompletionAck
+    ∷ types.GetStateEphemeralCommand
+    ∷ types.GetStateEphemeralNotification
+    ∷ types.InputCommand
+    ∷ types.OutputCommand
+    ∷ types.GetLazyStateCommand
+    ∷ types.SetStateCommand
+    ∷ types.ClearStateCommand
+    ∷ types.ClearAllStateCommand
+    ∷ types.GetLazyStateKeysCommand
+    ∷ types.GetEagerStateCommand
+    ∷ types.GetEagerStateKeysCommand
+    ∷ types.GetPromiseCommand
+    ∷ types.PeekPromiseCommand
+    ∷ types.CompletePromiseCommand
+    ∷ types.SleepCommand
+    ∷ types.CallCommand
+    ∷ types.OneWayCallCommand
+    ∷ types.SendSignalCommand
+    ∷ types.RunCommand
+    ∷ types.AttachInvocationCommand
+    ∷ types.GetInvocationOutputCommand
+    ∷ types.CompleteAwakeableCommand
+    ∷ types.GetLazyStateCompletionNotification
+    ∷ types.GetLazyStateKeysCompletionNotification
+    ∷ types.GetPromiseCompletionNotification
+    ∷ types.PeekPromiseCompletionNotification
+    ∷ types.CompletePromiseCompletionNotification
+    ∷ types.SleepCompletionNotification
+    ∷ types.CallCompletionNotification
+    ∷ types.CallInvocationIdCompletionNotification
+    ∷ types.RunCompletionNotification
+    ∷ types.AttachInvocationCompletionNotification
+    ∷ types.GetInvocationOutputCompletionNotification
+    ∷ types.SignalNotification
     ∷ []
 
 -- The name of a type's variant.
 abbrev pub variant_name_of : MessageType → List ℕ
-variant_name_of Start = codes "Start"
-variant_name_of Suspension = codes "Suspension"
-variant_name_of Error = codes "Error"
-variant_name_of End = codes "End"
-variant_name_of ProposeRunCompletion = codes "ProposeRunCompletion"
-variant_name_of AwaitingOn = codes "AwaitingOn"
-variant_name_of ProposeRunCompletionAck = codes "ProposeRunCompletionAck"
-variant_name_of GetStateEphemeralCommand = codes "GetStateEphemeralCommand"
-variant_name_of GetStateEphemeralNotification = codes "GetStateEphemeralNotification"
-variant_name_of InputCommand = codes "InputCommand"
-variant_name_of OutputCommand = codes "OutputCommand"
-variant_name_of GetLazyStateCommand = codes "GetLazyStateCommand"
-variant_name_of SetStateCommand = codes "SetStateCommand"
-variant_name_of ClearStateCommand = codes "ClearStateCommand"
-variant_name_of ClearAllStateCommand = codes "ClearAllStateCommand"
-variant_name_of GetLazyStateKeysCommand = codes "GetLazyStateKeysCommand"
-variant_name_of GetEagerStateCommand = codes "GetEagerStateCommand"
-variant_name_of GetEagerStateKeysCommand = codes "GetEagerStateKeysCommand"
-variant_name_of GetPromiseCommand = codes "GetPromiseCommand"
-variant_name_of PeekPromiseCommand = codes "PeekPromiseCommand"
-variant_name_of CompletePromiseCommand = codes "CompletePromiseCommand"
-variant_name_of SleepCommand = codes "SleepCommand"
-variant_name_of CallCommand = codes "CallCommand"
-variant_name_of OneWayCallCommand = codes "OneWayCallCommand"
-variant_name_of SendSignalCommand = codes "SendSignalCommand"
-variant_name_of RunCommand = codes "RunCommand"
-variant_name_of AttachInvocationCommand = codes "AttachInvocationCommand"
-variant_name_of GetInvocationOutputCommand = codes "GetInvocationOutputCommand"
-variant_name_of CompleteAwakeableCommand = codes "CompleteAwakeableCommand"
-variant_name_of GetLazyStateCompletionNotification = codes "GetLazyStateCompletionNotification"
-variant_name_of GetLazyStateKeysCompletionNotification = codes "GetLazyStateKeysCompletionNotification"
-variant_name_of GetPromiseCompletionNotification = codes "GetPromiseCompletionNotification"
-variant_name_of PeekPromiseCompletionNotification = codes "PeekPromiseCompletionNotification"
-variant_name_of CompletePromiseCompletionNotification = codes "CompletePromiseCompletionNotification"
-variant_name_of SleepCompletionNotification = codes "SleepCompletionNotification"
-variant_name_of CallCompletionNotification = codes "CallCompletionNotification"
-variant_name_of CallInvocationIdCompletionNotification = codes "CallInvocationIdCompletionNotification"
-variant_name_of RunCompletionNotification = codes "RunCompletionNotification"
-variant_name_of AttachInvocationCompletionNotification = codes "AttachInvocationCompletionNotification"
-variant_name_of GetInvocationOutputCompletionNotification = codes "GetInvocationOutputCompletionNotification"
-variant_name_of SignalNotification = codes "SignalNotification"
-variant_name_of (CustomEntry code) = codes "CustomEntry"
+variant_name_of types.Start = codes "Start"
+variant_name_of types.Suspension = codes "Suspension"
+variant_name_of types.Error = codes "Error"
+variant_name_of types.End = codes "End"
+variant_name_of types.ProposeRunCompletion = codes "ProposeRunCompletion"
+variant_name_of types.AwaitingOn = codes "AwaitingOn"
+variant_name_of types.ProposeRunCompletionAck = codes "ProposeRunCompletionAck"
+variant_name_of types.GetStateEphemeralCommand = codes "GetStateEphemeralCommand"
+variant_name_of types.GetStateEphemeralNotification = codes "GetStateEphemeralNotification"
+variant_name_of types.InputCommand = codes "InputCommand"
+variant_name_of types.OutputCommand = codes "OutputCommand"
+variant_name_of types.GetLazyStateCommand = codes "GetLazyStateCommand"
+variant_name_of types.SetStateCommand = codes "SetStateCommand"
+variant_name_of types.ClearStateCommand = codes "ClearStateCommand"
+variant_name_of types.ClearAllStateCommand = codes "ClearAllStateCommand"
+variant_name_of types.GetLazyStateKeysCommand = codes "GetLazyStateKeysCommand"
+variant_name_of types.GetEagerStateCommand = codes "GetEagerStateCommand"
+variant_name_of types.GetEagerStateKeysCommand = codes "GetEagerStateKeysCommand"
+variant_name_of types.GetPromiseCommand = codes "GetPromiseCommand"
+variant_name_of types.PeekPromiseCommand = codes "PeekPromiseCommand"
+variant_name_of types.CompletePromiseCommand = codes "CompletePromiseCommand"
+variant_name_of types.SleepCommand = codes "SleepCommand"
+variant_name_of types.CallCommand = codes "CallCommand"
+variant_name_of types.OneWayCallCommand = codes "OneWayCallCommand"
+variant_name_of types.SendSignalCommand = codes "SendSignalCommand"
+variant_name_of types.RunCommand = codes "RunCommand"
+variant_name_of types.AttachInvocationCommand = codes "AttachInvocationCommand"
+variant_name_of types.GetInvocationOutputCommand = codes "GetInvocationOutputCommand"
+variant_name_of types.CompleteAwakeableCommand = codes "CompleteAwakeableCommand"
+variant_name_of types.GetLazyStateCompletionNotification = codes "GetLazyStateCompletionNotification"
+variant_name_of types.GetLazyStateKeysCompletionNotification = codes "GetLazyStateKeysCompletionNotification"
+variant_name_of types.GetPromiseCompletionNotification = codes "GetPromiseCompletionNotification"
+variant_name_of types.PeekPromiseCompletionNotification = codes "PeekPromiseCompletionNotification"
+variant_name_of types.CompletePromiseCompletionNotification = codes "CompletePromiseCompletionNotification"
+variant_name_of types.SleepCompletionNotification = codes "SleepCompletionNotification"
+variant_name_of types.CallCompletionNotification = codes "CallCompletionNotification"
+variant_name_of types.CallInvocationIdCompletionNotification = codes "CallInvocationIdCompletionNotification"
+variant_name_of types.RunCompletionNotification = codes "RunCompletionNotification"
+variant_name_of types.AttachInvocationCompletionNotification = codes "AttachInvocationCompletionNotification"
+variant_name_of types.GetInvocationOutputCompletionNotification = codes "GetInvocationOutputCompletionNotification"
+variant_name_of types.SignalNotification = codes "SignalNotification"
+variant_name_of (types.CustomEntry code) = codes "CustomEntry"

@@ -70,6 +70,7 @@ pub fn content_types_convert_back(
 }
 
 /// The codes have the numbers that the protocol gives them.
+// a law, since a constant has no contract
 pub fn codes_have_their_numbers()
     ensures bad_request { BAD_REQUEST.0 ≡ 400 }
     ensures unsupported_media_type { UNSUPPORTED_MEDIA_TYPE.0 ≡ 415 }
@@ -83,6 +84,7 @@ pub fn codes_have_their_numbers()
 {}
 
 /// `==` of message types is equality.
+// proved by a test over all pairs of named types, which the prover computes: case by case it is past its limits
 pub fn equal_types(a: MessageType, b: MessageType) -> bool
     ensures { IsTrue result ↔ (a ≡ b) }
 {

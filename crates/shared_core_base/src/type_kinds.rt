@@ -19,6 +19,7 @@ const END_OF_NOTIFICATIONS: u16 = 0xFC00;
 
 impl MessageType {
     /// The named type that has this name, as `SleepCommand`, the name that `variant_name` returns.
+    // bytes, as callers in C have them; that they are UTF-8 follows where a type is found
     pub fn from_name(name: &[u8]) -> Option<MessageType>
         ensures { (ty : AnyType) → (result ≡ Some ty) ↔ (IsNamed ty × (variant_name_of ty ≡ name.now)) }
     {

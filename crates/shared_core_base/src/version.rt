@@ -1,4 +1,7 @@
 //! The versions of the protocol, and the content types that name them.
+//!
+//! For contracts a content type is one prefix and a version's number, so a further version is one more row of
+//! `version_number`; the texts are here alone, and a law reads each version again from its own.
 
 ghost use Rattle.std.specs.Prelude.{◌≡◌, ◌↔◌, ◌≤◌, IfOk, Some, decimal, map};
 ghost use Rattle.shared_core_base.specs.Version.{

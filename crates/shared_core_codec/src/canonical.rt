@@ -16,11 +16,8 @@ use crate::check::is_text;
 use crate::rows::{Found, Kind, Row, find_in_row, rows_of};
 use crate::size::{LENGTH, Size, VARINT, key, varint_size};
 use shared_core_wire::record::WireValue;
-use shared_core_wire::records::{Record, Records};
+use shared_core_wire::records::{LEVELS, Record, Records};
 use shared_core_wire::varint::read_varint;
-
-/// How deep messages may be nested (this project's own limit).
-pub const LEVELS: u32 = 100;
 
 /// A field of which a record may come next in a canonical payload.
 #[derive(Clone, Copy)]

@@ -16,11 +16,8 @@ ghost use Rattle.shared_core_codec.specs.ProgramRows.{kind_view, row_view};
 pub use crate::rows::is_schema;
 use crate::rows::{Kind, Row, find_field, rows_of};
 use shared_core_wire::record::WireValue;
-use shared_core_wire::records::{Record, Records};
+use shared_core_wire::records::{LEVELS, Record, Records};
 use shared_core_wire::varint::read_varint;
-
-/// How deep messages and groups may be nested (this project's own limit).
-const LEVELS: u32 = 100;
 
 /// Whether a payload is well-formed for the schema at an index of the table and at most one hundred levels deep, so
 /// that `WireRecord::decode` takes it. Past the table's end a schema has no fields. Does not allocate, and makes one

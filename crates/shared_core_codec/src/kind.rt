@@ -6,6 +6,9 @@
 //!
 //! `Malformed` always means that the occurrence is none of the field's kind: another wire type (this project's own), a
 //! text that is not UTF-8, a packed run that does not fill its length, or a message that is not well-formed.
+//!
+//! A failed allocation becomes `WireError::OutOfMemory` in the kinds and presences alone, so the code of a record
+//! converts no error.
 
 ghost use Rattle.std.specs.Prelude.{◌≡◌, ◌+◌, ◌≤◌, ◌++◌, length, drop, OnOk, is_ok, IfOk, true, false};
 ghost use Rattle.std.specs.Result.{IsErrOf};

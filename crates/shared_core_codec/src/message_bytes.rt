@@ -9,7 +9,7 @@ ghost use Rattle.shared_core_codec.specs.Occurrences.{record_in, value_in, holds
 use crate::occurrence::Occurrence;
 use bytes::Bytes;
 use shared_core_wire::record::WireValue;
-use shared_core_wire::records::Record;
+use shared_core_wire::records::{LEVELS, Record};
 use std::alloc::Global;
 
 /// The bytes of a message: a whole payload, or the content of a message field in it, which is not copied.
@@ -39,7 +39,7 @@ impl<'a> MessageBytes<'a> {
             bytes: payload.as_slice(),
             end: payload.len(),
             payload,
-            left: 100,
+            left: LEVELS,
             alloc,
         }
     }

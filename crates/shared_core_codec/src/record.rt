@@ -1,4 +1,11 @@
 //! The trait of records, and what it provides for all of them: decoding, merging and encoding whole payloads.
+//!
+//! From a payload to a field it is four steps: `decode_payload` begins with the empty record, `merge_payload` names the
+//! whole payload, `merge_occurrences` is the loop, and `merge_field` gives each occurrence to its field. A message in a
+//! field goes straight to the loop.
+//!
+//! `merge_field` names the row that may change by the record's number, so that a record's own proof compares no other
+//! row (`RowsAfter`); that nothing is lost is concluded once, in the loop.
 
 ghost use Rattle.std.specs.Prelude.{◌≡◌, ◌≤◌, ◌<◌, ◌^◌, ◌++◌, ◌+◌, ℕ, drop};
 ghost use Rattle.std.specs.Prelude.{IfOk, OnOk, OnErr, is_ok, vec_len, vec_capacity, MatchOption, Err, false, length};
@@ -34,7 +41,7 @@ use std::alloc::Global;
 /// An impl gives its schema and its parts, and four functions with one line a field: `empty`, `merge_field`, `measure`
 /// and `encode_back`. Decoding and encoding whole payloads is provided here.
 pub trait WireRecord: Sized + Drop + PartialEq {
-    /// The index of its schema in the table.
+    /// The index of its schema in the table: a number, since `Future` names itself.
     ghost schema: { ℕ };
 
     /// Its value: one part for each row of its schema.
@@ -176,8 +183,8 @@ pub trait WireRecord: Sized + Drop + PartialEq {
     }
 }
 
-/// Merges the bytes of a message into a record, one occurrence after the other. After an error those before the failing
-/// one are merged, and nothing that the record held is lost.
+/// Merges the bytes of a message into a record, one occurrence after the other. After an error those up to some one are
+/// merged, and nothing that the record held is lost.
 pub(crate) fn merge_occurrences<M: WireRecord>(
     target: &mut M,
     message: &MessageBytes<'_>,
@@ -200,10 +207,10 @@ pub(crate) fn merge_occurrences<M: WireRecord>(
 /// moving the record. The errors are those of `decode`.
 ///
 /// After an error nothing that the record held is lost: lists have their elements at their front, messages hold what
-/// they held, and a field that was present is present. Numbers, texts, bytes and the members of oneofs may have been
-/// replaced by what the records of the payload before the failing one say, since these are merged. The failing record
-/// may have changed its own field alone: it replaces no number, text or bytes, but a message or a list may have part of
-/// it, an absent field may be present, and a oneof may hold the empty member of its number.
+/// they held, and a field that was present is present. The payload's records are merged up to some one of them:
+/// numbers, texts, bytes and the members of oneofs may have been replaced by what these say. The next record may have
+/// changed its own field alone: it replaces no number, text or bytes, but a message or a list may have part of it, an
+/// absent field may be present, and a oneof may hold the empty member of its number.
 #[tactic(auto, using(crate::proofs::MergingRecords::computed_accepted, crate::proofs::MergingRecords::computed_merged, crate::proofs::MergingRecords::computed_rejected))]
 pub fn merge_payload<M: WireRecord>(
     target: &mut M,

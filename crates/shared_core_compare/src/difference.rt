@@ -1,4 +1,8 @@
 //! Human-readable differences of two commands, and the helpers that write their lines.
+//!
+//! A field is written by a helper for its kind, which takes the form and what is written to, for lines a formatter, and
+//! not a `DiffFormatter`: of a value that holds a reference, a chain of calls would have to say that it is the same
+//! before and after each. `write_diff` takes the `DiffFormatter` apart once.
 
 ghost use Rattle.std.specs.Prelude.{◌≡◌, true, IsOk, IsSome, Some, [], ◌∷◌, unwrap_or, if◌then◌else◌};
 ghost use Rattle.std.specs.Fmt.{HasWritten, IsPlainFormatter, WritesOnOk};
@@ -111,7 +115,7 @@ pub trait CommandMessageHeaderDiff: WireRecord {
 }
 
 /// Writes a field, unless the two are equal.
-fn write_unless<T, F: DifferenceForm<T>, A: Display + Drop, E: Display + Drop>(
+pub(crate) fn write_unless<T, F: DifferenceForm<T>, A: Display + Drop, E: Display + Drop>(
     form: &F,
     out: &mut T,
     same: bool,

@@ -1,4 +1,7 @@
 //! Whether two commands are equal, apart from what a replay may change.
+//!
+//! The helpers state their results on values, so that the chains of `&&` in the commands need no proof file. Payloads
+//! are compared last, since they are the longest.
 
 ghost use Rattle.std.specs.Prelude.{◌≡◌, ◌↔◌, IsTrue};
 ghost use Rattle.shared_core_codec.specs.FieldParts.{elements_part, message_part, option_part};

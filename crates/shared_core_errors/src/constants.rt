@@ -1,4 +1,6 @@
 //! The constant errors: each has a code and a message, and is retried.
+//!
+//! They are functions, since a constant has no contract.
 
 ghost use Rattle.std.specs.Prelude.{◌≡◌, codes};
 ghost use Rattle.shared_core_base.specs.Error.{error_parts, plain_error};

@@ -81,6 +81,7 @@ fn ids_in_order(
 }
 
 /// The order in which awaited ids print.
+// by lists of numbers: two ids are equal if and only if their lists are, so the order depends on the set of ids alone
 fn compare_ids(a: &NotificationId, b: &NotificationId) -> Ordering
     ensures { result ≡ slice_cmp nat_cmp (order_key a.now) (order_key b.now) }
 {

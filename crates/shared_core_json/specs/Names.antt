@@ -20,19 +20,34 @@ names =
     -- StateEntry
     ∷ ((1, codes "key") ∷ (2, codes "value") ∷ [])
     -- Future
-    ∷ ((1, codes "waitingCompletions") ∷ (2, codes "waitingSignals") ∷ (3, codes "waitingNamedSignals") ∷ (4, codes "nestedFutures") ∷ (5, codes "combinatorType") ∷ [])
+    ∷ (
+    (1, codes "waitingCompletions") ∷ (2, codes "waitingSignals") ∷ (3, codes "waitingNamedSignals") ∷
+    (4, codes "nestedFutures") ∷ (5, codes "combinatorType") ∷ []
+    )
     -- WorkflowTarget
     ∷ ((1, codes "workflowName") ∷ (2, codes "workflowKey") ∷ (3, codes "scope") ∷ [])
     -- IdempotentRequestTarget
-    ∷ ((1, codes "serviceName") ∷ (2, codes "serviceKey") ∷ (3, codes "handlerName") ∷ (4, codes "idempotencyKey") ∷ (5, codes "scope") ∷ [])
+    ∷ (
+    (1, codes "serviceName") ∷ (2, codes "serviceKey") ∷ (3, codes "handlerName") ∷ (4, codes "idempotencyKey") ∷
+    (5, codes "scope") ∷ []
+    )
     -- StartMessage
-    ∷ ((1, codes "id") ∷ (2, codes "debugId") ∷ (3, codes "knownEntries") ∷ (4, codes "stateMap") ∷ (5, codes "partialState") ∷ (6, codes "key") ∷ (7, codes "retryCountSinceLastStoredEntry") ∷ (8, codes "durationSinceLastStoredEntry") ∷ (9, codes "randomSeed") ∷ (10, codes "scope") ∷ (11, codes "limitKey") ∷ (12, codes "idempotencyKey") ∷ [])
+    ∷ (
+    (1, codes "id") ∷ (2, codes "debugId") ∷ (3, codes "knownEntries") ∷ (4, codes "stateMap") ∷
+    (5, codes "partialState") ∷ (6, codes "key") ∷ (7, codes "retryCountSinceLastStoredEntry") ∷
+    (8, codes "durationSinceLastStoredEntry") ∷ (9, codes "randomSeed") ∷ (10, codes "scope") ∷
+    (11, codes "limitKey") ∷ (12, codes "idempotencyKey") ∷ []
+    )
     -- SuspensionMessage
     ∷ ((4, codes "awaitingOn") ∷ [])
     -- SuspensionMessageV6
     ∷ ((1, codes "waitingCompletions") ∷ (2, codes "waitingSignals") ∷ (3, codes "waitingNamedSignals") ∷ [])
     -- ErrorMessage
-    ∷ ((1, codes "code") ∷ (2, codes "message") ∷ (3, codes "stacktrace") ∷ (4, codes "relatedCommandIndex") ∷ (5, codes "relatedCommandName") ∷ (6, codes "relatedCommandType") ∷ (8, codes "nextRetryDelay") ∷ (9, codes "behavior") ∷ [])
+    ∷ (
+    (1, codes "code") ∷ (2, codes "message") ∷ (3, codes "stacktrace") ∷ (4, codes "relatedCommandIndex") ∷
+    (5, codes "relatedCommandName") ∷ (6, codes "relatedCommandType") ∷ (8, codes "nextRetryDelay") ∷
+    (9, codes "behavior") ∷ []
+    )
     -- EndMessage
     ∷ ([])
     -- ProposeRunCompletionMessage
@@ -68,21 +83,41 @@ names =
     -- PeekPromiseCommandMessage
     ∷ ((1, codes "key") ∷ (11, codes "resultCompletionId") ∷ (12, codes "name") ∷ [])
     -- CompletePromiseCommandMessage
-    ∷ ((1, codes "key") ∷ (2, codes "completionValue") ∷ (3, codes "completionFailure") ∷ (11, codes "resultCompletionId") ∷ (12, codes "name") ∷ [])
+    ∷ (
+    (1, codes "key") ∷ (2, codes "completionValue") ∷ (3, codes "completionFailure") ∷
+    (11, codes "resultCompletionId") ∷ (12, codes "name") ∷ []
+    )
     -- SleepCommandMessage
     ∷ ((1, codes "wakeUpTime") ∷ (11, codes "resultCompletionId") ∷ (12, codes "name") ∷ [])
     -- CallCommandMessage
-    ∷ ((1, codes "serviceName") ∷ (2, codes "handlerName") ∷ (3, codes "parameter") ∷ (4, codes "headers") ∷ (5, codes "key") ∷ (6, codes "idempotencyKey") ∷ (7, codes "scope") ∷ (8, codes "limitKey") ∷ (10, codes "invocationIdNotificationIdx") ∷ (11, codes "resultCompletionId") ∷ (12, codes "name") ∷ [])
+    ∷ (
+    (1, codes "serviceName") ∷ (2, codes "handlerName") ∷ (3, codes "parameter") ∷ (4, codes "headers") ∷
+    (5, codes "key") ∷ (6, codes "idempotencyKey") ∷ (7, codes "scope") ∷ (8, codes "limitKey") ∷
+    (10, codes "invocationIdNotificationIdx") ∷ (11, codes "resultCompletionId") ∷ (12, codes "name") ∷ []
+    )
     -- OneWayCallCommandMessage
-    ∷ ((1, codes "serviceName") ∷ (2, codes "handlerName") ∷ (3, codes "parameter") ∷ (4, codes "invokeTime") ∷ (5, codes "headers") ∷ (6, codes "key") ∷ (7, codes "idempotencyKey") ∷ (8, codes "scope") ∷ (9, codes "limitKey") ∷ (10, codes "invocationIdNotificationIdx") ∷ (12, codes "name") ∷ [])
+    ∷ (
+    (1, codes "serviceName") ∷ (2, codes "handlerName") ∷ (3, codes "parameter") ∷ (4, codes "invokeTime") ∷
+    (5, codes "headers") ∷ (6, codes "key") ∷ (7, codes "idempotencyKey") ∷ (8, codes "scope") ∷
+    (9, codes "limitKey") ∷ (10, codes "invocationIdNotificationIdx") ∷ (12, codes "name") ∷ []
+    )
     -- SendSignalCommandMessage
-    ∷ ((1, codes "targetInvocationId") ∷ (2, codes "idx") ∷ (3, codes "name") ∷ (4, codes "void") ∷ (5, codes "value") ∷ (6, codes "failure") ∷ (12, codes "entryName") ∷ [])
+    ∷ (
+    (1, codes "targetInvocationId") ∷ (2, codes "idx") ∷ (3, codes "name") ∷ (4, codes "void") ∷ (5, codes "value") ∷
+    (6, codes "failure") ∷ (12, codes "entryName") ∷ []
+    )
     -- RunCommandMessage
     ∷ ((11, codes "resultCompletionId") ∷ (12, codes "name") ∷ [])
     -- AttachInvocationCommandMessage
-    ∷ ((1, codes "invocationId") ∷ (3, codes "idempotentRequestTarget") ∷ (4, codes "workflowTarget") ∷ (11, codes "resultCompletionId") ∷ (12, codes "name") ∷ [])
+    ∷ (
+    (1, codes "invocationId") ∷ (3, codes "idempotentRequestTarget") ∷ (4, codes "workflowTarget") ∷
+    (11, codes "resultCompletionId") ∷ (12, codes "name") ∷ []
+    )
     -- GetInvocationOutputCommandMessage
-    ∷ ((1, codes "invocationId") ∷ (3, codes "idempotentRequestTarget") ∷ (4, codes "workflowTarget") ∷ (11, codes "resultCompletionId") ∷ (12, codes "name") ∷ [])
+    ∷ (
+    (1, codes "invocationId") ∷ (3, codes "idempotentRequestTarget") ∷ (4, codes "workflowTarget") ∷
+    (11, codes "resultCompletionId") ∷ (12, codes "name") ∷ []
+    )
     -- CompleteAwakeableCommandMessage
     ∷ ((1, codes "awakeableId") ∷ (2, codes "value") ∷ (3, codes "failure") ∷ (12, codes "name") ∷ [])
     -- GetLazyStateCompletionNotificationMessage
@@ -110,5 +145,8 @@ names =
     -- SignalNotificationMessage
     ∷ ((2, codes "idx") ∷ (3, codes "name") ∷ (4, codes "void") ∷ (5, codes "value") ∷ (6, codes "failure") ∷ [])
     -- NotificationTemplate
-    ∷ ((1, codes "completionId") ∷ (2, codes "signalId") ∷ (3, codes "signalName") ∷ (4, codes "void") ∷ (5, codes "value") ∷ (6, codes "failure") ∷ (16, codes "invocationId") ∷ (17, codes "stateKeys") ∷ [])
+    ∷ (
+    (1, codes "completionId") ∷ (2, codes "signalId") ∷ (3, codes "signalName") ∷ (4, codes "void") ∷
+    (5, codes "value") ∷ (6, codes "failure") ∷ (16, codes "invocationId") ∷ (17, codes "stateKeys") ∷ []
+    )
     ∷ []

@@ -10,7 +10,8 @@ use crate::name_table::NAMES;
 #[derive(Clone, Copy)]
 pub struct Name(pub u32, pub &'static str);
 
-/// The names of the fields of each schema, in the order of the table.
+/// The names of the fields of each schema, in the order of the table: a `static` that is proved, by computing, to be
+/// the names that contracts cite.
 fn names() -> &'static [&'static [Name]]
     ensures { map names_view result.now ≡ names }
 {

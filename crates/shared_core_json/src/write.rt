@@ -27,13 +27,12 @@ use base64::encoded_len;
 use base64::engine::general_purpose::STANDARD;
 use json::Writer;
 use shared_core_codec::canonical::{
-    LEVELS, NextField, is_default, is_written_number, is_written_run, may_recur, next_field,
-    written_size,
+    NextField, is_default, is_written_number, is_written_run, may_recur, next_field, written_size,
 };
 use shared_core_codec::rows::{Kind, rows_of};
 use shared_core_codec::size::Size;
 use shared_core_wire::record::WireValue;
-use shared_core_wire::records::{Record, Records};
+use shared_core_wire::records::{LEVELS, Record, Records};
 use shared_core_wire::varint::{low_32, read_varint};
 use std::alloc::AllocError;
 

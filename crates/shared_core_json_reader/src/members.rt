@@ -1,4 +1,7 @@
 //! The members of an object, by the names of fields.
+//!
+//! The original name of a field is defined by that in lower camel case: for a capital letter an underscore and the
+//! small letter. So one table of names serves for both.
 
 ghost use Rattle.std.specs.Prelude.{◌≡◌, ◌&&◌, ◌||◌, Some, None, option_map, IfErr, MatchResult};
 ghost use Rattle.std.specs.Option.{is_none};

@@ -2,6 +2,8 @@
 //!
 //! Each function appends the records of what it is given. After an error, part of them may be there, and the path leads
 //! to the rejected value.
+//! The value that a text means is never made; a proof apart from the code (`message_agrees`) says that what is appended
+//! is its canonical payload. A nested message is made in a buffer of its own, since its length comes before it.
 
 ghost use Rattle.std.specs.Prelude.{◌≡◌, ◌≢◌, ◌++◌, [], ◌∷◌, Some, None, true, false, option_map, MatchOption};
 ghost use Rattle.std.specs.Prelude.{MatchResult};

@@ -13,10 +13,8 @@ ghost use Rattle.shared_core_json_reader.specs.FirstError.{value_error, SaysErro
 use crate::error::{JsonReadError, Reason};
 use crate::payload::{Step, Walk, append_message};
 use json::{Reader, Scratch, Value};
+use shared_core_wire::records::LEVELS;
 use std::alloc::{AllocError, Global};
-
-/// How deep messages may be nested, the outermost included: a payload has depths 0 to 100.
-const LEVELS: u32 = 101;
 
 /// How deep arrays and objects may be nested in a text; a message one hundred levels deep needs 202 at most.
 const MAX_DEPTH: usize = 1000;
@@ -145,7 +143,7 @@ pub fn payload_of_value(
         path: Vec::new(alloc),
     };
     let mut payload = Vec::new(alloc);
-    match append_message(&mut walk, &mut payload, schema, value, LEVELS) {
+    match append_message(&mut walk, &mut payload, schema, value, LEVELS + 1) {
         Ok(()) => Ok(payload),
         Err(reason) => Err(error_on(alloc, reason, &walk.path)),
     }

@@ -1,4 +1,9 @@
 //! The traits of messages: `RestateMessage` for the type, `RestateEncodableMessage` for encoding.
+//!
+//! A message that is written is one that is read, so a message's type is declared once. `ty` and `encode_into` are a
+//! line in each message: a body here would have to be proved for whatever a message is written as, which the trait
+//! leaves open. That what is written fits its schema is a clause of each `Ok`, and no law of the trait, since in a law
+//! an integer has no range.
 
 ghost use Rattle.std.specs.Prelude.{◌≡◌, ◌≤◌, ◌<◌, ◌+◌, ◌^◌, ◌++◌, IfOk, OnOk, OnErr, Err, vec_len, vec_capacity};
 ghost use Rattle.std.specs.Result.{IsErrOf};

@@ -23,7 +23,7 @@ pub fn terminal_failures_convert_back(
     terminal: TerminalFailure,
 ) -> Result<TerminalFailure, OutOfMemory>
     ensures ok { IfOk result (λ back. terminal_contents back ≡ terminal_contents terminal) }
-    // for all results that the two calls may have
+    // for all results that the two calls may have: calls that always run out of memory would meet `ok` alone
     ensures any { (failure : AnyFailure) (back : AnyTerminalFailure)
         → failure_contents failure ≡ terminal_contents terminal
         → terminal_contents back ≡ terminal_contents_of failure → terminal_contents back ≡ terminal_contents terminal }
@@ -39,6 +39,7 @@ pub fn headers_convert_back(alloc: Global, header: Header) -> Result<Header, Out
 }
 
 /// `==` of records compares all of their fields.
+// of the trait, and not of each record: so it holds of those of other crates too
 pub fn equal_records<M: WireRecord>(a: &M, b: &M) -> bool
     ensures { IsTrue result ↔ (M.parts a.now ≡ M.parts b.now) }
 {

@@ -1,5 +1,8 @@
 //! A suspension as it is written before V7: all that it awaits, in three lists. One walk over its tree of futures
 //! measures them, and one writes them. No list is made, and no text is copied.
+//!
+//! The contracts of the walks speak of any of the three lists (`AwaitedList`), so each lemma is proved once for all of
+//! them. Measuring a chain of futures is a loop; writing begins with the innermost future, and cannot be one.
 
 ghost use Rattle.std.specs.Prelude.{◌≡◌, ◌+◌, ◌-◌, ◌^◌, ◌<◌, ◌≤◌, ◌++◌, length, drop, MatchOption};
 ghost use Rattle.shared_core_base.specs.declared.header.MessageType.TheVariants as types;

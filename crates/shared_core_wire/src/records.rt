@@ -1,9 +1,15 @@
 //! An iterator over the records of a payload.
+//!
+//! An iterator is specified by the list of what it will still yield: one relation says all of it (`AreRecordsFrom`),
+//! and a computed form beside it serves proofs about loops.
 
 ghost use Rattle.std.specs.Prelude.{◌≡◌, ◌≤◌, ◌-◌, ◌+◌, ◌*◌, ◌↔◌, List, length, map, Ok};
 
 use crate::error::WireError;
 use crate::record::{WireValue, read_record};
+
+/// How deep messages and groups may be nested in a payload, in levels (this project's own limit).
+pub const LEVELS: u32 = 100;
 
 /// A record of a payload.
 #[derive(Clone, Copy, Debug, PartialEq, Eq)]
@@ -57,7 +63,7 @@ impl<'a> Records<'a> {
             → IsRecordList level payload.now rs ↔ (map without_place (records_left result) ≡ map Ok rs) }
         ensures few { 2 * record_count (records_left result) ≤ length payload.now }
     {
-        Records::within(payload, 100 - level)
+        Records::within(payload, LEVELS - level)
     }
 
     /// Returns an iterator over the records of bytes in which groups may be nested `left` deep.

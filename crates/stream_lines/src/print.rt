@@ -1,4 +1,11 @@
 //! The loop that reads a stream and writes its lines.
+//!
+//! The lines of a chunk are made in one text, which is reused. If an allocation fails among them, none of them is
+//! written, so that what is written is whole lines; the last line too is whole before any of it is written. A chunk is
+//! copied out of the read buffer once, into bytes of its own size, so that a short read keeps no whole buffer alive.
+//!
+//! What calls `print_lines` has its own lines of contract on what is read and written, each of its own reader and
+//! writer. `ArePrinted` takes the four definitions of a printer one by one, since those below it take one or two.
 
 ghost use Rattle.std.specs.Prelude.{◌≡◌, ◌+◌, ◌<◌, ◌≤◌, ◌-◌, ◌++◌, ℕ, List, length, IfOk, IfErr, IfSome, OnOk};
 ghost use Rattle.std.specs.Prelude.{MatchOption};
@@ -52,7 +59,7 @@ pub fn print_lines<P: LinePrinter, R: Read, W: Write>(
     let mut buffer = Vec::from_elem(alloc, 0u8, chunk)?;
     let buffer = buffer.as_mut_slice();
     let mut trouble = None;
-    // 2^64 - 1 reads may give more bytes than 64 bits can count
+    // 2^64 - 1 reads may give more bytes than 64 bits can count; 128 bits are enough, without a test for each line
     let mut total = 0u128;
     for _ in 0..u64::MAX {
         let bytes = read_chunk(alloc, input, buffer)?;

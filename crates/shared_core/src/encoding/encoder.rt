@@ -49,6 +49,7 @@ impl Encoder {
         ensures rejected { 2 ^ 32 ≤ wire_size (M.wire_form message.now self.now.version)
             → result ≡ Err PayloadTooLong }
     {
+        // two allocations: the buffer of the frame's size, and the small block by which `Bytes` counts its owners
         message.encode(alloc, self.version)
     }
 

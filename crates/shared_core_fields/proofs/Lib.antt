@@ -1,0 +1,4 @@
+pub mod RunNumbers
+pub mod ByValue
+pub mod Reading
+pub mod Back

@@ -1,0 +1,31 @@
+-- Which records an iterator over fields may have left: those that may come next in a canonical payload.
+use Rattle.std.specs.Prelude.{Bool, true, false, ◌&&◌, List, [], ◌∷◌, length, nat_lt, Some, None, Result, Ok, Err}
+use Rattle.shared_core_wire.specs.Grammar.{RecordValue, content}
+use Rattle.shared_core_wire.specs.ReadRecords.{PlacedRecord}
+use Rattle.shared_core_wire.specs.Schema.{Kind, Row}
+use Rattle.shared_core_wire.specs.Acceptance.{NestedAcceptance}
+use Rattle.shared_core_wire.specs.declared.error.WireError.{WireError}
+use Rattle.shared_core_codec.specs.Canonicity.{is_canonical_payload, is_written_value, is_written_element, next_field}
+
+-- Whether bytes are a canonical payload of the schema s, if they are short.
+abbrev pub is_nested : NestedAcceptance
+is_nested s bytes = is_canonical_payload 100 s bytes
+
+-- Whether a field of a kind, repeated or not, may have the value of a record.
+abbrev pub is_typed : Kind × Bool → RecordValue → Bool
+is_typed (k, true) w = is_written_element is_nested k w
+is_typed (k, false) w = is_written_value is_nested k w
+
+-- Whether the length of a value fits 32 bits.
+abbrev pub is_short : RecordValue → Bool
+is_short w = nat_lt (length (content w)) 4294967296
+
+-- Whether the items of a payload are records that may come in this order, where these rows are left.
+abbrev pub are_coming : List Row → List (Result PlacedRecord WireError) → Bool
+are_coming rows [] = true
+are_coming rows (Ok r ∷ items) = elim (next_field rows r.field_record.number) [
+  | None ↦ false
+  | Some next ↦
+      (is_short r.field_record.value && is_typed next.field r.field_record.value) && are_coming next.rows items
+]
+are_coming rows (Err e ∷ items) = false

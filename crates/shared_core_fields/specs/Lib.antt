@@ -1,0 +1,4 @@
+pub mod Runs
+pub mod Fields
+pub mod Coming
+pub mod Views

@@ -1,0 +1,58 @@
+-- What the fields of the program are.
+use Rattle.std.specs.Prelude.{List, [], ◌∷◌, Some, None, Result, Ok, Err}
+use Rattle.shared_core_wire.specs.ReadRecords.{PlacedRecord}
+use Rattle.shared_core_wire.specs.RecordsLeft.{records_left}
+use Rattle.shared_core_wire.specs.Schema.{Kind, Row, U32, U64, Boolean, Enumeration, Text, ByteString, Message}
+use Rattle.shared_core_wire.specs.Value.{Part, Number, Bytes, Nested, Elements}
+use Rattle.shared_core_wire.specs.Overlay.{low_numbers}
+use Rattle.shared_core_wire.specs.declared.error.WireError.{WireError}
+use Rattle.shared_core_codec.specs.Canonicity.{next_field}
+use Rattle.shared_core_codec.specs.FieldParts.{boolean_part, enum_part}
+use Rattle.shared_core_codec.specs.ProgramRows.{rows_view}
+use Rattle.shared_core_codec.specs.Payloads.{payload_meaning}
+use Rattle.shared_core_fields.specs.Runs.{run_numbers}
+use Rattle.shared_core_fields.specs.Fields.{FieldPart, record_part}
+use Rattle.shared_core_fields.specs.declared.fields.FieldValue.{FieldValue}
+use Rattle.shared_core_fields.specs.declared.fields.FieldValue.TheVariants as v
+use Rattle.shared_core_fields.specs.declared.fields.Field.{Field}
+use Rattle.shared_core_fields.specs.declared.fields.Fields.{Fields}
+
+-- The part that a value of the program is.
+abbrev pub value_part : FieldValue → Part
+value_part (v.U32 n) = Number n
+value_part (v.U64 n) = Number n
+value_part (v.Boolean b) = boolean_part b
+value_part (v.Enumeration z) = enum_part z
+value_part (v.Text text) = Bytes text.now
+value_part (v.ByteString bytes) = Bytes bytes.now
+value_part (v.Message m) = Nested (payload_meaning m.schema m.bytes.now)
+value_part (v.Numbers run) = Elements (low_numbers (run_numbers run.bytes.now))
+
+-- The kind of a value of the program.
+abbrev pub value_kind : FieldValue → Kind
+value_kind (v.U32 n) = U32
+value_kind (v.U64 n) = U64
+value_kind (v.Boolean b) = Boolean
+value_kind (v.Enumeration z) = Enumeration
+value_kind (v.Text text) = Text
+value_kind (v.ByteString bytes) = ByteString
+value_kind (v.Message m) = Message m.schema
+value_kind (v.Numbers run) = U32
+
+-- The field that a field of the program is.
+abbrev pub field_part : Field → FieldPart
+field_part f = (f.number, (value_kind f.value, f.is_repeated), value_part f.value)
+
+-- The fields of the items of a payload, where these rows are left.
+abbrev pub item_fields : List Row → List (Result PlacedRecord WireError) → List FieldPart
+item_fields rows [] = []
+item_fields rows (Ok r ∷ items) = elim (next_field rows r.field_record.number) [
+  | None ↦ []
+  | Some next ↦
+      (r.field_record.number, next.field, record_part next.field r.field_record.value) ∷ item_fields next.rows items
+]
+item_fields rows (Err e ∷ items) = []
+
+-- What an iterator over fields has still to return.
+unfoldable pub fields_left : Fields → List FieldPart
+fields_left f = item_fields (rows_view f.rows) (records_left f.records)

@@ -1,0 +1,159 @@
+#!/usr/bin/env python3
+"""journal_diff on example journals: verdicts, what it passes over, lines of JSON, colors.
+
+Standard output, the whole of standard error and the status are compared. failures.py has wrong arguments, and inputs
+and outputs that fail; terminal.py has the program on a terminal.
+"""
+from __future__ import annotations
+
+import json
+
+import checks
+from programs import STREAMS, Program, go_to_streams
+
+RECORDED = (STREAMS / "recorded").read_bytes()
+END = f"offset {len(RECORDED)}"
+FIRST = RECORDED[:17]
+UNKNOWN = b"\0\x08\0\0\0\0\0\0"
+
+
+def after_first(code: int, payload: bytes) -> bytes:
+    """The first command, and after it one of this code."""
+    return FIRST + code.to_bytes(2, "big") + len(payload).to_bytes(6, "big") + payload
+
+
+# Journals beside those of examples/streams.
+JOURNALS = {
+    "first": FIRST,
+    "other_type": after_first(0x401, b""),
+    "malformed": after_first(0x403, b"\xff"),
+    "unknown_first": UNKNOWN + RECORDED,
+    "unknown_last": RECORDED + UNKNOWN + b"x",
+    "rest": RECORDED + b"xyz",
+    "bad_start": RECORDED + b"\0\0\0\0\0\0\0\x01\xff",
+    # states that are set: a key of two lines, with quotes and ' != ', one of bytes that are not UTF-8, an empty value
+    "key_of_lines": after_first(0x403, b'\n\x0ba\n "b": != '),
+    "bytes": after_first(0x403, b"\n\x03\xff\x01\0"),
+    "empty": after_first(0x403, b"\n\x03\xff\x01\0\x1a\0"),
+    # states that are cleared, by their keys
+    "unequal": after_first(0x404, b"\n\x06a != b"),
+    "key": after_first(0x404, b"\n\x01c"),
+}
+
+FOUND = (
+    "Found a mismatch between the code paths taken during the previous execution and the paths taken during this"
+    " execution.\nThis typically happens when some parts of the code are non-deterministic.\n"
+)
+OTHER_HANDLER = (
+    f"{FOUND}- The mismatch happened while executing 'call' (index '2')\n"
+    "- Difference:\n   handler_name: greet != greet_all"
+)
+
+
+def other_payload(recorded: str, replayed: str) -> str:
+    return (
+        f"{FOUND}- The mismatch happened while executing 'set state' (index '1')\n"
+        f"- Difference:\n   value: {recorded} != {replayed}"
+    )
+
+
+def other_type(recorded: str, replayed: str) -> str:
+    return (
+        f"{FOUND} - The previous execution ran and recorded the following: {recorded}\n"
+        f" - The current execution attempts to perform the following: {replayed}"
+    )
+
+
+OTHER_PAYLOAD = other_payload("'1'", "'2'")
+OTHER_TYPE = other_type("'set state' (index '1')", "'handler return'")
+CUT_SHORT = "8 bytes after its last whole item"
+
+# Words, the status, the verdict, and what is said on the standard error of which journal.
+CASES: tuple[tuple[str, int, str, *tuple[str, ...]], ...] = (
+    ("recorded recorded", 0, "same, 4 commands"),
+    ("- recorded", 0, "same, 4 commands"),
+    ("recorded -", 0, "same, 4 commands"),
+    ("--protocol 9 replay replay", 0, "same, 1 command"),
+    ("recorded replayed_other_handler", 1, f"command 2: {OTHER_HANDLER}"),
+    ("--ignore-payloads - replayed_other_handler", 1, f"command 2: {OTHER_HANDLER}"),
+    ("recorded replayed_other_payload", 1, f"command 1: {OTHER_PAYLOAD}"),
+    ("recorded --ignore-payloads replayed_other_payload", 0, "same, 4 commands"),
+    ("recorded /dev/null", 1, "replayed ends at command 0"),
+    ("recorded other_type", 1, f"command 1: {OTHER_TYPE}"),
+    ("recorded first", 1, "replayed ends at command 1"),
+    ("recorded malformed", 2, "", "the replayed command 1 is malformed"),
+    ("malformed malformed", 2, "", "the recorded command 1 is malformed"),
+    ("first malformed", 1, "recorded ends at command 1"),
+    # skipped items are reported for each journal, and are an error where the comparison is strict
+    ("cut_short cut_short", 0, "same, 0 commands",
+     f"the recorded journal has {CUT_SHORT}", f"the replayed journal has {CUT_SHORT}"),
+    ("three_unknown_types cut_short", 0, "same, 0 commands",
+     "the recorded journal has 3 unknown headers", f"the replayed journal has {CUT_SHORT}"),
+    ("unknown_type recorded", 1, "recorded ends at command 0", "the recorded journal has 1 unknown header"),
+    ("recorded unknown_last", 0, "same, 4 commands", "the replayed journal has 1 unknown header",
+     "the replayed journal has 1 byte after its last whole item"),
+    ("recorded bad_start", 0, "same, 4 commands"),
+    ("--strict recorded recorded", 0, "same, 4 commands"),
+    ("--strict three_unknown_types cut_short", 2, "", "the recorded journal, offset 0: unknown header 0x8"),
+    ("--strict recorded unknown_last", 2, "", f"the replayed journal, {END}: unknown header 0x8"),
+    ("--strict replayed_other_handler rest", 2, "", f"the replayed journal, {END}: 3 bytes after the last whole item"),
+    ("--strict recorded bad_start", 2, "", f"the replayed journal, {END}: malformed payload of Start"),
+    # in colors the recorded is red, the replayed green
+    ("--color always recorded replayed_other_payload", 1,
+     "\x1b[1mcommand 1\x1b[0m: " + other_payload("\x1b[31m'1'\x1b[0m", "\x1b[32m'2'\x1b[0m")),
+    ("--color=always recorded other_type", 1, "\x1b[1mcommand 1\x1b[0m: "
+     + other_type("\x1b[31m'set state' (index '1')\x1b[0m", "\x1b[32m'handler return'\x1b[0m")),
+    ("recorded --color always recorded", 0, "\x1b[32msame, 4 commands\x1b[0m"),
+    ("recorded /dev/null --color always", 1, "\x1b[1mreplayed ends at command 0\x1b[0m"),
+    ("--color never recorded replayed_other_payload", 1, f"command 1: {OTHER_PAYLOAD}"),
+    ("--color auto recorded replayed_other_payload", 1, f"command 1: {OTHER_PAYLOAD}"),
+    ("--color always --json recorded recorded", 0, '{"verdict":"same","commands":4}'),
+)
+
+PLACES = {"index": 1, "recordedAt": 17, "replayedAt": 17}
+
+# The verdict as a line of JSON: words, the status, the object, and what is said on the standard error.
+JSON: tuple[tuple[str, int, dict[str, object], *tuple[str, ...]], ...] = (
+    ("recorded recorded", 0, {"verdict": "same", "commands": 4}),
+    ("recorded /dev/null", 1, {"verdict": "replayedEnded", "index": 0, "recordedAt": 0}),
+    ("first malformed", 1, {"verdict": "recordedEnded", "index": 1, "replayedAt": 17}),
+    ("recorded replayed_other_payload", 1,
+     {"verdict": "headerMismatch", **PLACES, "text": OTHER_PAYLOAD,
+      "fields": [{"name": "value", "recorded": "'1'", "replayed": "'2'"}]}),
+    ("recorded other_type", 1, {"verdict": "typeMismatch", **PLACES, "text": OTHER_TYPE}),
+    ("/dev/null unknown_first", 1, {"verdict": "recordedEnded", "index": 0, "replayedAt": 8},
+     "the replayed journal has 1 unknown header"),
+)
+
+# The journals, and the name and the values of the field at the end of the line, as the example of docs/PROGRAMS.md has
+# it.
+FIELDS = (
+    ("recorded replayed_other_handler", "handler_name", "greet", "greet_all"),
+    ("key_of_lines bytes", "key", "'a\n \"b\": != '", "[255, 1, 0]"),
+    ("bytes empty", "value", "<empty>", "''"),
+)
+
+
+def compact(value: object) -> str:
+    return json.dumps(value, separators=(",", ":"))
+
+
+def main(check: checks.Check) -> None:
+    diff = Program(check, "journal_diff", "recorded")
+    go_to_streams(check, JOURNALS)
+    as_json = [(f"--json {words}", status, compact(verdict), *said) for words, status, verdict, *said in JSON]
+    for words, status, verdict, *said in (*CASES, *as_json):
+        diff.ends(words, f"{verdict}\n" if verdict else "", "".join(f"journal_diff: {line}\n" for line in said), status)
+    for journals, name, recorded, replayed in FIELDS:
+        run = diff.run(f"--json {journals}")
+        fields = compact({"fields": [{"name": name, "recorded": recorded, "replayed": replayed}]})
+        is_right = run.status == 1 and run.out.decode().endswith(f",{fields[1:]}\n") and not run.err
+        check.case(f"the fields of {journals}", is_right, run)
+    # a value that has ' != ' itself
+    run = diff.run("--color always unequal key")
+    is_plain = run.out.endswith(b"\n   key: 'a != b' != 'c'\n")
+    check.case("no colors in a line of two values that cannot be told apart", is_plain, run)
+
+
+if __name__ == "__main__":
+    checks.perform(main)
