@@ -37,14 +37,14 @@ for folder in "$@"; do
   sources "tests/$folder" "$crate/src/$folder"
 done
 
-# as_library CRATE FOLDER: in the copy, a crate that no other can use is a library of public modules, which the tests of
-# this folder use
+# as_library CRATE FOLDER [LIBRARY]: in the copy, a crate that no other can use is a library of public modules, which the
+# tests of this folder use, and this other library
 as_library() {
   [ -d "$crate/src/$2" ] || return 0
   top=$work/tree/crates/$1/src
   [ ! -e "$top/main.rt" ] || mv "$top/main.rt" "$top/lib.rt"
   sed -i 's/^mod /pub mod /' "$top/lib.rt"
-  sed -i "s/^$1 staticlib:/$1:/; s/^tests: .*/& $1/" "$work/tree/crates.txt"
+  sed -i "s/^$1 staticlib:/$1:/; s/^tests: .*/& $1${3:+ $3}/" "$work/tree/crates.txt"
 }
 
 as_library readme_example streams anyhow

@@ -29,15 +29,18 @@ comparisons_more rounds items item count equal before one =
     let all = ap (λ n. rounds * n) (count_more command_schema items item) in
     omega (arith, before, one, each, all)
 
-does_not_decode : (rounds : ℕ) (item : Item) → ComparesItem rounds item (Err Malformed) → ¬ (Decodes command_schema item)
+does_not_decode : (rounds : ℕ) (item : Item) → ComparesItem rounds item (Err Malformed) → ¬
+    (Decodes command_schema item)
 does_not_decode rounds (Message message) rejected = rejected
 does_not_decode rounds (Unknown code) rejected = absurd rejected
 does_not_decode rounds (Skipped code payload) rejected = absurd rejected
 
-pub item_rejected : (rounds : ℕ) (version : Version) (stream old new : List ℕ) (items : List Item) (item : Item) (error : CallError)
+pub item_rejected : (rounds : ℕ) (version : Version) (stream old new : List ℕ) (items : List Item) (item : Item)
+    (error : CallError)
     → IsItemsThen version stream items old → TakesItem version old item new → ComparesItem rounds item (Err error)
     → ComparesAll rounds version stream (Err error)
-item_rejected rounds version stream old new items item Malformed before taken rejected = (items, item, new, then_takes version stream old new items item before taken, does_not_decode rounds item rejected)
+item_rejected rounds version stream old new items item Malformed before taken rejected =
+    (items, item, new, then_takes version stream old new items item before taken, does_not_decode rounds item rejected)
 item_rejected rounds version stream old new items item OutOfMemory before taken rejected = tt
 item_rejected rounds version stream old new items (Message message) other before taken rejected = absurd rejected
 item_rejected rounds version stream old new items (Unknown code) other before taken rejected = absurd rejected

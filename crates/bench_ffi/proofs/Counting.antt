@@ -1,5 +1,7 @@
 -- A stream's items, counted and written down one after the other.
-use Rattle.std.proofs.Common.{◌≡◌, ℕ, ◌+◌, ◌^◌, ◌<◌, ◌≤◌, Bool, true, false, List, [], ◌∷◌, ◌++◌, length, map, take, drop, set, Option, Some, None, Ok, Err, refl, ap, sym, ◌∙◌, arith, length-append, length-drop}
+use Rattle.std.proofs.Common.{◌≡◌, ℕ, ◌+◌, ◌^◌, ◌<◌, ◌≤◌, Bool, true, false, List, [], ◌∷◌, ◌++◌, length, map, take}
+use Rattle.std.proofs.Common.{drop, set, Option, Some, None, Ok, Err, refl, ap, sym, ◌∙◌, arith, length-append}
+use Rattle.std.proofs.Common.{length-drop}
 use Rattle.std.proofs.lemmas.List.{take_more_set}
 use Rattle.shared_core_base.specs.declared.version.Version.{Version}
 use Rattle.shared_core_base.specs.declared.message_header.MessageHeader.{MessageHeader}
@@ -7,11 +9,13 @@ use Rattle.shared_core_base.specs.declared.header.MessageType.{MessageType}
 use Rattle.shared_core_base.specs.MessageHeader.{header_of}
 use Rattle.shared_core_stream.specs.declared.encoding.item.Item.{Item}
 use Rattle.shared_core_stream.specs.declared.encoding.item.Item.TheVariants.{Message, Unknown, Skipped}
-use Rattle.shared_core_stream.specs.Items.{IsItem, TakesItem, IsItemsThen, body_length, front_word, item_of, skips_unknown_messages}
+use Rattle.shared_core_stream.specs.Items.{IsItem, TakesItem, IsItemsThen, body_length, front_word, item_of}
+use Rattle.shared_core_stream.specs.Items.{skips_unknown_messages}
 use Rattle.shared_core_stream.proofs.Items.{then_takes}
 use Rattle.journal_c_api.specs.declared.outcome.CallError.{CallError}
 use Rattle.journal_c_api.specs.declared.outcome.CallError.TheVariants.{Malformed, OutOfMemory}
-use Rattle.bench_ffi.specs.Streams.{item_word, HasWord, count_with, one_with, Decodes, AllDecode, DecodesItem, DecodesAll}
+use Rattle.bench_ffi.specs.Streams.{item_word, HasWord, count_with, one_with, Decodes, AllDecode, DecodesItem}
+use Rattle.bench_ffi.specs.Streams.{DecodesAll}
 use Rattle.shared_core_message.specs.Messages.{message_schema}
 
 map_more : {A B : Type 0} (f : A → B) (xs : List A) (x : A) → map f (xs ++ x ∷ []) ≡ map f xs ++ f x ∷ []
@@ -19,7 +23,8 @@ map_more f [] x = refl
 map_more f (y ∷ ys) x = ap (λ l. f y ∷ l) (map_more f ys x)
 
 -- a skipped payload is no longer than 32 bits can say
-skipped_length : (version : Version) (bytes payload : List ℕ) (code : ℕ) → IsItem version bytes (Skipped code payload) → length payload < 2 ^ 32
+skipped_length : (version : Version) (bytes payload : List ℕ) (code : ℕ) → IsItem version bytes (Skipped code payload) →
+    length payload < 2 ^ 32
 unfolding body_length item_of
 skipped_length version bytes payload code is = by_header (header_of (front_word bytes)) refl
   where
@@ -35,7 +40,8 @@ skipped_length version bytes payload code is = by_header (header_of (front_word 
             omega (arith, whole, ap length body, length-drop 8 bytes)
         by_version false skips = let means = rw (untyped, skips) at is.means in cc
 
-pub taken_has_word : (version : Version) (old new : List ℕ) (item : Item) → TakesItem version old item new → HasWord item
+pub taken_has_word : (version : Version) (old new : List ℕ) (item : Item) → TakesItem version old item new → HasWord
+    item
 taken_has_word version old new (Message message) taken = tt
 taken_has_word version old new (Unknown code) taken = tt
 taken_has_word version old new (Skipped code payload) (bytes, is, splits) = skipped_length version bytes payload code is
@@ -43,11 +49,14 @@ taken_has_word version old new (Skipped code payload) (bytes, is, splits) = skip
 pub length_more : {A : Type 0} (xs : List A) (x : A) → length (xs ++ x ∷ []) ≡ length xs + 1
 length_more xs x = length-append xs (x ∷ [])
 
-pub word_written : (words : List ℕ) (count : ℕ) (items : List Item) (item : Item) → count < length words → take count words ≡ map item_word items
+pub word_written : (words : List ℕ) (count : ℕ) (items : List Item) (item : Item) → count < length words → take count
+    words ≡ map item_word items
     → take (count + 1) (set words count (item_word item)) ≡ map item_word (items ++ item ∷ [])
-word_written words count items item fits before = take_more_set words count (item_word item) fits ∙ ap (λ l. l ++ item_word item ∷ []) before ∙ sym (map_more item_word items item)
+word_written words count items item fits before = take_more_set words count (item_word item) fits ∙ ap
+    (λ l. l ++ item_word item ∷ []) before ∙ sym (map_more item_word items item)
 
-pub all_decode_more : (schema_of : MessageType → Option ℕ) (items : List Item) (item : Item) → AllDecode schema_of items → Decodes schema_of item
+pub all_decode_more : (schema_of : MessageType → Option ℕ) (items : List Item) (item : Item) → AllDecode schema_of items
+    → Decodes schema_of item
     → AllDecode schema_of (items ++ item ∷ [])
 all_decode_more schema_of [] item all one = (one, tt)
 all_decode_more schema_of (first ∷ items) item all one = (all.0, all_decode_more schema_of items item all.1 one)
@@ -84,8 +93,10 @@ does_not_decode (Unknown code) rejected = absurd rejected
 does_not_decode (Skipped code payload) rejected = absurd rejected
 
 pub item_rejected : (version : Version) (stream old new : List ℕ) (items : List Item) (item : Item) (error : CallError)
-    → IsItemsThen version stream items old → TakesItem version old item new → DecodesItem item (Err error) → DecodesAll version stream (Err error)
-item_rejected version stream old new items item Malformed before taken rejected = (items, item, new, then_takes version stream old new items item before taken, does_not_decode item rejected)
+    → IsItemsThen version stream items old → TakesItem version old item new → DecodesItem item (Err error) → DecodesAll
+    version stream (Err error)
+item_rejected version stream old new items item Malformed before taken rejected =
+    (items, item, new, then_takes version stream old new items item before taken, does_not_decode item rejected)
 item_rejected version stream old new items item OutOfMemory before taken rejected = tt
 item_rejected version stream old new items (Message message) other before taken rejected = absurd rejected
 item_rejected version stream old new items (Unknown code) other before taken rejected = absurd rejected

@@ -24,7 +24,8 @@ ComparesPayload rounds schema payload (Err error) = ⊥
 
 -- A command is compared with its second decoding; no other item is compared.
 abbrev pub ComparesItem : ℕ → Item → Result ℕ CallError → Type 0
-ComparesItem rounds (Message message) outcome = ComparesPayload rounds (command_schema message.header.ty) message.payload outcome
+ComparesItem rounds (Message message) outcome = ComparesPayload rounds (command_schema message.header.ty)
+    message.payload outcome
 ComparesItem rounds other (Ok count) = count ≡ 0
 ComparesItem rounds other (Err error) = ⊥
 
@@ -32,14 +33,17 @@ ComparesItem rounds other (Err error) = ⊥
 -- decode, or more comparisons hold than 64 bits can count.
 abbrev pub ComparesAll : ℕ → Version → List ℕ → Result ℕ CallError → Type 0
 ComparesAll rounds version stream (Ok count) =
-    (items : List Item) × (rest : List ℕ) × SplitsInto version stream items rest × (count ≡ rounds * count_with command_schema items)
+    (items : List Item) × (rest : List ℕ) × SplitsInto version stream items rest ×
+    (count ≡ rounds * count_with command_schema items)
     × AllDecode command_schema items
 ComparesAll rounds version stream (Err Malformed) = HasMalformed command_schema version stream
 ComparesAll rounds version stream (Err OutOfMemory) = Unit {0}
 ComparesAll rounds version stream (Err TooLong) =
-    (items : List Item) × (rest : List ℕ) × IsItemsThen version stream items rest × (2 ^ 64 ≤ rounds * count_with command_schema items)
+    (items : List Item) × (rest : List ℕ) × IsItemsThen version stream items rest ×
+    (2 ^ 64 ≤ rounds * count_with command_schema items)
 ComparesAll rounds version stream (Err error) = ⊥
 
 -- The result of measure_compare.
 abbrev pub ReturnsComparisons : ℕ → List ℕ → ℕ → Result ℕ CallError → Type 0
-ReturnsComparisons number stream rounds outcome = AtVersion (supported_version number) outcome (λ version. ComparesAll rounds version stream outcome)
+ReturnsComparisons number stream rounds outcome = AtVersion (supported_version number) outcome
+    (λ version. ComparesAll rounds version stream outcome)

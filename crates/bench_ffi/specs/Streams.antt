@@ -1,5 +1,6 @@
 -- The results of the calls on streams.
-use Rattle.std.specs.Prelude.{◌≡◌, ℕ, ◌+◌, ◌*◌, ◌^◌, ◌<◌, List, [], ◌∷◌, ◌++◌, take, map, length, Option, Some, None, Result, Ok, Err}
+use Rattle.std.specs.Prelude.{◌≡◌, ℕ, ◌+◌, ◌*◌, ◌^◌, ◌<◌, List, [], ◌∷◌, ◌++◌, take, map, length, Option, Some, None}
+use Rattle.std.specs.Prelude.{Result, Ok, Err}
 use Rattle.shared_core_base.specs.declared.version.Version.{Version}
 use Rattle.shared_core_base.specs.declared.header.MessageType.{MessageType}
 use Rattle.shared_core_base.specs.MessageHeader.{word_of}
@@ -28,7 +29,8 @@ HasWord other = Unit {0}
 -- slice has room for.
 abbrev pub WritesWords : Version → List ℕ → List ℕ → Result ℕ CallError → Type 0
 WritesWords version stream words (Ok count) =
-    (items : List Item) × (rest : List ℕ) × SplitsInto version stream items rest × (count ≡ length items) × (take count words ≡ map item_word items)
+    (items : List Item) × (rest : List ℕ) × SplitsInto version stream items rest × (count ≡ length items) ×
+    (take count words ≡ map item_word items)
 WritesWords version stream words (Err OutOfMemory) = Unit {0}
 WritesWords version stream words (Err NoRoom) =
     (items : List Item) × (rest : List ℕ) × IsItemsThen version stream items rest × (length words < length items)
@@ -77,21 +79,25 @@ AllDecode schema_of (item ∷ items) = Decodes schema_of item × AllDecode schem
 -- One of the first items of the stream does not decode.
 abbrev pub HasMalformed : (MessageType → Option ℕ) → Version → List ℕ → Type 0
 HasMalformed schema_of version stream =
-    (items : List Item) × (item : Item) × (rest : List ℕ) × IsItemsThen version stream (items ++ item ∷ []) rest × ¬ (Decodes schema_of item)
+    (items : List Item) × (item : Item) × (rest : List ℕ) × IsItemsThen version stream (items ++ item ∷ []) rest × ¬
+    (Decodes schema_of item)
 
 -- Each item of the stream decodes, and the count is that of its messages of a named type; or one of its items does not
 -- decode.
 abbrev pub DecodesAll : Version → List ℕ → Result ℕ CallError → Type 0
 DecodesAll version stream (Ok count) =
-    (items : List Item) × (rest : List ℕ) × SplitsInto version stream items rest × (count ≡ count_with message_schema items) × AllDecode message_schema items
+    (items : List Item) × (rest : List ℕ) × SplitsInto version stream items rest ×
+    (count ≡ count_with message_schema items) × AllDecode message_schema items
 DecodesAll version stream (Err Malformed) = HasMalformed message_schema version stream
 DecodesAll version stream (Err OutOfMemory) = Unit {0}
 DecodesAll version stream (Err error) = ⊥
 
 -- The result of measure_items.
 abbrev pub ReturnsItems : ℕ → List ℕ → List ℕ → Result ℕ CallError → Type 0
-ReturnsItems number stream words outcome = AtVersion (supported_version number) outcome (λ version. WritesWords version stream words outcome)
+ReturnsItems number stream words outcome = AtVersion (supported_version number) outcome
+    (λ version. WritesWords version stream words outcome)
 
 -- The result of measure_messages.
 abbrev pub ReturnsMessages : ℕ → List ℕ → Result ℕ CallError → Type 0
-ReturnsMessages number stream outcome = AtVersion (supported_version number) outcome (λ version. DecodesAll version stream outcome)
+ReturnsMessages number stream outcome = AtVersion (supported_version number) outcome
+    (λ version. DecodesAll version stream outcome)

@@ -1,5 +1,6 @@
 -- The text at the front of bytes.
-use Rattle.std.proofs.Common.{◌≡◌, ℕ, ◌+◌, Bool, true, false, List, [], ◌∷◌, ◌++◌, take, drop, length, sym, refl, ap, arith, ◌∙◌}
+use Rattle.std.proofs.Common.{◌≡◌, ℕ, ◌+◌, Bool, true, false, List, [], ◌∷◌, ◌++◌, take, drop, length, sym, refl, ap}
+use Rattle.std.proofs.Common.{arith, ◌∙◌}
 use Rattle.std.proofs.Math.Seq.{take-length}
 use Rattle.std.proofs.lemmas.Str.{IsUtf8-from_is_utf8, utf8_lossy-IsUtf8}
 use Rattle.std.specs.Prelude.{if◌then◌else◌, None, Some, unwrap_or}
@@ -30,7 +31,8 @@ unfolding utf8_lossy utf8_valid_len
 one_shown byte is_none = rw is_none (ap (λ (rest : List ℕ). replacement_bytes ++ rest) (sym (after_one byte)))
 
 -- of bytes that begin with no character the first is shown so
-pub none_shown : (bytes : List ℕ) (valid : ℕ) → valid ≡ 0 → IsValidUpTo bytes valid → replacement_bytes ≡ utf8_lossy (take 1 bytes)
+pub none_shown : (bytes : List ℕ) (valid : ℕ) → valid ≡ 0 → IsValidUpTo bytes valid → replacement_bytes ≡ utf8_lossy
+    (take 1 bytes)
 none_shown [] valid none is = absurd (omega (arith, is.short))
 none_shown (byte ∷ bytes) valid none is = by (is_utf8 (byte ∷ [])) refl
   where

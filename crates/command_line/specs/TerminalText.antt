@@ -1,5 +1,6 @@
 -- Texts of others on a terminal.
-use Rattle.std.specs.Prelude.{ℕ, Bool, true, false, not, ◌&&◌, ◌||◌, List, ◌++◌, codes, chars, encode_utf8, flat_map, if◌then◌else◌, ◌==◌, nat_lt, Option, Some, None}
+use Rattle.std.specs.Prelude.{ℕ, Bool, true, false, not, ◌&&◌, ◌||◌, List, ◌++◌, codes, chars, encode_utf8, flat_map}
+use Rattle.std.specs.Prelude.{if◌then◌else◌, ◌==◌, nat_lt, Option, Some, None}
 use Rattle.std.specs.Fmt.{digits}
 use Rattle.std.specs.Char.{is_control}
 use Rattle.std.specs.Int.{is_in_range}
@@ -10,7 +11,8 @@ use Rattle.command_line.specs.declared.terminal_text.Escapes.TheVariants.{Text, 
 -- characters, the separators of lines and of paragraphs, and those that set the direction of text.
 abbrev pub is_steering : ℕ → Bool
 is_steering c =
-    (((is_control c || c == 0x61C) || is_in_range 0x200E 0x200F c) || is_in_range 0x2028 0x202E c) || is_in_range 0x2066 0x2069 c
+    (((is_control c || c == 0x61C) || is_in_range 0x200E 0x200F c) || is_in_range 0x2028 0x202E c) || is_in_range 0x2066
+    0x2069 c
 
 -- Whether line feeds stay, since they are between the lines of what is written.
 abbrev pub keeps_line_feeds : Escapes → Bool
@@ -25,7 +27,8 @@ stays escapes c = (c == 10 && keeps_line_feeds escapes) || not (is_steering c)
 -- The zeros before the hexadecimal digits of a code that has at most four of them.
 abbrev pub leading_zeros : ℕ → List ℕ
 leading_zeros code =
-    if nat_lt code 0x10 then codes "000" else (if nat_lt code 0x100 then codes "00" else (if nat_lt code 0x1000 then codes "0" else codes ""))
+    if nat_lt code 0x10 then codes "000" else (if nat_lt code 0x100 then codes "00" else
+    (if nat_lt code 0x1000 then codes "0" else codes ""))
 
 -- A character's escape: `\u{1b}` in texts, and `\u001b`, with four digits, in JSON.
 abbrev pub escape : Escapes → ℕ → List ℕ

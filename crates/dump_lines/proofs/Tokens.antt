@@ -1,5 +1,6 @@
 -- The tokens of an object's members, one after the other.
-use Rattle.std.proofs.Common.{◌≡◌, ℕ, List, [], ◌∷◌, ◌++◌, Bool, true, false, cond, Option, Some, None, refl, ap, ◌∙◌, append_assoc}
+use Rattle.std.proofs.Common.{◌≡◌, ℕ, List, [], ◌∷◌, ◌++◌, Bool, true, false, cond, Option, Some, None, refl, ap, ◌∙◌}
+use Rattle.std.proofs.Common.{append_assoc}
 use Rattle.std.specs.Prelude.{codes}
 use Rattle.std.specs.Int.{w64, to_be_bytes}
 use Rattle.std.specs.Prelude.{◌==◌}
@@ -17,28 +18,36 @@ use Rattle.dump_lines.specs.Lines.{ack_tokens, ack_members, header_json, header_
 pub then_tokens : (old new front rest : List Token) → new ≡ old ++ front → new ++ rest ≡ old ++ (front ++ rest)
 then_tokens old new front rest e = ap (λ (ts : List Token). ts ++ rest) e ∙ append_assoc old front rest
 
-pub then_ack : (old new : List Token) (flag : Option Bool) (others : Members) → new ≡ old ++ ack_tokens flag → new ++ members_tokens others ≡ old ++ members_tokens (ack_members flag others)
+pub then_ack : (old new : List Token) (flag : Option Bool) (others : Members) → new ≡ old ++ ack_tokens flag → new ++
+    members_tokens others ≡ old ++ members_tokens (ack_members flag others)
 then_ack old new None others e = then_tokens old new [] (members_tokens others) e
 then_ack old new (Some flag) others e = then_tokens old new (ack_tokens (Some flag)) (members_tokens others) e
 
-pub shown_message : (texts : Bool) (schema : Option ℕ) (s : ℕ) (payload : List ℕ) → schema ≡ Some s → IsAccepted s payload → payload_members texts schema payload ≡ member (codes "message") (json_with texts s (payload_meaning s payload)) no_members
+pub shown_message : (texts : Bool) (schema : Option ℕ) (s : ℕ) (payload : List ℕ) → schema ≡ Some s → IsAccepted s
+    payload → payload_members texts schema payload ≡ member (codes "message")
+    (json_with texts s (payload_meaning s payload)) no_members
 shown_message texts schema s payload e a = rw (e, a) refl
 
 not_accepted : (b : Bool) → ¬ (b ≡ true) → b ≡ false
 not_accepted true h = absurd (h refl)
 not_accepted false h = refl
 
-pub shown_malformed : (texts : Bool) (schema : Option ℕ) (s : ℕ) (payload : List ℕ) → schema ≡ Some s → ¬ (IsAccepted s payload) → payload_members texts schema payload ≡ member (codes "malformed") (boolean true) (member (codes "bytes") (byte_string_json texts payload) no_members)
+pub shown_malformed : (texts : Bool) (schema : Option ℕ) (s : ℕ) (payload : List ℕ) → schema ≡ Some s → ¬
+    (IsAccepted s payload) → payload_members texts schema payload ≡ member (codes "malformed") (boolean true)
+    (member (codes "bytes") (byte_string_json texts payload) no_members)
 shown_malformed texts schema s payload e a = rw (e, not_accepted (accepts_payload table 100 s payload) a) refl
 
 -- the head of a message, and what is after it
-pub head_then : (old a b c d x y z : List Token) (flag : Option Bool) (others : Members) → a ≡ old ++ x → b ≡ a ++ y → c ≡ b ++ z → d ≡ c ++ ack_tokens flag
+pub head_then : (old a b c d x y z : List Token) (flag : Option Bool) (others : Members) → a ≡ old ++ x → b ≡ a ++ y → c
+    ≡ b ++ z → d ≡ c ++ ack_tokens flag
     → d ++ members_tokens others ≡ old ++ (x ++ (y ++ (z ++ members_tokens (ack_members flag others))))
 head_then old a b c d x y z flag others e f g h =
     then_ack c d flag others h ∙ then_tokens b c z (members_tokens (ack_members flag others)) g
-    ∙ then_tokens a b y (z ++ members_tokens (ack_members flag others)) f ∙ then_tokens old a x (y ++ (z ++ members_tokens (ack_members flag others))) e
+    ∙ then_tokens a b y (z ++ members_tokens (ack_members flag others)) f ∙ then_tokens old a x
+    (y ++ (z ++ members_tokens (ack_members flag others))) e
 
-pub then_header : (old new : List Token) (word written : ℕ) (others : Members) → new ≡ old ++ header_tokens word written → new ++ members_tokens others ≡ old ++ members_tokens (header_members word written others)
+pub then_header : (old new : List Token) (word written : ℕ) (others : Members) → new ≡ old ++ header_tokens word written
+    → new ++ members_tokens others ≡ old ++ members_tokens (header_members word written others)
 then_header old new word written others e = by (word == written) e
   where
     bytes : List ℕ
@@ -48,25 +57,31 @@ then_header old new word written others e = by (word == written) e
     shown = key (codes "header") ∷ string (encode_of standard bytes) ∷ []
 
     by : (b : Bool) → new ≡ old ++ cond b [] shown
-        → new ++ members_tokens others ≡ old ++ members_tokens (cond b others (member (codes "header") (header_json bytes) others))
+        → new ++ members_tokens others ≡ old ++ members_tokens
+        (cond b others (member (codes "header") (header_json bytes) others))
     by true is = then_tokens old new [] (members_tokens others) is
     by false is = then_tokens old new shown (members_tokens others) is
 
 -- the same with the bytes of the header
-pub head_with_header : (old a b c d f x y z : List Token) (flag : Option Bool) (word written : ℕ) (others : Members) → a ≡ old ++ x → b ≡ a ++ y → c ≡ b ++ z → d ≡ c ++ ack_tokens flag → f ≡ d ++ header_tokens word written
-    → f ++ members_tokens others ≡ old ++ (x ++ (y ++ (z ++ members_tokens (ack_members flag (header_members word written others)))))
+pub head_with_header : (old a b c d f x y z : List Token) (flag : Option Bool) (word written : ℕ) (others : Members) → a
+    ≡ old ++ x → b ≡ a ++ y → c ≡ b ++ z → d ≡ c ++ ack_tokens flag → f ≡ d ++ header_tokens word written
+    → f ++ members_tokens others ≡ old ++ (x ++ (y ++ (z ++ members_tokens
+    (ack_members flag (header_members word written others)))))
 head_with_header old a b c d f x y z flag word written others e g h i j =
-    then_header d f word written others j ∙ head_then old a b c d x y z flag (header_members word written others) e g h i
+    then_header d f word written others j ∙ head_then old a b c d x y z flag (header_members word written others) e g h
+    i
 
 -- a flag and a code, and the bytes of a header
-pub code_with_header : (old a b c x y : List Token) (word written : ℕ) (others : Members) → a ≡ old ++ x → b ≡ a ++ y → c ≡ b ++ header_tokens word written
+pub code_with_header : (old a b c x y : List Token) (word written : ℕ) (others : Members) → a ≡ old ++ x → b ≡ a ++ y →
+    c ≡ b ++ header_tokens word written
     → c ++ members_tokens others ≡ old ++ (x ++ (y ++ members_tokens (header_members word written others)))
 code_with_header old a b c x y word written others e f g =
     then_header b c word written others g ∙ then_tokens a b y (members_tokens (header_members word written others)) f
     ∙ then_tokens old a x (y ++ members_tokens (header_members word written others)) e
 
 -- the same with a length
-pub length_with_header : (old a b c d x y z : List Token) (word written : ℕ) (others : Members) → a ≡ old ++ x → b ≡ a ++ y → c ≡ b ++ z → d ≡ c ++ header_tokens word written
+pub length_with_header : (old a b c d x y z : List Token) (word written : ℕ) (others : Members) → a ≡ old ++ x → b ≡ a
+    ++ y → c ≡ b ++ z → d ≡ c ++ header_tokens word written
     → d ++ members_tokens others ≡ old ++ (x ++ (y ++ (z ++ members_tokens (header_members word written others))))
 length_with_header old a b c d x y z word written others e f g h =
     code_with_header a b c d y z word written others f g h

@@ -15,7 +15,8 @@ IsLongFor schema payload = (s : ℕ) × (schema ≡ Some s) × IsTooLong s paylo
 -- None only if there is no schema.
 abbrev pub ReturnsEncoding : Option ℕ → List ℕ → List ℕ → Result (Option ℕ) JsonError → Type 0
 ReturnsEncoding schema payload canonical (Ok None) = schema ≡ None
-ReturnsEncoding schema payload canonical (Ok (Some s)) = (schema ≡ Some s) × IsAccepted s payload × IsEncoding s (payload_meaning s payload) canonical
+ReturnsEncoding schema payload canonical (Ok (Some s)) = (schema ≡ Some s) × IsAccepted s payload × IsEncoding s
+    (payload_meaning s payload) canonical
 ReturnsEncoding schema payload canonical (Err Malformed) = (s : ℕ) × (schema ≡ Some s) × ¬ (IsAccepted s payload)
 ReturnsEncoding schema payload canonical (Err TooLong) = IsLongFor schema payload
 ReturnsEncoding schema payload canonical (Err OutOfMemory) = Unit {0}

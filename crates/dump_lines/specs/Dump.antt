@@ -18,7 +18,8 @@ use Rattle.dump_lines.specs.Lines.{is_selected, item_code, line_of, rest_line}
 -- Payloads are printed, the item is a message, and the canonical payload of what its payload means is too long to be
 -- written.
 abbrev pub HasLongPayload : Options → Item → Type 0
-HasLongPayload options (Message message) = (options.payloads ≡ true) × IsLongFor (schema_at options.version message.header.ty) message.payload
+HasLongPayload options (Message message) = (options.payloads ≡ true) × IsLongFor
+    (schema_at options.version message.header.ty) message.payload
 HasLongPayload options item = ⊥
 
 -- The item is selected, and has such a payload.
@@ -34,7 +35,8 @@ is_well_formed_for (Some s) payload = accepts_payload schema.table 100 s payload
 abbrev pub wrong_of : Options → Item → Option Trouble
 wrong_of options (Message message) =
     if is_selected options.codes.now (code_of message.header.ty)
-    then (if is_well_formed_for (schema_at options.version message.header.ty) message.payload then None else Some (Malformed message.header.ty))
+    then (if is_well_formed_for (schema_at options.version message.header.ty) message.payload then None else Some
+    (Malformed message.header.ty))
     else None
 wrong_of options (Unknown code) = Some (UnknownCode code)
 wrong_of options (Skipped code payload) = Some (UnknownCode code)
@@ -45,4 +47,5 @@ trouble_of options item = if options.strict then wrong_of options item else None
 
 -- For the bytes that were read, the lines of their items are written, as far as the result says.
 abbrev pub IsDumped : Options → Result Report PrintError → List ℕ → List ℕ → Option (List ℕ) → Type 0
-IsDumped options result read written left = ArePrinted (line_of options) (rest_line options) (IsLong options) (trouble_of options) options.version result read written left
+IsDumped options result read written left = ArePrinted (line_of options) (rest_line options) (IsLong options)
+    (trouble_of options) options.version result read written left

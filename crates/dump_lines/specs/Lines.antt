@@ -1,5 +1,6 @@
 -- The lines of a dump: one JSON object for each selected item of a stream, and last one for the remaining bytes.
-use Rattle.std.specs.Prelude.{ℕ, ◌+◌, ◌*◌, ◌^◌, Bool, true, nat_lt, ◌&&◌, ◌||◌, List, [], ◌∷◌, ◌++◌, length, codes, decimal, nat_eq, ◌==◌, if◌then◌else◌, Option, Some, None}
+use Rattle.std.specs.Prelude.{ℕ, ◌+◌, ◌*◌, ◌^◌, Bool, true, nat_lt, ◌&&◌, ◌||◌, List, [], ◌∷◌, ◌++◌, length, codes}
+use Rattle.std.specs.Prelude.{decimal, nat_eq, ◌==◌, if◌then◌else◌, Option, Some, None}
 use Rattle.std.specs.List.{list_any}
 use Rattle.std.specs.Int.{w64, to_be_bytes}
 use Rattle.base64.specs.GeneralPurpose.{encode_of}
@@ -41,8 +42,8 @@ abbrev pub ack_tokens : Option Bool → List Token
 ack_tokens None = []
 ack_tokens (Some flag) = Token.key (codes "requestedAck") ∷ Token.boolean flag ∷ []
 
--- The word that the header of an item is written as, by what its line says: its code, its length, and the request for an
--- acknowledgement.
+-- The word that the header of an item is written as, by what its line says: its code, its length, and the request for
+-- an acknowledgement.
 abbrev pub written_word : Item → ℕ
 written_word (Message message) = word_of message.header
 written_word (Unknown code) = code * 2 ^ 48
@@ -56,7 +57,8 @@ header_members word written others =
 -- The tokens of the member that has the bytes of the header.
 abbrev pub header_tokens : ℕ → ℕ → List Token
 header_tokens word written =
-    if word == written then [] else Token.key (codes "header") ∷ Token.string (encode_of standard (to_be_bytes w64 word)) ∷ []
+    if word == written then [] else Token.key (codes "header") ∷ Token.string
+    (encode_of standard (to_be_bytes w64 word)) ∷ []
 
 -- Members, with one before them that has a number.
 abbrev pub number_member : List ℕ → ℕ → Members → Members
@@ -76,7 +78,8 @@ skipped_members options word code payload =
     (number_member (codes "code") code
     (number_member (codes "length") (length payload)
     (header_members word (written_word (Skipped code payload))
-    (if options.payloads then member (codes "bytes") (byte_string_json options.texts payload) no_members else no_members))))
+    (if options.payloads then member (codes "bytes") (byte_string_json options.texts payload) no_members else
+    no_members))))
 
 -- The members of an item after its offset, by the word of its header.
 abbrev pub item_members : Options → ℕ → Item → Members
@@ -86,7 +89,8 @@ item_members options word (Message message) =
     (number_member (codes "length") (length message.payload)
     (ack_members message.header.requested_ack
     (header_members word (written_word (Message message))
-    (if options.payloads then payload_members options.texts (schema_at options.version message.header.ty) message.payload else no_members)))))
+    (if options.payloads then payload_members options.texts (schema_at options.version message.header.ty)
+    message.payload else no_members)))))
 item_members options word (Unknown code) = unknown_members word code
 item_members options word (Skipped code payload) = skipped_members options word code payload
 
@@ -111,14 +115,17 @@ json_line is_pretty json = json_text is_pretty json ++ codes "\n"
 -- The line of an item that begins at an offset, with this word as its header, if it is selected.
 abbrev pub line_of : Options → ℕ → ℕ → Item → List ℕ
 line_of options at word item =
-    if is_selected options.codes.now (item_code item) then json_line options.pretty (item_json options at word item) else []
+    if is_selected options.codes.now (item_code item) then json_line options.pretty (item_json options at word item)
+    else []
 
 -- The member of the bytes that are in no item, if there are any and payloads are printed.
 abbrev pub rest_members : Options → List ℕ → Members
 rest_members options rest =
-    if options.payloads && nat_lt 0 (length rest) then member (codes "bytes") (byte_string_json options.texts rest) no_members else no_members
+    if options.payloads && nat_lt 0 (length rest) then member (codes "bytes") (byte_string_json options.texts rest)
+    no_members else no_members
 
 -- The last line: the offset of the bytes that are in no item, how many they are, and these bytes.
 abbrev pub rest_line : Options → ℕ → List ℕ → List ℕ
 rest_line options at rest =
-    json_line options.pretty (object (number_member (codes "offset") at (number_member (codes "rest") (length rest) (rest_members options rest))))
+    json_line options.pretty (object (number_member (codes "offset") at
+    (number_member (codes "rest") (length rest) (rest_members options rest))))

@@ -8,12 +8,14 @@ use Rattle.shared_core_compare.specs.Differences.{difference}
 use Rattle.shared_core_compare.specs.Erasure.{AreSame}
 use Rattle.shared_core.specs.Visiting.{command_schema}
 use Rattle.journal_c_api.specs.declared.outcome.CallError.{CallError}
-use Rattle.journal_c_api.specs.declared.outcome.CallError.TheVariants.{Malformed, MalformedSecond, OutOfMemory, UnknownType}
+use Rattle.journal_c_api.specs.declared.outcome.CallError.TheVariants.{Malformed, MalformedSecond, OutOfMemory}
+use Rattle.journal_c_api.specs.declared.outcome.CallError.TheVariants.{UnknownType}
 
 -- If both payloads are well-formed for the schema, this holds of the result and of the two commands that they mean;
 -- otherwise the result is Malformed if the first is not, and MalformedSecond if the second alone is not. An allocation
 -- may fail.
-abbrev pub ComparesPayloads : {T : Type 0} → (T → Parts → Parts → Type 0) → ℕ → List ℕ → List ℕ → Result T CallError → Type 0
+abbrev pub ComparesPayloads : {T : Type 0} → (T → Parts → Parts → Type 0) → ℕ → List ℕ → List ℕ → Result T CallError →
+    Type 0
 ComparesPayloads holds s first second (Ok outcome) =
     IsAccepted s first × IsAccepted s second × holds outcome (payload_meaning s first) (payload_meaning s second)
 ComparesPayloads holds s first second (Err Malformed) = ¬ (IsAccepted s first)
@@ -42,7 +44,8 @@ schema_of_type None = None
 -- The result of journal_header_eq.
 abbrev pub ReturnsSameness : ℕ → Bool → List ℕ → List ℕ → Result ℕ CallError → Type 0
 ReturnsSameness code ignore first second outcome =
-    AtSchema (schema_of_type (type_of code)) outcome (λ s. ComparesPayloads (IsOneWhereSame s ignore) s first second outcome)
+    AtSchema (schema_of_type (type_of code)) outcome (λ s. ComparesPayloads (IsOneWhereSame s ignore) s first second
+    outcome)
 
 -- The result of journal_difference.
 abbrev pub ReturnsDifference : ℕ → List ℕ → List ℕ → Result (List ℕ) CallError → Type 0

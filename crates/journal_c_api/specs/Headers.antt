@@ -25,10 +25,12 @@ header_at version ty payload_length = record { ty = ty; length = payload_length;
 -- The eight bytes of a header, the first byte highest; UnknownVersion if there is no version, otherwise UnknownType if
 -- there is no type.
 abbrev pub header_outcome : Option Version → Option MessageType → ℕ → Result (List ℕ) CallError
-header_outcome (Some version) (Some ty) payload_length = Ok (to_be_bytes w64 (word_of (header_at version ty payload_length)))
+header_outcome (Some version) (Some ty) payload_length = Ok (to_be_bytes w64
+    (word_of (header_at version ty payload_length)))
 header_outcome (Some version) None payload_length = Err UnknownType
 header_outcome None ty payload_length = Err UnknownVersion
 
 -- The result of journal_header.
 abbrev pub ReturnsHeader : ℕ → ℕ → ℕ → Result (List ℕ) CallError → Type 0
-ReturnsHeader number code payload_length outcome = outcome ≡ header_outcome (supported_version number) (type_of code) payload_length
+ReturnsHeader number code payload_length outcome = outcome ≡ header_outcome (supported_version number) (type_of code)
+    payload_length

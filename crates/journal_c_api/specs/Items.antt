@@ -57,7 +57,8 @@ pub record FindsItem (version : Version) (bytes old new : List ℕ) (missing : �
 -- the slice has fewer than six numbers; after either the slice is unchanged.
 abbrev pub WritesNext : ℕ → List ℕ → List ℕ → List ℕ → Result ℕ CallError → Type 0
 WritesNext number bytes old new (Ok missing) =
-    (version : Version) × (supported_version number ≡ Some version) × (6 ≤ length old) × FindsItem version bytes old new missing
+    (version : Version) × (supported_version number ≡ Some version) × (6 ≤ length old) × FindsItem version bytes old new
+    missing
 WritesNext number bytes old new (Err UnknownVersion) = (supported_version number ≡ None) × (new ≡ old)
 WritesNext number bytes old new (Err NoRoom) =
     (version : Version) × (supported_version number ≡ Some version) × (length old < 6) × (new ≡ old)

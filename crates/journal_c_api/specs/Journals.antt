@@ -3,7 +3,8 @@ use Rattle.std.specs.Prelude.{◌≡◌, ℕ, Bool, nat_lt, List, [], ◌∷◌,
 use Rattle.std.specs.String.{string_bytes}
 use Rattle.shared_core_base.specs.declared.version.Version.{Version}
 use Rattle.replay_bench.specs.declared.verdicts.Side.TheVariants.{Recorded, Replayed}
-use Rattle.replay_bench.specs.Outcomes.{Outcome, SameCommands, RecordedEnds, ReplayedEnds, OtherType, OtherCommand, NotWellFormed}
+use Rattle.replay_bench.specs.Outcomes.{Outcome, SameCommands, RecordedEnds, ReplayedEnds, OtherType, OtherCommand}
+use Rattle.replay_bench.specs.Outcomes.{NotWellFormed}
 use Rattle.replay_bench.specs.Verdicts.{HasOutcome}
 use Rattle.journal_c_api.specs.declared.outcome.CallError.{CallError}
 use Rattle.journal_c_api.specs.declared.outcome.CallError.TheVariants.{OutOfMemory, NoRoom}
@@ -46,11 +47,13 @@ ReturnsJournals version ignore recorded replayed (Err error) = error ≡ OutOfMe
 abbrev pub ReturnsVerdict : ℕ → ℕ → Bool → List ℕ → List ℕ → Result Outcome CallError → Type 0
 ReturnsVerdict number room ignore recorded replayed outcome =
     AtVersion (supported_version number) outcome
-    (λ version. MatchBool (nat_lt room 2) (outcome ≡ Err NoRoom) (ReturnsJournals version ignore recorded replayed outcome))
+    (λ version. MatchBool (nat_lt room 2) (outcome ≡ Err NoRoom)
+    (ReturnsJournals version ignore recorded replayed outcome))
 
 -- The numbers and the text of a result of which this holds are written at the front of two slices, and the count is
 -- that of the text's bytes; an error leaves both slices unchanged.
-abbrev pub WritesVerdict : (Result Outcome CallError → Type 0) → List ℕ → List ℕ → List ℕ → List ℕ → Result ℕ CallError → Type 0
+abbrev pub WritesVerdict : (Result Outcome CallError → Type 0) → List ℕ → List ℕ → List ℕ → List ℕ → Result ℕ CallError
+    → Type 0
 WritesVerdict holds old_numbers new_numbers old new (Ok count) =
     (outcome : Outcome) × holds (Ok outcome)
     × (new_numbers ≡ written_over (verdict_numbers outcome) old_numbers)

@@ -1,5 +1,6 @@
 -- The result of the call that reads JSON.
-use Rattle.std.specs.Prelude.{◌≡◌, ◌≢◌, ℕ, ◌^◌, ◌<◌, ◌≤◌, true, false, nat_lt, List, [], ◌∷◌, length, string_bytes, Some, None, option_map, Result, Ok, Err}
+use Rattle.std.specs.Prelude.{◌≡◌, ◌≢◌, ℕ, ◌^◌, ◌<◌, ◌≤◌, true, false, nat_lt, List, [], ◌∷◌, length, string_bytes}
+use Rattle.std.specs.Prelude.{Some, None, option_map, Result, Ok, Err}
 use Rattle.json.specs.Json.{Json}
 use Rattle.shared_core_codec.specs.Table.{schema_count}
 use Rattle.shared_core_json_reader.specs.declared.error.Reason.{Reason}

@@ -1,5 +1,6 @@
 -- The result of the call on notifications.
-use Rattle.std.specs.Prelude.{◌≡◌, ℕ, ◌^◌, ◌<◌, ◌≤◌, List, [], ◌∷◌, ◌++◌, length, codes, string_bytes, Some, Result, Ok, Err}
+use Rattle.std.specs.Prelude.{◌≡◌, ℕ, ◌^◌, ◌<◌, ◌≤◌, List, [], ◌∷◌, ◌++◌, length, codes, string_bytes, Some, Result, Ok}
+use Rattle.std.specs.Prelude.{Err}
 use Rattle.shared_core_base.specs.declared.header.MessageType.{MessageType}
 use Rattle.shared_core_base.specs.MessageType.{code_of, type_of}
 use Rattle.shared_core_wire.specs.Canonical.{canonical_payload, size}
@@ -11,14 +12,16 @@ use Rattle.shared_core_parts.specs.declared.notification.Notification.{Notificat
 use Rattle.shared_core_parts.specs.declared.notification_template.Id.{Id}
 use Rattle.shared_core_parts.specs.declared.notification_template.Id.TheVariants.{CompletionId, SignalId, SignalName}
 use Rattle.shared_core_parts.specs.declared.notification_template.Result.{Result as Outcome}
-use Rattle.shared_core_parts.specs.declared.notification_template.Result.TheVariants.{Void, Value, Failure, InvocationId, StateKeys}
+use Rattle.shared_core_parts.specs.declared.notification_template.Result.TheVariants.{Void, Value, Failure}
+use Rattle.shared_core_parts.specs.declared.notification_template.Result.TheVariants.{InvocationId, StateKeys}
 use Rattle.shared_core_parts.specs.contracts.value.ValueWireRecord.TheImpl as value
 use Rattle.shared_core_parts.specs.contracts.failure.FailureWireRecord.TheImpl as failure
 use Rattle.shared_core_parts.specs.contracts.state_keys.StateKeysWireRecord.TheImpl as state_keys
 use Rattle.shared_core.specs.Typed.{MeansParts}
 use Rattle.shared_core.specs.View.{notification_parts, LacksField}
 use Rattle.journal_c_api.specs.declared.outcome.CallError.{CallError}
-use Rattle.journal_c_api.specs.declared.outcome.CallError.TheVariants.{Malformed, OutOfMemory, NoRoom, TooLong, UnknownType, NoId, NoResult}
+use Rattle.journal_c_api.specs.declared.outcome.CallError.TheVariants.{Malformed, OutOfMemory, NoRoom, TooLong}
+use Rattle.journal_c_api.specs.declared.outcome.CallError.TheVariants.{UnknownType, NoId, NoResult}
 use Rattle.journal_c_api.specs.Outcomes.{written_over}
 
 -- The code is that of a type of notifications, named or custom.
@@ -67,7 +70,8 @@ IsTooLong other = ⊥
 
 -- The four numbers of a notification.
 abbrev pub notification_numbers : Notification → List ℕ
-notification_numbers found = id_kind found.id ∷ id_number found.id ∷ length (id_name found.id) ∷ result_kind found.result ∷ []
+notification_numbers found = id_kind found.id ∷ id_number found.id ∷ length (id_name found.id) ∷ result_kind
+    found.result ∷ []
 
 -- The bytes of a notification: its signal's name, and its result after it.
 abbrev pub notification_bytes : Notification → List ℕ
@@ -79,7 +83,8 @@ MeansNotification payload found = MeansParts schema.notification_template payloa
 
 -- A payload means a notification that lacks the field; the id is looked for first.
 abbrev pub MeansLacking : List ℕ → List ℕ → Type 0
-MeansLacking field payload = (parts : Parts) × MeansParts schema.notification_template payload parts × LacksField field parts
+MeansLacking field payload = (parts : Parts) × MeansParts schema.notification_template payload parts × LacksField field
+    parts
 
 -- The result is the notification that a payload means, or the field that it lacks; Malformed if it is not well-formed.
 -- An allocation may fail.
@@ -114,7 +119,8 @@ RejectsCall code room payload error = IsNotificationCode code × (4 ≤ room) ×
 abbrev pub WritesNotification : ℕ → List ℕ → List ℕ → List ℕ → List ℕ → List ℕ → Result ℕ CallError → Type 0
 WritesNotification code payload numbers_old numbers_new old new (Ok count) =
     IsNotificationCode code × (4 ≤ length numbers_old) × (found : Notification) × MeansNotification payload found
-    × (count ≡ length (notification_bytes found)) × (numbers_new ≡ written_over (notification_numbers found) numbers_old)
+    × (count ≡ length (notification_bytes found)) × (numbers_new ≡ written_over (notification_numbers found)
+    numbers_old)
     × (new ≡ written_over (notification_bytes found) old)
 WritesNotification code payload numbers_old numbers_new old new (Err error) =
     RejectsCall code (length numbers_old) payload error × (numbers_new ≡ numbers_old) × (new ≡ old)

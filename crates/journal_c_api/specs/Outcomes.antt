@@ -1,5 +1,6 @@
 -- The results of the calls, as C sees them.
-use Rattle.std.specs.Prelude.{◌≡◌, ℕ, ℤ, pos, negsuc, ◌^◌, nat_lt, nat_le, List, ◌++◌, drop, length, Vec, Option, Some, None, Result, Ok, Err, if◌then◌else◌}
+use Rattle.std.specs.Prelude.{◌≡◌, ℕ, ℤ, pos, negsuc, ◌^◌, nat_lt, nat_le, List, ◌++◌, drop, length, Vec, Option, Some}
+use Rattle.std.specs.Prelude.{None, Result, Ok, Err, if◌then◌else◌}
 use Rattle.shared_core_base.specs.declared.version.Version.{Version}
 pub use Rattle.shared_core_base.specs.Version.{supported_version}
 use Rattle.shared_core_wire.specs.declared.error.WireError.{WireError}
@@ -9,8 +10,10 @@ use Rattle.shared_core_codec.specs.declared.error.EncodingError.TheVariants.{Pay
 use Rattle.shared_core_json.specs.declared.error.JsonError.{JsonError}
 use Rattle.shared_core_json.specs.declared.error.JsonError.TheVariants as json
 use Rattle.journal_c_api.specs.declared.outcome.CallError.{CallError}
-use Rattle.journal_c_api.specs.declared.outcome.CallError.TheVariants.{Malformed, MalformedSecond, OutOfMemory as NoMemory, NoRoom, TooLong}
-use Rattle.journal_c_api.specs.declared.outcome.CallError.TheVariants.{UnknownVersion, UnknownSchema, UnknownType, NoId, NoResult}
+use Rattle.journal_c_api.specs.declared.outcome.CallError.TheVariants.{Malformed, MalformedSecond}
+use Rattle.journal_c_api.specs.declared.outcome.CallError.TheVariants.{OutOfMemory as NoMemory, NoRoom, TooLong}
+use Rattle.journal_c_api.specs.declared.outcome.CallError.TheVariants.{UnknownVersion, UnknownSchema, UnknownType, NoId}
+use Rattle.journal_c_api.specs.declared.outcome.CallError.TheVariants.{NoResult}
 
 -- The number that denotes an error. Its remainder by 16 is that of its kind, which those of several arguments share.
 abbrev pub error_number : CallError → ℤ
@@ -67,7 +70,8 @@ bytes_of (Err error) = Err error
 -- The bytes of a result of which this holds are written at the front of the slice, and the count is theirs; an error
 -- leaves the slice unchanged.
 abbrev pub Writes : (Result (List ℕ) CallError → Type 0) → List ℕ → List ℕ → Result ℕ CallError → Type 0
-Writes holds old new (Ok count) = (bytes : List ℕ) × holds (Ok bytes) × (count ≡ length bytes) × (new ≡ written_over bytes old)
+Writes holds old new (Ok count) = (bytes : List ℕ) × holds (Ok bytes) × (count ≡ length bytes) ×
+    (new ≡ written_over bytes old)
 Writes holds old new (Err error) = holds (Err error) × (new ≡ old)
 
 -- What holds at the version that a number denotes; if it denotes none, the result is UnknownVersion.

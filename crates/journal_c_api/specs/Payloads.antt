@@ -1,5 +1,6 @@
 -- The result of the calls on payloads and frames.
-use Rattle.std.specs.Prelude.{◌≡◌, ◌⊎◌, ℕ, ◌^◌, ◌≤◌, nat_lt, true, List, [], ◌++◌, length, Vec, Option, Some, None, Result, Ok, Err, MatchBool}
+use Rattle.std.specs.Prelude.{◌≡◌, ◌⊎◌, ℕ, ◌^◌, ◌≤◌, nat_lt, true, List, [], ◌++◌, length, Vec, Option, Some, None}
+use Rattle.std.specs.Prelude.{Result, Ok, Err, MatchBool}
 use Rattle.std.specs.List.{All, concat}
 use Rattle.shared_core_base.specs.declared.version.Version.{Version}
 use Rattle.shared_core_base.specs.declared.header.MessageType.{MessageType}
@@ -38,7 +39,8 @@ MeansSecond s parts payload outcome = MeansRecord s parts payload outcome
 -- it is too long for a header; otherwise it is Malformed, whichever part is not. An allocation may fail.
 abbrev pub ReturnsMeaning : ℕ → List ℕ → List (List ℕ) → Result (List ℕ) CallError → Type 0
 ReturnsMeaning s first rest (Ok bytes) =
-    IsAccepted s first × All (IsAccepted s) rest × (bytes ≡ canonical_payload table s (payload_meaning s (first ++ concat rest)))
+    IsAccepted s first × All (IsAccepted s) rest × (bytes ≡ canonical_payload table s
+    (payload_meaning s (first ++ concat rest)))
 ReturnsMeaning s first rest (Err Malformed) = ¬ (IsAccepted s first × All (IsAccepted s) rest)
 ReturnsMeaning s first rest (Err TooLong) =
     IsAccepted s first × All (IsAccepted s) rest × (2 ^ 32 ≤ size table s (payload_meaning s (first ++ concat rest)))
@@ -69,7 +71,8 @@ ReturnsCanonical s payload outcome = ReturnsMerged s payload [] outcome × Keeps
 -- If the payload is well-formed for the schema, the result is the canonical payload of what it means, or that it is too
 -- long for a header; otherwise it is Malformed. An allocation may fail.
 abbrev pub EncodesPayload : {Z : Type 0} → ℕ → List ℕ → Result (Vec ℕ Z) CallError → Type 0
-EncodesPayload s payload (Ok canonical) = IsAccepted s payload × IsEncoding s (payload_meaning s payload) canonical.items
+EncodesPayload s payload (Ok canonical) = IsAccepted s payload × IsEncoding s (payload_meaning s payload)
+    canonical.items
 EncodesPayload s payload (Err Malformed) = ¬ (IsAccepted s payload)
 EncodesPayload s payload (Err TooLong) = IsTooLong s payload
 EncodesPayload s payload (Err OutOfMemory) = Unit {0}
@@ -86,16 +89,19 @@ PrintsPayload s payload (Err error) = ⊥
 
 -- The result of journal_json: UnknownSchema if no schema has the number.
 abbrev pub ReturnsJson : ℕ → List ℕ → Result (List ℕ) CallError → Type 0
-ReturnsJson s payload outcome = MatchBool (nat_lt s (length schemas)) (PrintsPayload s payload outcome) (outcome ≡ Err UnknownSchema)
+ReturnsJson s payload outcome = MatchBool (nat_lt s (length schemas)) (PrintsPayload s payload outcome)
+    (outcome ≡ Err UnknownSchema)
 
 -- The result is 1 if the payload is well-formed for the schema, otherwise 0; never an error.
 abbrev pub ChecksPayload : ℕ → List ℕ → Result ℕ CallError → Type 0
-ChecksPayload s payload (Ok outcome) = ((outcome ≡ 1) × IsAccepted s payload) ⊎ ((outcome ≡ 0) × ¬ (IsAccepted s payload))
+ChecksPayload s payload (Ok outcome) = ((outcome ≡ 1) × IsAccepted s payload) ⊎
+    ((outcome ≡ 0) × ¬ (IsAccepted s payload))
 ChecksPayload s payload (Err error) = ⊥
 
 -- The result of journal_is_well_formed: UnknownSchema if no schema has the number.
 abbrev pub ReturnsWellFormed : ℕ → List ℕ → Result ℕ CallError → Type 0
-ReturnsWellFormed s payload outcome = MatchBool (nat_lt s (length schemas)) (ChecksPayload s payload outcome) (outcome ≡ Err UnknownSchema)
+ReturnsWellFormed s payload outcome = MatchBool (nat_lt s (length schemas)) (ChecksPayload s payload outcome)
+    (outcome ≡ Err UnknownSchema)
 
 -- The result is the frame of a wire form, or that its payload is too long for a header. An allocation may fail.
 abbrev pub EncodesForm : MessageType → WireForm → Result (List ℕ) CallError → Type 0

@@ -1,5 +1,6 @@
 -- The listing of a stream of frames: a line for each item, and last the count of the bytes that are in no item.
-use Rattle.std.specs.Prelude.{◌≡◌, ℕ, Bool, true, List, [], ◌++◌, false, length, codes, decimal, Result, Ok, Err, Option, Some, None}
+use Rattle.std.specs.Prelude.{◌≡◌, ℕ, Bool, true, List, [], ◌++◌, false, length, codes, decimal, Result, Ok, Err}
+use Rattle.std.specs.Prelude.{Option, Some, None}
 use Rattle.std.specs.Fmt.{digits}
 use Rattle.shared_core_base.specs.declared.version.Version.{Version}
 use Rattle.shared_core_base.specs.MessageType.{debug_name_of}
@@ -21,7 +22,8 @@ ack_text flag = []
 -- lower-case hexadecimal, and for a skipped message its payload's length after it.
 abbrev pub line_of : Item → List ℕ
 line_of (Message message) =
-    debug_name_of message.header.ty ++ (codes " " ++ (decimal (length message.payload) ++ (ack_text message.header.requested_ack ++ codes "\n")))
+    debug_name_of message.header.ty ++ (codes " " ++ (decimal (length message.payload) ++
+    (ack_text message.header.requested_ack ++ codes "\n")))
 line_of (Unknown code) = codes "unknown 0x" ++ (digits 16 false code ++ codes "\n")
 line_of (Skipped code payload) =
     codes "skipped 0x" ++ (digits 16 false code ++ (codes " " ++ (decimal (length payload) ++ codes "\n")))
@@ -42,7 +44,8 @@ IsPrintedAs (Err OutOfMemory) printed = printed ≡ Err print_error.OutOfMemory
 abbrev pub IsListed : Version → Result (Unit {0}) ListError → List ℕ → List ℕ → Option (List ℕ) → Type 0
 IsListed version result read written left =
     (printed : Result Report PrintError) × IsPrintedAs result printed
-    × ArePrinted (λ at word. line_of) (λ at rest. rest_line (length rest)) (λ item. ⊥) (λ item. None) version printed read written left
+    × ArePrinted (λ at word. line_of) (λ at rest. rest_line (length rest)) (λ item. ⊥) (λ item. None) version printed
+    read written left
 
 -- The text of an error.
 abbrev pub error_text : ListError → List ℕ

@@ -1,5 +1,6 @@
 -- The fields by the records of a canonical payload are those by the value.
-use Rattle.std.proofs.Common.{◌≡◌, ℕ, zero, suc, ◌+◌, ◌-◌, ◌%◌, ◌^◌, ◌<◌, ◌≤◌, List, [], ◌∷◌, ◌++◌, map, Bool, true, false, cond, ◌||◌, Option, Some, None, refl, sym, ap, ◌∙◌, arith, eqb, eq-eqb, ltb}
+use Rattle.std.proofs.Common.{◌≡◌, ℕ, zero, suc, ◌+◌, ◌-◌, ◌%◌, ◌^◌, ◌<◌, ◌≤◌, List, [], ◌∷◌, ◌++◌, map, Bool, true}
+use Rattle.std.proofs.Common.{false, cond, ◌||◌, Option, Some, None, refl, sym, ap, ◌∙◌, arith, eqb, eq-eqb, ltb}
 use Rattle.std.proofs.lemmas.Bool.{lt-ltb, ltb-true}
 use Rattle.std.proofs.lemmas.List.Folds.{list_all-append}
 use Rattle.std.specs.Prelude.{flat_map}
@@ -7,9 +8,12 @@ use Rattle.std.specs.List.{list_all}
 use Rattle.std.specs.Option.{option_or}
 use Rattle.shared_core_wire.specs.Grammar.{RecordValue, Varint, Length, FieldRecord}
 use Rattle.shared_core_wire.specs.Encoding.{shortest_varint}
-use Rattle.shared_core_wire.specs.Schema.{Kind, Row, U32, U64, Boolean, Enumeration, Text, ByteString, Message, Plain, Optional, Repeated, OneOf, numbers, includes, member_kind}
+use Rattle.shared_core_wire.specs.Schema.{Kind, Row, U32, U64, Boolean, Enumeration, Text, ByteString, Message, Plain}
+use Rattle.shared_core_wire.specs.Schema.{Optional, Repeated, OneOf, numbers, includes, member_kind}
 use Rattle.shared_core_wire.specs.Value.{Part, Parts, Absent, Number, Bytes, Nested, Elements, Member, nil, cons}
-use Rattle.shared_core_wire.specs.Canonical.{is_default, number_bytes, written_number, kind_of, row_records, part_values, element_values, message_records, canonical_payload, part_levels, levels}
+use Rattle.shared_core_wire.specs.Canonical.{is_default, number_bytes, written_number, kind_of, row_records}
+use Rattle.shared_core_wire.specs.Canonical.{part_values, element_values, message_records, canonical_payload}
+use Rattle.shared_core_wire.specs.Canonical.{part_levels, levels}
 use Rattle.shared_core_wire.specs.Fitting.{is_single, has_shape, NumberFits, BytesFit, PartFits, ElementsFit, Fits}
 use Rattle.shared_core_wire.specs.Overlay.{low_numbers}
 use Rattle.shared_core_wire.proofs.Runs.{and_split, and_join}
@@ -45,12 +49,15 @@ one_own : (b : Bool) (f : Kind × Bool) → (b || false) ≡ true → cond b (So
 one_own true f h = refl
 one_own false f h = absurd cc
 
-member_own : (members : List (ℕ × Kind)) (n : ℕ) → includes (numbers (OneOf members)) n ≡ true → member_numbered members n ≡ Some (member_kind members n, false)
+member_own : (members : List (ℕ × Kind)) (n : ℕ) → includes (numbers (OneOf members)) n ≡ true → member_numbered members
+    n ≡ Some (member_kind members n, false)
 member_own [] n h = absurd cc
 member_own (m ∷ members) n h = by_test (member_own members n) (eqb n m.0) h
   where
-    by_test : (includes (numbers (OneOf members)) n ≡ true → member_numbered members n ≡ Some (member_kind members n, false)) → (b : Bool) → (b || includes (numbers (OneOf members)) n) ≡ true
-        → option_or (cond b (Some (m.1, false)) None) (member_numbered members n) ≡ Some (cond b m.1 (member_kind members n), false)
+    by_test : (includes (numbers (OneOf members)) n ≡ true → member_numbered members n ≡ Some
+        (member_kind members n, false)) → (b : Bool) → (b || includes (numbers (OneOf members)) n) ≡ true
+        → option_or (cond b (Some (m.1, false)) None) (member_numbered members n) ≡ Some
+        (cond b m.1 (member_kind members n), false)
     by_test later true g = refl
     by_test later false g = later g
 
@@ -60,8 +67,10 @@ row_own (Optional m k) n h = one_own (eqb n m) (k, false) h
 row_own (Repeated m k) n h = one_own (eqb n m) (k, true) h
 row_own (OneOf members) n h = member_own members n h
 
-finds_own : (all : List Row) (row : Row) (rows : List Row) → AreLeft all (row ∷ rows) → (n : ℕ) → includes (numbers row) n ≡ true → field_numbered all n ≡ Some (own_kind row n)
-finds_own all row rows a n h = a.finds n (own_kind row n) (ap (λ o. option_or o (field_numbered rows n)) (row_own row n h))
+finds_own : (all : List Row) (row : Row) (rows : List Row) → AreLeft all (row ∷ rows) → (n : ℕ) → includes (numbers row)
+    n ≡ true → field_numbered all n ≡ Some (own_kind row n)
+finds_own all row rows a n h = a.finds n (own_kind row n) (ap (λ o. option_or o (field_numbered rows n))
+    (row_own row n h))
 
 own_number : (n : ℕ) → includes (n ∷ []) n ≡ true
 own_number n = rw (eq-eqb n n refl) refl
@@ -90,7 +99,12 @@ unfolding part_values
 single_number n U32 h = record { w = Varint n; is = refl; back = λ b z. ap Number (omega (arith, h)) }
 single_number n U64 h = record { w = Varint n; is = refl; back = λ b z. refl }
 single_number n Boolean h = record { w = Varint n; is = refl; back = λ b z. ap Number (boolean_back n h) }
-single_number n Enumeration h = record { w = Varint (written_number Enumeration n); is = refl; back = λ b z. ap Number (enum_back n h) }
+single_number n Enumeration h = record {
+  w = Varint (written_number Enumeration n);
+  is = refl;
+  back = λ b z. ap Number
+      (enum_back n h);
+}
 single_number n Text h = absurd h
 single_number n ByteString h = absurd h
 single_number n (Message s) h = absurd h
@@ -107,7 +121,12 @@ single_bytes bytes (Message s) h = absurd h
 
 single_message : (ps : Parts) (k : Kind) → PartFits table (Nested ps) k → levels ps ≤ 100 → Single (Nested ps) k
 unfolding part_values PartFits
-single_message ps (Message s) h l = record { w = Length (canonical_payload table s ps); is = refl; back = λ b z. ap Nested (canonical_back table are_schemas 100 s ps h l (ltb-true _ _ z)).1 }
+single_message ps (Message s) h l = record {
+  w = Length (canonical_payload table s ps);
+  is = refl;
+  back = λ b z. ap
+      Nested (canonical_back table are_schemas 100 s ps h l (ltb-true _ _ z)).1;
+}
 single_message ps U32 h l = absurd h
 single_message ps U64 h l = absurd h
 single_message ps Boolean h l = absurd h
@@ -145,7 +164,8 @@ run (cons (Number n) ps) h =
     record {
       bytes = ap (λ (bs : List ℕ). shortest_varint n ++ bs) r.bytes;
       fit = and_join _ _ (lt-ltb n (2 ^ 64) (omega (arith, h.1))) r.fit;
-      elements = ap (λ (m : ℕ). cons (Number m) (low_numbers (numbers_in ps))) low ∙ ap (λ (qs : Parts). cons (Number n) qs) r.elements;
+      elements = ap (λ (m : ℕ). cons (Number m) (low_numbers (numbers_in ps))) low ∙ ap
+          (λ (qs : Parts). cons (Number n) qs) r.elements;
     }
 run (cons Absent ps) h = absurd (cc h.0)
 run (cons (Elements qs) ps) h = absurd (cc h.0)
@@ -153,66 +173,92 @@ run (cons (Member m p) ps) h = absurd (cc h.0)
 run (cons (Bytes bytes) ps) h = absurd h.1
 run (cons (Nested qs) ps) h = absurd h.1
 
-packed : (ps : Parts) → ElementsFit table ps U32 → low_numbers (run_numbers (flat_map number_bytes (element_values table ps U32))) ≡ ps
+packed : (ps : Parts) → ElementsFit table ps U32 → low_numbers
+    (run_numbers (flat_map number_bytes (element_values table ps U32))) ≡ ps
 packed ps h =
     let r = run ps h in
-    ap (λ (bs : List ℕ). low_numbers (run_numbers bs)) r.bytes ∙ ap (λ o. low_numbers (numbers_or_none o)) (varints_encoded (numbers_in ps) r.fit) ∙ r.elements
+    ap (λ (bs : List ℕ). low_numbers (run_numbers bs)) r.bytes ∙ ap (λ o. low_numbers (numbers_or_none o))
+    (varints_encoded (numbers_in ps) r.fit) ∙ r.elements
 
 -- ---- rows
 
 module _ (all : List Row) where
-  one_field : (n : ℕ) (k : Kind) (repeated : Bool) (p : Part) → field_numbered all n ≡ Some (k, repeated) → Single p k → list_all encodable (map (λ w. record { number = n; value = w }) (part_values table p k)) ≡ true
-      → map (record_field all) (map (λ w. record { number = n; value = w }) (part_values table p k)) ≡ (n, (k, repeated), p) ∷ []
+  one_field : (n : ℕ) (k : Kind) (repeated : Bool) (p : Part) → field_numbered all n ≡ Some (k, repeated) → Single p k →
+      list_all encodable (map (λ w. record { number = n; value = w }) (part_values table p k)) ≡ true
+      → map (record_field all) (map (λ w. record { number = n; value = w }) (part_values table p k)) ≡
+      (n, (k, repeated), p) ∷ []
   one_field n k repeated p f x s =
-      let e = ap (λ (ws : List RecordValue). list_all encodable (map (λ w. record { number = n; value = w }) ws)) (sym x.is) ∙ s in
+      let e = ap (λ (ws : List RecordValue). list_all encodable (map (λ w. record { number = n; value = w }) ws))
+      (sym x.is) ∙ s in
       ap (λ (ws : List RecordValue). map (record_field all) (map (λ w. record { number = n; value = w }) ws)) x.is
       ∙ ap (λ o. found_field n x.w o ∷ []) f
       ∙ ap (λ (q : Part). (n, (k, repeated), q) ∷ []) (x.back repeated (and_split _ _ (and_split _ _ e).0).1)
 
   plain_fields : (n : ℕ) (k : Kind) (p : Part) (default : Bool) → field_numbered all n ≡ Some (k, false) → Single p k
-      → list_all encodable (map (λ w. record { number = n; value = w }) (cond default [] (part_values table p k))) ≡ true
-      → map (record_field all) (map (λ w. record { number = n; value = w }) (cond default [] (part_values table p k))) ≡ cond default [] ((n, (k, false), p) ∷ [])
+      → list_all encodable (map (λ w. record { number = n; value = w }) (cond default [] (part_values table p k))) ≡
+      true
+      → map (record_field all) (map (λ w. record { number = n; value = w }) (cond default [] (part_values table p k))) ≡
+      cond default [] ((n, (k, false), p) ∷ [])
   plain_fields n k p true f x s = refl
   plain_fields n k p false f x s = one_field n k false p f x s
 
-  each_fields : (n : ℕ) (k : Kind) (ps : Parts) → field_numbered all n ≡ Some (k, true) → ElementsFit table ps k → levels ps ≤ 100
+  each_fields : (n : ℕ) (k : Kind) (ps : Parts) → field_numbered all n ≡ Some (k, true) → ElementsFit table ps k →
+      levels ps ≤ 100
       → list_all encodable (map (λ w. record { number = n; value = w }) (element_values table ps k)) ≡ true
-      → map (record_field all) (map (λ w. record { number = n; value = w }) (element_values table ps k)) ≡ each_field n k ps
+      → map (record_field all) (map (λ w. record { number = n; value = w }) (element_values table ps k)) ≡ each_field n
+      k ps
   unfolding part_values PartFits levels
   each_fields n k nil f h l s = refl
   each_fields n k (cons p ps) f h l s =
       let x = single p k h.0 h.1 (omega arith) in
       let low_rest : levels ps ≤ 100 = omega arith in
-      let e = and_split _ _ (ap (λ (ws : List RecordValue). list_all encodable (map (λ w. record { number = n; value = w }) (ws ++ element_values table ps k))) (sym x.is) ∙ s) in
-      ap (λ (ws : List RecordValue). map (record_field all) (map (λ w. record { number = n; value = w }) (ws ++ element_values table ps k))) x.is
-      ∙ ap (λ o. found_field n x.w o ∷ map (record_field all) (map (λ w. record { number = n; value = w }) (element_values table ps k))) f
-      ∙ ap (λ (q : Part). (n, (k, true), q) ∷ map (record_field all) (map (λ w. record { number = n; value = w }) (element_values table ps k))) (x.back true (and_split _ _ e.0).1)
+      let e = and_split _ _ (ap (λ (ws : List RecordValue). list_all encodable
+      (map (λ w. record { number = n; value = w }) (ws ++ element_values table ps k))) (sym x.is) ∙ s) in
+      ap (λ (ws : List RecordValue). map (record_field all) (map (λ w. record { number = n; value = w })
+      (ws ++ element_values table ps k))) x.is
+      ∙ ap (λ o. found_field n x.w o ∷ map (record_field all)
+      (map (λ w. record { number = n; value = w }) (element_values table ps k))) f
+      ∙ ap (λ (q : Part). (n, (k, true), q) ∷ map (record_field all)
+      (map (λ w. record { number = n; value = w }) (element_values table ps k))) (x.back true (and_split _ _ e.0).1)
       ∙ ap (λ (fs : List FieldPart). (n, (k, true), p) ∷ fs) (each_fields n k ps f h.2 low_rest e.1)
 
   run_fields : (n : ℕ) (ps : Parts) → field_numbered all n ≡ Some (U32, true) → ElementsFit table ps U32
-      → map (record_field all) (record { number = n; value = Length (flat_map number_bytes (element_values table ps U32)) } ∷ []) ≡ (n, (U32, true), Elements ps) ∷ []
+      → map (record_field all) (record {
+        number = n;
+        value = Length
+            (flat_map number_bytes (element_values table ps U32));
+      } ∷ []) ≡ (n, (U32, true), Elements ps) ∷ []
   run_fields n ps f h =
       ap (λ o. found_field n (Length (flat_map number_bytes (element_values table ps U32))) o ∷ []) f
       ∙ ap (λ (qs : Parts). (n, (U32, true), Elements qs) ∷ []) (packed ps h)
 
-  row_back : (row : Row) (p : Part) → ((n : ℕ) → includes (numbers row) n ≡ true → field_numbered all n ≡ Some (own_kind row n))
-      → has_shape row p ≡ true → PartFits table p (kind_of row p) → part_levels p ≤ 100 → list_all encodable (row_records row p (part_values table p (kind_of row p))) ≡ true
+  row_back : (row : Row) (p : Part) → ((n : ℕ) → includes (numbers row) n ≡ true → field_numbered all n ≡ Some
+      (own_kind row n))
+      → has_shape row p ≡ true → PartFits table p (kind_of row p) → part_levels p ≤ 100 → list_all encodable
+      (row_records row p (part_values table p (kind_of row p))) ≡ true
       → map (record_field all) (row_records row p (part_values table p (kind_of row p))) ≡ row_fields row p
   unfolding part_values PartFits levels
   row_back (Plain n k) Absent f i h l s = absurd cc
   row_back (Plain n k) (Elements ps) f i h l s = absurd cc
   row_back (Plain n k) (Member m p) f i h l s = absurd cc
-  row_back (Plain n k) (Number m) f i h l s = plain_fields n k (Number m) (is_default (Number m)) (f n (own_number n)) (single (Number m) k i h l) s
-  row_back (Plain n k) (Bytes bytes) f i h l s = plain_fields n k (Bytes bytes) (is_default (Bytes bytes)) (f n (own_number n)) (single (Bytes bytes) k i h l) s
-  row_back (Plain n k) (Nested ps) f i h l s = plain_fields n k (Nested ps) false (f n (own_number n)) (single (Nested ps) k i h l) s
+  row_back (Plain n k) (Number m) f i h l s = plain_fields n k (Number m) (is_default (Number m)) (f n (own_number n))
+      (single (Number m) k i h l) s
+  row_back (Plain n k) (Bytes bytes) f i h l s = plain_fields n k (Bytes bytes) (is_default (Bytes bytes))
+      (f n (own_number n)) (single (Bytes bytes) k i h l) s
+  row_back (Plain n k) (Nested ps) f i h l s = plain_fields n k (Nested ps) false (f n (own_number n))
+      (single (Nested ps) k i h l) s
   row_back (Optional n k) Absent f i h l s = refl
   row_back (Optional n k) (Elements ps) f i h l s = absurd cc
   row_back (Optional n k) (Member m p) f i h l s = absurd cc
-  row_back (Optional n k) (Number m) f i h l s = one_field n k false (Number m) (f n (own_number n)) (single (Number m) k i h l) s
-  row_back (Optional n k) (Bytes bytes) f i h l s = one_field n k false (Bytes bytes) (f n (own_number n)) (single (Bytes bytes) k i h l) s
-  row_back (Optional n k) (Nested ps) f i h l s = one_field n k false (Nested ps) (f n (own_number n)) (single (Nested ps) k i h l) s
+  row_back (Optional n k) (Number m) f i h l s = one_field n k false (Number m) (f n (own_number n))
+      (single (Number m) k i h l) s
+  row_back (Optional n k) (Bytes bytes) f i h l s = one_field n k false (Bytes bytes) (f n (own_number n))
+      (single (Bytes bytes) k i h l) s
+  row_back (Optional n k) (Nested ps) f i h l s = one_field n k false (Nested ps) (f n (own_number n))
+      (single (Nested ps) k i h l) s
   row_back (Repeated n U32) (Elements nil) f i h l s = refl
-  row_back (Repeated n U32) (Elements (cons (Number m) ps)) f i h l s = run_fields n (cons (Number m) ps) (f n (own_number n)) h
+  row_back (Repeated n U32) (Elements (cons (Number m) ps)) f i h l s = run_fields n (cons (Number m) ps)
+      (f n (own_number n)) h
   row_back (Repeated n U32) (Elements (cons Absent ps)) f i h l s = absurd (cc h.0)
   row_back (Repeated n U32) (Elements (cons (Elements qs) ps)) f i h l s = absurd (cc h.0)
   row_back (Repeated n U32) (Elements (cons (Member m p) ps)) f i h l s = absurd (cc h.0)
@@ -226,11 +272,13 @@ module _ (all : List Row) where
       one_field m (member_kind members m) false p (f m e.0) (single p (member_kind members m) e.1 h l) s
   row_back (OneOf members) p f i h l s = absurd cc
 
-  map_append : (xs ys : List FieldRecord) → map (record_field all) (xs ++ ys) ≡ map (record_field all) xs ++ map (record_field all) ys
+  map_append : (xs ys : List FieldRecord) → map (record_field all) (xs ++ ys) ≡ map (record_field all) xs ++ map
+      (record_field all) ys
   map_append [] ys = refl
   map_append (x ∷ xs) ys = ap (λ (fs : List FieldPart). record_field all x ∷ fs) (map_append xs ys)
 
-  pub fields_by_value : (v : Parts) (rows : List Row) → AreLeft all rows → Fits table v rows → levels v ≤ 100 → list_all encodable (message_records table v rows) ≡ true
+  pub fields_by_value : (v : Parts) (rows : List Row) → AreLeft all rows → Fits table v rows → levels v ≤ 100 → list_all
+      encodable (message_records table v rows) ≡ true
       → map (record_field all) (message_records table v rows) ≡ message_fields rows v
   unfolding part_values PartFits levels
   fields_by_value nil [] a h l s = refl
@@ -242,5 +290,7 @@ module _ (all : List Row) where
       let own = row_records row p (part_values table p (kind_of row p)) in
       let e = and_split _ _ (sym (list_all-append encodable own (message_records table ps rows)) ∙ s) in
       map_append own (message_records table ps rows)
-      ∙ ap (λ (fs : List FieldPart). fs ++ map (record_field all) (message_records table ps rows)) (row_back row p (finds_own all row rows a) h.0 h.1 low_row e.0)
-      ∙ ap (λ (fs : List FieldPart). row_fields row p ++ fs) (fields_by_value ps rows (later_left all row rows a) h.2 low_rest e.1)
+      ∙ ap (λ (fs : List FieldPart). fs ++ map (record_field all) (message_records table ps rows))
+      (row_back row p (finds_own all row rows a) h.0 h.1 low_row e.0)
+      ∙ ap (λ (fs : List FieldPart). row_fields row p ++ fs)
+      (fields_by_value ps rows (later_left all row rows a) h.2 low_rest e.1)

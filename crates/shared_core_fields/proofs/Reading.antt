@@ -1,5 +1,6 @@
 -- The records of a canonical payload: each is one that may come next, with a typed value.
-use Rattle.std.proofs.Common.{◌≡◌, ℕ, ◌-◌, ◌^◌, ◌<◌, List, [], ◌∷◌, length, map, Bool, true, false, cond, ◌&&◌, Option, Some, None, Result, Ok, Err, refl, sym, ap, ◌∙◌, arith, ltb}
+use Rattle.std.proofs.Common.{◌≡◌, ℕ, ◌-◌, ◌^◌, ◌<◌, List, [], ◌∷◌, length, map, Bool, true, false, cond, ◌&&◌, Option}
+use Rattle.std.proofs.Common.{Some, None, Result, Ok, Err, refl, sym, ap, ◌∙◌, arith, ltb}
 use Rattle.std.proofs.lemmas.Bool.{lt-ltb}
 use Rattle.std.specs.Str.{is_utf8}
 use Rattle.shared_core_wire.specs.Grammar.{RecordValue, Length, FieldRecord}
@@ -16,7 +17,8 @@ use Rattle.shared_core_wire.proofs.Runs.{and_split, and_join}
 use Rattle.shared_core_codec.specs.Table.{table}
 use Rattle.shared_core_codec.specs.Payloads.{payload_meaning}
 use Rattle.shared_core_codec.specs.ProgramRows.{field_numbered}
-use Rattle.shared_core_codec.specs.Canonicity.{IsCanonical, Next, Coming, is_written_run, is_written_field, next_field, rows_after_field, rows_after, written_size, coming_after, all_come}
+use Rattle.shared_core_codec.specs.Canonicity.{IsCanonical, Next, Coming, is_written_run, is_written_field, next_field}
+use Rattle.shared_core_codec.specs.Canonicity.{rows_after_field, rows_after, written_size, coming_after, all_come}
 use Rattle.shared_core_codec.proofs.Canonicity.{total_size, rows_may_be_empty}
 use Rattle.shared_core_codec.proofs.CanonicityExact.{value_comes, records_encode, records_encoded, canonical_comes}
 use Rattle.shared_core_codec.proofs.NextFields.{AreLeft, all_left, next_left}
@@ -28,7 +30,8 @@ use Rattle.shared_core_fields.proofs.ByValue.{found_field, record_field, fields_
 
 -- ---- typed values
 
-field_typed : (plain : Bool) (f : Kind × Bool) (w : RecordValue) → is_written_field is_nested plain f w ≡ true → is_typed f w ≡ true
+field_typed : (plain : Bool) (f : Kind × Bool) (w : RecordValue) → is_written_field is_nested plain f w ≡ true →
+    is_typed f w ≡ true
 field_typed plain (k, true) w e = e
 field_typed plain (k, false) w e = (and_split _ _ e).0
 
@@ -36,17 +39,21 @@ text_typed : (repeated : Bool) (bytes : List ℕ) → is_typed (Text, repeated) 
 text_typed true bytes e = e
 text_typed false bytes e = e
 
-typed_as : (k j : Kind) (repeated : Bool) (w : RecordValue) (bytes : List ℕ) → k ≡ j → w ≡ Length bytes → is_typed (k, repeated) w ≡ true → is_typed (j, repeated) (Length bytes) ≡ true
-typed_as k j repeated w bytes e f h = ap (λ (v : RecordValue). is_typed (j, repeated) v) (sym f) ∙ ap (λ (i : Kind). is_typed (i, repeated) w) (sym e) ∙ h
+typed_as : (k j : Kind) (repeated : Bool) (w : RecordValue) (bytes : List ℕ) → k ≡ j → w ≡ Length bytes → is_typed
+    (k, repeated) w ≡ true → is_typed (j, repeated) (Length bytes) ≡ true
+typed_as k j repeated w bytes e f h = ap (λ (v : RecordValue). is_typed (j, repeated) v) (sym f) ∙ ap
+    (λ (i : Kind). is_typed (i, repeated) w) (sym e) ∙ h
 
-pub typed_text : (k : Kind) (repeated : Bool) (w : RecordValue) (bytes : List ℕ) → k ≡ Text → w ≡ Length bytes → is_typed (k, repeated) w ≡ true → is_utf8 bytes ≡ true
+pub typed_text : (k : Kind) (repeated : Bool) (w : RecordValue) (bytes : List ℕ) → k ≡ Text → w ≡ Length bytes →
+    is_typed (k, repeated) w ≡ true → is_utf8 bytes ≡ true
 typed_text k repeated w bytes e f h = text_typed repeated bytes (typed_as k Text repeated w bytes e f h)
 
 run_typed : (repeated : Bool) (run : List ℕ) → is_typed (U32, repeated) (Length run) ≡ true → is_written_run run ≡ true
 run_typed true run e = e
 run_typed false run e = absurd cc
 
-pub typed_run : (k : Kind) (repeated : Bool) (w : RecordValue) (run : List ℕ) → k ≡ U32 → w ≡ Length run → is_typed (k, repeated) w ≡ true → is_written_run run ≡ true
+pub typed_run : (k : Kind) (repeated : Bool) (w : RecordValue) (run : List ℕ) → k ≡ U32 → w ≡ Length run → is_typed
+    (k, repeated) w ≡ true → is_written_run run ≡ true
 typed_run k repeated w run e f h = run_typed repeated run (typed_as k U32 repeated w run e f h)
 
 -- ---- one record
@@ -60,9 +67,11 @@ record Turn (rows left : List Row) (r : FieldRecord) (coming : List Row) : Type 
   typed : is_typed next.field r.value ≡ true
   follow : AreLeft rows next.rows
 
-turn : (rows left : List Row) (room : ℕ) (r : FieldRecord) (next : Coming) → AreLeft rows left → coming_after is_nested (left, room) r ≡ Some next → Turn rows left r next.0
+turn : (rows left : List Row) (room : ℕ) (r : FieldRecord) (next : Coming) → AreLeft rows left → coming_after is_nested
+    (left, room) r ≡ Some next → Turn rows left r next.0
 turn rows left room r next a i =
-    let t = bind_some (rows_after is_nested left r) (λ (z : List Row). cond (ltb room (written_size r)) None (Some (z, room - written_size r))) next i in
+    let t = bind_some (rows_after is_nested left r) (λ (z : List Row). cond (ltb room (written_size r)) None
+    (Some (z, room - written_size r))) next i in
     let u = not_stopped (ltb room (written_size r)) (Some (t.0, room - written_size r)) next t.2 in
     let same : (t.0, room - written_size r) ≡ next = some_is _ next u.1 in
     let q = bind_some (next_field left r.number) (rows_after_field is_nested r.value) t.0 t.1 in
@@ -79,12 +88,15 @@ turn rows left room r next a i =
 
 -- ---- the items
 
-record Comes (rows left : List Row) (items : List (Result PlacedRecord WireError)) (rs : List FieldRecord) : Type 0 where
-  coming : are_coming left items ≡ true
-  fields : item_fields left items ≡ map (record_field rows) rs
+record Comes (rows left : List Row) (items : List (Result PlacedRecord WireError)) (rs : List FieldRecord) : Type 0
+  where
+    coming : are_coming left items ≡ true
+    fields : item_fields left items ≡ map (record_field rows) rs
 
-items_come : (rows left : List Row) (room : ℕ) (payload : List ℕ) (items : List (Result PlacedRecord WireError)) (rs : List FieldRecord) → length payload < 4294967296
-    → AreLeft rows left → all_come is_nested (left, room) rs ≡ true → map without_place items ≡ map Ok rs → EachLies payload items → Comes rows left items rs
+items_come : (rows left : List Row) (room : ℕ) (payload : List ℕ) (items : List (Result PlacedRecord WireError))
+    (rs : List FieldRecord) → length payload < 4294967296
+    → AreLeft rows left → all_come is_nested (left, room) rs ≡ true → map without_place items ≡ map Ok rs → EachLies
+    payload items → Comes rows left items rs
 items_come rows left room payload [] [] z a h e l = record { coming = refl; fields = refl }
 items_come rows left room payload [] (r ∷ rs) z a h e l = absurd cc
 items_come rows left room payload (Ok p ∷ items) [] z a h e l = absurd cc
@@ -94,31 +106,43 @@ items_come rows left room payload (Ok p ∷ items) (r ∷ rs) z a h e l =
     let head : p.field_record ≡ r = cc in
     let tail : map without_place items ≡ map Ok rs = cc in
     by_next (λ rest space b g. items_come rows rest space payload items rs z b g tail l.1) head
-    (coming_after is_nested (left, room) p.field_record) refl (ap (λ (x : FieldRecord). all_come is_nested (left, room) (x ∷ rs)) head ∙ h)
+    (coming_after is_nested (left, room) p.field_record) refl
+    (ap (λ (x : FieldRecord). all_come is_nested (left, room) (x ∷ rs)) head ∙ h)
   where
-    by_next : ((rest : List Row) (space : ℕ) → AreLeft rows rest → all_come is_nested (rest, space) rs ≡ true → Comes rows rest items rs) → p.field_record ≡ r
-        → (o : Option Coming) → coming_after is_nested (left, room) p.field_record ≡ o → (elim o [ None ↦ false | Some next ↦ all_come is_nested next rs ]) ≡ true
+    by_next : ((rest : List Row) (space : ℕ) → AreLeft rows rest → all_come is_nested (rest, space) rs ≡ true → Comes
+        rows rest items rs) → p.field_record ≡ r
+        → (o : Option Coming) → coming_after is_nested (left, room) p.field_record ≡ o →
+        (elim o [ None ↦ false | Some next ↦ all_come is_nested next rs ]) ≡ true
         → Comes rows left (Ok p ∷ items) (r ∷ rs)
     by_next come head None i g = absurd cc
     by_next come head (Some next) i g =
         let t = turn rows left room p.field_record next a i in
-        let later = come t.next.rows next.1 t.follow (ap (λ (z : List Row). all_come is_nested (z, next.1) rs) t.rest ∙ g) in
+        let later = come t.next.rows next.1 t.follow (ap (λ (z : List Row). all_come is_nested (z, next.1) rs) t.rest ∙
+        g) in
         let short : is_short p.field_record.value ≡ true = lt-ltb _ _ (omega (arith, l.0.0, l.0.1, z)) in
         let rest = map (record_field rows) rs in
         record {
           coming =
               ap (λ (o : Option Next). elim o [
                 | None ↦ false
-                | Some n ↦ (is_short p.field_record.value && is_typed n.field p.field_record.value) && are_coming n.rows items
+                | Some n ↦ (is_short p.field_record.value && is_typed n.field p.field_record.value) && are_coming n.rows
+                    items
               ]) t.is
               ∙ and_join _ _ (and_join _ _ short t.typed) later.coming;
           fields =
               ap (λ (o : Option Next). elim o [
                 | None ↦ []
-                | Some n ↦ (p.field_record.number, n.field, record_part n.field p.field_record.value) ∷ item_fields n.rows items
+                | Some n ↦ (p.field_record.number, n.field, record_part n.field p.field_record.value) ∷ item_fields
+                    n.rows items
               ]) t.is
-              ∙ ap (λ (fs : List FieldPart). (p.field_record.number, t.next.field, record_part t.next.field p.field_record.value) ∷ fs) later.fields
-              ∙ ap (λ (o : Option (Kind × Bool)). found_field p.field_record.number p.field_record.value o ∷ rest) (sym t.found)
+              ∙ ap (λ (fs : List FieldPart). (
+                p.field_record.number,
+                t.next.field,
+                record_part t.next.field
+                    p.field_record.value,
+              ) ∷ fs) later.fields
+              ∙ ap (λ (o : Option (Kind × Bool)). found_field p.field_record.number p.field_record.value o ∷ rest)
+              (sym t.found)
               ∙ ap (λ (x : FieldRecord). record_field rows x ∷ rest) head;
         }
 
@@ -136,10 +160,14 @@ reads s bytes c l =
     let same : length bytes ≡ length (canonical_payload table s v) = ap length c.canonical in
     let z : length (canonical_payload table s v) < 2 ^ 64 = omega (arith, same, c.short) in
     let encodes = records_encode 100 s v c.fits c.low z in
-    let items = ap (λ (bs : List ℕ). map without_place (read_records 0 bs)) c.canonical ∙ read_only 0 rs (length (record_list_bytes rs)) (record_list_bytes rs) (records_reads 0 (record_list_bytes rs) rs (records_encoded 0 rs encodes)) in
+    let items = ap (λ (bs : List ℕ). map without_place (read_records 0 bs)) c.canonical ∙ read_only 0 rs
+    (length (record_list_bytes rs)) (record_list_bytes rs)
+    (records_reads 0 (record_list_bytes rs) rs (records_encoded 0 rs encodes)) in
     let short : length bytes < 4294967296 = omega (arith, c.short) in
-    let comes = value_comes is_nested 100 (λ t ps f k y. canonical_comes 100 t ps f (omega arith) y) v (table s) (and_split _ _ (are_schemas s)).1 (rows_may_be_empty s) c.fits c.low encodes in
-    let read = items_come (table s) (table s) (total_size rs) bytes (read_records 0 bytes) rs short (all_left s) comes items l in
+    let comes = value_comes is_nested 100 (λ t ps f k y. canonical_comes 100 t ps f (omega arith) y) v (table s)
+    (and_split _ _ (are_schemas s)).1 (rows_may_be_empty s) c.fits c.low encodes in
+    let read = items_come (table s) (table s) (total_size rs) bytes (read_records 0 bytes) rs short (all_left s) comes
+    items l in
     record {
       coming = read.coming;
       fields = read.fields ∙ fields_by_value (table s) v (table s) (all_left s) c.fits c.low encodes;

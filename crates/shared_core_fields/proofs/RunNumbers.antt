@@ -1,5 +1,6 @@
 -- The numbers of packed runs, one after the other.
-use Rattle.std.proofs.Common.{◌≡◌, ℕ, ◌^◌, ◌<◌, List, [], ◌∷◌, length, Bool, true, false, Option, Some, None, refl, sym, ap, ◌∙◌, arith}
+use Rattle.std.proofs.Common.{◌≡◌, ℕ, ◌^◌, ◌<◌, List, [], ◌∷◌, length, Bool, true, false, Option, Some, None, refl, sym}
+use Rattle.std.proofs.Common.{ap, ◌∙◌, arith}
 use Rattle.std.specs.Prelude.{is_some}
 use Rattle.shared_core_wire.specs.Grammar.{IsVarint, IsSequence}
 use Rattle.shared_core_wire.specs.Reader.{◌>>=◌, varint_at, sequence_past, packed_numbers}
@@ -49,7 +50,8 @@ same_first run x e =
     let f = reader_low.reads run x e in
     ap varint_at f.parts ∙ reader_varint.again f.text x.1 x.0 f.is.is
 
-pub number_first : (run : List ℕ) → 0 < length run → is_some (sequence_past low_varint_at 0 run) ≡ true → varint_at run ≡ None → ⊥
+pub number_first : (run : List ℕ) → 0 < length run → is_some (sequence_past low_varint_at 0 run) ≡ true → varint_at run
+    ≡ None → ⊥
 number_first run l h e =
     let x = low_first run l h in
     none_some x.0 (sym e ∙ same_first run x.0 x.1)
@@ -59,7 +61,8 @@ pub record NumberTurn (run rest : List ℕ) (n : ℕ) : Type 0 where
   pub more : is_some (sequence_past low_varint_at 0 rest) ≡ true
   pub numbers : run_numbers run ≡ n ∷ run_numbers rest
 
-pub number_turn : (run : List ℕ) (n : ℕ) (rest : List ℕ) → 0 < length run → is_some (sequence_past low_varint_at 0 run) ≡ true → varint_at run ≡ Some (n, rest) → NumberTurn run rest n
+pub number_turn : (run : List ℕ) (n : ℕ) (rest : List ℕ) → 0 < length run → is_some (sequence_past low_varint_at 0 run)
+    ≡ true → varint_at run ≡ Some (n, rest) → NumberTurn run rest n
 unfolding packed_numbers
 number_turn run n rest l h e =
     let x = low_first run l h in
@@ -68,9 +71,11 @@ number_turn run n rest l h e =
     let f = reader_low.reads run (n, rest) first in
     let more : is_some (sequence_past low_varint_at 0 rest) ≡ true = sym (low_turn run n rest first).same ∙ h in
     let others = low_packed rest more in
-    let whole : packed_numbers run ≡ (packed_numbers rest >>= λ ns. Some (n ∷ ns)) = all_more varint_at run f.text rest n e f.parts (varint_pos f.text n f.is.is) in
+    let whole : packed_numbers run ≡ (packed_numbers rest >>= λ ns. Some (n ∷ ns)) = all_more varint_at run f.text rest
+    n e f.parts (varint_pos f.text n f.is.is) in
     record {
       low = f.is.low;
       more = more;
-      numbers = ap numbers_or_none (whole ∙ ap (λ o. o >>= λ ns. Some (n ∷ ns)) others.1) ∙ ap (λ o. n ∷ numbers_or_none o) (sym others.1);
+      numbers = ap numbers_or_none (whole ∙ ap (λ o. o >>= λ ns. Some (n ∷ ns)) others.1) ∙ ap
+          (λ o. n ∷ numbers_or_none o) (sym others.1);
     }

@@ -41,13 +41,15 @@ trouble_at trouble at item = option_map (λ what. (at, what)) (trouble item)
 -- The first trouble of items, the first of which begins at an offset.
 abbrev pub first_trouble : (Item → Option Trouble) → ℕ → List Item → Option (ℕ × Trouble)
 first_trouble trouble at [] = None
-first_trouble trouble at (item ∷ items) = option_or (trouble_at trouble at item) (first_trouble trouble (at + item_size item) items)
+first_trouble trouble at (item ∷ items) = option_or (trouble_at trouble at item)
+    (first_trouble trouble (at + item_size item) items)
 
 -- The report on a stream of these items and these remaining bytes.
-pub record IsReport (trouble : Item → Option Trouble) (items : List Item) (rest : List ℕ) (report : Report) : Type 0 where
-  pub first : report.trouble ≡ first_trouble trouble 0 items
-  pub end : report.end ≡ items_size items
-  pub count : report.rest ≡ length rest
+pub record IsReport (trouble : Item → Option Trouble) (items : List Item) (rest : List ℕ) (report : Report) : Type 0
+  where
+    pub first : report.trouble ≡ first_trouble trouble 0 items
+    pub end : report.end ≡ items_size items
+    pub count : report.rest ≡ length rest
 
 -- The most bytes that can be pending without a whole item: a header, and all but one byte of its payload.
 abbrev pub most_pending : ℕ
@@ -59,7 +61,8 @@ Begins front whole = (more : List _) × (whole ≡ front ++ more)
 
 -- One of the items that the bytes begin with is too long for a line.
 abbrev pub IsLongIn : (Item → Type 0) → Version → List ℕ → Type 0
-IsLongIn is_long version bytes = (front : List Item) × (item : Item) × (rest : List ℕ) × IsItemsThen version bytes (front ++ item ∷ []) rest × is_long item
+IsLongIn is_long version bytes = (front : List Item) × (item : Item) × (rest : List ℕ) × IsItemsThen version bytes
+    (front ++ item ∷ []) rest × is_long item
 
 -- The error is that a line cannot be made: a failed allocation, or an item that is too long.
 abbrev pub IsLack : Type 0 → PrintError → Type 0
@@ -70,7 +73,8 @@ IsLack is_long error = ⊥
 -- What is written for each result, for a stream of these items and these remaining bytes, and what the reader has left:
 -- all lines and the report, at the input's end; the lines of all items; a prefix of these or, at the input's end, of
 -- all lines; the lines of the first items; or those of the items before one that is too long.
-abbrev pub IsWrittenFor : (ℕ → ℕ → Item → List ℕ) → (ℕ → List ℕ → List ℕ) → (Item → Type 0) → (Item → Option Trouble) → Result Report PrintError → List ℕ → List Item → List ℕ → List ℕ → Option (List ℕ) → Type 0
+abbrev pub IsWrittenFor : (ℕ → ℕ → Item → List ℕ) → (ℕ → List ℕ → List ℕ) → (Item → Type 0) → (Item → Option Trouble) →
+    Result Report PrintError → List ℕ → List Item → List ℕ → List ℕ → Option (List ℕ) → Type 0
 IsWrittenFor line last is_long trouble (Ok report) stream items rest written left =
     IsAtEnd left × (written ≡ all_lines line last stream items rest) × IsReport trouble items rest report
 IsWrittenFor line last is_long trouble (Err Input) stream items rest written left = written ≡ lines line 0 stream items
@@ -79,11 +83,14 @@ IsWrittenFor line last is_long trouble (Err Output) stream items rest written le
 IsWrittenFor line last is_long trouble (Err OutOfMemory) stream items rest written left =
     (done : List Item) × Begins done items × (written ≡ lines line 0 stream done)
 IsWrittenFor line last is_long trouble (Err TooLong) stream items rest written left =
-    (done : List Item) × (front : List Item) × (item : Item) × Begins (done ++ (front ++ item ∷ [])) items × is_long item × (written ≡ lines line 0 stream done)
+    (done : List Item) × (front : List Item) × (item : Item) × Begins (done ++ (front ++ item ∷ [])) items × is_long
+    item × (written ≡ lines line 0 stream done)
 
 -- The bytes that were read split into these items and these remaining bytes, as every stream does in one way, and what
 -- is written is as the result says.
-pub record ArePrinted (line : ℕ → ℕ → Item → List ℕ) (last : ℕ → List ℕ → List ℕ) (is_long : Item → Type 0) (trouble : Item → Option Trouble) (version : Version) (result : Result Report PrintError) (read written : List ℕ) (left : Option (List ℕ)) : Type 0 where
+pub record ArePrinted (line : ℕ → ℕ → Item → List ℕ) (last : ℕ → List ℕ → List ℕ) (is_long : Item → Type 0)
+    (trouble : Item → Option Trouble) (version : Version) (result : Result Report PrintError) (read written : List ℕ)
+    (left : Option (List ℕ)) : Type 0 where
   pub items : List Item
   pub rest : List ℕ
   pub split : SplitsInto version read items rest

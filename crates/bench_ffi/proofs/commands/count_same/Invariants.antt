@@ -8,4 +8,5 @@ invariant-loop-round g l =
     (AreSame g.M.WireRecord.schema l.ignore_payloads (g.M.WireRecord.parts l.current) (g.M.WireRecord.parts l.other)
     ↔ AreSame g.M.WireRecord.schema l.ignore_payloads (g.M.WireRecord.parts l.first) (g.M.WireRecord.parts l.second))
     × (l.count ≤ l._round)
-    × HoldsInRounds (AreSame g.M.WireRecord.schema l.ignore_payloads (g.M.WireRecord.parts l.first) (g.M.WireRecord.parts l.second)) l._round l.count
+    × HoldsInRounds (AreSame g.M.WireRecord.schema l.ignore_payloads (g.M.WireRecord.parts l.first)
+    (g.M.WireRecord.parts l.second)) l._round l.count

@@ -10,8 +10,14 @@ returns-then-count-words c =
     let (version, items, front, counted, fits, written) = c.loop-item.invariant in
     let step = rw c.in-Some.is at c.next.ensures.steps in
     let item = item_borrowed c.in-Some.item in
-    let taken = subst (λ v. TakesItem v c.loop-item.items.rest.now item c.next.new.self.rest.now) version step.1.taken in
-    (items ++ item ∷ [], _, then_takes c.args.version _ _ _ items item front taken, omega (arith, length_more items item, counted, c.if-count-words.true))
+    let taken = subst (λ v. TakesItem v c.loop-item.items.rest.now item c.next.new.self.rest.now) version step.1.taken
+    in (
+      items ++ item ∷ [],
+      _,
+      then_takes c.args.version _ _ _ items item front taken,
+      omega
+          (arith, length_more items item, counted, c.if-count-words.true),
+    )
 
 pub word_of-requires : goal.word_of-requires
 word_of-requires c =
@@ -23,7 +29,8 @@ loop-item-preserved c =
     let (version, items, front, counted, fits, written) = c.loop-item.invariant in
     let step = rw c.in-Some.is at c.next.ensures.steps in
     let item = item_borrowed c.in-Some.item in
-    let taken = subst (λ v. TakesItem v c.loop-item.items.rest.now item c.next.new.self.rest.now) version step.1.taken in
+    let taken = subst (λ v. TakesItem v c.loop-item.items.rest.now item c.next.new.self.rest.now) version step.1.taken
+    in
     let room : c.loop-item.count < length c.loop-item.words = omega (arith, fits, c.if-count-words.false) in (
       step.0 ∙ version,
       items ++ item ∷ [],

@@ -13,7 +13,8 @@ returns-in_err-count c =
     let step = rw c.in-Some.is at c.in_ok-item.ensures in
     let taken = taken_of_all c.args.version _ _ c.in-Some.item version step in
     let from = err_from_is_err_and c.from_residual-in_err-count.result c.from_residual-in_err-count.ensures.1 in
-    rw (from.1, from.2) (item_rejected c.args.version _ _ _ items c.in-Some.item c.in_err-count.field-0.0 front taken c.in_err-count.ensures)
+    rw (from.1, from.2) (item_rejected c.args.version _ _ _ items c.in-Some.item c.in_err-count.field-0.0 front taken
+    c.in_err-count.ensures)
 
 pub loop-chunked-preserved : goal.loop-chunked-preserved
 loop-chunked-preserved c =
@@ -23,7 +24,13 @@ loop-chunked-preserved c =
     let item = c.in-Some.item in
     let (decodes, count) = item_decoded item c.in_ok-count.field-0 c.in_ok-count.ensures in (
       same_version _ _ item step ∙ version,
-      omega (arith, room, item_is_long c.args.version _ _ item taken, item_counts item c.in_ok-count.field-0 c.in_ok-count.ensures),
+      omega (
+        arith,
+        room,
+        item_is_long c.args.version _ _ item taken,
+        item_counts item c.in_ok-count.field-0
+            c.in_ok-count.ensures,
+      ),
       items ++ item ∷ [],
       then_takes c.args.version _ _ _ items item front taken,
       omega (arith, counted, count, count_more message_schema items item),
@@ -31,10 +38,12 @@ loop-chunked-preserved c =
     )
 
 pub loop-chunked-smaller : goal.loop-chunked-smaller
-loop-chunked-smaller c = one_taken c.args.version _ _ c.in-Some.item c.loop-chunked.invariant.0 (rw c.in-Some.is at c.in_ok-item.ensures)
+loop-chunked-smaller c = one_taken c.args.version _ _ c.in-Some.item c.loop-chunked.invariant.0
+    (rw c.in-Some.is at c.in_ok-item.ensures)
 
 pub returns : goal.returns
 returns c =
     let (version, room, items, front, counted, all) = c.loop-chunked.invariant in
-    let none = none_of_all c.args.version c.loop-chunked.chunked _ version (rw c.in_default.is at c.in_ok-item.ensures) in
+    let none = none_of_all c.args.version c.loop-chunked.chunked _ version (rw c.in_default.is at c.in_ok-item.ensures)
+    in
     (items, untaken c.loop-chunked.chunked, record { items_then = front; no_more = none }, counted, all)

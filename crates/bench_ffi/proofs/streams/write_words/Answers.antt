@@ -9,8 +9,13 @@ pub returns-then-count-words : goal.returns-then-count-words
 returns-then-count-words c =
     let (version, items, front, counted, fits, written) = c.loop-chunked.invariant in
     let step = rw c.in-Some.is at c.in_ok-item.ensures in
-    let taken = taken_of_all c.args.version _ _ c.in-Some.item version step in
-    (items ++ c.in-Some.item ∷ [], _, then_takes c.args.version _ _ _ items _ front taken, omega (arith, length_more items c.in-Some.item, counted, c.if-count-words.true))
+    let taken = taken_of_all c.args.version _ _ c.in-Some.item version step in (
+      items ++ c.in-Some.item ∷ [],
+      _,
+      then_takes c.args.version _ _ _ items _ front taken,
+      omega
+          (arith, length_more items c.in-Some.item, counted, c.if-count-words.true),
+    )
 
 pub word_of-requires : goal.word_of-requires
 word_of-requires c =
@@ -34,10 +39,12 @@ loop-chunked-preserved c =
     )
 
 pub loop-chunked-smaller : goal.loop-chunked-smaller
-loop-chunked-smaller c = one_taken c.args.version _ _ c.in-Some.item c.loop-chunked.invariant.0 (rw c.in-Some.is at c.in_ok-item.ensures)
+loop-chunked-smaller c = one_taken c.args.version _ _ c.in-Some.item c.loop-chunked.invariant.0
+    (rw c.in-Some.is at c.in_ok-item.ensures)
 
 pub returns : goal.returns
 returns c =
     let (version, items, front, counted, fits, written) = c.loop-chunked.invariant in
-    let none = none_of_all c.args.version c.loop-chunked.chunked _ version (rw c.in_default.is at c.in_ok-item.ensures) in
+    let none = none_of_all c.args.version c.loop-chunked.chunked _ version (rw c.in_default.is at c.in_ok-item.ensures)
+    in
     (items, untaken c.loop-chunked.chunked, record { items_then = front; no_more = none }, counted, written)

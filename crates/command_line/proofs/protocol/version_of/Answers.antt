@@ -14,11 +14,17 @@ short version = elim version as (λ version. version_number version < 10) [ V1 �
 pub returns-in_err-ok-clause-named : goal.returns-in_err-ok-clause-named
 returns-in_err-ok-clause-named c version high is =
     let small = short version in
-    let parsed = parse-decimal 32 (version_number version) _ c.parse.result (omega arith) (omega arith) is (search rules) in
+    let parsed = parse-decimal 32 (version_number version) _ c.parse.result (omega arith) (omega arith) is
+    (search rules) in
     absurd (none-some (version_number version) (sym (rw parsed at (sym c.ok.ensures.value ∙ c.in_err-ok.was))))
 
 pub returns-clause-named : goal.returns-clause-named
 returns-clause-named c version high is =
     let small = short version in
-    let parsed = parse-decimal 32 (version_number version) _ c.parse.result (omega arith) (omega arith) is (search rules) in
-    (c.from_number.ensures.exact version).1 (ap (λ (o : Option ℕ). unwrap_or o 0) (rw parsed at (sym c.in_ok-ok.was ∙ c.ok.ensures.value)), high)
+    let parsed = parse-decimal 32 (version_number version) _ c.parse.result (omega arith) (omega arith) is
+    (search rules) in
+    (c.from_number.ensures.exact version).1 (
+      ap (λ (o : Option ℕ). unwrap_or o 0)
+          (rw parsed at (sym c.in_ok-ok.was ∙ c.ok.ensures.value)),
+      high,
+    )

@@ -4,4 +4,5 @@ use Rattle.command_line.specs.TerminalText.{written_char}
 use Rattle.command_line.proofs.terminal_text.push_escaped.Given as goal
 
 abbrev pub invariant-loop-c : goal.invariant-loop-c
-invariant-loop-c l = string_bytes l.escaped ≡ string_bytes l.fn.escaped ++ flat_map (written_char l.fn.escapes) l.yielded
+invariant-loop-c l = string_bytes l.escaped ≡ string_bytes l.fn.escaped ++ flat_map (written_char l.fn.escapes)
+    l.yielded

@@ -5,5 +5,6 @@ use Rattle.journal_c_api.proofs.items.write_item.Goals as goal
 
 pub returns-in-Ok : goal.returns-in-Ok
 returns-in-Ok c =
-    item_found c.args.version c.args.bytes.now c.in-Ok.found c.in-Ok.field-0-1.now c.in-Ok.ensures.item c.args.item.now c.write_over.new.out
+    item_found c.args.version c.args.bytes.now c.in-Ok.found c.in-Ok.field-0-1.now c.in-Ok.ensures.item c.args.item.now
+    c.write_over.new.out
     (c.write_over.ensures ∙ ap (λ l. written_over l c.args.item.now) c.numbers_of.ensures)

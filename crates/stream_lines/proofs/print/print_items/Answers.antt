@@ -37,6 +37,8 @@ pub returns-in_err-print_item-clause-lack : goal.returns-in_err-print_item-claus
 returns-in_err-print_item-clause-lack g c =
     let (version, short, place, items, front, printed, noted) = c.loop-word.invariant in
     let (word, taken) = rw (c.in-Some.is, version) at c.in_ok-word.ensures.taken in
-    let from = err_from_is_err_and c.from_residual-in_err-print_item.result c.from_residual-in_err-print_item.ensures.1 in
+    let from = err_from_is_err_and c.from_residual-in_err-print_item.result c.from_residual-in_err-print_item.ensures.1
+    in
     let until = then_takes c.args.decoder.now.version _ _ _ items _ front taken in
-    rw (from.1, from.2) (lack_in (g.P.LinePrinter.is_long c.args.printer.now) c.args.decoder.now.version c.args.decoder.now.bytes _ items _ _ until c.in_err-print_item.ensures.lack)
+    rw (from.1, from.2) (lack_in (g.P.LinePrinter.is_long c.args.printer.now) c.args.decoder.now.version
+    c.args.decoder.now.bytes _ items _ _ until c.in_err-print_item.ensures.lack)

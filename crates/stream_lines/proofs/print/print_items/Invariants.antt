@@ -11,8 +11,10 @@ invariant-loop-word g l =
     × (length l.decoder.bytes ≤ l.total)
     × (l.offset ≡ l.total - length l.decoder.bytes)
     × (items : List Item) × IsItemsThen l.fn.decoder.version l.fn.decoder.bytes items l.decoder.bytes
-    × (l.text.items ≡ lines (g.P.LinePrinter.item_line l.printer) (l.total - length l.fn.decoder.bytes) l.fn.decoder.bytes items)
-    × (l.trouble ≡ option_or l.fn.trouble (first_trouble (g.P.LinePrinter.item_trouble l.printer) (l.total - length l.fn.decoder.bytes) items))
+    × (l.text.items ≡ lines (g.P.LinePrinter.item_line l.printer) (l.total - length l.fn.decoder.bytes)
+    l.fn.decoder.bytes items)
+    × (l.trouble ≡ option_or l.fn.trouble (first_trouble (g.P.LinePrinter.item_trouble l.printer)
+    (l.total - length l.fn.decoder.bytes) items))
 
 abbrev pub decreases-loop-word : goal.decreases-loop-word
 decreases-loop-word g l = length l.decoder.bytes

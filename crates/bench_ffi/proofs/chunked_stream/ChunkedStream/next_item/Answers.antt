@@ -9,7 +9,14 @@ invariant_of-self-in-Some c =
     let (version, chunk_size, positive, short, chunks, needed, arrived, left) = c.loop-item.invariant in
     let taken = rw c.in-Some.is at c.in_ok-item.ensures.taken in
     let unpushed = c.loop-item.self-inside.unpushed in (
-      omega (arith, short, item_is_long _ _ _ c.in-Some.item taken, length-append c.loop-item.self-inside.decoder.bytes unpushed, length-append c.next_item.new.self.bytes unpushed),
+      omega (
+        arith,
+        short,
+        item_is_long _ _ _ c.in-Some.item taken,
+        length-append c.loop-item.self-inside.decoder.bytes
+            unpushed,
+        length-append c.next_item.new.self.bytes unpushed,
+      ),
       positive,
     )
 
@@ -17,7 +24,8 @@ pub returns-then-is_empty : goal.returns-then-is_empty
 returns-then-is_empty c =
     let (version, chunk_size, positive, short, chunks, needed, arrived, left) = c.loop-item.invariant in
     let none = rw (c.in_default.is, version) at c.in_ok-item.ensures.taken in
-    let nothing = nil_from_length c.loop-item.self-inside.unpushed (eqb-true _ _ (sym c.is_empty.ensures ∙ c.if-is_empty.true)) in
+    let nothing = nil_from_length c.loop-item.self-inside.unpushed
+    (eqb-true _ _ (sym c.is_empty.ensures ∙ c.if-is_empty.true)) in
     let same = none.1 in (
       rw (sym same) at none.0,
       same_stream

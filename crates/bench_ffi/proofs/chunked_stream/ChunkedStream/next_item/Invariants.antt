@@ -4,7 +4,8 @@ use Rattle.bench_ffi.proofs.chunked_stream.ChunkedStream.next_item.Given as goal
 
 abbrev pub invariant-loop-item : goal.invariant-loop-item
 invariant-loop-item l =
-    (l.self-inside.decoder.version ≡ l.fn.self.version) × (l.self-inside.chunk_size ≡ l.fn.self.chunk_size) × (0 < l.self-inside.chunk_size)
+    (l.self-inside.decoder.version ≡ l.fn.self.version) × (l.self-inside.chunk_size ≡ l.fn.self.chunk_size) ×
+    (0 < l.self-inside.chunk_size)
     × (length (l.self-inside.decoder.bytes ++ l.self-inside.unpushed) < 2 ^ 64)
     × (chunks : ℕ) × AreNeeded l.fn.self chunks × (l.self-inside.decoder.bytes ≡ arrived_after l.fn.self chunks)
     × (l.self-inside.unpushed ≡ drop (chunks * l.fn.self.chunk_size) l.fn.self.awaited)

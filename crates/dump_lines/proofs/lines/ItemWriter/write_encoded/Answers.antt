@@ -16,22 +16,37 @@ pub returns-in_ok-write_encoding-in-Ok-Some-clause-tokens : goal.returns-in_ok-w
 returns-in_ok-write_encoding-in-Ok-Some-clause-tokens g c =
     let s = c.in-Ok-Some.schema in
     let payload = c.args.payload.now in
-    let found : ReturnsEncoding (schema_at c.args.self.now.options.now.version c.args.ty) payload c.canonical_of.new.canonical.items (Ok (Some s)) = search rules in
-    let written : WritesJson c.args.self.now.options.now.texts s c.as_slice-canonical.result.now c.key.new.self.tokens c.write_encoding.new.out.tokens = search rules in
+    let found : ReturnsEncoding (schema_at c.args.self.now.options.now.version c.args.ty) payload
+    c.canonical_of.new.canonical.items (Ok (Some s)) = search rules in
+    let written : WritesJson c.args.self.now.options.now.texts s c.as_slice-canonical.result.now c.key.new.self.tokens
+    c.write_encoding.new.out.tokens = search rules in
     let name : c.key.new.self.tokens ≡ c.args.out.now.tokens ++ (key (codes "message") ∷ []) = search rules in
-    let encoding : IsEncoding s (payload_meaning s payload) c.as_slice-canonical.result.now = rw c.as_slice-canonical.ensures.value found.2 in
+    let encoding : IsEncoding s (payload_meaning s payload) c.as_slice-canonical.result.now = rw
+    c.as_slice-canonical.ensures.value found.2 in
     let json = json_tokens (json_with c.args.self.now.options.now.texts s (payload_meaning s payload)) in
-    then_tokens c.key.new.self.tokens c.write_encoding.new.out.tokens json (end_object ∷ []) (written (payload_meaning s payload) encoding)
-    ∙ then_tokens c.args.out.now.tokens c.key.new.self.tokens (key (codes "message") ∷ []) (json ++ (end_object ∷ [])) name
-    ∙ ap (λ (ms : Members). c.args.out.now.tokens ++ members_tokens ms) (sym (shown_message c.args.self.now.options.now.texts (schema_at c.args.self.now.options.now.version c.args.ty) s payload found.0 found.1))
+    then_tokens c.key.new.self.tokens c.write_encoding.new.out.tokens json (end_object ∷ [])
+    (written (payload_meaning s payload) encoding)
+    ∙ then_tokens c.args.out.now.tokens c.key.new.self.tokens (key (codes "message") ∷ []) (json ++ (end_object ∷ []))
+    name
+    ∙ ap (λ (ms : Members). c.args.out.now.tokens ++ members_tokens ms)
+    (sym (shown_message c.args.self.now.options.now.texts (schema_at c.args.self.now.options.now.version c.args.ty)
+    s payload found.0 found.1))
 
-pub returns-in_ok-write_bytes-in-Err-Malformed-clause-tokens : goal.returns-in_ok-write_bytes-in-Err-Malformed-clause-tokens
+pub returns-in_ok-write_bytes-in-Err-Malformed-clause-tokens :
+    goal.returns-in_ok-write_bytes-in-Err-Malformed-clause-tokens
 returns-in_ok-write_bytes-in-Err-Malformed-clause-tokens g c =
     let payload = c.args.payload.now in
-    let found : ReturnsEncoding (schema_at c.args.self.now.options.now.version c.args.ty) payload c.canonical_of.new.canonical.items (Err Malformed) = search rules in
+    let found : ReturnsEncoding (schema_at c.args.self.now.options.now.version c.args.ty) payload
+    c.canonical_of.new.canonical.items (Err Malformed) = search rules in
     let shown = c.deref-in-Err-Malformed.result.now in
-    let front = λ (bytes : List ℕ). key (codes "bytes") ∷ json_tokens (byte_string_json c.args.self.now.options.now.texts bytes) in
-    then_tokens c.write_flag.new.out.tokens c.write_bytes-in-Err-Malformed.new.out.tokens (front shown) (end_object ∷ []) c.in_ok-write_bytes-in-Err-Malformed.ensures.tokens
-    ∙ then_tokens c.args.out.now.tokens c.write_flag.new.out.tokens (key (codes "malformed") ∷ boolean true ∷ []) (front shown ++ (end_object ∷ [])) c.in_ok-write_flag-in-Err-Malformed.ensures.tokens
-    ∙ ap (λ (bytes : List ℕ). c.args.out.now.tokens ++ (key (codes "malformed") ∷ boolean true ∷ (front bytes ++ (end_object ∷ [])))) c.deref-in-Err-Malformed.ensures
-    ∙ ap (λ (ms : Members). c.args.out.now.tokens ++ members_tokens ms) (sym (shown_malformed c.args.self.now.options.now.texts (schema_at c.args.self.now.options.now.version c.args.ty) found.0 payload found.1 found.2))
+    let front = λ (bytes : List ℕ). key (codes "bytes") ∷ json_tokens
+    (byte_string_json c.args.self.now.options.now.texts bytes) in
+    then_tokens c.write_flag.new.out.tokens c.write_bytes-in-Err-Malformed.new.out.tokens (front shown)
+    (end_object ∷ []) c.in_ok-write_bytes-in-Err-Malformed.ensures.tokens
+    ∙ then_tokens c.args.out.now.tokens c.write_flag.new.out.tokens (key (codes "malformed") ∷ boolean true ∷ [])
+    (front shown ++ (end_object ∷ [])) c.in_ok-write_flag-in-Err-Malformed.ensures.tokens
+    ∙ ap (λ (bytes : List ℕ). c.args.out.now.tokens ++ (key (codes "malformed") ∷ boolean true ∷
+    (front bytes ++ (end_object ∷ [])))) c.deref-in-Err-Malformed.ensures
+    ∙ ap (λ (ms : Members). c.args.out.now.tokens ++ members_tokens ms)
+    (sym (shown_malformed c.args.self.now.options.now.texts
+    (schema_at c.args.self.now.options.now.version c.args.ty) found.0 payload found.1 found.2))

@@ -14,22 +14,36 @@ use Rattle.dump_lines.proofs.lines.ItemWriter.write_message_members.Goals as goa
 pub returns-then-self-clause-tokens : goal.returns-then-self-clause-tokens
 returns-then-self-clause-tokens g c =
     let message = c.args.message.now in
-    let ty : c.write_type.new.out.tokens ≡ c.args.out.now.tokens ++ (key (codes "type") ∷ string (debug_name_of message.header.ty) ∷ []) = search rules in
-    let code : c.write_number.new.out.tokens ≡ c.write_type.new.out.tokens ++ (key (codes "code") ∷ number (decimal (code_of message.header.ty)) ∷ []) = search rules in
-    let len : c.write_number-2.new.out.tokens ≡ c.write_number.new.out.tokens ++ (key (codes "length") ∷ number (decimal (length message.payload)) ∷ []) = search rules in
-    let ack : c.write_ack.new.out.tokens ≡ c.write_number-2.new.out.tokens ++ ack_tokens message.header.requested_ack = search rules in
-    let head : c.write_header.new.out.tokens ≡ c.write_ack.new.out.tokens ++ header_tokens c.args.word (word_of message.header) = search rules in
-    let members = payload_members c.args.self.now.options.now.texts (schema_at c.args.self.now.options.now.version message.header.ty) message.payload in
+    let ty : c.write_type.new.out.tokens ≡ c.args.out.now.tokens ++
+    (key (codes "type") ∷ string (debug_name_of message.header.ty) ∷ []) = search rules in
+    let code : c.write_number.new.out.tokens ≡ c.write_type.new.out.tokens ++
+    (key (codes "code") ∷ number (decimal (code_of message.header.ty)) ∷ []) = search rules in
+    let len : c.write_number-2.new.out.tokens ≡ c.write_number.new.out.tokens ++
+    (key (codes "length") ∷ number (decimal (length message.payload)) ∷ []) = search rules in
+    let ack : c.write_ack.new.out.tokens ≡ c.write_number-2.new.out.tokens ++ ack_tokens message.header.requested_ack =
+    search rules in
+    let head : c.write_header.new.out.tokens ≡ c.write_ack.new.out.tokens ++ header_tokens c.args.word
+    (word_of message.header) = search rules in
+    let members = payload_members c.args.self.now.options.now.texts
+    (schema_at c.args.self.now.options.now.version message.header.ty) message.payload in
     rw c.if-self.true (if_both c.write_payload.result
-    (λ w e f t. let last : c.write_payload.new.out.tokens ++ (end_object ∷ []) ≡ c.write_header.new.out.tokens ++ members_tokens members = search (rules, f t) in last ∙ head_with_header c.args.out.now.tokens _ _ _ _ _ _ _ _ message.header.requested_ack c.args.word (word_of message.header) members ty code len ack head)
+    (λ w e f t. let last : c.write_payload.new.out.tokens ++ (end_object ∷ []) ≡ c.write_header.new.out.tokens ++
+    members_tokens members = search (rules, f t) in last ∙ head_with_header c.args.out.now.tokens _ _ _ _ _ _ _ _
+    message.header.requested_ack c.args.word (word_of message.header) members ty code len ack head)
     c.write_payload.ensures.tokens c.write_payload.ensures.tokens)
 
 pub returns-clause-tokens : goal.returns-clause-tokens
 returns-clause-tokens g c =
     let message = c.args.message.now in
-    let ty : c.write_type.new.out.tokens ≡ c.args.out.now.tokens ++ (key (codes "type") ∷ string (debug_name_of message.header.ty) ∷ []) = search rules in
-    let code : c.write_number.new.out.tokens ≡ c.write_type.new.out.tokens ++ (key (codes "code") ∷ number (decimal (code_of message.header.ty)) ∷ []) = search rules in
-    let len : c.write_number-2.new.out.tokens ≡ c.write_number.new.out.tokens ++ (key (codes "length") ∷ number (decimal (length message.payload)) ∷ []) = search rules in
-    let ack : c.write_ack.new.out.tokens ≡ c.write_number-2.new.out.tokens ++ ack_tokens message.header.requested_ack = search rules in
-    let head : c.write_header.new.out.tokens ≡ c.write_ack.new.out.tokens ++ header_tokens c.args.word (word_of message.header) = search rules in
-    rw c.if-self.false (λ e. head_with_header c.args.out.now.tokens _ _ _ _ _ _ _ _ message.header.requested_ack c.args.word (word_of message.header) no_members ty code len ack head)
+    let ty : c.write_type.new.out.tokens ≡ c.args.out.now.tokens ++
+    (key (codes "type") ∷ string (debug_name_of message.header.ty) ∷ []) = search rules in
+    let code : c.write_number.new.out.tokens ≡ c.write_type.new.out.tokens ++
+    (key (codes "code") ∷ number (decimal (code_of message.header.ty)) ∷ []) = search rules in
+    let len : c.write_number-2.new.out.tokens ≡ c.write_number.new.out.tokens ++
+    (key (codes "length") ∷ number (decimal (length message.payload)) ∷ []) = search rules in
+    let ack : c.write_ack.new.out.tokens ≡ c.write_number-2.new.out.tokens ++ ack_tokens message.header.requested_ack =
+    search rules in
+    let head : c.write_header.new.out.tokens ≡ c.write_ack.new.out.tokens ++ header_tokens c.args.word
+    (word_of message.header) = search rules in
+    rw c.if-self.false (λ e. head_with_header c.args.out.now.tokens _ _ _ _ _ _ _ _ message.header.requested_ack
+    c.args.word (word_of message.header) no_members ty code len ack head)

@@ -20,9 +20,12 @@ returns-then-branch-clause-tokens g c = λ _.
     let found : schema_at c.args.self.now.options.now.version c.args.ty ≡ Some s = search rules in
     let canonical : IsCanonical s c.as_slice.result.now = c.in_ok-write_if_canonical.ensures.canonical.0 e in
     let accepted = subst (IsAccepted s) same canonical.accepted in
-    let written = subst (λ (bytes : List ℕ). c.write_if_canonical.new.out.tokens ≡ c.key.new.self.tokens ++ json_tokens (json_with texts s (payload_meaning s bytes))) same (c.in_ok-write_if_canonical.ensures.tokens e) in
+    let written = subst (λ (bytes : List ℕ). c.write_if_canonical.new.out.tokens ≡ c.key.new.self.tokens ++ json_tokens
+    (json_with texts s (payload_meaning s bytes))) same (c.in_ok-write_if_canonical.ensures.tokens e) in
     let name : c.key.new.self.tokens ≡ c.args.out.now.tokens ++ (key (codes "message") ∷ []) = search rules in
     let json = json_tokens (json_with texts s (payload_meaning s payload)) in
     then_tokens c.key.new.self.tokens c.write_if_canonical.new.out.tokens json (end_object ∷ []) written
-    ∙ then_tokens c.args.out.now.tokens c.key.new.self.tokens (key (codes "message") ∷ []) (json ++ (end_object ∷ [])) name
-    ∙ ap (λ (ms : Members). c.args.out.now.tokens ++ members_tokens ms) (sym (shown_message texts (schema_at c.args.self.now.options.now.version c.args.ty) s payload found accepted))
+    ∙ then_tokens c.args.out.now.tokens c.key.new.self.tokens (key (codes "message") ∷ []) (json ++ (end_object ∷ []))
+    name
+    ∙ ap (λ (ms : Members). c.args.out.now.tokens ++ members_tokens ms)
+    (sym (shown_message texts (schema_at c.args.self.now.options.now.version c.args.ty) s payload found accepted))

@@ -23,8 +23,13 @@ returns-clause-steps c =
     let left = records_left c.next.new.self in
     let found = found_view c.in-Some-next_field.next.field in
     let rest = item_fields (rows_view c.in-Some-next_field.next.rows) left in
-    ap (item_fields (rows_view c.args.self.now.rows)) (c.in-Some.ensures.steps ∙ ap (λ x. placed_result x ∷ left) c.in-Ok.is)
-    ∙ ap (λ (o : Option Next). elim o [ None ↦ [] | Some next ↦ (n, next.field, record_part next.field w) ∷ item_fields next.rows left ]) (sym c.in-Some-next_field.ensures)
+    ap (item_fields (rows_view c.args.self.now.rows)) (c.in-Some.ensures.steps ∙ ap (λ x. placed_result x ∷ left)
+    c.in-Ok.is)
+    ∙ ap (λ (o : Option Next). elim o [
+      | None ↦ []
+      | Some next ↦ (n, next.field, record_part next.field w) ∷ item_fields
+          next.rows left
+    ]) (sym c.in-Some-next_field.ensures)
     ∙ ap (λ (p : Part). (n, found, p) ∷ rest) (sym c.typed_value.ensures.part)
     ∙ ap (λ (k : Kind). (n, (k, found.1), value_part c.typed_value.result) ∷ rest) (sym c.typed_value.ensures.kind)
 
@@ -35,7 +40,12 @@ returns-clause-goes c =
     let w = value_of c.in-Ok.record.value in
     let left = records_left c.next.new.self in
     let steps =
-    ap (item_fields (rows_view c.args.self.now.rows)) (c.in-Some.ensures.steps ∙ ap (λ x. placed_result x ∷ left) c.in-Ok.is)
-    ∙ ap (λ (o : Option Next). elim o [ None ↦ [] | Some next ↦ (n, next.field, record_part next.field w) ∷ item_fields next.rows left ]) (sym c.in-Some-next_field.ensures) in
+    ap (item_fields (rows_view c.args.self.now.rows)) (c.in-Some.ensures.steps ∙ ap (λ x. placed_result x ∷ left)
+    c.in-Ok.is)
+    ∙ ap (λ (o : Option Next). elim o [
+      | None ↦ []
+      | Some next ↦ (n, next.field, record_part next.field w) ∷ item_fields
+          next.rows left
+    ]) (sym c.in-Some-next_field.ensures) in
     let more = ap length steps in
     search rules

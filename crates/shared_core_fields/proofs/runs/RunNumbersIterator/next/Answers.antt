@@ -17,17 +17,22 @@ unreachable-requires c =
 pub invariant_of-self : goal.invariant_of-self
 invariant_of-self c =
     let some : 0 < length c.args.self.now.rest.now = search rules in
-    record { written = (number_turn c.args.self.now.rest.now c.in-Some.number c.in-Some.rest.now some c.args.self.now.written c.in-Some.ensures).more }
+    record {
+      written = (number_turn c.args.self.now.rest.now c.in-Some.number c.in-Some.rest.now some
+          c.args.self.now.written c.in-Some.ensures).more;
+    }
 
 pub returns-clause-steps : goal.returns-clause-steps
 returns-clause-steps c =
     let some : 0 < length c.args.self.now.rest.now = search rules in
-    let t = number_turn c.args.self.now.rest.now c.in-Some.number c.in-Some.rest.now some c.args.self.now.written c.in-Some.ensures in
+    let t = number_turn c.args.self.now.rest.now c.in-Some.number c.in-Some.rest.now some c.args.self.now.written
+    c.in-Some.ensures in
     let low : c.in-Some.number ≡ c.in-Some.number % 4294967296 = omega (arith, t.low) in
     t.numbers ∙ ap (λ (n : ℕ). n ∷ run_numbers c.in-Some.rest.now) (low ∙ sym c.low_32.ensures)
 
 pub returns-clause-goes : goal.returns-clause-goes
 returns-clause-goes c =
     let some : 0 < length c.args.self.now.rest.now = search rules in
-    let more = ap length (number_turn c.args.self.now.rest.now c.in-Some.number c.in-Some.rest.now some c.args.self.now.written c.in-Some.ensures).numbers in
+    let more = ap length (number_turn c.args.self.now.rest.now c.in-Some.number c.in-Some.rest.now some
+    c.args.self.now.written c.in-Some.ensures).numbers in
     search rules

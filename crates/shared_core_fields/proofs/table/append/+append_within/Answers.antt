@@ -7,7 +7,8 @@ pub loop-field-preserved-in-Continue-branch-2 : goal.loop-field-preserved-in-Con
 loop-field-preserved-in-Continue-branch-2 t c =
     let f = c.in-Some.field in
     turn c.args.left c.args.level _ _ _ _ (field_part f) _ _ c.in-Some.ensures.steps
-    (of_message c.args.left c.args.level f.number f.is_repeated f.value c.in-Message.message c.if-left-gt0.true c.in-Message.is)
+    (of_message c.args.left c.args.level f.number f.is_repeated f.value c.in-Message.message c.if-left-gt0.true
+    c.in-Message.is)
     (joined _ _ _ _ _ (pushed _ _ _ c.in_ok-push.ensures.items) c.in_ok-append_within.ensures)
     c.loop-field.invariant
 

@@ -13,4 +13,5 @@ decreases-append_within l = l.left
 abbrev pub invariant-loop-field : goal.invariant-loop-field
 invariant-loop-field l =
     map entry_view l.out.items ++ flat_map (field_entries l.left l.level) (fields_left l.field-iterator)
-    ≡ map entry_view l.initial.out.items ++ flat_map (field_entries l.left l.level) (message_fields (table l.payload.schema) (payload_meaning l.payload.schema l.payload.bytes.now))
+    ≡ map entry_view l.initial.out.items ++ flat_map (field_entries l.left l.level)
+    (message_fields (table l.payload.schema) (payload_meaning l.payload.schema l.payload.bytes.now))

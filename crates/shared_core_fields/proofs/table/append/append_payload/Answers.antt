@@ -11,6 +11,8 @@ pub returns : goal.returns
 returns c =
     let s = c.args.schema in
     let bytes = c.args.bytes.now in
-    let canonical : IsCanonical s bytes = sound s bytes (λ i. omega (arith, c.type_inv.bytes i)) c.requires.short c.requires.canonical in
+    let canonical : IsCanonical s bytes = sound s bytes (λ i. omega (arith, c.type_inv.bytes i)) c.requires.short
+    c.requires.canonical in
     let all = all_entries 100 0 s (payload_meaning s bytes) canonical.low in
-    on_ok_weaker c.append_within.result (λ e. e ∙ ap (λ (es : List LevelField). map entry_view c.args.out.now.items ++ es) all) c.append_within.ensures
+    on_ok_weaker c.append_within.result (λ e. e ∙ ap (λ (es : List LevelField). map entry_view c.args.out.now.items ++
+    es) all) c.append_within.ensures
