@@ -6,7 +6,7 @@ help:
 	@echo 'make test                   the gate: every proof, test and check, more than an hour (sh scripts/test.sh)'
 	@echo 'make check [NAME=dump]      lists the checks, or runs those that are named, or all (sh scripts/check.sh)'
 	@echo 'make generate [NAME=..]     makes the files that are not written by hand (python3 tools/generate.py)'
-	@echo 'make view STREAM=.. [OTHER=..] [OUT=..]   a page that shows a journal, or two (sh scripts/run.sh view)'
+	@echo 'make view STREAM=.. [OTHER=..] [OUT=..]   a page that shows a journal, or two (sh scripts/run.sh journal view)'
 	@echo 'make install PREFIX=..      puts the programs and the library for C below a folder (sh scripts/install.sh)'
 	@echo 'make uninstall PREFIX=..    removes them'
 	@echo 'make package                makes a Debian package of them in this folder (sh scripts/package.sh)'
@@ -30,7 +30,7 @@ generate:
 	python3 tools/generate.py $(NAME)
 
 view:
-	sh scripts/run.sh view '$(STREAM)' $(if $(OTHER),'$(OTHER)') $(if $(OUT),-o '$(OUT)')
+	sh scripts/run.sh journal view '$(STREAM)' $(if $(OTHER),'$(OTHER)') $(if $(OUT),-o '$(OUT)')
 
 install:
 	DESTDIR='$(DESTDIR)' sh scripts/install.sh '$(PREFIX)'

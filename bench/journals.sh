@@ -8,18 +8,19 @@ set -u
 cd "$(dirname "$0")" || exit 1
 
 sh install.sh || exit 0
-program=$PWD/../crates/journal_diff/out/journal_diff
-if [ ! -x "$program" ]; then
+journal=$PWD/../crates/journal/out/journal
+if [ ! -x "$journal" ]; then
   if ! command -v rt > /dev/null; then
-    echo 'not run: there is no crates/journal_diff/out/journal_diff, and no rt'
+    echo 'not run: there is no crates/journal/out/journal, and no rt'
     exit 0
   fi
-  (cd ../crates/journal_diff && rt run) > /dev/null || exit 1
+  sh ../scripts/program.sh journal > /dev/null || exit 1
 fi
 work=$(mktemp -d) || exit 1
 trap 'rm -rf "$work"' EXIT
+ln -s "$journal" "$work/journal_diff"
 if ! cargo build --release --bin journals > "$work/log" 2>&1; then
   cat "$work/log"
   exit 1
 fi
-target/release/journals "$program" "$work" "$@"
+target/release/journals "$work/journal_diff" "$work" "$@"

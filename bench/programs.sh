@@ -8,13 +8,13 @@ set -u
 cd "$(dirname "$0")" || exit 1
 
 sh install.sh || exit 0
-for name in journal_dump journal_list journal_make; do
+for name in journal journal_list; do
   [ ! -x "../crates/$name/out/$name" ] || continue
   if ! command -v rt > /dev/null; then
     echo "not run: there is no crates/$name/out/$name, and no rt"
     exit 0
   fi
-  (cd "../crates/$name" && rt run) < ../examples/streams/replay > /dev/null || exit 1
+  sh ../scripts/program.sh $name > /dev/null || exit 1
 done
 work=$(mktemp -d) || exit 1
 trap 'rm -rf "$work"' EXIT
@@ -23,7 +23,8 @@ if ! cargo build --release --features json --bin programs --bin dump --bin list 
   exit 1
 fi
 set -- "$work" "$@"
-for name in journal_make journal_list journal_dump; do
-  set -- "../crates/$name/out/$name" "$@"
+for name in journal_make journal_dump; do
+  ln -s "$PWD/../crates/journal/out/journal" "$work/$name"
 done
+set -- "$work/journal_dump" ../crates/journal_list/out/journal_list "$work/journal_make" "$@"
 target/release/programs "$@"

@@ -25,13 +25,8 @@ func Difference(code uint16, first, second []byte) (string, error) {
 
 // commandError returns the error of a call that compares two commands, of the code or of one of the two.
 func commandError(call string, result int64, code uint16, first, second []byte) error {
-	argument := bytesText("second", second)
-	if result == unknown {
-		argument = codeText(code)
-	} else if journalHeaderEq(code, first, first, false) < 0 {
-		argument = bytesText("first", first)
-	}
-	return &Error{call, argument, errorOf(result)}
+	given := arguments{code: codeText(code), payload: bytesText("first", first), second: bytesText("second", second)}
+	return given.refusal(call, result)
 }
 
 // A VerdictKind says how two journals compare.
@@ -39,11 +34,7 @@ type VerdictKind int
 
 // String returns the name of the kind, as "VerdictSame".
 func (kind VerdictKind) String() string {
-	names := []string{
-		"VerdictSame", "VerdictRecordedEnded", "VerdictReplayedEnded", "VerdictTypeMismatch", "VerdictHeaderMismatch",
-		"VerdictBadRecorded", "VerdictBadReplayed",
-	}
-	return nameOfKind("VerdictKind", names, int(kind))
+	return nameOfKind("VerdictKind", namesOfVerdictKind, int(kind))
 }
 
 // A Verdict says how two journals compare.
@@ -63,14 +54,14 @@ func CompareJournals(version int, recorded, replayed []byte, ignorePayloads bool
 	if err != nil {
 		return Verdict{}, err
 	}
-	numbers := make([]uint64, verdictNumbers)
+	var numbers [verdictNumbers]uint64
 	text, result := written(textRoom, func(out []byte) int64 {
-		return journalVerdict(number, recorded, replayed, ignorePayloads, numbers, out)
+		return journalVerdict(number, recorded, replayed, ignorePayloads, &numbers, out)
 	})
 	if result < 0 {
-		return Verdict{}, &Error{"CompareJournals", named("version", version), errorOf(result)}
+		return Verdict{}, arguments{version: named("version", version)}.refusal("CompareJournals", result)
 	}
-	verdict, err := verdictOf(numbers, text)
+	verdict, err := verdictOf(numbers[:], text)
 	if err != nil {
 		return Verdict{}, &Error{"CompareJournals", bytesText("replayed", replayed), err}
 	}

@@ -71,9 +71,9 @@ func (d *Decoder) take() (Item, int64, error) {
 	if err != nil {
 		return nil, 0, err
 	}
-	missing := journalNext(version, d.rest, d.numbers[:])
+	missing := journalNext(version, d.rest, &d.numbers)
 	if missing < 0 {
-		return nil, 0, &Error{"Decoder.Next", named("version", d.version), errorOf(missing)}
+		return nil, 0, arguments{version: named("version", d.version)}.refusal("Decoder.Next", missing)
 	}
 	if missing > 0 {
 		return nil, missing, nil

@@ -51,10 +51,37 @@ func (e *Error) Unwrap() error {
 	return e.Err
 }
 
+// arguments are those of a call that an error can be about, each with its value. The payload is the only one of the call
+// or the first of two.
+type arguments struct {
+	version, schema, code, payload, second string
+}
+
+// refusal returns the error that a negative number of the library is, of a call with these arguments.
+func (given arguments) refusal(call string, number int64) error {
+	argument := given.payload
+	switch number {
+	case unknownVersion:
+		argument = given.version
+	case unknownSchema:
+		argument = given.schema
+	case unknownType:
+		argument = given.code
+	case malformedSecond:
+		argument = given.second
+	}
+	for _, other := range []string{given.payload, given.code, given.version} {
+		if argument == "" {
+			argument = other
+		}
+	}
+	return &Error{call, argument, errorOf(number)}
+}
+
 // errorOf returns the error that the negative number is which the library returned.
 func errorOf(number int64) error {
 	switch number {
-	case malformed:
+	case malformed, malformedSecond:
 		return ErrMalformed
 	case outOfMemory:
 		return ErrOutOfMemory
@@ -62,7 +89,7 @@ func errorOf(number int64) error {
 		return ErrNoRoom
 	case tooLong:
 		return ErrTooLong
-	case unknown:
+	case unknownVersion, unknownSchema, unknownType:
 		return ErrUnknown
 	case noID:
 		return ErrNoID

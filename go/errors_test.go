@@ -25,13 +25,20 @@ func TestErrorsAreThoseOfTheHeader(t *testing.T) {
 		ErrUnknown: "UNKNOWN", ErrNoID: "NO_ID", ErrNoResult: "NO_RESULT",
 	}
 	numbers := defined(t, `(?m)^#define JOURNAL_(\w+) \((-\d+)\)$`)
+	kinds := map[int64]string{}
 	for name, number := range numbers {
-		if err := errorOf(number); names[err] != name {
+		if number > -16 {
+			kinds[number] = name
+		}
+	}
+	for name, number := range numbers {
+		// no call returns the kind of what is unknown by itself
+		if err := errorOf(number); name != "UNKNOWN" && names[err] != kinds[number%16] {
 			t.Errorf("%s is %v", name, err)
 		}
 	}
-	if len(numbers) != len(names) {
-		t.Errorf("the header has %d errors", len(numbers))
+	if len(kinds) != len(names) {
+		t.Errorf("the header has %d kinds of errors", len(kinds))
 	}
 }
 

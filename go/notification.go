@@ -7,7 +7,7 @@ type IDKind int
 
 // String returns the name of the kind, as "SignalName".
 func (kind IDKind) String() string {
-	return nameOfKind("IDKind", []string{"CompletionID", "SignalID", "SignalName"}, int(kind))
+	return nameOfKind("IDKind", namesOfIDKind, int(kind))
 }
 
 // A ResultKind is the kind of a notification's result.
@@ -15,8 +15,7 @@ type ResultKind int
 
 // String returns the name of the kind, as "ResultVoid".
 func (kind ResultKind) String() string {
-	names := []string{"ResultVoid", "ResultValue", "ResultFailure", "ResultInvocationID", "ResultStateKeys"}
-	return nameOfKind("ResultKind", names, int(kind))
+	return nameOfKind("ResultKind", namesOfResultKind, int(kind))
 }
 
 // A Notification is the id and the result of a notification of any type.
@@ -35,17 +34,15 @@ type Notification struct {
 // ReadNotification returns the id and the result of the notification that a payload holds. ErrUnknown if the code is
 // that of no notification; ErrMalformed, ErrNoID, ErrNoResult, ErrTooLong, ErrOutOfMemory.
 func ReadNotification(code uint16, payload []byte) (Notification, error) {
-	numbers := make([]uint64, notificationNumbers)
+	var numbers [notificationNumbers]uint64
 	found, result := written(len(payload), func(out []byte) int64 {
-		return journalNotification(code, payload, numbers, out)
+		return journalNotification(code, payload, &numbers, out)
 	})
-	switch {
-	case result == unknown:
-		return Notification{}, &Error{"ReadNotification", codeText(code), ErrUnknown}
-	case result < 0:
-		return Notification{}, &Error{"ReadNotification", bytesText("payload", payload), errorOf(result)}
+	if result < 0 {
+		given := arguments{code: codeText(code), payload: bytesText("payload", payload)}
+		return Notification{}, given.refusal("ReadNotification", result)
 	}
-	notification, err := notificationOf(numbers, found)
+	notification, err := notificationOf(numbers[:], found)
 	if err != nil {
 		return Notification{}, &Error{"ReadNotification", bytesText("payload", payload), err}
 	}

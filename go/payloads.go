@@ -35,11 +35,10 @@ func Merge(schema int, first, second []byte) ([]byte, error) {
 		return journalMerge(number, first, second, out)
 	})
 	if result < 0 {
-		argument := bytesText("second", second)
-		if journalIsWellFormed(number, first) == 0 {
-			argument = bytesText("first", first)
+		given := arguments{
+			schema: named("schema", schema), payload: bytesText("first", first), second: bytesText("second", second),
 		}
-		return nil, schemaError("Merge", result, schema, argument)
+		return nil, given.refusal("Merge", result)
 	}
 	return merged, nil
 }
@@ -62,8 +61,5 @@ func payloadWritten(
 // schemaError returns the error of a call that takes a schema: of the schema if it is unknown, and otherwise of the
 // other argument.
 func schemaError(call string, result int64, schema int, other string) error {
-	if result == unknown {
-		return &Error{call, named("schema", schema), ErrUnknown}
-	}
-	return &Error{call, other, errorOf(result)}
+	return arguments{schema: named("schema", schema), payload: other}.refusal(call, result)
 }

@@ -7,14 +7,10 @@ type JSONReason int
 
 // String returns the name of the reason, as "ReasonWrongKind".
 func (reason JSONReason) String() string {
-	names := []string{
-		"ReasonNotJSON", "ReasonUnknownMember", "ReasonRepeatedMember", "ReasonSeveralMembers", "ReasonWrongKind",
-		"ReasonOutOfRange", "ReasonNotBase64", "ReasonTooDeep",
-	}
 	if reason < ReasonNotJSON || reason > ReasonTooDeep {
 		return fmt.Sprintf("JSONReason(%d)", int(reason))
 	}
-	return names[reason-ReasonNotJSON]
+	return namesOfJSONReason[reason-ReasonNotJSON]
 }
 
 // text returns the text of the reason, as "wrong kind of value".
@@ -58,14 +54,14 @@ func Payload(schema int, json []byte) ([]byte, error) {
 	if err != nil {
 		return nil, err
 	}
-	numbers := make([]uint64, readNumbers)
+	var numbers [readNumbers]uint64
 	found, result := written(len(json), func(out []byte) int64 {
-		return journalPayloadOfJSON(number, json, numbers, out)
+		return journalPayloadOfJSON(number, json, &numbers, out)
 	})
 	if result < 0 {
 		return nil, schemaError("Payload", result, schema, bytesText("JSON", json))
 	}
-	payload, err := readingOf(numbers, found)
+	payload, err := readingOf(numbers[:], found)
 	if err != nil {
 		return nil, &Error{"Payload", bytesText("JSON", json), err}
 	}
@@ -74,13 +70,13 @@ func Payload(schema int, json []byte) ([]byte, error) {
 
 // readingOf returns the payload, or the error, that the numbers and the bytes of the library say.
 func readingOf(numbers []uint64, found []byte) ([]byte, error) {
-	switch kind := numbers[readKind]; {
+	switch kind := numbers[readingKind]; {
 	case kind == read:
 		return found, nil
 	case kind > uint64(ReasonTooDeep):
 		return nil, unexpected("kind of JSON text", kind)
 	case kind == uint64(ReasonNotJSON):
-		return nil, &JSONError{ReasonNotJSON, int(numbers[readOffset]), ""}
+		return nil, &JSONError{ReasonNotJSON, int(numbers[readingOffset]), ""}
 	default:
 		return nil, &JSONError{JSONReason(kind), -1, string(found)}
 	}

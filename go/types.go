@@ -6,7 +6,7 @@ import "fmt"
 func LibraryVersion() (string, error) {
 	version, number := written(nameRoom, journalLibraryVersion)
 	if number < 0 {
-		return "", &Error{"LibraryVersion", "the version", errorOf(number)}
+		return "", arguments{payload: "the version"}.refusal("LibraryVersion", number)
 	}
 	return string(version), nil
 }
@@ -20,7 +20,7 @@ func Schema(version int, code uint16) (int, error) {
 	}
 	schema := journalSchema(number, code)
 	if schema < 0 {
-		return 0, &Error{"Schema", versionOrCode(number, code), errorOf(schema)}
+		return 0, versionAndCode(version, code).refusal("Schema", schema)
 	}
 	return int(schema), nil
 }
@@ -40,7 +40,7 @@ func SchemaNamed(name string) (int, error) {
 func TypeName(code uint16) (string, error) {
 	name, number := written(nameRoom, func(out []byte) int64 { return journalTypeName(code, out) })
 	if number < 0 {
-		return "", &Error{"TypeName", codeText(code), errorOf(number)}
+		return "", arguments{code: codeText(code)}.refusal("TypeName", number)
 	}
 	return string(name), nil
 }
@@ -50,7 +50,7 @@ func TypeName(code uint16) (string, error) {
 func TypeCode(name string) (uint16, error) {
 	code := journalTypeCode([]byte(name))
 	if code < 0 {
-		return 0, &Error{"TypeCode", nameText(name), errorOf(code)}
+		return 0, arguments{code: nameText(name)}.refusal("TypeCode", code)
 	}
 	return uint16(code), nil
 }
@@ -74,7 +74,7 @@ func Header(version int, code uint16, payloadLength int) ([]byte, error) {
 	}
 	header, result := written(headerSize, func(out []byte) int64 { return journalHeader(number, code, length, out) })
 	if result < 0 {
-		return nil, &Error{"Header", versionOrCode(number, code), errorOf(result)}
+		return nil, versionAndCode(version, code).refusal("Header", result)
 	}
 	return header, nil
 }
@@ -90,21 +90,17 @@ func Frame(version int, code uint16, payload []byte) ([]byte, error) {
 	frame, result := written(headerSize+len(payload), func(out []byte) int64 {
 		return journalFrame(number, code, payload, out)
 	})
-	switch {
-	case result == unknown:
-		return nil, &Error{"Frame", versionOrCode(number, code), ErrUnknown}
-	case result < 0:
-		return nil, &Error{"Frame", bytesText("payload", payload), errorOf(result)}
+	if result < 0 {
+		given := versionAndCode(version, code)
+		given.payload = bytesText("payload", payload)
+		return nil, given.refusal("Frame", result)
 	}
 	return frame, nil
 }
 
-// versionOrCode returns which of the two arguments is unknown: the code, if the version is known.
-func versionOrCode(version uint32, code uint16) string {
-	if journalNext(version, nil, make([]uint64, itemNumbers)) < 0 {
-		return named("version", int(version))
-	}
-	return codeText(code)
+// versionAndCode returns the two arguments of a call that takes them.
+func versionAndCode(version int, code uint16) arguments {
+	return arguments{version: named("version", version), code: codeText(code)}
 }
 
 // nameText returns a name as an argument with its value.

@@ -11,6 +11,15 @@ ROOT = pathlib.Path(__file__).resolve().parent.parent
 PARTS = ("src", "specs", "proofs")
 
 
+# The names under which the program journal is a subcommand.
+LINKS = ("journal_dump", "journal_make", "journal_diff")
+
+
+def crate_of(program: str) -> str:
+    """The crate of a program."""
+    return "journal" if program in LINKS else program
+
+
 def uses() -> dict[str, list[str]]:
     """The crates that each crate names, of which some are the toolchain's; a line is 'NAME [WORD..]: CRATE..'."""
     listed = {}

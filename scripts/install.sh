@@ -30,14 +30,15 @@ not_installed() {
 
 top=$(cd "$(dirname "$0")/.." && pwd)
 header=$top/include/pendratsoa.h
-programs='journal_list journal_diff journal_dump journal_make'
+. "$top/scripts/up_to_date.sh"
+programs='journal journal_list'
 action=install
 machine=x86_64-unknown-linux-gnu
 libdir=lib
 while [ $# -gt 1 ]; do
   case $1 in
-    --library) programs= ;;
-    --target) machine=$2; programs=; shift ;;
+    --library) programs= links= ;;
+    --target) machine=$2; programs= links=; shift ;;
     --libdir) libdir=$2; shift ;;
     --uninstall) action=uninstall ;;
     *) usage ;;
@@ -68,8 +69,13 @@ library_files() {
 }
 program_files() {
   for program in $programs; do
-    printf '%s\n' "bin/$program" "share/man/man1/$program.1" "share/bash-completion/completions/$program.bash" \
-      "share/zsh/site-functions/_$program"
+    printf '%s\n' "bin/$program" "share/bash-completion/completions/$program.bash" "share/zsh/site-functions/_$program"
+  done
+  for program in $links; do
+    printf '%s\n' "bin/$program" "share/bash-completion/completions/$program.bash"
+  done
+  for program in $programs $links; do
+    echo "share/man/man1/$program.1"
   done
 }
 
@@ -160,7 +166,15 @@ done
 for program in $programs; do
   place "$top/crates/$program/out/$program" 755 "bin/$program"
 done
+for program in $links; do
+  ln -sfn journal "$target/bin/$program"
+done
 for file in $(program_files | sed '/^bin/d'); do
-  place "$top/$file" 644 "$file"
+  if [ -e "$top/$file" ]; then
+    place "$top/$file" 644 "$file"
+  else
+    # the completion of a link is that of journal
+    ln -sfn journal.bash "$target/$file"
+  fi
 done
 echo "install.sh: installed pendratsoa $version, proved, below $target"

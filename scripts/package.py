@@ -84,10 +84,15 @@ def write(file: pathlib.Path, text: str) -> None:
     file.write_text(text)
 
 
+def programs(usr: pathlib.Path) -> list[pathlib.Path]:
+    """The programs, without the links to them."""
+    return sorted(path for path in (usr / "bin").iterdir() if not path.is_symlink())
+
+
 def adapt(usr: pathlib.Path, library: pathlib.Path) -> None:
     """Makes of what is installed what Debian has: no symbols that only a debugger reads, completion where its zsh
     looks, compressed pages, and links for pages that have several names."""
-    run("strip", "--strip-unneeded", *sorted((usr / "bin").iterdir()), library)
+    run("strip", "--strip-unneeded", *programs(usr), library)
     library.chmod(0o644)
     (usr / "share/zsh/site-functions").rename(usr / "share/zsh/vendor-completions")
     pages = usr / "share/man"
@@ -114,7 +119,7 @@ def documents(usr: pathlib.Path, version: str, date: str) -> None:
 def describe(root: pathlib.Path, library: pathlib.Path, version: str) -> None:
     """Writes what dpkg reads of the package, with the latest version of the C library that a symbol of it has."""
     usr, debian = root / "usr", root / "DEBIAN"
-    found = re.findall(r"GLIBC_(\d[0-9.]*)", run("readelf", "-V", *sorted((usr / "bin").iterdir()), library))
+    found = re.findall(r"GLIBC_(\d[0-9.]*)", run("readelf", "-V", *programs(usr), library))
     glibc = max(found, key=lambda number: [int(part) for part in number.split(".")])
     size = run("du", "-ks", "--apparent-size", usr).split()[0]
     write(debian / "control", CONTROL.format(version=version, maintainer=MAINTAINER, size=size, glibc=glibc))

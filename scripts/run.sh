@@ -1,37 +1,29 @@
 #!/bin/sh
 # Runs a program of this repository: the proved one if it is up to date, otherwise one that is built without the proofs.
 #
-#   scripts/run.sh [--proved] list [--protocol 5..9] [FILE] [BYTES] [v9]
-#       the listing of a stream, of examples/streams/replay without arguments
-#   scripts/run.sh [--proved] diff [--ignore-payloads] [--strict] [--json] [--color WHEN] [--protocol 5..9] RECORDED REPLAYED
+#   scripts/run.sh [--proved] journal dump [ARGUMENT]..
+#       a stream as JSON
+#   scripts/run.sh [--proved] journal make [ARGUMENT]..
+#       a stream of JSON lines
+#   scripts/run.sh [--proved] journal diff [ARGUMENT]..
 #       where two journals differ
-#   scripts/run.sh [--proved] dump [--protocol 5..9] [--type NAME].. [--no-payload] [--text] [--pretty] [--strict] [FILE]
-#       a stream as JSON, the standard input if none is given
-#   scripts/run.sh [--proved] make [--protocol 5..9] [FILE]
-#       a stream of JSON lines, of the standard input if none is given
-#   scripts/run.sh [--proved] view [--protocol 5..9] [--ignore-payloads] [--items N] [-o FILE] STREAM [OTHER]
+#   scripts/run.sh [--proved] journal view [ARGUMENT]..
 #       a page that shows a journal, or two side by side
-#   scripts/run.sh list|diff|dump|make|view --help
-#       what docs/PROGRAMS.md says of the program
+#   scripts/run.sh [--proved] journal_list [ARGUMENT]..
+#       the listing of a stream, of examples/streams/replay without arguments
 #
-# The first run without the proofs builds the program, in one to two minutes of processor time, and keeps it; it is
+# Before dump, make, diff and view, journal may be left out; list is journal_list. docs/PROGRAMS.md says what arguments a
+# program takes, and so does the program with --help.
+#
+# The first run without the proofs builds the program, in one to three minutes of processor time, and keeps it; it is
 # hundreds of times slower than the proved one. With --proved every crate below the program is proved first, which takes
-# more than an hour of processor time. The program checks its arguments; the status is its own, and 2 if it is not run.
+# more than an hour of processor time. The status is the program's own, and 2 if it is not run.
 set -eu
 
 top=$(cd "$(dirname "$0")/.." && pwd)
 
 usage() {
-  sed -n '2,19s/^# \{0,1\}//p' "$top/scripts/run.sh"
-}
-
-# page: prints how the command is used, and what docs/PROGRAMS.md says of its program
-page() {
-  sed -n "s|^#   scripts/\(run.sh .*\] $command .*\)|usage: \1|p" "$top/scripts/run.sh"
-  echo
-  awk -v heading="## journal_$command: " '
-    /^## / { is_shown = index($0, heading) == 1 }
-    is_shown' "$top/docs/PROGRAMS.md"
+  sed -n '2,21s/^# \{0,1\}//p' "$top/scripts/run.sh"
 }
 
 # Arguments are given to the program as they are: a parser here would have to follow each of its options.
@@ -40,11 +32,15 @@ if [ "${1-}" = --proved ]; then
   how=
   shift
 fi
-command=${1---help}
-[ $# -eq 0 ] || shift
-case $command in
-  list | diff | dump | make | view) ;;
-  -h | --help)
+crate=journal
+case ${1-} in
+  journal) shift ;;
+  dump | make | diff | view) ;;
+  journal_list | list)
+    crate=journal_list
+    shift
+    ;;
+  -h | --help | '')
     usage
     exit 0
     ;;
@@ -53,21 +49,16 @@ case $command in
     exit 2
     ;;
 esac
-case ${1-} in
-  -h | --help)
-    page
-    exit 0
-    ;;
-esac
-if [ "$command" = view ]; then
+if [ "$crate ${1-}" = 'journal view' ]; then
+  shift
   if ! command -v python3 > /dev/null; then
     echo 'run.sh: view: there is no python3' >&2
     exit 2
   fi
   exec python3 "$top/view/make_page.py" $how "$@"
 fi
-[ "$command $#" != 'list 0' ] || set -- "$top/examples/streams/replay"
-program=$(sh "$top/scripts/program.sh" $how "journal_$command") || exit 2
+[ "$crate $#" != 'journal_list 0' ] || set -- "$top/examples/streams/replay"
+program=$(sh "$top/scripts/program.sh" $how "$crate") || exit 2
 case $program in
   */unproved/*)
     echo 'run.sh: built without the proofs: it checks each access, and is hundreds of times slower than with --proved' >&2

@@ -1,5 +1,16 @@
 # What the scripts that build share. They go to the top of the repository, and say '. scripts/up_to_date.sh'.
 
+# The names under which the program journal is a subcommand.
+links='journal_dump journal_make journal_diff'
+
+# crate_of PROGRAM: the crate of a program
+crate_of() {
+  case " $links " in
+    *" $1 "*) echo journal ;;
+    *) echo "$1" ;;
+  esac
+}
+
 # below CRATE: the crates of this repository that a crate depends on
 below() {
   awk -F: -v crate="$1" '

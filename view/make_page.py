@@ -1,7 +1,7 @@
 #!/usr/bin/env python3
 """Writes a page that shows one journal, or two side by side: view/make_page.py [OPTION].. STREAM [OTHER]
 
-The items are the lines of journal_dump, and with two journals the difference is what journal_diff prints: nothing of a
+The items are the lines of journal dump, and with two journals the difference is what journal diff prints: nothing of a
 stream is decoded here. The page is one file with its data, style and script inside, and requests nothing.
 """
 import argparse
@@ -32,14 +32,14 @@ ITEMS = 200_000
 LINE_CHARACTERS = 4 << 20
 JOURNAL_CHARACTERS = 64 << 20
 
-# What the first line of journal_diff says: the kind of the verdict, by a pattern that has the index of the command.
+# What the first line of journal diff says: the kind of the verdict, by a pattern that has the index of the command.
 VERDICTS = (
     ("same", re.compile(r"same, (?P<index>\d+) commands?$")),
     ("recorded ends", re.compile(r"recorded ends at command (?P<index>\d+)$")),
     ("replayed ends", re.compile(r"replayed ends at command (?P<index>\d+)$")),
     ("differs", re.compile(r"command (?P<index>\d+): ")),
-    ("recorded malformed", re.compile(r"journal_diff: the recorded command (?P<index>\d+) is malformed$")),
-    ("replayed malformed", re.compile(r"journal_diff: the replayed command (?P<index>\d+) is malformed$")),
+    ("recorded malformed", re.compile(r"journal diff: the recorded command (?P<index>\d+) is malformed$")),
+    ("replayed malformed", re.compile(r"journal diff: the replayed command (?P<index>\d+) is malformed$")),
 )
 
 
@@ -54,7 +54,7 @@ class Failure(Exception):
 def parse_arguments(words):
     """The parsed command line."""
     parser = argparse.ArgumentParser(
-        prog="run.sh view", description="Writes a page that shows one journal, or two side by side."
+        prog="run.sh journal view", description="Writes a page that shows one journal, or two side by side."
     )
     parser.add_argument("stream", metavar="STREAM", help="a journal; with OTHER the recorded one; - is the input")
     parser.add_argument("other", metavar="OTHER", nargs="?", help="the replayed journal")
@@ -103,16 +103,16 @@ def opened(path):
             yield copy.name
 
 
-def program(name, unproved):
-    """The path of a program, which is built if it is not up to date; unproved if that is enough."""
-    words = ["sh", str(ROOT / "scripts" / "program.sh"), *(["--unproved"] if unproved else []), f"journal_{name}"]
+def program(unproved):
+    """The path of the program journal, which is built if it is not up to date; unproved if that is enough."""
+    words = ["sh", str(ROOT / "scripts" / "program.sh"), *(["--unproved"] if unproved else []), "journal"]
     built = subprocess.run(words, stdin=subprocess.DEVNULL, stdout=subprocess.PIPE, encoding="utf-8")
     if built.returncode != 0:
-        raise Failure(f"view: journal_{name} cannot be built")
+        raise Failure("view: journal cannot be built")
     path = built.stdout.strip()
     if "/unproved/" in path:
         slow = "is built without the proofs: it checks each access, and is hundreds of times slower than with --proved"
-        print(f"view: journal_{name} {slow}", file=sys.stderr)
+        print(f"view: journal {slow}", file=sys.stderr)
     return path
 
 
@@ -126,7 +126,7 @@ def shortened(line):
 
 
 def read_journal(words, path, source, most):
-    """A journal for the page, of `path` and read at `source`: its lines as journal_dump prints them, the last of them
+    """A journal for the page, of `path` and read at `source`: its lines as journal dump prints them, the last of them
     that of the rest. `most` items are kept; the others are counted."""
     lines, last, items, characters, is_full = [], None, 0, 0, False
     words = [*words, "--", source]
@@ -150,11 +150,11 @@ def read_journal(words, path, source, most):
         said = notes.read()
     rest = json.loads(last) if dump.returncode == 0 and last is not None else None
     if rest is not None and items == 0 and rest["rest"] > 0:
-        # what journal_dump says of these bytes would say the same once more
-        raise Failure(f"view: {path}: no message in it; is it a journal of version {words[2]}?")
+        # what journal dump says of these bytes would say the same once more
+        raise Failure(f"view: {path}: no message in it; is it a journal of version {words[3]}?")
     sys.stderr.write(said)
     if rest is None:
-        raise Failure(f"view: {path}: journal_dump ended with the status {dump.returncode}", dump.returncode or 1)
+        raise Failure(f"view: {path}: journal dump ended with the status {dump.returncode}", dump.returncode or 1)
     return {
         "name": shown(path),
         "items": items,
@@ -165,7 +165,7 @@ def read_journal(words, path, source, most):
 
 
 def verdict_of(text):
-    """What journal_diff printed, with its kind and the index of the command that it names; None for any other text."""
+    """What journal diff printed, with its kind and the index of the command that it names; None for any other text."""
     for kind, pattern in VERDICTS:
         if match := pattern.match(text.split("\n", 1)[0]):
             return {"kind": kind, "index": int(match["index"]), "text": text}
@@ -180,7 +180,7 @@ def compare(words, paths):
     verdict = verdict_of((diff.stdout or diff.stderr).rstrip("\n"))
     if verdict is None:
         sys.stderr.write(diff.stderr)
-        raise Failure(f"view: journal_diff ended with the status {diff.returncode}", diff.returncode or 1)
+        raise Failure(f"view: journal diff ended with the status {diff.returncode}", diff.returncode or 1)
     return verdict
 
 
@@ -264,13 +264,14 @@ def run(arguments):
     protocol = ["--protocol", str(arguments.protocol)]
     with contextlib.ExitStack() as files:
         sources = [files.enter_context(opened(path)) for path in paths]
-        dump = [program("dump", arguments.unproved), *protocol]
+        journal = program(arguments.unproved)
+        dump = [journal, "dump", *protocol]
         most = max(1, arguments.items // len(paths))
         journals = [read_journal(dump, path, source, most) for path, source in zip(paths, sources)]
         verdict = None
         if len(paths) == 2:
             options = [*protocol, *(["--ignore-payloads"] if arguments.ignore_payloads else [])]
-            verdict = compare([program("diff", arguments.unproved), *options], sources)
+            verdict = compare([journal, "diff", *options], sources)
     text = page(journals, verdict, arguments.protocol, arguments.ignore_payloads)
     if arguments.output == "-":
         put(text)

@@ -116,15 +116,15 @@ static int64_t code_of(const char *name) {
 }
 
 /* Prints the line of an item. Returns 0, or an error. */
-static int64_t print_item(uint32_t version, const uint8_t *bytes, const uint64_t *item, struct buffer *buffer) {
-    const uint8_t *payload = bytes + item[JOURNAL_ITEM_PAYLOAD];
-    size_t length = (size_t)(item[JOURNAL_ITEM_SIZE] - item[JOURNAL_ITEM_PAYLOAD]);
-    uint16_t code = (uint16_t)item[JOURNAL_ITEM_CODE];
+static int64_t print_item(uint32_t version, const uint8_t *bytes, const struct journal_item *item, struct buffer *buffer) {
+    const uint8_t *payload = bytes + item->payload;
+    size_t length = (size_t)(item->size - item->payload);
+    uint16_t code = (uint16_t)item->code;
     uint8_t name[64];
     int64_t name_length = journal_type_name(code, name, sizeof name);
     int64_t error = 0;
 
-    switch (item[JOURNAL_ITEM_KIND]) {
+    switch (item->kind) {
     case JOURNAL_UNKNOWN_CODE:
         printf("unknown 0x%x\n", (unsigned)code);
         return 0;
@@ -135,10 +135,10 @@ static int64_t print_item(uint32_t version, const uint8_t *bytes, const uint64_t
         break;
     }
     if (name_length < 0 || (uint64_t)name_length > sizeof name) {
-        return JOURNAL_UNKNOWN;
+        return JOURNAL_UNKNOWN_TYPE;
     }
     printf("%.*s %zu", (int)name_length, (const char *)name, length);
-    if (item[JOURNAL_ITEM_ACK]) {
+    if (item->ack) {
         fputs(" ack", stdout);
     }
     if (code == code_of("CallCommand") || code == code_of("OneWayCallCommand")) {
@@ -150,7 +150,7 @@ static int64_t print_item(uint32_t version, const uint8_t *bytes, const uint64_t
 
 /* Lists a stream. Returns null, or what failed. */
 static const char *list(uint32_t version, FILE *input, struct buffer *stream, struct buffer *scratch) {
-    uint64_t item[JOURNAL_ITEM_NUMBERS];
+    struct journal_item item;
 
     for (;;) {
         int64_t missing, error;
@@ -158,15 +158,15 @@ static const char *list(uint32_t version, FILE *input, struct buffer *stream, st
 
         while (stream->end > stream->begin) {
             const uint8_t *bytes = stream->bytes + stream->begin;
-            missing = journal_next(version, bytes, stream->end - stream->begin, item, JOURNAL_ITEM_NUMBERS);
+            missing = journal_next(version, bytes, stream->end - stream->begin, &item, JOURNAL_ITEM_NUMBERS);
             if (missing != 0) {
                 break;
             }
-            error = print_item(version, bytes, item, scratch);
+            error = print_item(version, bytes, &item, scratch);
             if (error < 0) {
                 return error == JOURNAL_OUT_OF_MEMORY ? "out of memory" : "a type has no name";
             }
-            stream->begin += (size_t)item[JOURNAL_ITEM_SIZE];
+            stream->begin += (size_t)item.size;
         }
         if (!reserve(stream, PIECE)) {
             return "out of memory";

@@ -1,46 +1,28 @@
 // The calls over numbers, names and payloads.
 
 import { addon } from './addon.js';
+import {
+  ID_KINDS,
+  NOTIFICATION_NUMBERS,
+  READINGS,
+  READ_NUMBERS,
+  RESULT_KINDS,
+  VERDICT_KINDS,
+  VERDICT_NUMBERS,
+} from './declared.js';
 import { notKnown, notTaken, refusal, wrongKind } from './errors.js';
 import { schemaNumber } from './schemas.js';
 
 /** The versions from the first to the last. */
 export const { FIRST_VERSION, LAST_VERSION } = addon;
 
-const UNKNOWN = -5;
 const encoder = new TextEncoder();
-
-// What a JSON text is read as, by its number: a payload, or why there is none.
-const READINGS = [
-  'read',
-  'notJson',
-  'unknownMember',
-  'repeatedMember',
-  'severalMembers',
-  'wrongKind',
-  'outOfRange',
-  'notBase64',
-  'tooDeep',
-];
-
-// The kinds of a notification's id and result, and of a verdict, by their numbers.
-const ID_KINDS = ['completionId', 'signalId', 'signalName'];
-const RESULT_KINDS = ['void', 'value', 'failure', 'invocationId', 'stateKeys'];
-const VERDICT_KINDS = [
-  'same',
-  'recordedEnded',
-  'replayedEnded',
-  'typeMismatch',
-  'headerMismatch',
-  'badRecorded',
-  'badReplayed',
-];
 
 // What calls write to. No JavaScript runs between a call and the reading of it.
 const scratch = new Uint8Array(65536);
-const readNumbers = new BigUint64Array(2);
-const notificationNumbers = new BigUint64Array(4);
-const verdictNumbers = new BigUint64Array(2);
+const readNumbers = new BigUint64Array(READ_NUMBERS);
+const notificationNumbers = new BigUint64Array(NOTIFICATION_NUMBERS);
+const verdictNumbers = new BigUint64Array(VERDICT_NUMBERS);
 
 export function libraryVersion() {
   return text(written((out) => addon.libraryVersion(out), { call: 'libraryVersion' }));
@@ -175,7 +157,7 @@ function utf8Of(json) {
 /** The number of a schema. What is neither a number nor a name, the addon does not take. */
 function known(schema, given) {
   const isUnknownName = typeof schema === 'string' && schemaNumber(schema) === undefined;
-  return isUnknownName ? checked(UNKNOWN, given) : schemaNumber(schema);
+  return isUnknownName ? checked(addon.UNKNOWN_SCHEMA, given) : schemaNumber(schema);
 }
 
 function kindOf(kinds, number, given, what) {

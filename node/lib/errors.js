@@ -2,8 +2,7 @@
 
 import { inspect } from 'node:util';
 
-import { addon } from './addon.js';
-import { schemaNumber } from './schemas.js';
+import { ERRORS } from './declared.js';
 
 /** A call failed. */
 export class JournalError extends Error {
@@ -109,25 +108,29 @@ const REASONS = {
   tooDeep: 'too deep',
 };
 
-// The error that each negative number of the library is, which of the arguments it is about, and what is wrong with it.
-const REFUSALS = new Map([
-  [-1, [Malformed, malformedPayload, 'not well-formed for its schema']],
-  [-2, [OutOfMemory, noArgument, 'an allocation failed']],
-  [-3, [NoRoom, noArgument, 'no room for the numbers']],
-  [-4, [TooLong, longPayload, 'more than 4,294,967,295 bytes']],
-  [-5, [Unknown, unknownNumber, 'unknown, or not of the kind that the call is for']],
-  [-6, [NoId, payloadOf, 'the notification has no id']],
-  [-7, [NoResult, payloadOf, 'the notification has an id and no result']],
-]);
+// The kinds of errors by their names, with what is wrong.
+const KINDS = {
+  Malformed: [Malformed, 'not well-formed for its schema'],
+  OutOfMemory: [OutOfMemory, 'an allocation failed'],
+  NoRoom: [NoRoom, 'no room for the numbers'],
+  TooLong: [TooLong, 'more than 4,294,967,295 bytes'],
+  Unknown: [Unknown, 'unknown, or not of the kind that the call is for'],
+  NoId: [NoId, 'the notification has no id'],
+  NoResult: [NoResult, 'the notification has an id and no result'],
+};
+
+// What is too long, or becomes so: the library does not say which argument that is of.
+const LONG = ['payloadLength', 'json', 'payload', 'first'];
 
 /** The error that a negative number is, of a call: its name and its arguments, by their names. */
 export function refusal(number, given) {
-  if (!REFUSALS.has(number)) {
+  if (!ERRORS.has(number)) {
     return notKnown(given.call, 'error', number);
   }
-  const [ErrorClass, argumentOf, reason] = REFUSALS.get(number);
+  const [kind, names] = ERRORS.get(number);
+  const [ErrorClass, reason] = KINDS[kind];
   const { call } = given;
-  const argument = argumentOf(given);
+  const argument = (kind === 'TooLong' ? LONG : names).find((name) => name in given);
   if (argument === undefined) {
     return new ErrorClass(`${call}: ${reason}`, { call });
   }
@@ -160,36 +163,6 @@ export function wrongKind(argument, value, wanted) {
   const error = new TypeError(`${argument} is ${shown(value)}, and has to be ${wanted}`);
   error.code = 'ERR_INVALID_ARG_TYPE';
   return error;
-}
-
-function noArgument() {
-  return undefined;
-}
-
-/** A version is known from the header that the addon was built with; of all else the last one given is not. */
-function unknownNumber(given) {
-  const isVersion = given.version >= addon.FIRST_VERSION && given.version <= addon.LAST_VERSION;
-  if ('version' in given && !(isVersion && Number.isInteger(given.version))) {
-    return 'version';
-  }
-  return ['schema', 'name', 'code'].find((argument) => argument in given);
-}
-
-function longPayload(given) {
-  return ['payloadLength', 'json'].find((argument) => argument in given) ?? payloadOf(given);
-}
-
-function payloadOf(given) {
-  return 'payload' in given ? 'payload' : 'first';
-}
-
-/** Of two payloads the first one that is malformed. */
-function malformedPayload(given) {
-  if ('payload' in given) {
-    return 'payload';
-  }
-  const schema = 'schema' in given ? schemaNumber(given.schema) : addon.schema(addon.LAST_VERSION, given.code);
-  return addon.isWellFormed(schema, given.first) === 0 ? 'first' : 'second';
 }
 
 /** A value within a message: bytes by their number, all else as Node prints it on a line. */

@@ -2,19 +2,14 @@
 
 import { addon } from './addon.js';
 import { checked } from './calls.js';
+import { ITEM, ITEM_KINDS, ITEM_NUMBERS } from './declared.js';
 import { incomplete, notKnown } from './errors.js';
 import { Message, Skipped, UnknownCode } from './items.js';
 
 const NOTHING = new Uint8Array(0);
 
-// The numbers of an item, and their indices. No JavaScript runs between a call and the reading of it.
-const numbers = new BigUint64Array(6);
-const KIND = 0;
-const WORD = 1;
-const CODE = 2;
-const ACK = 3;
-const SIZE = 4;
-const PAYLOAD = 5;
+// The numbers of an item. No JavaScript runs between a call and the reading of it.
+const numbers = new BigUint64Array(ITEM_NUMBERS);
 
 /** A stream that comes in chunks. */
 export class Stream {
@@ -72,7 +67,7 @@ export class Stream {
       return undefined;
     }
     const item = itemOf(this.#version, rest);
-    this.#begin += Number(numbers[SIZE]);
+    this.#begin += Number(numbers[ITEM.size]);
     if (this.#begin === this.#end) {
       this.#bytes = NOTHING;
       this.#begin = 0;
@@ -84,17 +79,17 @@ export class Stream {
 
 /** The item whose numbers were written, with a payload in memory of its own. */
 function itemOf(version, bytes) {
-  const code = Number(numbers[CODE]);
-  const payload = () => bytes.slice(Number(numbers[PAYLOAD]), Number(numbers[SIZE]));
-  switch (numbers[KIND]) {
-    case 0n:
-      return new Message(version, code, payload(), numbers[ACK] === 1n);
-    case 1n:
-      return new UnknownCode(version, code, numbers[WORD]);
-    case 2n:
-      return new Skipped(version, code, numbers[WORD], payload());
+  const code = Number(numbers[ITEM.code]);
+  const payload = () => bytes.slice(Number(numbers[ITEM.payload]), Number(numbers[ITEM.size]));
+  switch (ITEM_KINDS[Number(numbers[ITEM.kind])]) {
+    case 'message':
+      return new Message(version, code, payload(), numbers[ITEM.ack] === 1n);
+    case 'unknownCode':
+      return new UnknownCode(version, code, numbers[ITEM.word]);
+    case 'skipped':
+      return new Skipped(version, code, numbers[ITEM.word], payload());
     default:
-      throw notKnown('Stream', 'kind of item', numbers[KIND]);
+      throw notKnown('Stream', 'kind of item', numbers[ITEM.kind]);
   }
 }
 

@@ -14,83 +14,7 @@ struct function {
     enum parameter parameters[MOST_PARAMETERS];
 };
 
-static int64_t library_version(const struct arguments *arguments) {
-    return journal_library_version(arguments->out.bytes, arguments->out.length);
-}
-
-static int64_t schema(const struct arguments *arguments) {
-    return journal_schema(arguments->version, arguments->code);
-}
-
-static int64_t type_name(const struct arguments *arguments) {
-    return journal_type_name(arguments->code, arguments->out.bytes, arguments->out.length);
-}
-
-static int64_t type_code(const struct arguments *arguments) {
-    return journal_type_code(arguments->first.bytes, arguments->first.length);
-}
-
-static int64_t next(const struct arguments *arguments) {
-    return journal_next(arguments->version, arguments->first.bytes, arguments->first.length, arguments->numbers,
-                        arguments->numbers_room);
-}
-
-static int64_t header(const struct arguments *arguments) {
-    return journal_header(arguments->version, arguments->code, arguments->payload_length, arguments->out.bytes,
-                          arguments->out.length);
-}
-
-static int64_t frame(const struct arguments *arguments) {
-    return journal_frame(arguments->version, arguments->code, arguments->first.bytes, arguments->first.length,
-                         arguments->out.bytes, arguments->out.length);
-}
-
-static int64_t is_well_formed(const struct arguments *arguments) {
-    return journal_is_well_formed(arguments->schema, arguments->first.bytes, arguments->first.length);
-}
-
-static int64_t canonical(const struct arguments *arguments) {
-    return journal_canonical(arguments->schema, arguments->first.bytes, arguments->first.length, arguments->out.bytes,
-                             arguments->out.length);
-}
-
-static int64_t merge(const struct arguments *arguments) {
-    return journal_merge(arguments->schema, arguments->first.bytes, arguments->first.length, arguments->second.bytes,
-                         arguments->second.length, arguments->out.bytes, arguments->out.length);
-}
-
-static int64_t json(const struct arguments *arguments) {
-    return journal_json(arguments->schema, arguments->first.bytes, arguments->first.length, arguments->out.bytes,
-                        arguments->out.length);
-}
-
-static int64_t payload_of_json(const struct arguments *arguments) {
-    return journal_payload_of_json(arguments->schema, arguments->first.bytes, arguments->first.length,
-                                   arguments->numbers, arguments->numbers_room, arguments->out.bytes,
-                                   arguments->out.length);
-}
-
-static int64_t notification(const struct arguments *arguments) {
-    return journal_notification(arguments->code, arguments->first.bytes, arguments->first.length, arguments->numbers,
-                                arguments->numbers_room, arguments->out.bytes, arguments->out.length);
-}
-
-static int64_t header_eq(const struct arguments *arguments) {
-    return journal_header_eq(arguments->code, arguments->first.bytes, arguments->first.length,
-                             arguments->second.bytes, arguments->second.length, arguments->ignore_payloads);
-}
-
-static int64_t difference(const struct arguments *arguments) {
-    return journal_difference(arguments->code, arguments->first.bytes, arguments->first.length,
-                              arguments->second.bytes, arguments->second.length, arguments->out.bytes,
-                              arguments->out.length);
-}
-
-static int64_t verdict(const struct arguments *arguments) {
-    return journal_verdict(arguments->version, arguments->first.bytes, arguments->first.length,
-                           arguments->second.bytes, arguments->second.length, arguments->ignore_payloads,
-                           arguments->numbers, arguments->numbers_room, arguments->out.bytes, arguments->out.length);
-}
+#include "calls.h"
 
 /* The length of a chunk, by which its kind is checked before it is copied. */
 static int64_t chunk_length(const struct arguments *arguments) {
@@ -99,23 +23,8 @@ static int64_t chunk_length(const struct arguments *arguments) {
 
 /* All functions. Node-API takes a pointer to each as its data, and nothing writes to them. */
 static const struct function FUNCTIONS[] = {
-    {"libraryVersion", library_version, {OUT}},
-    {"schema", schema, {VERSION, CODE}},
-    {"typeName", type_name, {CODE, OUT}},
-    {"typeCode", type_code, {NAME}},
+    CALLS
     {"chunkLength", chunk_length, {CHUNK}},
-    {"next", next, {VERSION, CHUNK, NUMBERS}},
-    {"header", header, {VERSION, CODE, PAYLOAD_LENGTH, OUT}},
-    {"frame", frame, {VERSION, CODE, PAYLOAD, OUT}},
-    {"isWellFormed", is_well_formed, {SCHEMA, PAYLOAD}},
-    {"canonical", canonical, {SCHEMA, PAYLOAD, OUT}},
-    {"merge", merge, {SCHEMA, FIRST, SECOND, OUT}},
-    {"json", json, {SCHEMA, PAYLOAD, OUT}},
-    {"payloadOfJson", payload_of_json, {SCHEMA, JSON, NUMBERS, OUT}},
-    {"notification", notification, {CODE, PAYLOAD, NUMBERS, OUT}},
-    {"headerEq", header_eq, {CODE, FIRST, SECOND, IGNORE_PAYLOADS}},
-    {"difference", difference, {CODE, FIRST, SECOND, OUT}},
-    {"verdict", verdict, {VERSION, RECORDED, REPLAYED, IGNORE_PAYLOADS, NUMBERS, OUT}},
 };
 
 /* The constants of the header that the folder lib takes. */
@@ -125,6 +34,7 @@ static const struct {
 } CONSTANTS[] = {
     {"FIRST_VERSION", JOURNAL_FIRST_VERSION},
     {"LAST_VERSION", JOURNAL_LAST_VERSION},
+    {"UNKNOWN_SCHEMA", JOURNAL_UNKNOWN_SCHEMA},
 };
 
 /* Runs the function that `info` has as its data. */
@@ -148,8 +58,14 @@ static napi_value run(napi_env env, napi_callback_info info) {
         break;
     case THROWN:
         return NULL;
-    case UNKNOWN_NUMBER:
-        returned = JOURNAL_UNKNOWN;
+    case UNKNOWN_VERSION:
+        returned = JOURNAL_UNKNOWN_VERSION;
+        break;
+    case UNKNOWN_SCHEMA:
+        returned = JOURNAL_UNKNOWN_SCHEMA;
+        break;
+    case UNKNOWN_CODE:
+        returned = JOURNAL_UNKNOWN_TYPE;
         break;
     case LENGTH_TOO_LONG:
         returned = JOURNAL_TOO_LONG;

@@ -82,9 +82,12 @@ static enum reading read_number(napi_env env, enum parameter parameter, napi_val
     return succeeded(env, status) ? READ : THROWN;
 }
 
-/* Reads the number of a version, a schema or a code. What is no whole number up to the greatest is that of none. */
+/*
+ * Reads the number of a version, a schema or a code. What is no whole number up to the greatest is that of none, and
+ * `unknown` says of what.
+ */
 static enum reading read_identifier(napi_env env, enum parameter parameter, napi_value value, uint32_t greatest,
-                                    uint32_t *identifier) {
+                                    enum reading unknown, uint32_t *identifier) {
     double number = 0;
     enum reading reading = read_number(env, parameter, value, &number);
 
@@ -93,10 +96,10 @@ static enum reading read_identifier(napi_env env, enum parameter parameter, napi
     }
     /* the comparisons are false for NaN */
     if (!(number >= 0 && number <= greatest)) {
-        return UNKNOWN_NUMBER;
+        return unknown;
     }
     *identifier = (uint32_t)number;
-    return *identifier == number ? READ : UNKNOWN_NUMBER;
+    return *identifier == number ? READ : unknown;
 }
 
 static enum reading read_length(napi_env env, enum parameter parameter, napi_value value, uint32_t *length) {
@@ -197,11 +200,11 @@ static enum reading read_argument(napi_env env, enum parameter parameter, napi_v
 
     switch (parameter) {
     case VERSION:
-        return read_identifier(env, parameter, value, UINT32_MAX, &arguments->version);
+        return read_identifier(env, parameter, value, UINT32_MAX, UNKNOWN_VERSION, &arguments->version);
     case SCHEMA:
-        return read_identifier(env, parameter, value, UINT32_MAX, &arguments->schema);
+        return read_identifier(env, parameter, value, UINT32_MAX, UNKNOWN_SCHEMA, &arguments->schema);
     case CODE:
-        reading = read_identifier(env, parameter, value, UINT16_MAX, &code);
+        reading = read_identifier(env, parameter, value, UINT16_MAX, UNKNOWN_CODE, &code);
         arguments->code = (uint16_t)code;
         return reading;
     case PAYLOAD_LENGTH:

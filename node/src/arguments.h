@@ -63,7 +63,9 @@ enum reading {
     /* One has another kind than it needs; an exception is pending. */
     THROWN,
     /* A number does not fit its parameter: it is that of no version, schema or code. */
-    UNKNOWN_NUMBER,
+    UNKNOWN_VERSION,
+    UNKNOWN_SCHEMA,
+    UNKNOWN_CODE,
     /* A payload's length does not fit a header. */
     LENGTH_TOO_LONG
 };

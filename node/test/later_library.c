@@ -36,7 +36,7 @@ int64_t journal_type_code(const uint8_t *name, size_t name_length) {
 }
 
 /* Eight bytes are an item of the kind that the first of them is. */
-int64_t journal_next(uint32_t version, const uint8_t *bytes, size_t length, uint64_t *item, size_t item_room) {
+int64_t journal_next(uint32_t version, const uint8_t *bytes, size_t length, struct journal_item *item, size_t item_room) {
     (void)version;
     if (item_room < JOURNAL_ITEM_NUMBERS) {
         return JOURNAL_NO_ROOM;
@@ -44,10 +44,10 @@ int64_t journal_next(uint32_t version, const uint8_t *bytes, size_t length, uint
     if (length < 8) {
         return 8 - (int64_t)length;
     }
-    memset(item, 0, JOURNAL_ITEM_NUMBERS * sizeof *item);
-    item[JOURNAL_ITEM_KIND] = bytes[0];
-    item[JOURNAL_ITEM_SIZE] = 8;
-    item[JOURNAL_ITEM_PAYLOAD] = 8;
+    memset(item, 0, sizeof *item);
+    item->kind = bytes[0];
+    item->size = 8;
+    item->payload = 8;
     return 0;
 }
 
@@ -106,19 +106,19 @@ int64_t journal_merge(uint32_t schema, const uint8_t *first, size_t first_length
 }
 
 /* A text of the kind that its first byte is. */
-int64_t journal_payload_of_json(uint32_t schema, const uint8_t *json, size_t json_length, uint64_t *numbers,
-                                size_t numbers_room, uint8_t *out, size_t room) {
+int64_t journal_payload_of_json(uint32_t schema, const uint8_t *json, size_t json_length,
+                                struct journal_reading *reading, size_t reading_room, uint8_t *out, size_t room) {
     (void)schema;
     (void)out;
     (void)room;
-    if (numbers_room < JOURNAL_READ_NUMBERS) {
+    if (reading_room < JOURNAL_READ_NUMBERS) {
         return JOURNAL_NO_ROOM;
     }
     if (json_length == 0) {
         return JOURNAL_TOO_LONG;
     }
-    numbers[JOURNAL_READ_KIND] = json[0];
-    numbers[JOURNAL_READ_OFFSET] = 0;
+    reading->kind = json[0];
+    reading->offset = 0;
     return 0;
 }
 
@@ -132,12 +132,15 @@ int64_t journal_json(uint32_t schema, const uint8_t *payload, size_t payload_len
 }
 
 /* The four numbers are the first bytes of the payload. */
-int64_t journal_notification(uint16_t code, const uint8_t *payload, size_t payload_length, uint64_t *numbers,
-                             size_t numbers_room, uint8_t *out, size_t room) {
+int64_t journal_notification(uint16_t code, const uint8_t *payload, size_t payload_length,
+                             struct journal_notification *notification, size_t notification_room, uint8_t *out,
+                             size_t room) {
+    uint64_t *numbers = (uint64_t *)(void *)notification;
+
     (void)code;
     (void)out;
     (void)room;
-    for (size_t i = 0; i < numbers_room && i < payload_length; i++) {
+    for (size_t i = 0; i < notification_room && i < payload_length; i++) {
         numbers[i] = payload[i];
     }
     return 0;
@@ -168,18 +171,18 @@ int64_t journal_difference(uint16_t code, const uint8_t *first, size_t first_len
 
 /* A verdict of the kind that the recorded journal has as its first byte. */
 int64_t journal_verdict(uint32_t version, const uint8_t *recorded, size_t recorded_length, const uint8_t *replayed,
-                        size_t replayed_length, uint32_t ignore_payloads, uint64_t *numbers, size_t numbers_room,
-                        uint8_t *out, size_t room) {
+                        size_t replayed_length, uint32_t ignore_payloads, struct journal_verdict *verdict,
+                        size_t verdict_room, uint8_t *out, size_t room) {
     (void)version;
     (void)replayed;
     (void)replayed_length;
     (void)ignore_payloads;
     (void)out;
     (void)room;
-    if (numbers_room < JOURNAL_VERDICT_NUMBERS) {
+    if (verdict_room < JOURNAL_VERDICT_NUMBERS) {
         return JOURNAL_NO_ROOM;
     }
-    numbers[JOURNAL_VERDICT_KIND] = recorded_length > 0 ? recorded[0] : JOURNAL_SAME;
-    numbers[JOURNAL_VERDICT_INDEX] = 0;
+    verdict->kind = recorded_length > 0 ? recorded[0] : JOURNAL_SAME;
+    verdict->index = 0;
     return 0;
 }

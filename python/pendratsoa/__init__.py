@@ -14,11 +14,8 @@ the system finds as libpendratsoa.so.0.
 """
 
 from ._calls import (
-    IdKind,
     Notification,
-    ResultKind,
     Verdict,
-    VerdictKind,
     canonical,
     compare_journals,
     difference,
@@ -35,10 +32,10 @@ from ._calls import (
     type_code,
     type_name,
 )
+from ._declared import FIRST_VERSION, LAST_VERSION, IdKind, JsonReason, ResultKind, VerdictKind
 from ._errors import (
     JournalError,
     JsonError,
-    JsonReason,
     Malformed,
     NoId,
     NoResult,
@@ -48,8 +45,8 @@ from ._errors import (
     Unknown,
 )
 from ._items import Item, Message, Skipped, UnknownCode
-from ._protocol import SCHEMA_NAMES
-from ._request import FIRST_VERSION, LAST_VERSION, SCHEMAS, BytesLike, Schema
+from ._protocol import SCHEMA_NAMES, TypeCode
+from ._request import SCHEMAS, BytesLike, Schema
 from ._stream import Stream
 
 __all__ = [
@@ -75,6 +72,7 @@ __all__ = [
     "Skipped",
     "Stream",
     "TooLong",
+    "TypeCode",
     "Unknown",
     "UnknownCode",
     "Verdict",

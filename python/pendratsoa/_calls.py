@@ -3,42 +3,11 @@
 from __future__ import annotations
 
 from dataclasses import dataclass
-from enum import IntEnum
 from typing import Type, TypeVar, Union
 
-from ._errors import JsonReason
+from ._declared import IdKind, JsonReason, ResultKind, VerdictKind
 from ._library import library
 from ._request import BytesLike, NotificationNumbers, ReadNumbers, Request, Schema, VerdictNumbers
-
-
-class IdKind(IntEnum):
-    """The kinds of a notification's id."""
-
-    COMPLETION_ID = 0
-    SIGNAL_ID = 1
-    SIGNAL_NAME = 2
-
-
-class ResultKind(IntEnum):
-    """The kinds of a notification's result."""
-
-    VOID = 0
-    VALUE = 1
-    FAILURE = 2
-    INVOCATION_ID = 3
-    STATE_KEYS = 4
-
-
-class VerdictKind(IntEnum):
-    """How two journals compare."""
-
-    SAME = 0
-    RECORDED_ENDED = 1
-    REPLAYED_ENDED = 2
-    TYPE_MISMATCH = 3
-    HEADER_MISMATCH = 4
-    BAD_RECORDED = 5
-    BAD_REPLAYED = 6
 
 
 @dataclass(frozen=True)

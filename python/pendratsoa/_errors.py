@@ -2,8 +2,10 @@
 
 from __future__ import annotations
 
-from enum import IntEnum
-from typing import Dict, Optional, Type
+from typing import Dict, Optional, Tuple, Type
+
+from . import _declared
+from ._declared import JsonReason
 
 
 class JournalError(Exception):
@@ -50,19 +52,6 @@ class NoResult(JournalError, ValueError):
     """A notification has an id, and no result."""
 
 
-class JsonReason(IntEnum):
-    """Why a JSON text is rejected."""
-
-    NOT_JSON = 1
-    UNKNOWN_MEMBER = 2
-    REPEATED_MEMBER = 3
-    SEVERAL_MEMBERS = 4
-    WRONG_KIND = 5
-    OUT_OF_RANGE = 6
-    NOT_BASE64 = 7
-    TOO_DEEP = 8
-
-
 class JsonError(JournalError, ValueError):
     """A JSON text means no value of its schema.
 
@@ -86,13 +75,10 @@ class JsonError(JournalError, ValueError):
         self.path = path
 
 
-# the error of each negative number that the library returns
-ERRORS: Dict[int, Type[JournalError]] = {
-    -1: Malformed,
-    -2: OutOfMemory,
-    -3: NoRoom,
-    -4: TooLong,
-    -5: Unknown,
-    -6: NoId,
-    -7: NoResult,
+_KINDS = (Malformed, OutOfMemory, NoRoom, TooLong, Unknown, NoId, NoResult)
+
+# the error of each negative number that the library returns, and the names of the arguments one of which it is about
+ERRORS: Dict[int, Tuple[Type[JournalError], Tuple[str, ...]]] = {
+    number: (next(kind for kind in _KINDS if kind.__name__ == name), arguments)
+    for number, (name, arguments) in _declared.ERRORS.items()
 }

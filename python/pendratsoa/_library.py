@@ -5,33 +5,18 @@ from __future__ import annotations
 import ctypes
 import os
 import pathlib
+from typing import Any, Dict, List
+
+from ._declared import CALLS
 
 # the library that is installed with this package, and the name by which the system finds another
 BUNDLED = pathlib.Path(__file__).with_name("libpendratsoa.so")
 SONAME = "libpendratsoa.so.0"
 
-_U16 = [ctypes.c_uint16]
-_U32 = [ctypes.c_uint32]
-_SLICE = [ctypes.c_void_p, ctypes.c_size_t]
+# what each word of a call's parameters is for ctypes
+_TYPES: Dict[str, List[Any]] = {"u16": [ctypes.c_uint16], "u32": [ctypes.c_uint32], "slice": [ctypes.c_void_p, ctypes.c_size_t]}
 
-PARAMETERS = {
-    "journal_library_version": _SLICE,
-    "journal_schema": _U32 + _U16,
-    "journal_type_name": _U16 + _SLICE,
-    "journal_type_code": _SLICE,
-    "journal_next": _U32 + _SLICE + _SLICE,
-    "journal_header": _U32 + _U16 + _U32 + _SLICE,
-    "journal_frame": _U32 + _U16 + _SLICE + _SLICE,
-    "journal_is_well_formed": _U32 + _SLICE,
-    "journal_canonical": _U32 + _SLICE + _SLICE,
-    "journal_merge": _U32 + _SLICE + _SLICE + _SLICE,
-    "journal_json": _U32 + _SLICE + _SLICE,
-    "journal_payload_of_json": _U32 + _SLICE + _SLICE + _SLICE,
-    "journal_notification": _U16 + _SLICE + _SLICE + _SLICE,
-    "journal_header_eq": _U16 + _SLICE + _SLICE + _U32,
-    "journal_difference": _U16 + _SLICE + _SLICE + _SLICE,
-    "journal_verdict": _U32 + _SLICE + _SLICE + _U32 + _SLICE + _SLICE,
-}
+PARAMETERS = {name: [type_ for word in words for type_ in _TYPES[word]] for name, words in CALLS.items()}
 
 
 def find() -> str:

@@ -7,11 +7,11 @@ import functools
 import operator
 from typing import Any, Callable, Optional, SupportsIndex, Tuple, Type, Union, cast
 
+from ._declared import ITEM_NUMBERS, NOTIFICATION_NUMBERS, READ_NUMBERS, VERDICT_NUMBERS, JsonReason
 from ._errors import (
     ERRORS,
     JournalError,
     JsonError,
-    JsonReason,
     Malformed,
     NoId,
     NoResult,
@@ -20,7 +20,6 @@ from ._errors import (
     TooLong,
     Unknown,
 )
-from ._library import library
 from ._protocol import SCHEMA_NAMES
 
 BytesLike = Union[bytes, bytearray, memoryview]
@@ -28,8 +27,6 @@ BytesLike = Union[bytes, bytearray, memoryview]
 # a schema, by its number or by the name of its record, as "SleepCommandMessage"
 Schema = Union[int, str]
 
-FIRST_VERSION = 5
-LAST_VERSION = 9
 SCHEMAS = len(SCHEMA_NAMES)
 
 # what is wrong: with a payload, which comes before these words, or with the call
@@ -40,6 +37,7 @@ TEXTS = {
     NoRoom: "a slice for numbers was too short",
     OutOfMemory: "an allocation failed",
     TooLong: "the result would have more than 4,294,967,295 bytes",
+    Unknown: "the library does not know an argument",
 }
 
 # why a JSON text is rejected
@@ -59,10 +57,10 @@ U16_END = 1 << 16
 U32_END = 1 << 32
 
 # the numbers that calls write
-ItemNumbers = ctypes.c_uint64 * 6
-ReadNumbers = ctypes.c_uint64 * 2
-NotificationNumbers = ctypes.c_uint64 * 4
-VerdictNumbers = ctypes.c_uint64 * 2
+ItemNumbers = ctypes.c_uint64 * ITEM_NUMBERS
+ReadNumbers = ctypes.c_uint64 * READ_NUMBERS
+NotificationNumbers = ctypes.c_uint64 * NOTIFICATION_NUMBERS
+VerdictNumbers = ctypes.c_uint64 * VERDICT_NUMBERS
 
 
 def shown(value: object) -> str:
@@ -206,14 +204,14 @@ class Request:
 
     def _refused(self, number: int) -> JournalError:
         """The error of a negative number. A later library may have further ones."""
-        kind = ERRORS.get(number)
-        if kind is None:
+        if number not in ERRORS:
             return self.unexpected(str(number))
-        if kind is Unknown:
-            return self._unknown(self._unknown_argument())
-        if kind not in (Malformed, NoId, NoResult):
+        kind, arguments = ERRORS[number]
+        argument = next((name for name in arguments if name in self.arguments), None)
+        if argument is None:
             return self.error(kind, TEXTS[kind])
-        argument = self._malformed_argument() if kind is Malformed else "payload"
+        if kind is Unknown:
+            return self._unknown(argument)
         return self.error(kind, f"{argument} {shown(self.arguments[argument])} {TEXTS[kind]}", argument)
 
     def _unknown(self, argument: str) -> JournalError:
@@ -222,26 +220,6 @@ class Request:
             return self.error(Unknown, f"code {value} is not that of {self.kind}", argument)
         what = "type with the name" if argument == "name" else argument
         return self.error(Unknown, f"there is no {what} {value}", argument)
-
-    def _unknown_argument(self) -> str:
-        """Which argument the library does not know."""
-        if "version" in self.arguments and not is_version(self.version()):
-            return "version"
-        return next(name for name in ("code", "schema", "name", "version") if name in self.arguments)
-
-    def _malformed_argument(self) -> str:
-        """Which payload is malformed."""
-        if "payload" in self.arguments:
-            return "payload"
-        schema = self.schema() if "schema" in self.arguments else library.journal_schema(LAST_VERSION, self.code(""))
-        is_first = library.journal_is_well_formed(schema, *self.data("first")) == 0
-        return "first" if is_first else "second"
-
-
-def is_version(number: int) -> bool:
-    """Whether the library knows a version."""
-    numbers = ItemNumbers()
-    return int(library.journal_next(number, None, 0, numbers, len(numbers))) >= 0
 
 
 @functools.lru_cache(maxsize=None)

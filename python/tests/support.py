@@ -34,10 +34,10 @@ def types():
             yield int(code, 16), name
 
 
-def defined(pattern):
+def defined(pattern, base=10):
     """The constants of the header whose values look so, by their names without JOURNAL_."""
     found = re.findall(rf"^#define JOURNAL_(\w+) \(?({pattern})\)?(?: |$)", HEADER, re.M)
-    return {name: int(number) for name, number in found}
+    return {name: int(number, base) for name, number in found}
 
 
 def replaced(function, with_what):

@@ -6,13 +6,19 @@ import unittest
 
 import pendratsoa
 from pendratsoa import IdKind, JsonReason, ResultKind, VerdictKind, _errors, _library
-from support import HEADER, TOP, defined
+from support import HEADER, TOP, defined, types
 
 
 class TestConstants(unittest.TestCase):
     def test_errors(self):
-        names = {number: name.replace("_", "").lower() for name, number in defined(r"-\d+").items()}
-        self.assertEqual(names, {number: error.__name__.lower() for number, error in _errors.ERRORS.items()})
+        numbers = defined(r"-\d+")
+        # no call returns the kind of what is unknown by itself
+        unknown = numbers.pop("UNKNOWN")
+        kinds = {number: name.replace("_", "").lower() for name, number in numbers.items() if number > -16}
+        kinds[unknown] = "unknown"
+        self.assertEqual(sorted(numbers.values()), sorted(_errors.ERRORS))
+        for number, (error, _) in _errors.ERRORS.items():
+            self.assertEqual(kinds[-(-number % 16)], error.__name__.lower())
 
     def test_kinds(self):
         numbers = defined(r"\d+")
@@ -26,6 +32,13 @@ class TestConstants(unittest.TestCase):
         self.assertEqual(numbers["SCHEMAS"], pendratsoa.SCHEMAS)
         self.assertEqual(numbers["SCHEMAS"], len(pendratsoa.SCHEMA_NAMES))
         self.assertRaises(pendratsoa.Unknown, pendratsoa.is_well_formed, pendratsoa.SCHEMAS, b"")
+
+    def test_types(self):
+        listed = {name: code for code, name in types()}
+        self.assertEqual(len(listed), len(pendratsoa.TypeCode))
+        for code in pendratsoa.TypeCode:
+            self.assertEqual(listed[pendratsoa.type_name(code)], code)
+            self.assertEqual(defined("0x[0-9A-F]+", 16)[code.name], code)
 
     def test_calls(self):
         self.assertEqual(re.findall(r"^int64_t (journal_\w+)\(", HEADER, re.M), list(_library.PARAMETERS))

@@ -2,6 +2,7 @@
 
 require_relative "pendratsoa/version"
 require_relative "pendratsoa/protocol"
+require_relative "pendratsoa/declared"
 require_relative "pendratsoa/errors"
 require_relative "pendratsoa/library"
 require_relative "pendratsoa/shown"

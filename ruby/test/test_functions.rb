@@ -11,9 +11,13 @@ class TestConstants < Minitest::Test
 
   def test_errors_are_those_of_the_header
     errors = Pendratsoa.send(:const_get, :ERRORS)
-    names = errors.transform_values { |kind| kind.name.delete_prefix("Pendratsoa::").upcase }.invert
-    defined_errors = defined_numbers.select { |_, number| number.negative? }
-    assert_equal defined_errors.transform_keys { |name| name.delete("_") }, names
+    numbers = defined_numbers.select { |_, number| number.negative? }
+    kinds = numbers.select { |_, number| number > -16 }.invert
+    # no call returns the kind of what is unknown by itself
+    assert_equal numbers.reject { |name, _| name == "UNKNOWN" }.values.sort, errors.keys.sort
+    errors.each do |number, (kind, _)|
+      assert_equal kinds[number.remainder(16)].delete("_"), kind.to_s.upcase
+    end
   end
 
   def test_kinds_are_those_of_the_header
@@ -31,6 +35,13 @@ class TestConstants < Minitest::Test
     %w[FIRST_VERSION LAST_VERSION SCHEMAS].each do |name|
       assert_equal defined_numbers[name], Pendratsoa.const_get(name)
     end
+  end
+
+  def test_types_are_those_of_the_header
+    codes = HEADER.scan(/^#define JOURNAL_(\w+) 0x(\h+)$/).to_h { |name, digits| [name.to_sym, digits.hex] }
+    names = Pendratsoa.constants.grep(/\ACODE_/)
+    assert_equal codes, names.to_h { |name| [name.to_s.delete_prefix("CODE_").to_sym, Pendratsoa.const_get(name)] }
+    codes.each_value { |code| assert_equal code, Pendratsoa.type_code(Pendratsoa.type_name(code)) }
   end
 
   def test_functions_are_those_of_the_header

@@ -1,9 +1,7 @@
 //! The calls that take numbers, names and payloads.
 
 use crate::error::{Argument, Error};
-use crate::ffi::{self, Refusal};
-use crate::item::next_item;
-use crate::LAST_VERSION;
+use crate::ffi::{self, About, Refusal};
 
 /// The version of the library, as `0.1.0`.
 ///
@@ -13,8 +11,8 @@ use crate::LAST_VERSION;
 /// ```
 pub fn library_version() -> Result<String, Error> {
     // it takes nothing that could be unknown or malformed
-    let version = ffi::library_version()
-        .map_err(|refusal| Error::of(refusal, || Argument::Payload(0), || Argument::Payload(0)))?;
+    let version =
+        ffi::library_version().map_err(|refusal| Error::of(refusal, |_| Argument::Payload(0)))?;
     text(version)
 }
 
@@ -45,8 +43,8 @@ pub fn schema(version: u32, code: u16) -> Result<u32, Error> {
 /// # Ok::<(), pendratsoa::Error>(())
 /// ```
 pub fn type_name(code: u16) -> Result<String, Error> {
-    let name = ffi::type_name(code)
-        .map_err(|refusal| Error::of(refusal, || Argument::Code(code), || Argument::Code(code)))?;
+    let name =
+        ffi::type_name(code).map_err(|refusal| Error::of(refusal, |_| Argument::Code(code)))?;
     text(name)
 }
 
@@ -57,9 +55,8 @@ pub fn type_name(code: u16) -> Result<String, Error> {
 /// # Ok::<(), pendratsoa::Error>(())
 /// ```
 pub fn type_code(name: &str) -> Result<u16, Error> {
-    let argument = || Argument::Name(name.to_owned());
     let code = ffi::type_code(name.as_bytes())
-        .map_err(|refusal| Error::of(refusal, argument, argument))?;
+        .map_err(|refusal| Error::of(refusal, |_| Argument::Name(name.to_owned())))?;
     u16::try_from(code).map_err(|_| Error::unexpected("the code", code))
 }
 
@@ -144,11 +141,11 @@ pub fn canonical(schema: u32, payload: &[u8]) -> Result<Vec<u8>, Error> {
 /// ```
 pub fn merge(schema: u32, first: &[u8], second: &[u8]) -> Result<Vec<u8>, Error> {
     ffi::merge(schema, first, second).map_err(|refusal| {
-        Error::of(
-            refusal,
-            || Argument::Schema(schema),
-            || malformed(schema, first, second),
-        )
+        Error::of(refusal, |about| match about {
+            About::Schema => Argument::Schema(schema),
+            About::Second => Argument::Second(second.len()),
+            _ => Argument::First(first.len()),
+        })
     })
 }
 
@@ -233,35 +230,26 @@ fn truth(number: usize) -> Result<bool, Error> {
 
 /// The error of a call that takes a version, a code and a payload of a length.
 fn of_type(refusal: Refusal, version: u32, code: u16, length: usize) -> Error {
-    let unknown = || match next_item(version, &[]) {
-        Err(Error::Unknown(argument)) => argument,
-        _ => Argument::Code(code),
-    };
-    Error::of(refusal, unknown, || Argument::Payload(length))
+    Error::of(refusal, |about| match about {
+        About::Version => Argument::Version(version),
+        About::Type => Argument::Code(code),
+        _ => Argument::Payload(length),
+    })
 }
 
 /// The error of a call that takes a schema and a payload.
 fn of_payload(refusal: Refusal, schema: u32, payload: &[u8]) -> Error {
-    Error::of(
-        refusal,
-        || Argument::Schema(schema),
-        || Argument::Payload(payload.len()),
-    )
+    Error::of(refusal, |about| match about {
+        About::Schema => Argument::Schema(schema),
+        _ => Argument::Payload(payload.len()),
+    })
 }
 
 /// The error of a call that takes a code and two commands.
 fn of_commands(refusal: Refusal, code: u16, first: &[u8], second: &[u8]) -> Error {
-    let malformed = || match schema(LAST_VERSION, code) {
-        Ok(schema) => malformed(schema, first, second),
-        Err(_) => Argument::First(first.len()),
-    };
-    Error::of(refusal, || Argument::Code(code), malformed)
-}
-
-/// The one of two payloads that is not well-formed, the first if both are not.
-fn malformed(schema: u32, first: &[u8], second: &[u8]) -> Argument {
-    match is_well_formed(schema, first) {
-        Ok(true) => Argument::Second(second.len()),
+    Error::of(refusal, |about| match about {
+        About::Type => Argument::Code(code),
+        About::Second => Argument::Second(second.len()),
         _ => Argument::First(first.len()),
-    }
+    })
 }

@@ -3,7 +3,7 @@
 use std::error;
 use std::fmt;
 
-use crate::ffi::Refusal;
+use crate::ffi::{About, Refusal};
 use crate::reading::JsonError;
 
 /// Why a call fails, and which of its arguments is the reason.
@@ -55,20 +55,16 @@ pub enum Argument {
 }
 
 impl Error {
-    /// The error for an error number, by what can be unknown, and what can be malformed.
-    pub(crate) fn of(
-        refusal: Refusal,
-        unknown: impl FnOnce() -> Argument,
-        malformed: impl FnOnce() -> Argument,
-    ) -> Error {
+    /// The error for an error number, by the argument that it can be about.
+    pub(crate) fn of(refusal: Refusal, argument: impl FnOnce(About) -> Argument) -> Error {
         match refusal {
-            Refusal::Malformed => Error::Malformed(malformed()),
+            Refusal::Malformed(about) => Error::Malformed(argument(about)),
             Refusal::OutOfMemory => Error::OutOfMemory,
             Refusal::NoRoom => Error::NoRoom,
-            Refusal::TooLong => Error::TooLong(malformed()),
-            Refusal::Unknown => Error::Unknown(unknown()),
-            Refusal::NoId => Error::NoId(malformed()),
-            Refusal::NoResult => Error::NoResult(malformed()),
+            Refusal::TooLong => Error::TooLong(argument(About::Payload)),
+            Refusal::Unknown(about) => Error::Unknown(argument(about)),
+            Refusal::NoId => Error::NoId(argument(About::Payload)),
+            Refusal::NoResult => Error::NoResult(argument(About::Payload)),
             Refusal::Unlisted(number) => Error::unexpected("the error", number),
         }
     }
@@ -204,21 +200,25 @@ mod tests {
     #[test]
     fn each_refusal_is_an_error() {
         use Refusal::*;
-        let (code, payload) = (Argument::Code(7), Argument::Payload(9));
+        let (code, payload, second) =
+            (Argument::Code(7), Argument::Payload(9), Argument::Second(2));
         for (refusal, error) in [
-            (Malformed, Error::Malformed(payload.clone())),
+            (Malformed(About::Payload), Error::Malformed(payload.clone())),
+            (Malformed(About::Second), Error::Malformed(second.clone())),
             (OutOfMemory, Error::OutOfMemory),
             (NoRoom, Error::NoRoom),
             (TooLong, Error::TooLong(payload.clone())),
-            (Unknown, Error::Unknown(code.clone())),
+            (Unknown(About::Type), Error::Unknown(code.clone())),
             (NoId, Error::NoId(payload.clone())),
             (NoResult, Error::NoResult(payload.clone())),
             (Unlisted(-12), Error::Unexpected("the error -12".to_owned())),
         ] {
-            assert_eq!(
-                Error::of(refusal, || code.clone(), || payload.clone()),
-                error
-            );
+            let found = Error::of(refusal, |about| match about {
+                About::Second => second.clone(),
+                About::Payload => payload.clone(),
+                _ => code.clone(),
+            });
+            assert_eq!(found, error);
         }
     }
 }

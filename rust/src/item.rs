@@ -2,14 +2,10 @@
 
 use crate::calls::{canonical, frame, header, schema, to_json, type_name};
 use crate::error::{narrowed, Argument, Error};
-use crate::ffi;
+use crate::ffi::{self, MESSAGE, SKIPPED, UNKNOWN_CODE};
 use crate::message_type::MessageType;
 use crate::notification::{notification, Notification};
 use crate::reading::payload;
-
-const MESSAGE: u64 = 0;
-const UNKNOWN_CODE: u64 = 1;
-const SKIPPED: u64 = 2;
 
 /// An item of a stream. It borrows the bytes of the stream, and copies none.
 #[derive(Clone, Copy, Debug, PartialEq, Eq, Hash)]
@@ -207,10 +203,8 @@ pub enum Next<'a> {
 /// ```
 pub fn next_item(version: u32, bytes: &[u8]) -> Result<Next<'_>, Error> {
     let mut numbers = [0; 6];
-    let missing = ffi::next(version, bytes, &mut numbers).map_err(|refusal| {
-        let unknown = || Argument::Version(version);
-        Error::of(refusal, unknown, || Argument::Payload(bytes.len()))
-    })?;
+    let missing = ffi::next(version, bytes, &mut numbers)
+        .map_err(|refusal| Error::of(refusal, |_| Argument::Version(version)))?;
     if missing > 0 {
         return Ok(Next::Missing(missing));
     }

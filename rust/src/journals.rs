@@ -68,15 +68,8 @@ pub fn compare_journals(
     ignore_payloads: bool,
 ) -> Result<Verdict, Error> {
     let mut numbers = [0; 2];
-    let bytes = ffi::verdict(version, recorded, replayed, ignore_payloads, &mut numbers).map_err(
-        |refusal| {
-            Error::of(
-                refusal,
-                || Argument::Version(version),
-                || Argument::First(recorded.len()),
-            )
-        },
-    )?;
+    let bytes = ffi::verdict(version, recorded, replayed, ignore_payloads, &mut numbers)
+        .map_err(|refusal| Error::of(refusal, |_| Argument::Version(version)))?;
     verdict_of(numbers, bytes)
 }
 

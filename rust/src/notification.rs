@@ -2,17 +2,9 @@
 
 use crate::calls::text;
 use crate::error::{narrowed, Argument, Error};
-use crate::ffi;
-
-const COMPLETION_ID: u64 = 0;
-const SIGNAL_ID: u64 = 1;
-const SIGNAL_NAME: u64 = 2;
-
-const VOID: u64 = 0;
-const VALUE: u64 = 1;
-const FAILURE: u64 = 2;
-const INVOCATION_ID: u64 = 3;
-const STATE_KEYS: u64 = 4;
+use crate::ffi::{self, About};
+use crate::ffi::{COMPLETION_ID, SIGNAL_ID, SIGNAL_NAME};
+use crate::ffi::{FAILURE, INVOCATION_ID, STATE_KEYS, VALUE, VOID};
 
 /// The id and the result of a notification.
 #[derive(Clone, Debug, PartialEq, Eq, Hash)]
@@ -68,11 +60,10 @@ pub enum NotificationResult {
 pub fn notification(code: u16, payload: &[u8]) -> Result<Notification, Error> {
     let mut numbers = [0; 4];
     let bytes = ffi::notification(code, payload, &mut numbers).map_err(|refusal| {
-        Error::of(
-            refusal,
-            || Argument::Code(code),
-            || Argument::Payload(payload.len()),
-        )
+        Error::of(refusal, |about| match about {
+            About::Type => Argument::Code(code),
+            _ => Argument::Payload(payload.len()),
+        })
     })?;
     notification_of(numbers, bytes)
 }

@@ -4,7 +4,7 @@ use std::fmt;
 
 use crate::calls::text;
 use crate::error::{narrowed, Argument, Error};
-use crate::ffi;
+use crate::ffi::{self, About, READ};
 
 /// Why a JSON text is rejected, and where.
 #[derive(Clone, Debug, PartialEq, Eq, Hash)]
@@ -40,9 +40,6 @@ pub enum JsonReason {
     TooDeep,
 }
 
-/// The number of a text that is accepted.
-const READ: u64 = 0;
-
 /// The reasons, each at its number, after the number of a text that is accepted.
 const REASONS: [JsonReason; 8] = [
     JsonReason::NotJson,
@@ -77,11 +74,10 @@ pub fn payload(schema: u32, json: impl AsRef<[u8]>) -> Result<Vec<u8>, Error> {
     let json = json.as_ref();
     let mut numbers = [0; 2];
     let bytes = ffi::payload_of_json(schema, json, &mut numbers).map_err(|refusal| {
-        Error::of(
-            refusal,
-            || Argument::Schema(schema),
-            || Argument::Json(json.len()),
-        )
+        Error::of(refusal, |about| match about {
+            About::Schema => Argument::Schema(schema),
+            _ => Argument::Json(json.len()),
+        })
     })?;
     payload_of(numbers, bytes)
 }

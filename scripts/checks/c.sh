@@ -67,8 +67,8 @@ if command -v pkg-config > /dev/null && command -v cmake > /dev/null && command 
 else
   without 'cmake with docs/C.md' 'cmake, make or pkg-config'
 fi
-sed -n 's/^#define \(JOURNAL_[A-Z_]*\) (\(-[0-9]\)).*/\2 \1/p' include/pendratsoa.h > "$work/wanted"
-sed -n 's/^| \(-[0-9]\) | `\(JOURNAL_[A-Z_]*\)` .*/\1 \2/p' docs/C.md > "$work/out"
+sed -n 's/^#define \(JOURNAL_[A-Z_]*\) (\(-[0-9]*\)).*/\2 \1/p' include/pendratsoa.h > "$work/wanted"
+sed -n 's/^| \(-[0-9]*\) | `\(JOURNAL_[A-Z_]*\)` .*/\1 \2/p' docs/C.md > "$work/out"
 same 'the refusals of docs/C.md' "$work/wanted" "$work/out"
 
 constants

@@ -34,7 +34,7 @@ constants() {
   $emulator "$work/constants" > "$out" 2> "$err"
   outcome 'the constants of the header' $?
   sort -u "$out" > "$work/names"
-  sed -n 's/^#define \(JOURNAL_[A-Z0-9_]*\) .*/\1/p' include/pendratsoa.h | sort > "$work/wanted"
+  sed -n 's/^#define \(JOURNAL_[A-Z0-9_]*\)[ (].*/\1/p' include/pendratsoa.h | sort > "$work/wanted"
   same 'the constants that tests/c/constants.c reads' "$work/wanted" "$work/names"
 }
 

@@ -26,7 +26,7 @@ import crates  # noqa: E402
 import tally  # noqa: E402
 
 # The programs that are installed.
-PROGRAMS = ("journal_list", "journal_diff", "journal_dump", "journal_make")
+PROGRAMS = ("journal", "journal_list", *crates.LINKS)
 
 # How much of a text is shown where a case failed.
 LINES = 20
@@ -179,15 +179,16 @@ class Check:
 
     def program(self, name: str) -> pathlib.Path:
         """The proved program of this name; where there is none, or it is older than a source, the check ends."""
+        crate = crates.crate_of(name)
         place = program_path(name)
         shown = place.relative_to(ROOT)
         if not os.access(place, os.X_OK):
             why = f"there is no {shown}"
-        elif not crates.is_up_to_date(place, name):
+        elif not crates.is_up_to_date(place, crate):
             why = f"{shown} is older than a source"
         else:
             return place
-        raise NotRun(f"{why}; sh scripts/run.sh --proved {name.removeprefix('journal_')} builds it")
+        raise NotRun(f"{why}; sh scripts/run.sh --proved {crate} builds it")
 
     def static_library(self) -> None:
         """Builds the proved static library for C where it is not there; where it cannot be built the check ends."""
@@ -203,8 +204,12 @@ class Check:
 
 
 def program_path(name: str) -> pathlib.Path:
-    """Where rt ci or scripts/run.sh --proved leaves a program."""
-    return ROOT / "crates" / name / "out" / name
+    """Where rt ci or scripts/run.sh --proved leaves a program, or a link of this name, which is made beside it."""
+    crate = crates.crate_of(name)
+    place = ROOT / "crates" / crate / "out" / name
+    if name != crate and place.parent.exists() and not place.is_symlink():
+        place.symlink_to(crate)
+    return place
 
 
 def python_with_protobuf() -> str:

@@ -151,7 +151,7 @@ def main(check: checks.Check) -> None:
         check.case(f"the fields of {journals}", is_right, run)
     # a value that has ' != ' itself
     run = diff.run("--color always unequal key")
-    is_plain = run.out.endswith(b"\n   key: 'a != b' != 'c'\n")
+    is_plain = run.status == 1 and run.out.endswith(b"\n   key: 'a != b' != 'c'\n")
     check.case("no colors in a line of two values that cannot be told apart", is_plain, run)
 
 

@@ -8,7 +8,7 @@ set -u
 cd "$(dirname "$0")/../.." || exit 1
 . scripts/checks/lib.sh
 
-command -v python3 > /dev/null || not_run 'there is no python3'
+python3 -c 'import tomllib' 2> /dev/null || not_run 'there is no Python 3.11, which reads TOML'
 stage python3 tools/generate.py --check
 
 # man and mandoc find nothing wrong with the man pages

@@ -12,6 +12,7 @@ import pathlib
 import re
 
 import checks
+import crates
 import list_stream
 
 STREAMS = checks.ROOT / "examples" / "streams"
@@ -25,6 +26,9 @@ PRINTS = (
     (("journal_list", "-", "3", "--protocol", "7"), STREAMS / "replay.stdout"),
     (("journal_dump", STREAMS / "replay"), STREAMS / "replay.dump"),
     (("journal_make", STREAMS / "replay.dump"), STREAMS / "replay"),
+    (("journal", "dump"), STREAMS / "replay.dump"),
+    (("journal", "make", STREAMS / "replay.dump"), STREAMS / "replay"),
+    (("journal", "diff", STREAMS / "recorded", STREAMS / "recorded"), "same, 4 commands\n"),
     *(((name, "--version"), f"{name} {checks.library_version()}\n") for name in checks.PROGRAMS),
 )
 
@@ -38,6 +42,7 @@ ERRORS = (
     (("journal_dump", "."), "journal_dump: .: is a directory"),
     (("journal_diff", "-", "./nothing"), f"journal_diff: {NO_FILE}"),
     (("journal_diff", ".", "-"), "journal_diff: .: is a directory"),
+    (("journal", "dump", "./nothing"), f"journal dump: {NO_FILE}"),
 )
 
 # What bash makes of the last word, with the completion of a program: the folder of the files, then the words.
@@ -89,6 +94,10 @@ class Installation:
                 ended = checks.run(["man", "--warnings", name], env=env)
                 is_right = ended.status == 0 and not ended.err and name.encode() in ended.out
                 self.check.case(f"man {name}", is_right, ended)
+            for name in crates.LINKS:
+                words = name.split("_")
+                pages_of = [checks.run(["man", *each], env=env) for each in ([name], words)]
+                self.check.case(f"man {' '.join(words)}", pages_of[0] == pages_of[1], pages_of[1])
         if self.check.has("mandoc", "the man pages by mandoc"):
             files = [*sorted((pages / "man1").glob("*.1")), pages / "man3" / "pendratsoa.3"]
             self.check.command("mandoc -T lint", ["mandoc", "-T", "lint", *files])
@@ -102,12 +111,18 @@ class Installation:
         """Completion in bash: the options are those that the program's help lists."""
         if not self.check.has("bash", "completion in bash"):
             return
-        for name in checks.PROGRAMS:
-            text = checks.run([self.prefix / "bin" / name, "--help"]).out.decode()
+        by_word = [name.split("_") for name in crates.LINKS]
+        for words in (*([name] for name in checks.PROGRAMS), *by_word):
+            name = " ".join(words)
+            text = checks.run([self.prefix / "bin" / words[0], *words[1:], "--help"]).out.decode()
             options = sorted(set(re.findall("--[a-z-]+", text)))
-            self.check.same(f"the options of {name} in bash", options, self.completed(name, "--"))
-            versions = [str(version) for version in range(5, 10)]
-            self.check.same(f"the versions of {name} in bash", versions, self.completed(name, "--protocol", ""))
+            self.check.same(f"the options of {name} in bash", options, self.completed(*words, "--"))
+            if name != "journal":
+                versions = [str(version) for version in range(5, 10)]
+                self.check.same(f"the versions of {name} in bash", versions, self.completed(*words, "--protocol", ""))
+        names = sorted(words[1] for words in by_word)
+        self.check.same("the subcommands of journal help in bash", names, self.completed("journal", "help", ""))
+        self.check.same("a subcommand of journal in bash", ["dump"], self.completed("journal", "du"))
         types = sorted(list_stream.type_names().values())
         self.check.same("the types of journal_dump in bash", types, self.completed("journal_dump", "--type", ""))
         found = self.completed("journal_dump", "--type", "Inp")
@@ -120,9 +135,10 @@ class Installation:
         folder = self.prefix / "share" / "zsh" / "site-functions"
         env = {**os.environ, "HOME": str(self.check.work)}
         for name in checks.PROGRAMS:
+            crate = crates.crate_of(name)
             found = checks.run(["zsh", "-f", "-c", ZSH, "zsh", folder, name], env=env).out.decode()
-            self.check.same(f"zsh finds the completion of {name}", f"_{name}\n", found)
-            self.check.command(f"the completion of {name} for zsh", ["zsh", "-n", folder / f"_{name}"])
+            self.check.same(f"zsh finds the completion of {name}", f"_{crate}\n", found)
+            self.check.command(f"the completion of {name} for zsh", ["zsh", "-n", folder / f"_{crate}"])
 
     def below_destdir(self, names: list[str]) -> None:
         """Below DESTDIR there is the same, and pkg-config's file has the place where it will be."""

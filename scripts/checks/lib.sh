@@ -118,21 +118,24 @@ installed_library() {
   export PKG_CONFIG_PATH PENDRATSOA_LIBRARY LD_LIBRARY_PATH
 }
 
-# program_of CRATE: $program is the proved program of a crate, which rt ci or scripts/run.sh --proved leaves in out/;
-# where there is none, or a source is newer, $program is empty and $why says so
+# program_of NAME: $program is a proved program, which rt ci or scripts/run.sh --proved leaves in out/ of its crate, or
+# a link of this name to it; where there is none, or a source is newer, $program is empty and $why says so
 program_of() {
   . scripts/up_to_date.sh
-  program=$PWD/crates/$1/out/$1
+  crate=$(crate_of "$1")
+  built=crates/$crate/out/$crate
+  program=
   why=
-  if [ ! -x "$program" ]; then
-    why="there is no crates/$1/out/$1"
-  elif ! is_up_to_date "$program" "$1"; then
-    why="crates/$1/out/$1 is older than a source"
+  if [ ! -x "$built" ]; then
+    why="there is no $built"
+  elif ! is_up_to_date "$built" "$crate"; then
+    why="$built is older than a source"
+  else
+    mkdir -p "$work/programs"
+    program=$work/programs/$1
+    ln -sfn "$PWD/$built" "$program"
   fi
-  if [ -n "$why" ]; then
-    program=
-    why="$why; sh scripts/run.sh --proved ${1#journal_} builds it"
-  fi
+  [ -z "$why" ] || why="$why; sh scripts/run.sh --proved $crate builds it"
 }
 
 # said STATUS [LINE]: the run ended with this status, and printed this line, or nothing, on the standard error
@@ -140,198 +143,6 @@ said() {
   : > "$work/line"
   [ $# -eq 1 ] || printf '%s\n' "$2" > "$work/line"
   [ "$status" -eq "$1" ] && cmp -s "$err" "$work/line"
-}
-
-# ended NAME STATUS FILE [LINE]: counts a run, which passed where it ended so, and printed what the file holds
-ended() {
-  name=$1
-  listing=$3
-  said "$2" ${4:+"$4"} && cmp -s "$out" "$listing"
-  outcome "$name" $?
-}
-
-# printed FILE: how much of it the run printed: nothing, all, or a beginning, of whole lines or not; or other bytes
-printed() {
-  size=$(($(wc -c < "$out")))
-  head -c "$size" "$1" > "$work/beginning"
-  if ! cmp -s "$out" "$work/beginning"; then
-    echo other
-  elif [ "$size" -eq 0 ]; then
-    echo nothing
-  elif [ "$size" -eq "$(wc -c < "$1")" ]; then
-    echo all
-  elif [ "$(tail -c 1 "$out" | wc -l)" -eq 1 ]; then
-    echo lines
-  else
-    echo part
-  fi
-}
-
-# What the programs have in common where something fails: $program prints one line on the standard error, and ends with
-# the status $failure.
-
-# refused WHY ARGUMENT..: these arguments are rejected, with the status 2: nothing is written, and the standard error
-# says an error that has this text
-refused() {
-  why=$1
-  shift
-  "$program" "$@" < /dev/null > "$out" 2> "$err"
-  status=$?
-  [ "$status" -eq 2 ] && [ ! -s "$out" ] && head -n 1 "$err" | grep -q '^error: ' && grep -qF -e "$why" "$err"
-  outcome "refused: $*" $?
-}
-
-# failing_input LINE ARGUMENT..: a standard input that is a folder; the line says so, and nothing is written
-failing_input() {
-  line=$1
-  shift
-  "$program" "$@" < . > "$out" 2> "$err"
-  status=$?
-  ended "a folder as input: $*" "$failure" /dev/null "$line"
-  # where the standard error fails as well, the status stays
-  : > "$err"
-  "$program" "$@" < . > "$out" 2>&-
-  status=$?
-  ended "a folder as input, and a closed standard error: $*" "$failure" /dev/null
-}
-
-# closed_input LINE ARGUMENT..: the same of a standard input that is closed, for a program that opens no file, since a
-# file takes the descriptor that is free
-closed_input() {
-  line=$1
-  shift
-  "$program" "$@" > "$out" 2> "$err" <&-
-  status=$?
-  ended "a closed input: $*" "$failure" /dev/null "$line"
-}
-
-# failing_outputs INPUT ARGUMENT..: a standard output that is closed, or full from its first byte on
-failing_outputs() {
-  input=$1
-  shift
-  : > "$out"
-  "$program" "$@" < "$input" 2> "$err" >&-
-  status=$?
-  ended "a closed output: $* < ${input##*/}" "$failure" /dev/null "${program##*/}: output failed"
-  if [ -c /dev/full ]; then
-    "$program" "$@" < "$input" > /dev/full 2> "$err"
-    status=$?
-    ended "a full output: $* < ${input##*/}" "$failure" /dev/null "${program##*/}: output failed"
-  else
-    left_out 'a full output' 'there is no /dev/full'
-  fi
-}
-
-# failing_help: the help and the version, where the standard output is closed
-failing_help() {
-  : > "$out"
-  for word in --help --version; do
-    "$program" "$word" 2> "$err" >&-
-    status=$?
-    ended "a closed output: $word" "$failure" /dev/null "${program##*/}: output failed"
-  done
-}
-
-# shortened_outputs INPUT LINES: an output that fails before all of these lines, which are more than 100 KiB, are
-# written: a file that may not grow past 200 blocks, and a pipe whose reader ends after three lines, which is not
-# reported (the program has the signal SIGPIPE ignored)
-shortened_outputs() {
-  if (trap '' XFSZ && ulimit -f 200) 2> "$work/shell"; then
-    (
-      trap '' XFSZ
-      ulimit -f 200
-      "$program" < "$1" > "$out" 2> "$err"
-    )
-    status=$?
-    said "$failure" "${program##*/}: output failed" && [ "$(printed "$2")" = part ]
-    outcome 'an output that is full in the middle' $?
-  else
-    left_out 'an output that is full in the middle' 'files cannot be bounded here'
-  fi
-  {
-    "$program" < "$1" 2> "$err"
-    echo $? > "$work/status"
-  } | head -n 3 > "$out"
-  status=$(cat "$work/status")
-  head -n 3 "$2" > "$work/first"
-  ended 'a reader that ends' "$failure" "$work/first"
-}
-
-# gone_reader ARGUMENT..: a pipe that its reader closed before the first write, which is not reported
-gone_reader() {
-  mkfifo "$work/gone" "$work/go"
-  (
-    exec 4> "$work/gone"
-    read -r _ < "$work/go"
-    "$program" "$@" >&4 2> "$err"
-    echo $? > "$work/status"
-  ) &
-  writer=$!
-  exec 5< "$work/gone"
-  exec 5<&-
-  echo > "$work/go"
-  wait "$writer"
-  status=$(cat "$work/status")
-  rm "$work/gone" "$work/go"
-  : > "$out"
-  ended "a reader that is gone: $*" "$failure" /dev/null
-}
-
-# little_memory INPUT LINES ARGUMENT..: after this input begins a message of 4 GiB, and 128 MiB of address space do not
-# hold the 192 MiB of it that come; the lines of what comes before it are written
-little_memory() {
-  input=$1
-  lines=$2
-  shift 2
-  if (ulimit -v 131072) 2> "$work/shell"; then
-    status=$(
-      {
-        cat "$input"
-        printf '\004\000\000\000\377\377\377\377'
-        dd if=/dev/zero bs=65536 count=3072 2> "$work/dd"
-      } | (
-        ulimit -v 131072
-        "$program" "$@" > "$out" 2> "$err"
-        echo $?
-      )
-    )
-    ended 'little memory' "$failure" "$lines" "${program##*/}: out of memory"
-  else
-    left_out 'little memory' 'memory cannot be bounded here'
-  fi
-}
-
-# on_terminal SCRIPT: runs a script whose standard error is a terminal, and its standard output too unless it says
-# otherwise; $out is what it printed, without carriage returns at the ends of lines, and $status its status. Without the
-# command script of util-linux its status is 1.
-on_terminal() {
-  command -v script > /dev/null || return 1
-  printf '%s\n' "$1" > "$work/on_terminal"
-  TERM=xterm script -qec "sh $work/on_terminal" /dev/null < /dev/null > "$work/typescript" 2> "$err"
-  status=$?
-  sed 's/\r$//' "$work/typescript" > "$out"
-}
-
-# shows_progress LINE ARGUMENT..: with a standard input that takes more than a second, the program says how much is read
-# by this line on a terminal, and removes it; its output goes to a file
-shows_progress() {
-  line=$1
-  shift
-  slow="{ head -c 9 recorded; sleep 2; tail -c +10 recorded; } | '$program' $*"
-  if on_terminal "$slow > '$work/verdict'"; then
-    # it may be shown more than once
-    printf '\n\033[K\n%s\033[K\n' "$line" > "$work/lines"
-    printf '\033[K\n' > "$work/last"
-    { tr '\r' '\n' < "$work/typescript"; echo; } > "$work/shown"
-    LC_ALL=C sort -u "$work/shown" | cmp -s - "$work/lines" && tail -n 1 "$work/shown" | cmp -s - "$work/last"
-    outcome "progress on a terminal: $*" $?
-    sh -c "$slow" > "$work/slow" 2> "$err"
-    status=$?
-    [ ! -s "$err" ] && cmp -s "$work/slow" "$work/verdict"
-    outcome "no progress but on a terminal: $*" $?
-  else
-    without 'progress on a terminal' script
-  fi
 }
 
 # add COUNTS: adds 'N passed, M failed' to the tally; the status is 1 where that is not what it is

@@ -40,8 +40,6 @@ VECTORS = ("payloads", "merging", "levels", "hostile", "worked", "streams", "fra
 VERSIONS = (
     ("CHANGELOG.md", r"^## "),
     ("README.md", r"^Status: "),
-    ("crates/journal_diff/src/arguments.rt", r'\.version\("'),
-    ("crates/journal_dump/src/arguments.rt", r'\.version\("'),
     ("crates/journal_ffi/src/names.rt", r'the version of the library, as "'),
     ("docs/C.md", r"libpendratsoa\.so\."),
     ("docs/C.md", r"The version\*\*, "),

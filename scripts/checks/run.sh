@@ -1,5 +1,5 @@
 #!/bin/sh
-# scripts/run.sh: help without a build, arguments and status of the program, and a program that is built unproved once.
+# scripts/run.sh: its usage, arguments and status of the program, and a program that is built unproved once.
 #
 # It runs in a copy of the sources from another folder. An rt that only says that it was called comes before the
 # toolchain's where nothing may be built, and a script that prints its arguments is in the place of each proved program.
@@ -13,7 +13,7 @@ mkdir "$work/no-rt" "$work/a folder" "$work/tree"
 printf '#!/bin/sh\necho "$*" >> "%s/called"\nexit 2\n' "$work" > "$work/no-rt/rt"
 printf '#!/bin/sh\necho "${0##*/}"\nprintf "<%%s>\\n" "$@"\ncat\nexit 7\n' > "$work/stand-in"
 chmod +x "$work/no-rt/rt" "$work/stand-in"
-for part in crates.txt scripts proto include examples docs; do
+for part in crates.txt scripts proto include examples; do
   cp -R $part "$work/tree/"
 done
 for crate in crates/*; do
@@ -34,16 +34,6 @@ is_not_built() {
 }
 
 PATH=$work/no-rt:$PATH
-for command in list diff dump make view; do
-  for how in '' --proved; do
-    run_sh $how $command --help
-    is_not_built && said 0
-    outcome "run.sh $how $command --help" $?
-  done
-  grep -q "^usage: run.sh .*\] $command " "$out" && { [ $command = view ] || grep -q "^    journal_$command " "$out"; } &&
-    ! grep '^## ' "$out" | grep -qv "^## journal_$command: "
-  outcome "run.sh $command --help shows the program's section" $?
-done
 for words in --help '--proved --help' ''; do
   run_sh $words
   is_not_built && said 0 && grep -q '^  scripts/run.sh ' "$out"
@@ -56,35 +46,44 @@ for words in lists '--proved lists' '--version' '-' '--proved --proved list'; do
 done
 
 # Without a program and without a toolchain that builds it there is one line more, and nothing on the output.
-run_sh --proved dump 'a stream'
+run_sh --proved journal dump 'a stream'
 [ "$status" -eq 2 ] && [ -s "$work/called" ] && [ ! -s "$out" ]
 outcome 'a program that cannot be built' $?
 rm "$work/called"
 
-# passed COMMAND ARGUMENT..: the program gets these arguments and the standard input, and its status is that of the run
+# passed PROGRAM WORDS ARGUMENT..: the program gets the words, these arguments and the standard input, and its status is
+# that of the run, which has other words before the arguments
 passed() {
-  (echo "journal_$1"; shift; printf "<%s>\n" "$@"; echo input) > "$work/wanted"
+  (echo "$1"; words=$2; shift 3; printf '<%s>\n' $words "$@"; echo input) > "$work/wanted"
+  typed=$3
+  shift 3
   for how in '' --proved; do
-    run_sh $how "$@"
+    # shellcheck disable=SC2086 # the words are split
+    run_sh $how $typed "$@"
     is_not_built && said 7 && cmp -s "$out" "$work/wanted"
-    outcome "run.sh $how $*" $?
+    outcome "run.sh $how $typed $*" $?
   done
 }
 
-for command in list diff dump make; do
-  mkdir -p "$work/tree/crates/journal_$command/out"
-  cp "$work/stand-in" "$work/tree/crates/journal_$command/out/journal_$command"
-  passed $command -
-  passed $command 'a stream' '' '*' -- --proved --help
-  passed $command --version
+for crate in journal journal_list; do
+  mkdir -p "$work/tree/crates/$crate/out"
+  cp "$work/stand-in" "$work/tree/crates/$crate/out/$crate"
 done
-passed dump --type inputcommand --type Start,End --type=InputCommandMessage -
-passed diff nothing nothing nothing
-{ echo journal_list; echo "<$work/tree/examples/streams/replay>"; echo input; } > "$work/wanted"
-run_sh list
-is_not_built && said 7
-outcome 'run.sh list' $?
-same 'run.sh list takes an example' "$work/wanted" "$out"
+for command in dump make diff; do
+  for typed in "journal $command" $command; do
+    passed journal $command "$typed" -
+    passed journal $command "$typed" 'a stream' '' '*' -- --proved --help
+    passed journal $command "$typed" --help
+  done
+done
+for typed in journal_list list; do
+  passed journal_list '' $typed 'a stream' '' '*' -- --proved --help
+  passed journal_list '' $typed --version
+  passed journal_list '' $typed "$work/tree/examples/streams/replay"
+done
+passed journal '' journal --help
+passed journal '' journal other --proved
+passed journal_list "$work/tree/examples/streams/replay" list
 PATH=$path
 if ! command -v rt > /dev/null; then
   without 'a program without the proofs' rt

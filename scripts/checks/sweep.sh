@@ -11,8 +11,8 @@ needs python3 python3
 PYTHONDONTWRITEBYTECODE=1
 export PYTHONDONTWRITEBYTECODE
 set --
-for crate in journal_list journal_diff journal_dump journal_make; do
-  program_of $crate
+for name in journal_list journal_diff journal_dump journal_make; do
+  program_of $name
   [ -n "$program" ] || not_run "$why"
   set -- "$@" "$program"
 done

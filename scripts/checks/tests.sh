@@ -25,8 +25,7 @@ done
 
 unproved_crate tests replay_bench shared_core_fields shared_core_json shared_core_json_reader stream_lines shared_core \
   shared_core_stream shared_core_base shared_core_wire shared_core_codec shared_core_message shared_core_parts \
-  shared_core_runtime shared_core_state_commands shared_core_call_commands shared_core_notifications \
-  shared_core_callers bytes hex json
+  shared_core_runtime shared_core_state_commands shared_core_call_commands shared_core_notifications bytes hex json
 {
   echo '//! Tests.'
   echo '#![tactic(auto)]'
@@ -38,20 +37,20 @@ for folder in "$@"; do
   sources "tests/$folder" "$crate/src/$folder"
 done
 
-# as_library CRATE FOLDER [LIBRARY]: in the copy, a crate that no other can use is a library of public modules, which the
-# tests of this folder use, and this other library
+# as_library CRATE FOLDER: in the copy, a crate that no other can use is a library of public modules, which the tests of
+# this folder use
 as_library() {
   [ -d "$crate/src/$2" ] || return 0
   top=$work/tree/crates/$1/src
   [ ! -e "$top/main.rt" ] || mv "$top/main.rt" "$top/lib.rt"
   sed -i 's/^mod /pub mod /' "$top/lib.rt"
-  sed -i "s/^$1 staticlib:/$1:/; s/^tests: .*/& $1${3:+ $3}/" "$work/tree/crates.txt"
+  sed -i "s/^$1 staticlib:/$1:/; s/^tests: .*/& $1/" "$work/tree/crates.txt"
 }
 
+as_library readme_example streams anyhow
 as_library journal_ffi ffi
 as_library bench_ffi measures
 as_library journal_list list
-as_library journal_diff diff clap
 
 # the program is kept, and its allocations can be made to fail
 can_refuse=no

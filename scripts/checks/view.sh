@@ -1,16 +1,14 @@
 #!/bin/sh
 # The page of journal_view: its maker, and the page in a headless Chromium, by keys and with adversarial payloads.
 #
-# It takes the proved journal_dump and journal_diff. The browser is driven over a pipe, without a network.
+# It takes the proved journal. The browser is driven over a pipe, without a network.
 set -u
 cd "$(dirname "$0")/../.." || exit 1
 . scripts/checks/lib.sh
 
 needs python3 python3
-for crate in journal_dump journal_diff; do
-  program_of $crate
-  [ -n "$program" ] || not_run "$why"
-done
+program_of journal
+[ -n "$program" ] || not_run "$why"
 PYTHONDONTWRITEBYTECODE=1
 export PYTHONDONTWRITEBYTECODE
 counted 'the maker of the page' python3 view/tests/test_make_page.py

@@ -16,8 +16,12 @@
 
 /* A constant is the number that is expected. */
 #define IS(constant, expected) is(#constant, (long long)(constant), (long long)(expected))
-/* The number at a place is the expected one. */
-#define IS_AT(numbers, place, expected) is(#place, (long long)(numbers)[place], (long long)(expected))
+/* The field of a struct is the expected number; it prints nothing then. */
+#define FIELD(field, expected) field_is(#field, field, expected)
+/* The code of a type that has this name, and the number of its schema. */
+#define TYPE(name, text) \
+    (IS(JOURNAL_##name, journal_type_code((const uint8_t *)text, sizeof text - 1)), \
+     IS(JOURNAL_SCHEMA_##name, journal_schema(9, JOURNAL_##name)))
 
 /* The command that sets "a" to nothing, the same of "b", a call, and a command that is malformed. */
 #define SET_A 0x04, 0x03, 0, 0, 0, 0, 0, 3, 0x0A, 1, 'a'
@@ -49,22 +53,39 @@ static void is(const char *name, long long found, long long expected) {
     }
 }
 
+static void field_is(const char *name, uint64_t found, uint64_t expected) {
+    if (found != expected) {
+        printf("wrong: %s: %llu is not %llu\n", name, (unsigned long long)found, (unsigned long long)expected);
+        failed = 1;
+    }
+}
+
 static void refusals(void) {
     const uint8_t cut[] = {0x12}, headers[] = {0x22, 6, 0x12, 1, 'v', 0x0A, 1, 'k'};
     const uint8_t input[] = {0x04, 0, 0, 0, 0, 0, 0, 0};
     const uint8_t no_id[] = {0x22, 0}, no_result[] = {0x08, 1};
-    uint64_t numbers[6];
+    struct journal_item item;
+    struct journal_notification found;
+    int64_t unknown = journal_schema(4, 0x0400);
 
     IS(JOURNAL_MALFORMED, journal_canonical(13, cut, sizeof cut, NULL, 0));
     refuses = 1;
     IS(JOURNAL_OUT_OF_MEMORY, journal_canonical(33, headers, sizeof headers, NULL, 0));
     refuses = 0;
-    IS(JOURNAL_NO_ROOM, journal_next(8, input, sizeof input, numbers, 5));
+    IS(JOURNAL_NO_ROOM, journal_next(8, input, sizeof input, &item, 5));
     /* no case of less than 4 GiB shows it */
     IS(JOURNAL_TOO_LONG, -4);
-    IS(JOURNAL_UNKNOWN, journal_type_code(NULL, 0));
-    IS(JOURNAL_NO_ID, journal_notification(0x8002, no_id, sizeof no_id, numbers, 4, NULL, 0));
-    IS(JOURNAL_NO_RESULT, journal_notification(0x8002, no_result, sizeof no_result, numbers, 4, NULL, 0));
+    IS(JOURNAL_MALFORMED_SECOND, journal_merge(13, NULL, 0, cut, sizeof cut, NULL, 0));
+    IS(JOURNAL_UNKNOWN_VERSION, unknown);
+    IS(JOURNAL_UNKNOWN_SCHEMA, journal_is_well_formed(0xFFFFFFFF, NULL, 0));
+    IS(JOURNAL_UNKNOWN_TYPE, journal_type_code(NULL, 0));
+    IS(JOURNAL_UNKNOWN, JOURNAL_KIND_OF_ERROR(unknown));
+    is("JOURNAL_KIND_OF_ERROR", JOURNAL_KIND_OF_ERROR(JOURNAL_UNKNOWN_TYPE) == JOURNAL_UNKNOWN &&
+       JOURNAL_KIND_OF_ERROR(JOURNAL_UNKNOWN_SCHEMA) == JOURNAL_UNKNOWN &&
+       JOURNAL_KIND_OF_ERROR(JOURNAL_MALFORMED_SECOND) == JOURNAL_MALFORMED &&
+       JOURNAL_KIND_OF_ERROR(JOURNAL_MALFORMED) == JOURNAL_MALFORMED && JOURNAL_KIND_OF_ERROR(15) == 15, 1);
+    IS(JOURNAL_NO_ID, journal_notification(0x8002, no_id, sizeof no_id, &found, 4, NULL, 0));
+    IS(JOURNAL_NO_RESULT, journal_notification(0x8002, no_result, sizeof no_result, &found, 4, NULL, 0));
 }
 
 static void numbers_of_the_protocol(void) {
@@ -93,57 +114,60 @@ static void items(void) {
     /* completion 1 with the value "x", which requests an acknowledgement; a message of an unknown type */
     const uint8_t proposal[] = {0, 5, 0x80, 0, 0, 0, 0, 5, 0x08, 1, 0x72, 1, 'x'};
     const uint8_t unknown[] = {0, 8, 0, 0, 0, 0, 0, 2, 0, 3};
-    uint64_t item[7] = {0, 0, 0, 0, 0, 0, 99};
+    struct { struct journal_item item; uint64_t after; } found = {{0, 0, 0, 0, 0, 0}, 99};
+    struct journal_item item;
     size_t room = 0;
 
-    while (journal_next(8, proposal, sizeof proposal, item, room) != 0) {
+    while (journal_next(8, proposal, sizeof proposal, &found.item, room) != 0) {
         room++;
     }
     IS(JOURNAL_ITEM_NUMBERS, room);
-    IS_AT(item, JOURNAL_ITEM_KIND, 0);
-    IS_AT(item, JOURNAL_ITEM_WORD, 0x0005800000000005);
-    IS_AT(item, JOURNAL_ITEM_CODE, 5);
-    IS_AT(item, JOURNAL_ITEM_ACK, 1);
-    IS_AT(item, JOURNAL_ITEM_SIZE, 13);
-    IS_AT(item, JOURNAL_ITEM_PAYLOAD, 8);
-    IS(JOURNAL_MESSAGE, item[0]);
-    journal_next(8, unknown, sizeof unknown, item, 7);
-    IS(JOURNAL_UNKNOWN_CODE, item[0]);
-    journal_next(9, unknown, sizeof unknown, item, 7);
-    IS(JOURNAL_SKIPPED, item[0]);
-    is("JOURNAL_ITEM_NUMBERS", (long long)item[6], 99);
+    item = found.item;
+    FIELD(item.kind, 0);
+    FIELD(item.word, 0x0005800000000005);
+    FIELD(item.code, 5);
+    FIELD(item.ack, 1);
+    FIELD(item.size, 13);
+    FIELD(item.payload, 8);
+    IS(JOURNAL_MESSAGE, item.kind);
+    journal_next(8, unknown, sizeof unknown, &found.item, 7);
+    IS(JOURNAL_UNKNOWN_CODE, found.item.kind);
+    journal_next(9, unknown, sizeof unknown, &found.item, 7);
+    IS(JOURNAL_SKIPPED, found.item.kind);
+    FIELD(found.after, 99);
 }
 
 static void notifications(void) {
     const uint8_t completion[] = {0x08, 9, 0x22, 0}, signal[] = {0x10, 17, 0x2A, 3, 0x0A, 1, 'x'};
     const uint8_t named[] = {0x1A, 4, 's', 't', 'o', 'p', 0x82, 1, 3, 'i', 'n', 'v'};
     const uint8_t failure[] = {0x08, 9, 0x32, 2, 0x08, 5}, keys[] = {0x08, 9, 0x8A, 1, 3, 0x0A, 1, 'k'};
-    uint64_t numbers[5] = {0, 0, 0, 0, 99};
+    struct { struct journal_notification notification; uint64_t after; } found = {{0, 0, 0, 0}, 99};
+    struct journal_notification *notification = &found.notification;
     size_t room = 0;
 
-    while (journal_notification(0x8002, completion, sizeof completion, numbers, room, NULL, 0) < 0) {
+    while (journal_notification(0x8002, completion, sizeof completion, notification, room, NULL, 0) < 0) {
         room++;
     }
     IS(JOURNAL_NOTIFICATION_NUMBERS, room);
-    IS(JOURNAL_COMPLETION_ID, numbers[0]);
-    IS(JOURNAL_VOID, numbers[3]);
-    IS_AT(numbers, JOURNAL_NOTIFICATION_NUMBER, 9);
-    journal_notification(0xFBFF, signal, sizeof signal, numbers, 5, NULL, 0);
-    IS(JOURNAL_SIGNAL_ID, numbers[0]);
-    IS(JOURNAL_VALUE, numbers[3]);
-    IS_AT(numbers, JOURNAL_NOTIFICATION_NUMBER, 17);
-    journal_notification(0xFBFF, named, sizeof named, numbers, 5, NULL, 0);
-    IS(JOURNAL_SIGNAL_NAME, numbers[0]);
-    IS(JOURNAL_INVOCATION_ID, numbers[3]);
-    IS_AT(numbers, JOURNAL_NOTIFICATION_ID, 2);
-    IS_AT(numbers, JOURNAL_NOTIFICATION_NUMBER, 0);
-    IS_AT(numbers, JOURNAL_NOTIFICATION_NAME_LENGTH, 4);
-    IS_AT(numbers, JOURNAL_NOTIFICATION_RESULT, 3);
-    journal_notification(0x8002, failure, sizeof failure, numbers, 5, NULL, 0);
-    IS(JOURNAL_FAILURE, numbers[3]);
-    journal_notification(0x8002, keys, sizeof keys, numbers, 5, NULL, 0);
-    IS(JOURNAL_STATE_KEYS, numbers[3]);
-    is("JOURNAL_NOTIFICATION_NUMBERS", (long long)numbers[4], 99);
+    IS(JOURNAL_COMPLETION_ID, notification->id);
+    IS(JOURNAL_VOID, notification->result);
+    FIELD(notification->number, 9);
+    journal_notification(0xFBFF, signal, sizeof signal, notification, 5, NULL, 0);
+    IS(JOURNAL_SIGNAL_ID, notification->id);
+    IS(JOURNAL_VALUE, notification->result);
+    FIELD(notification->number, 17);
+    journal_notification(0xFBFF, named, sizeof named, notification, 5, NULL, 0);
+    IS(JOURNAL_SIGNAL_NAME, notification->id);
+    IS(JOURNAL_INVOCATION_ID, notification->result);
+    FIELD(notification->id, 2);
+    FIELD(notification->number, 0);
+    FIELD(notification->name_length, 4);
+    FIELD(notification->result, 3);
+    journal_notification(0x8002, failure, sizeof failure, notification, 5, NULL, 0);
+    IS(JOURNAL_FAILURE, notification->result);
+    journal_notification(0x8002, keys, sizeof keys, notification, 5, NULL, 0);
+    IS(JOURNAL_STATE_KEYS, notification->result);
+    FIELD(found.after, 99);
 }
 
 static void verdicts(void) {
@@ -158,21 +182,21 @@ static void verdicts(void) {
         {"JOURNAL_BAD_RECORDED", bad, set_a, {sizeof bad, sizeof set_a}, JOURNAL_BAD_RECORDED},
         {"JOURNAL_BAD_REPLAYED", set_a, bad, {sizeof set_a, sizeof bad}, JOURNAL_BAD_REPLAYED},
     };
-    uint64_t numbers[3] = {0, 0, 99};
+    struct { struct journal_verdict verdict; uint64_t after; } found = {{0, 0}, 99};
     size_t room = 0;
 
-    while (journal_verdict(8, NULL, 0, NULL, 0, 0, numbers, room, NULL, 0) < 0) {
+    while (journal_verdict(8, NULL, 0, NULL, 0, 0, &found.verdict, room, NULL, 0) < 0) {
         room++;
     }
     IS(JOURNAL_VERDICT_NUMBERS, room);
     for (size_t i = 0; i < COUNT(rows); i++) {
-        journal_verdict(8, rows[i].recorded, rows[i].lengths[0], rows[i].replayed, rows[i].lengths[1], 0, numbers, 3,
-                        NULL, 0);
-        is(rows[i].name, (long long)rows[i].kind, (long long)numbers[0]);
-        IS_AT(numbers, JOURNAL_VERDICT_KIND, i);
-        IS_AT(numbers, JOURNAL_VERDICT_INDEX, 9);
+        journal_verdict(8, rows[i].recorded, rows[i].lengths[0], rows[i].replayed, rows[i].lengths[1], 0,
+                        &found.verdict, 3, NULL, 0);
+        is(rows[i].name, (long long)rows[i].kind, (long long)found.verdict.kind);
+        FIELD(found.verdict.kind, i);
+        FIELD(found.verdict.index, 9);
     }
-    is("JOURNAL_VERDICT_NUMBERS", (long long)numbers[2], 99);
+    FIELD(found.after, 99);
 }
 
 static void readings(void) {
@@ -186,19 +210,20 @@ static void readings(void) {
         {"JOURNAL_OUT_OF_RANGE", "{\"resultCompletionId\": 1.5}", 33, JOURNAL_OUT_OF_RANGE, 0},
         {"JOURNAL_NOT_BASE64", "{\"parameter\": \"a\"}", 33, JOURNAL_NOT_BASE64, 0},
     };
-    uint64_t numbers[3] = {0, 0, 99};
+    struct { struct journal_reading reading; uint64_t after; } found = {{0, 0}, 99};
     char deep[4096] = "";
     size_t room = 0;
 
-    while (journal_payload_of_json(33, (const uint8_t *)"{}", 2, numbers, room, NULL, 0) < 0) {
+    while (journal_payload_of_json(33, (const uint8_t *)"{}", 2, &found.reading, room, NULL, 0) < 0) {
         room++;
     }
     IS(JOURNAL_READ_NUMBERS, room);
     for (size_t i = 0; i < COUNT(rows); i++) {
-        journal_payload_of_json(rows[i].schema, (const uint8_t *)rows[i].text, strlen(rows[i].text), numbers, 3, NULL, 0);
-        is(rows[i].name, (long long)rows[i].kind, (long long)numbers[0]);
-        IS_AT(numbers, JOURNAL_READ_KIND, i);
-        IS_AT(numbers, JOURNAL_READ_OFFSET, rows[i].offset);
+        journal_payload_of_json(rows[i].schema, (const uint8_t *)rows[i].text, strlen(rows[i].text),
+                                &found.reading, 3, NULL, 0);
+        is(rows[i].name, (long long)rows[i].kind, (long long)found.reading.kind);
+        FIELD(found.reading.kind, i);
+        FIELD(found.reading.offset, rows[i].offset);
     }
     for (int level = 0; level <= 101; level++) {
         strcat(deep, "{\"nestedFutures\":[");
@@ -206,9 +231,69 @@ static void readings(void) {
     for (int level = 0; level <= 101; level++) {
         strcat(deep, "]}");
     }
-    journal_payload_of_json(7, (const uint8_t *)deep, strlen(deep), numbers, 3, NULL, 0);
-    IS(JOURNAL_TOO_DEEP, numbers[0]);
-    is("JOURNAL_READ_NUMBERS", (long long)numbers[2], 99);
+    journal_payload_of_json(7, (const uint8_t *)deep, strlen(deep), &found.reading, 3, NULL, 0);
+    IS(JOURNAL_TOO_DEEP, found.reading.kind);
+    FIELD(found.after, 99);
+}
+
+static void types(void) {
+    TYPE(START, "Start");
+    TYPE(SUSPENSION, "Suspension");
+    TYPE(ERROR, "Error");
+    TYPE(END, "End");
+    TYPE(PROPOSE_RUN_COMPLETION, "ProposeRunCompletion");
+    TYPE(AWAITING_ON, "AwaitingOn");
+    TYPE(PROPOSE_RUN_COMPLETION_ACK, "ProposeRunCompletionAck");
+    TYPE(GET_STATE_EPHEMERAL_COMMAND, "GetStateEphemeralCommand");
+    TYPE(GET_STATE_EPHEMERAL_NOTIFICATION, "GetStateEphemeralNotification");
+    TYPE(INPUT_COMMAND, "InputCommand");
+    TYPE(OUTPUT_COMMAND, "OutputCommand");
+    TYPE(GET_LAZY_STATE_COMMAND, "GetLazyStateCommand");
+    TYPE(SET_STATE_COMMAND, "SetStateCommand");
+    TYPE(CLEAR_STATE_COMMAND, "ClearStateCommand");
+    TYPE(CLEAR_ALL_STATE_COMMAND, "ClearAllStateCommand");
+    TYPE(GET_LAZY_STATE_KEYS_COMMAND, "GetLazyStateKeysCommand");
+    TYPE(GET_EAGER_STATE_COMMAND, "GetEagerStateCommand");
+    TYPE(GET_EAGER_STATE_KEYS_COMMAND, "GetEagerStateKeysCommand");
+    TYPE(GET_PROMISE_COMMAND, "GetPromiseCommand");
+    TYPE(PEEK_PROMISE_COMMAND, "PeekPromiseCommand");
+    TYPE(COMPLETE_PROMISE_COMMAND, "CompletePromiseCommand");
+    TYPE(SLEEP_COMMAND, "SleepCommand");
+    TYPE(CALL_COMMAND, "CallCommand");
+    TYPE(ONE_WAY_CALL_COMMAND, "OneWayCallCommand");
+    TYPE(SEND_SIGNAL_COMMAND, "SendSignalCommand");
+    TYPE(RUN_COMMAND, "RunCommand");
+    TYPE(ATTACH_INVOCATION_COMMAND, "AttachInvocationCommand");
+    TYPE(GET_INVOCATION_OUTPUT_COMMAND, "GetInvocationOutputCommand");
+    TYPE(COMPLETE_AWAKEABLE_COMMAND, "CompleteAwakeableCommand");
+    TYPE(GET_LAZY_STATE_COMPLETION_NOTIFICATION, "GetLazyStateCompletionNotification");
+    TYPE(GET_LAZY_STATE_KEYS_COMPLETION_NOTIFICATION, "GetLazyStateKeysCompletionNotification");
+    TYPE(GET_PROMISE_COMPLETION_NOTIFICATION, "GetPromiseCompletionNotification");
+    TYPE(PEEK_PROMISE_COMPLETION_NOTIFICATION, "PeekPromiseCompletionNotification");
+    TYPE(COMPLETE_PROMISE_COMPLETION_NOTIFICATION, "CompletePromiseCompletionNotification");
+    TYPE(SLEEP_COMPLETION_NOTIFICATION, "SleepCompletionNotification");
+    TYPE(CALL_COMPLETION_NOTIFICATION, "CallCompletionNotification");
+    TYPE(CALL_INVOCATION_ID_COMPLETION_NOTIFICATION, "CallInvocationIdCompletionNotification");
+    TYPE(RUN_COMPLETION_NOTIFICATION, "RunCompletionNotification");
+    TYPE(ATTACH_INVOCATION_COMPLETION_NOTIFICATION, "AttachInvocationCompletionNotification");
+    TYPE(GET_INVOCATION_OUTPUT_COMPLETION_NOTIFICATION, "GetInvocationOutputCompletionNotification");
+    TYPE(SIGNAL_NOTIFICATION, "SignalNotification");
+}
+
+/* The schemas of no type, or of one at earlier versions. */
+static void other_schemas(void) {
+    IS(JOURNAL_SCHEMA_VOID, 0);
+    IS(JOURNAL_SCHEMA_VALUE, 1);
+    IS(JOURNAL_SCHEMA_FAILURE, 2);
+    IS(JOURNAL_SCHEMA_FAILURE_METADATA, 3);
+    IS(JOURNAL_SCHEMA_HEADER, 4);
+    IS(JOURNAL_SCHEMA_STATE_KEYS, 5);
+    IS(JOURNAL_SCHEMA_STATE_ENTRY, 6);
+    IS(JOURNAL_SCHEMA_FUTURE, 7);
+    IS(JOURNAL_SCHEMA_WORKFLOW_TARGET, 8);
+    IS(JOURNAL_SCHEMA_IDEMPOTENT_REQUEST_TARGET, 9);
+    IS(JOURNAL_SCHEMA_SUSPENSION_V6, 12);
+    IS(JOURNAL_SCHEMA_NOTIFICATION_TEMPLATE, 52);
 }
 
 int main(void) {
@@ -218,5 +303,7 @@ int main(void) {
     notifications();
     verdicts();
     readings();
+    types();
+    other_schemas();
     return failed;
 }

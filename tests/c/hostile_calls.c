@@ -75,52 +75,8 @@ void __wrap_free(void *block) {
     __real_free(block);
 }
 
-/* The calls, and what the header says of each. */
-
-enum call {
-    LIBRARY_VERSION, SCHEMA, TYPE_NAME, TYPE_CODE, NEXT, HEADER, FRAME, IS_WELL_FORMED, CANONICAL, MERGE, JSON,
-    PAYLOAD_OF_JSON, NOTIFICATION, HEADER_EQ, DIFFERENCE, VERDICT, CALLS
-};
-
-#define ERRORS 8
-#define BIT(error) (1u << -(error))
-#define UNKNOWN BIT(JOURNAL_UNKNOWN)
-#define MALFORMED BIT(JOURNAL_MALFORMED)
-#define MEMORY BIT(JOURNAL_OUT_OF_MEMORY)
-#define NO_ROOM BIT(JOURNAL_NO_ROOM)
-#define TOO_LONG BIT(JOURNAL_TOO_LONG)
-
 /* The most kinds of results that are no errors: an id of each kind with a result of each kind. */
 #define KINDS 15
-
-static const struct {
-    const char *name;
-    int inputs;
-    size_t numbers;
-    int writes;
-    unsigned errors;
-    int kinds;
-} listed[CALLS] = {
-    [LIBRARY_VERSION] = {"journal_library_version", 0, 0, 1, 0, 1},
-    [SCHEMA] = {"journal_schema", 0, 0, 0, UNKNOWN, 1},
-    [TYPE_NAME] = {"journal_type_name", 0, 0, 1, UNKNOWN, 1},
-    [TYPE_CODE] = {"journal_type_code", 1, 0, 0, UNKNOWN, 1},
-    [NEXT] = {"journal_next", 1, JOURNAL_ITEM_NUMBERS, 0, UNKNOWN | NO_ROOM, 4},
-    [HEADER] = {"journal_header", 0, 0, 1, UNKNOWN, 1},
-    [FRAME] = {"journal_frame", 1, 0, 1, UNKNOWN | MALFORMED | MEMORY | TOO_LONG, 1},
-    [IS_WELL_FORMED] = {"journal_is_well_formed", 1, 0, 0, UNKNOWN, 2},
-    [CANONICAL] = {"journal_canonical", 1, 0, 1, UNKNOWN | MALFORMED | MEMORY | TOO_LONG, 1},
-    [MERGE] = {"journal_merge", 2, 0, 1, UNKNOWN | MALFORMED | MEMORY | TOO_LONG, 1},
-    [JSON] = {"journal_json", 1, 0, 1, UNKNOWN | MALFORMED | MEMORY | TOO_LONG, 1},
-    [PAYLOAD_OF_JSON] = {"journal_payload_of_json", 1, JOURNAL_READ_NUMBERS, 1, UNKNOWN | MEMORY | TOO_LONG | NO_ROOM,
-                         JOURNAL_TOO_DEEP + 1},
-    [NOTIFICATION] = {"journal_notification", 1, JOURNAL_NOTIFICATION_NUMBERS, 1,
-                      UNKNOWN | MALFORMED | MEMORY | TOO_LONG | NO_ROOM | BIT(JOURNAL_NO_ID) | BIT(JOURNAL_NO_RESULT),
-                      KINDS},
-    [HEADER_EQ] = {"journal_header_eq", 2, 0, 0, UNKNOWN | MALFORMED | MEMORY, 2},
-    [DIFFERENCE] = {"journal_difference", 2, 0, 1, UNKNOWN | MALFORMED | MEMORY, 1},
-    [VERDICT] = {"journal_verdict", 2, JOURNAL_VERDICT_NUMBERS, 1, UNKNOWN | MEMORY | NO_ROOM, 7},
-};
 
 /* Bytes that are made up, before they are handed over. */
 struct source {
@@ -142,7 +98,7 @@ struct slice {
 enum place { FIRST, SECOND, NUMBERS, OUT, PLACES };
 
 struct request {
-    enum call call;
+    int call;
     uint32_t version;
     uint16_t code;
     uint32_t schema;
@@ -150,6 +106,20 @@ struct request {
     uint32_t ignore_payloads;
     struct source source[2];
 };
+
+#include "calls.h"
+
+#define BIT(error) (1u << (error))
+
+/* Which error a negative result is; ERRORS if it is none that the header lists. */
+static enum error error_of(int64_t result) {
+    int error = 1;
+
+    while (error < ERRORS && error_numbers[error] != result) {
+        error++;
+    }
+    return (enum error)error;
+}
 
 /* A thread's work. */
 struct work {
@@ -454,47 +424,14 @@ static int stands(const struct slice *slice, size_t from) {
     return 1;
 }
 
-static int64_t make(const struct request *r, const struct slice *slices) {
-    const struct slice *first = &slices[FIRST], *second = &slices[SECOND], *out = &slices[OUT];
-    uint64_t *numbers = (uint64_t *)(void *)slices[NUMBERS].at;
-    size_t count = slices[NUMBERS].length / 8;
-
-    switch (r->call) {
-    case LIBRARY_VERSION: return journal_library_version(out->at, out->length);
-    case SCHEMA: return journal_schema(r->version, r->code);
-    case TYPE_NAME: return journal_type_name(r->code, out->at, out->length);
-    case TYPE_CODE: return journal_type_code(first->at, first->length);
-    case NEXT: return journal_next(r->version, first->at, first->length, numbers, count);
-    case HEADER: return journal_header(r->version, r->code, r->payload_length, out->at, out->length);
-    case FRAME: return journal_frame(r->version, r->code, first->at, first->length, out->at, out->length);
-    case IS_WELL_FORMED: return journal_is_well_formed(r->schema, first->at, first->length);
-    case CANONICAL: return journal_canonical(r->schema, first->at, first->length, out->at, out->length);
-    case MERGE:
-        return journal_merge(r->schema, first->at, first->length, second->at, second->length, out->at, out->length);
-    case JSON: return journal_json(r->schema, first->at, first->length, out->at, out->length);
-    case PAYLOAD_OF_JSON:
-        return journal_payload_of_json(r->schema, first->at, first->length, numbers, count, out->at, out->length);
-    case NOTIFICATION:
-        return journal_notification(r->code, first->at, first->length, numbers, count, out->at, out->length);
-    case HEADER_EQ:
-        return journal_header_eq(r->code, first->at, first->length, second->at, second->length, r->ignore_payloads);
-    case DIFFERENCE:
-        return journal_difference(r->code, first->at, first->length, second->at, second->length, out->at, out->length);
-    case VERDICT:
-        return journal_verdict(r->version, first->at, first->length, second->at, second->length, r->ignore_payloads,
-                               numbers, count, out->at, out->length);
-    default: abort();
-    }
-}
-
 /* Which of its kinds the result of a call is that is no error. */
-static int kind_of(enum call call, int64_t result, const uint64_t *numbers) {
+static int kind_of(int call, int64_t result, const uint64_t *numbers) {
     switch (call) {
-    case NEXT: return result > 0 ? JOURNAL_SKIPPED + 1 : (int)numbers[JOURNAL_ITEM_KIND];
+    case NEXT: return result > 0 ? JOURNAL_SKIPPED + 1 : (int)numbers[0];
     case IS_WELL_FORMED: case HEADER_EQ: return (int)result;
-    case NOTIFICATION: return (int)(5 * numbers[JOURNAL_NOTIFICATION_ID] + numbers[JOURNAL_NOTIFICATION_RESULT]);
-    case VERDICT: return (int)numbers[JOURNAL_VERDICT_KIND];
-    case PAYLOAD_OF_JSON: return (int)numbers[JOURNAL_READ_KIND];
+    /* the first number is the kind of its id, and the last that of its result */
+    case NOTIFICATION: return (int)(5 * numbers[0] + numbers[3]);
+    case VERDICT: case PAYLOAD_OF_JSON: return (int)numbers[0];
     default: return 0;
     }
 }
@@ -502,7 +439,7 @@ static int kind_of(enum call call, int64_t result, const uint64_t *numbers) {
 /* Makes a call with so much room, looks at all that the header says of any call, and keeps what was written. */
 static int64_t called(struct work *work, const struct request *request, size_t room, size_t numbers_room,
                       long failing) {
-    enum call call = request->call;
+    int call = request->call;
     size_t written = 0, numbers = 0;
     int64_t result;
 
@@ -527,10 +464,10 @@ static int64_t called(struct work *work, const struct request *request, size_t r
     if (result >= 0) {
         written = listed[call].writes && (uint64_t)result <= room ? (size_t)result : 0;
         numbers = call == NEXT && result > 0 ? 0 : listed[call].numbers;
-    } else if (result <= -ERRORS || !(listed[call].errors & BIT(result))) {
+    } else if (error_of(result) == ERRORS || !(listed[call].errors & BIT(error_of(result)))) {
         wrong(work, request, "an error that the header does not list", result);
     } else {
-        work->results[call][-result]++;
+        work->results[call][error_of(result)]++;
     }
     if (heap.held != 0) {
         wrong(work, request, "memory is held after the call", result);
@@ -538,7 +475,7 @@ static int64_t called(struct work *work, const struct request *request, size_t r
     if (heap.has_failed != (result == JOURNAL_OUT_OF_MEMORY)) {
         wrong(work, request, "an allocation failed and the result is another, or the other way round", result);
     }
-    if (heap.allocations > 0 && !(listed[call].errors & MEMORY)) {
+    if (heap.allocations > 0 && !(listed[call].errors & BIT(OUT_OF_MEMORY))) {
         wrong(work, request, "it allocates", result);
     }
     if (heap.allocations > 0 && call == CANONICAL && written > 0 && written == request->source[0].length &&
@@ -600,7 +537,7 @@ static void again(struct work *work, const struct request *request, int64_t resu
 }
 
 static void make_request(struct work *work, struct request *request) {
-    request->call = (enum call)below(work, CALLS);
+    request->call = (int)below(work, CALLS);
     request->version = any_version(work);
     request->code = any_code(work);
     request->schema = below(work, one_of(work, 16) ? 70 : JOURNAL_SCHEMAS);
@@ -667,9 +604,9 @@ static void put_text(struct source *source, const char *text, size_t length) {
 /* Literal bytes, which may hold zeros. */
 #define PUT(source, text) put_text(source, text, sizeof(text) - 1)
 
-#define SET_STATE_COMMAND 0x0403
-#define CALL_COMMAND 0x040D
-#define CALL_SCHEMA 33
+#define SET_STATE_COMMAND JOURNAL_SET_STATE_COMMAND
+#define CALL_COMMAND JOURNAL_CALL_COMMAND
+#define CALL_SCHEMA JOURNAL_SCHEMA_CALL_COMMAND
 #define A_CALL "\x22\x06\x0A\x01k\x12\x01v"
 #define NO_PAYLOAD "\x07"
 
@@ -718,8 +655,8 @@ static void put_notification(struct source *source, int id, int result) {
     }
 }
 
-#define PROPOSAL_SCHEMA 15
-#define FUTURE_SCHEMA 7
+#define PROPOSAL_SCHEMA JOURNAL_SCHEMA_PROPOSE_RUN_COMPLETION
+#define FUTURE_SCHEMA JOURNAL_SCHEMA_FUTURE
 
 /* A text that is read as this kind for the schema of the request, which is set where a call has no such text. */
 static void put_text_of(struct request *request, int kind) {
@@ -747,10 +684,11 @@ static void put_text_of(struct request *request, int kind) {
     }
 }
 
-/* Changes a request so that its result is of a kind, or this error if that is not 0. */
-static void make_wanted(struct work *work, struct request *request, int kind, int error) {
+/* Changes a request so that its result is of a kind, or this error if there is one. What is looked at after what the
+   error is about may be wrong too. */
+static void make_wanted(struct work *work, struct request *request, int kind, enum error error) {
     struct source *first = &request->source[0], *second = &request->source[1];
-    enum call call = request->call;
+    int call = request->call;
 
     request->version = JOURNAL_FIRST_VERSION + below(work, JOURNAL_LAST_VERSION - JOURNAL_FIRST_VERSION + 1);
     request->schema = CALL_SCHEMA;
@@ -774,10 +712,10 @@ static void make_wanted(struct work *work, struct request *request, int kind, in
         first->length = kind > JOURNAL_SKIPPED ? below(work, 8) : first->length;
         break;
     case NOTIFICATION:
-        put_notification(first, error == JOURNAL_NO_ID ? 3 : kind / 5, error == JOURNAL_NO_RESULT ? 5 : kind % 5);
+        put_notification(first, error == NO_ID ? 3 : kind / 5, error == NO_RESULT ? 5 : kind % 5);
         break;
     case VERDICT:
-        put_journals(work, request->source, error == JOURNAL_OUT_OF_MEMORY ? JOURNAL_HEADER_MISMATCH : kind);
+        put_journals(work, request->source, error == OUT_OF_MEMORY ? JOURNAL_HEADER_MISMATCH : kind);
         break;
     case MERGE: case HEADER_EQ: case DIFFERENCE:
         PUT(second, A_CALL);
@@ -788,16 +726,23 @@ static void make_wanted(struct work *work, struct request *request, int kind, in
     default:
         break;
     }
-    if (error == JOURNAL_MALFORMED || (call == IS_WELL_FORMED && !error && kind == 0)) {
-        put_byte(listed[call].inputs > 1 && one_of(work, 2) ? second : first, 0x07);
+    if (error == MALFORMED || (call == IS_WELL_FORMED && !error && kind == 0)) {
+        put_byte(first, 0x07);
+    }
+    if (error == MALFORMED_SECOND || (error == MALFORMED && listed[call].inputs > 1 && one_of(work, 2))) {
+        put_byte(second, 0x07);
     }
     if (call == HEADER_EQ && !error && kind == 0) {
         PUT(first, "\x0A\x01s");
     }
-    if (error == JOURNAL_UNKNOWN) {
+    if (error == UNKNOWN_VERSION) {
         request->version = one_of(work, 2) ? below(work, JOURNAL_FIRST_VERSION)
                                            : JOURNAL_LAST_VERSION + 1 + below(work, 300);
+    }
+    if (error == UNKNOWN_SCHEMA) {
         request->schema = JOURNAL_SCHEMAS + below(work, 300);
+    }
+    if (error == UNKNOWN_TYPE || (error == UNKNOWN_VERSION && one_of(work, 2))) {
         request->code = call == NOTIFICATION ? CALL_COMMAND : call == TYPE_NAME ? 0x0004 : 0x8002;
         if (call == TYPE_CODE) {
             PUT(first, "callCommand");
@@ -805,17 +750,17 @@ static void make_wanted(struct work *work, struct request *request, int kind, in
     }
 }
 
-/* The next kind of a result in turn, which is made on purpose: of a call, and an error if that is not 0. */
-static void next_turn(struct work *work, struct request *request, int *error) {
+/* The next kind of a result in turn, which is made on purpose: of a call, and an error if there is one. */
+static void next_turn(struct work *work, struct request *request, enum error *error) {
     for (;;) {
         long turn = work->turn++ % (CALLS * (KINDS + ERRORS));
         int kind = (int)(turn % (KINDS + ERRORS));
 
-        request->call = (enum call)(turn / (KINDS + ERRORS));
-        *error = kind < KINDS ? 0 : KINDS - kind;
-        if (*error == 0 ? kind < listed[request->call].kinds
-                          : (listed[request->call].errors & ~TOO_LONG & BIT(*error)) != 0) {
-            make_wanted(work, request, *error ? 0 : kind, *error);
+        request->call = (int)(turn / (KINDS + ERRORS));
+        *error = (enum error)(kind < KINDS ? 0 : kind - KINDS);
+        if (kind < KINDS ? kind < listed[request->call].kinds
+                         : *error != TOO_LONG && (listed[request->call].errors & BIT(*error)) != 0) {
+            make_wanted(work, request, kind < KINDS ? kind : 0, *error);
             return;
         }
     }
@@ -828,10 +773,10 @@ static size_t room_for(int64_t result) {
 
 /* Makes a call in all ways. */
 static void try_case(struct work *work, struct request *request) {
-    enum call call;
+    int call;
     size_t numbers, room;
     int64_t result;
-    int error = 0;
+    enum error error = NO_ERROR;
 
     make_request(work, request);
     if (work->cases % 4 == 0) {
@@ -854,15 +799,15 @@ static void try_case(struct work *work, struct request *request) {
         again(work, request, result, 0, numbers);
     }
     if (numbers > 0) {
-        int64_t error = called(work, request, room, below(work, (uint32_t)numbers), 0);
-        if (error != JOURNAL_NO_ROOM && (result >= 0 || error != result)) {
-            wrong(work, request, "too few numbers are taken", error);
+        int64_t refused = called(work, request, room, below(work, (uint32_t)numbers), 0);
+        if (refused != JOURNAL_NO_ROOM && (result >= 0 || refused != result)) {
+            wrong(work, request, "too few numbers are taken", refused);
         }
         if (result >= 0) {
             again(work, request, result, listed[call].writes ? room_for(result) : 0, numbers + 1 + below(work, 4));
         }
     }
-    if ((listed[call].errors & MEMORY) && (error == JOURNAL_OUT_OF_MEMORY || one_of(work, 4))) {
+    if ((listed[call].errors & BIT(OUT_OF_MEMORY)) && (error == OUT_OF_MEMORY || one_of(work, 4))) {
         long failing = 0;
         do {
             failing++;
@@ -947,10 +892,10 @@ int main(int argc, char **argv) {
         }
     }
     for (int call = 0; call < CALLS; call++) {
-        memory += works[0].results[call][-JOURNAL_OUT_OF_MEMORY];
+        memory += works[0].results[call][OUT_OF_MEMORY];
         for (int error = 1; works[0].count >= 10000 && error < ERRORS; error++) {
-            if ((listed[call].errors & ~TOO_LONG) >> error & 1 && works[0].results[call][error] == 0) {
-                printf("wrong: %s never returned -%d\n", listed[call].name, error);
+            if (error != TOO_LONG && listed[call].errors >> error & 1 && works[0].results[call][error] == 0) {
+                printf("wrong: %s never returned %" PRId64 "\n", listed[call].name, error_numbers[error]);
                 failed++;
             }
         }

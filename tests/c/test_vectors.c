@@ -144,7 +144,7 @@ static int is_whole(int64_t result) {
 
 /* What was written, as hex digits, or the error. */
 static void say_written(int64_t length) {
-    if (length == JOURNAL_MALFORMED) {
+    if (JOURNAL_KIND_OF_ERROR(length) == JOURNAL_MALFORMED) {
         append_text(&found, "malformed");
     } else if (length < 0) {
         append_text(&found, "refused");
@@ -193,32 +193,32 @@ static void frame(void) {
 }
 
 /* Appends an item to a listing. */
-static void list_item(struct buffer *listing, const uint64_t *item) {
+static void list_item(struct buffer *listing, const struct journal_item *item) {
     char text[64];
     int64_t length;
 
-    if (item[JOURNAL_ITEM_KIND] == JOURNAL_UNKNOWN_CODE) {
-        snprintf(text, sizeof text, "unknown %#" PRIx64 ", ", item[JOURNAL_ITEM_CODE]);
-    } else if (item[JOURNAL_ITEM_KIND] == JOURNAL_SKIPPED) {
-        snprintf(text, sizeof text, "skipped %#" PRIx64 " %" PRIu64 ", ", item[JOURNAL_ITEM_CODE],
-                 item[JOURNAL_ITEM_SIZE] - item[JOURNAL_ITEM_PAYLOAD]);
+    if (item->kind == JOURNAL_UNKNOWN_CODE) {
+        snprintf(text, sizeof text, "unknown %#" PRIx64 ", ", item->code);
+    } else if (item->kind == JOURNAL_SKIPPED) {
+        snprintf(text, sizeof text, "skipped %#" PRIx64 " %" PRIu64 ", ", item->code,
+                 item->size - item->payload);
     } else {
-        length = WRITTEN(journal_type_name((uint16_t)item[JOURNAL_ITEM_CODE], written.bytes, written.room));
+        length = WRITTEN(journal_type_name((uint16_t)item->code, written.bytes, written.room));
         append(listing, written.bytes, length < 0 ? 0 : (size_t)length);
-        snprintf(text, sizeof text, " %" PRIu64 "%s, ", item[JOURNAL_ITEM_SIZE] - item[JOURNAL_ITEM_PAYLOAD],
-                 item[JOURNAL_ITEM_ACK] ? " ack" : "");
+        snprintf(text, sizeof text, " %" PRIu64 "%s, ", item->size - item->payload,
+                 item->ack ? " ack" : "");
     }
     append_text(listing, text);
 }
 
 /* Appends the listing of the whole items at the beginning of a stream, and drops them. */
 static void list_items(struct buffer *listing, uint32_t version, struct buffer *stream) {
-    uint64_t item[JOURNAL_ITEM_NUMBERS];
+    struct journal_item item;
     size_t begin = 0;
 
-    while (journal_next(version, stream->bytes + begin, stream->length - begin, item, JOURNAL_ITEM_NUMBERS) == 0) {
-        list_item(listing, item);
-        begin += (size_t)item[JOURNAL_ITEM_SIZE];
+    while (journal_next(version, stream->bytes + begin, stream->length - begin, &item, JOURNAL_ITEM_NUMBERS) == 0) {
+        list_item(listing, &item);
+        begin += (size_t)item.size;
     }
     stream->length -= begin;
     memmove(stream->bytes, stream->bytes + begin, stream->length);
@@ -267,7 +267,8 @@ static void compare(void) {
 
         append_text(&found, same == 1 ? "same " : same == 0 ? "other " : "refused ");
     }
-    if (journal_header_eq(code, first.bytes, first.length, second.bytes, second.length, 0) == JOURNAL_MALFORMED) {
+    if (JOURNAL_KIND_OF_ERROR(journal_header_eq(code, first.bytes, first.length, second.bytes, second.length, 0)) ==
+        JOURNAL_MALFORMED) {
         found.length = 0;
     }
     say_written(WRITTEN(journal_difference(code, first.bytes, first.length, second.bytes, second.length, written.bytes,
@@ -280,14 +281,14 @@ static void json(void) {
     uint32_t schema = next_schema();
     struct buffer data = next_bytes(), canonical = {NULL, 0, 0};
     int64_t length = WRITTEN(journal_canonical(schema, data.bytes, data.length, written.bytes, written.room));
-    uint64_t numbers[JOURNAL_READ_NUMBERS];
+    struct journal_reading reading;
 
     append(&canonical, written.bytes, length < 0 ? 0 : (size_t)length);
     length = WRITTEN(journal_json(schema, data.bytes, data.length, written.bytes, written.room));
     append(&found, written.bytes, length < 0 ? 0 : (size_t)length);
-    length = WRITTEN(journal_payload_of_json(schema, found.bytes, found.length, numbers, JOURNAL_READ_NUMBERS,
+    length = WRITTEN(journal_payload_of_json(schema, found.bytes, found.length, &reading, JOURNAL_READ_NUMBERS,
                                              written.bytes, written.room));
-    if (length != (int64_t)canonical.length || numbers[JOURNAL_READ_KIND] != JOURNAL_READ ||
+    if (length != (int64_t)canonical.length || reading.kind != JOURNAL_READ ||
         memcmp(written.bytes, canonical.bytes, canonical.length) != 0) {
         append_text(&found, ", which is read as another payload");
     }
@@ -302,18 +303,17 @@ static void read_json(void) {
                                           "too_deep"};
     uint32_t schema = next_schema();
     struct buffer text = next_bytes();
-    uint64_t numbers[JOURNAL_READ_NUMBERS] = {0, 0}, kind;
+    struct journal_reading reading = {0, 0};
     char offset[32];
-    int64_t length = WRITTEN(journal_payload_of_json(schema, text.bytes, text.length, numbers, JOURNAL_READ_NUMBERS,
+    int64_t length = WRITTEN(journal_payload_of_json(schema, text.bytes, text.length, &reading, JOURNAL_READ_NUMBERS,
                                                      written.bytes, written.room));
 
-    kind = numbers[JOURNAL_READ_KIND];
-    if (length < 0 || kind == JOURNAL_READ || kind > JOURNAL_TOO_DEEP) {
+    if (length < 0 || reading.kind == JOURNAL_READ || reading.kind > JOURNAL_TOO_DEEP) {
         say_written(length);
     } else {
-        append_text(&found, reasons[kind]);
-        if (kind == JOURNAL_NOT_JSON) {
-            snprintf(offset, sizeof offset, " %" PRIu64, numbers[JOURNAL_READ_OFFSET]);
+        append_text(&found, reasons[reading.kind]);
+        if (reading.kind == JOURNAL_NOT_JSON) {
+            snprintf(offset, sizeof offset, " %" PRIu64, reading.offset);
             append_text(&found, offset);
         } else if (length > 0) {
             append_text(&found, " ");

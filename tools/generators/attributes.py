@@ -10,8 +10,8 @@ SOURCE = "the lists of generated files"
 # Streams are bytes, and their listings are beside them.
 AS_THEY_ARE = ("examples/streams/*", "crates/*/stdin")
 
-# The generators whose files are hand-written but for some numbers, and this one.
-LEFT_OUT = ("pages", "numbered", "attributes")
+# The generators whose files are hand-written but for some numbers or rows, and this one.
+LEFT_OUT = ("pages", "call_pages", "numbered", "attributes")
 
 
 def paths():

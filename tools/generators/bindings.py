@@ -1,6 +1,8 @@
 """What the bindings of other languages repeat of proto/journal.proto: the names of the schemas, by their numbers, and
 the codes of commands and of notifications. Each language has one file of it, which its function writes.
 """
+import re
+
 from . import missing  # noqa: F401
 from .proto import COMMANDS, NOTIFICATIONS, schemas, typed
 
@@ -11,14 +13,21 @@ SOURCE = "proto/journal.proto"
 def python():
     """The module of the package for Python."""
     names = "".join(f'    "{message.name}",\n' for message in schemas())
+    codes = "".join(f"    {snake(message.type_name())} = 0x{message.code:04X}\n" for message in typed())
     return (
-        '"""The names of the schemas, and the codes of commands and of notifications."""\n\n'
-        "from typing import Tuple\n\n"
-        f"# the name of each schema, at its number\nSCHEMA_NAMES: Tuple[str, ...] = (\n{names})\n\n"
+        '"""The names of the schemas, the codes of the types, and those of commands and of notifications."""\n\n'
+        "from enum import IntEnum\nfrom typing import Tuple\n\n"
+        f"# the name of each schema, at its number\nSCHEMA_NAMES: Tuple[str, ...] = (\n{names})\n\n\n"
+        f'class TypeCode(IntEnum):\n    """The code of each named type."""\n\n{codes}\n\n'
         "# the codes of commands and of notifications, those of custom entries among them\n"
         f"COMMAND_CODES = range(0x{COMMANDS.start:04X}, 0x{COMMANDS.stop:04X})\n"
         f"NOTIFICATION_CODES = range(0x{NOTIFICATIONS.start:04X}, 0x{NOTIFICATIONS.stop:04X})\n"
     )
+
+
+def snake(name):
+    """A name of several words in capitals, as SLEEP_COMMAND."""
+    return re.sub(r"(?<=[a-z0-9])(?=[A-Z])", "_", name).upper()
 
 
 def go():
@@ -49,9 +58,12 @@ def go_constants(values):
 def ruby():
     """The file of the gem for Ruby."""
     names = "".join(f"    {message.name}\n" for message in schemas())
+    # not in a module of their own: END is a word of Ruby
+    codes = "".join(f"  CODE_{snake(message.type_name())} = 0x{message.code:04x}\n" for message in typed())
     return (
         "# frozen_string_literal: true\n\nmodule Pendratsoa\n"
         f"  # The name of each schema, at its number.\n  SCHEMA_NAMES = %w[\n{names}  ].freeze\n\n"
+        f"  # The code of each named type.\n{codes}\n"
         "  # The codes of commands and of notifications, those of custom entries among them.\n"
         f"  COMMAND_CODES = (0x{COMMANDS.start:04x}...0x{COMMANDS.stop:04x})\n"
         f"  NOTIFICATION_CODES = (0x{NOTIFICATIONS.start:04x}...0x{NOTIFICATIONS.stop:04x})\nend\n"

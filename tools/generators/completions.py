@@ -1,135 +1,129 @@
-"""Completion of the programs' arguments for bash and zsh. The options are those that the programs themselves declare."""
-import re
-
-from . import ROOT, missing  # noqa: F401
-from .proto import typed
+"""Completion of the programs' arguments for bash and zsh, from the description of the programs."""
+from . import missing, programs  # noqa: F401
 
 ABOUT = "Completion for bash and zsh."
-SOURCE = "the options of the programs and proto/journal.proto"
+SOURCE = "proto/programs.toml and proto/journal.proto"
 
-# Where a program declares its options.
-DECLARED = {
-    "journal_list": "crates/journal_list/src/arguments.rt",
-    "journal_diff": "crates/journal_diff/src/arguments.rt",
-    "journal_dump": "crates/journal_dump/src/arguments.rt",
-    "journal_make": "crates/journal_make/src/arguments.rt",
-}
-
-# Where the programs declare the options that they share, by the functions of these names.
-SHARED = {
-    "protocol_option": "crates/command_line/src/protocol.rt",
-    "color_option": "crates/command_line/src/colors.rt",
-}
-
-# Where the library says which versions it supports.
-VERSIONS = "crates/shared_core_base/src/version.rt"
-
-# The arguments that are neither options nor files, and what they are.
-WORDS = {"BYTES": "':bytes:'", "v9": "':version:(v9)'"}
-
-# What every program with options has.
-COMMON = {"help": "Print help", "version": "Print version"}
+BASH = "share/bash-completion/completions"
+ZSH = "share/zsh/site-functions"
 
 
-class Option:
-    """An argument of a program: its name if it is an option, the name of its value, what it does, its values."""
-
-    def __init__(self, name, value, help, code=""):
-        self.name = name
-        self.value = value
-        self.help = help
-        self.is_repeated = "ArgAction::Append" in code
-        self.has_versions = "supported_numbers" in code
-        named = re.search(r"\.value_parser\(&\[(.*?)\]", code, re.S)
-        self.values = texts_of(named[1]) if named else []
+def in_bash(words):
+    """A command of bash that offers those of the words with which the current one can go on."""
+    return f"mapfile -t COMPREPLY < <(compgen -W '{' '.join(words)}' -- \"$word\")"
 
 
-def texts_of(code):
-    """The string literals of some code."""
-    return re.findall(r'"([^"]*)"', code)
+def long_options(program):
+    return [f"--{name}" for name in [*(option.name for option in program.options), *programs.common()["options"]]]
 
 
-def function_of(text, name):
-    """The code of a function of a file."""
-    return re.search(rf"^(?:pub )?fn {name}\b.*?^}}$", text, re.M | re.S)[0]
-
-
-def option_of(code, texts):
-    """The option that a function defines, to which its help is given where it does not say it."""
-    found = dict(re.findall(r'\.(long|value_name|help)\(\s*"([^"]*)",?\s*\)', code))
-    return Option(found["long"], found["value_name"], found.get("help") or texts[0], code)
-
-
-def declared(path):
-    """The arguments that a file declares, in the order of its function `command`: each is one call of a function."""
-    text = (ROOT / path).read_text(encoding="utf-8")
-    command = function_of(text, "command")
-    calls = re.findall(r'\.arg\(\s*(\w+)\(\s*alloc((?:,\s*"[^"]*")*),?\s*\)', command)
-    if len(calls) != command.count(".arg("):
-        raise ValueError(f"{path}: an argument is declared in another form")
-    for function, code in calls:
-        texts = texts_of(code)
-        if function == "flag":
-            yield Option(texts[0], None, texts[1])
-        elif function == "operand":
-            yield Option(None, texts[1], texts[2])
-        else:
-            source = (ROOT / SHARED[function]).read_text(encoding="utf-8") if function in SHARED else text
-            yield option_of(function_of(source, function), texts)
-
-
-def options(program):
-    """The options of a program, and the names of its other arguments."""
-    numbers = re.search(r"fn supported_numbers.*?^    }$", (ROOT / VERSIONS).read_text(encoding="utf-8"), re.M | re.S)
-    versions = re.findall(r'"(\d+)"', numbers[0])
-    arguments = list(declared(DECLARED[program]))
-    named = [option for option in arguments if option.name]
-    for option in named:
-        if option.has_versions:
-            option.values = versions
-        elif not option.values:
-            option.values = [message.type_name() for message in typed()]
-    return named, [option.value for option in arguments if not option.name]
-
-
-def for_bash(program):
-    """Completion for bash."""
-    named, _ = options(program)
+def bash_function(program):
+    """The function that completes the arguments of a program or of a subcommand."""
     values = "".join(
-        f"        --{option.name}) mapfile -t COMPREPLY < <(compgen -W '{' '.join(option.values)}' -- \"$word\") ;;\n"
-        for option in named
-        if option.value
+        f"        --{option.name}) {in_bash(option.completed)} ;;\n" for option in program.options if option.value
     )
-    names = " ".join(f"--{name}" for name in [*(option.name for option in named), *COMMON])
     return (
-        f"_{program}() {{\n"
+        f"_{program.name}() {{\n"
         "    local word=${COMP_WORDS[COMP_CWORD]}\n"
         "    case ${COMP_WORDS[COMP_CWORD - 1]} in\n"
         f"{values}"
-        f"        *) [[ $word != -* ]] || mapfile -t COMPREPLY < <(compgen -W '{names}' -- \"$word\") ;;\n"
+        f"        *) [[ $word != -* ]] || {in_bash(long_options(program))} ;;\n"
         "    esac\n"
         "}\n"
-        f"complete -o default -F _{program} {program}\n"
     )
 
 
-def for_zsh(program):
-    """Completion for zsh. Its first line has to say what it completes."""
-    head = f"#compdef {program}\n# @generated by tools/generate.py completions from {SOURCE}. Do not edit.\n"
-    named, others = options(program)
-    lines = []
-    for option in named:
+def bash_of_subcommands(program):
+    """The function for the program that has subcommands: it completes their names, and then as each of them does."""
+    names = [each.command for each in programs.subcommands()]
+    calls = "".join(f"        {each.command}) _{each.name} ;;\n" for each in programs.subcommands())
+    return (
+        f"_{program.name}() {{\n"
+        "    local word=${COMP_WORDS[COMP_CWORD]}\n"
+        "    if [ \"$COMP_CWORD\" -eq 1 ]; then\n"
+        f"        {in_bash([*names, 'help', *long_options(program)])}\n"
+        "        return\n"
+        "    fi\n"
+        "    case ${COMP_WORDS[1]} in\n"
+        f"{calls}"
+        f"        help) {in_bash(names)} ;;\n"
+        "    esac\n"
+        "}\n"
+    )
+
+
+def for_bash(crate):
+    """The completion of all that a crate is installed as."""
+    own = [each for each in programs.programs() if each.crate == crate]
+    makers = {programs.JOURNAL: bash_of_subcommands}
+    functions = "".join(makers.get(each.name, bash_function)(each) for each in own)
+    return functions + "".join(f"complete -o default -F _{each.name} {each.name}\n" for each in own)
+
+
+def arguments(lines):
+    """A call of zsh's function for arguments."""
+    return "_arguments \\\n    " + " \\\n    ".join(lines) + "\n"
+
+
+def zsh_common():
+    return [f"'(- *)--{name}[{text}]'" for name, text in programs.common()["options"].items()]
+
+
+def zsh_lines(program):
+    """The arguments of a program or of a subcommand, as zsh reads them."""
+    for option in program.options:
         star = "*" if option.is_repeated else ""
-        value = f":{option.value}:({' '.join(option.values)})" if option.value else ""
-        lines.append(f"'{star}--{option.name}{'=' if value else ''}[{option.help}]{value}'")
-    lines += [f"'(- *)--{name}[{text}]'" for name, text in COMMON.items()]
-    lines += [WORDS.get(other, "':file:_files'") for other in others]
-    return f"{head}_arguments \\\n    " + " \\\n    ".join(lines) + "\n"
+        value = f":{option.value}:({' '.join(option.completed)})" if option.value else ""
+        yield f"'{star}--{option.name}{'=' if value else ''}[{option.help}]{value}'"
+    yield from zsh_common()
+    for operand in program.operands:
+        if operand.is_file:
+            yield "':file:_files'"
+        elif operand.completed:
+            yield f"':{operand.name}:({' '.join(operand.completed)})'"
+        else:
+            yield f"':{operand.name}:'"
+
+
+def zsh_of_subcommands(program):
+    """The completion of the program that has subcommands, and of these by their own names: a function for each."""
+    own = programs.subcommands()
+    functions = "".join(f"_{each.name}() {{\n  {arguments(zsh_lines(each))}}}\n\n" for each in own)
+    names = " ".join(f'{each.command}\\:"{each.about.partition(".")[0]}"' for each in own)
+    lines = [*zsh_common(), f"'1:command:(({names} help\\:\"Prints a help\"))'", "'*::argument:->argument'"]
+    calls = "".join(f"    {each.command}) _{each.name} ;;\n" for each in own)
+    return (
+        f"{functions}"
+        f"_{program.name}() {{\n"
+        "  local context state line\n"
+        f"  {arguments(lines)}"
+        "  [[ $state == argument ]] || return\n"
+        "  case $words[1] in\n"
+        f"{calls}"
+        f"    help) compadd {' '.join(each.command for each in own)} ;;\n"
+        "  esac\n"
+        "}\n\n"
+        "_$service \"$@\"\n"
+    )
+
+
+def for_zsh(crate):
+    """The completion of all that a crate is installed as. Its first line has to say what it completes."""
+    own = [each for each in programs.programs() if each.crate == crate]
+    head = f"#compdef {' '.join(each.name for each in own)}\n"
+    head += f"# @generated by tools/generate.py completions from {SOURCE}. Do not edit.\n"
+    if own[0].name == programs.JOURNAL:
+        return f"{head}\n{zsh_of_subcommands(own[0])}"
+    return head + arguments(zsh_lines(own[0]))
+
+
+def paths():
+    return [path for crate in programs.CRATES for path in (f"{BASH}/{crate}.bash", f"{ZSH}/_{crate}")]
 
 
 def files():
-    found = {}
-    for program in DECLARED:
-        found[f"share/bash-completion/completions/{program}.bash"] = for_bash(program)
-        found[f"share/zsh/site-functions/_{program}"] = for_zsh(program)
-    return found
+    made = {}
+    for crate in programs.CRATES:
+        made[f"{BASH}/{crate}.bash"] = for_bash(crate)
+        made[f"{ZSH}/_{crate}"] = for_zsh(crate)
+    return made

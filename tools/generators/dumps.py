@@ -1,4 +1,4 @@
-"""The stored run of journal_dump and the JSON of each message, with protobuf's own printer as the judge:
+"""The stored run of journal and the JSON of each message, with protobuf's own printer as the judge:
 protobuf_dumps.py makes them, in a Python that has protobuf."""
 import pathlib
 import shutil
@@ -9,7 +9,7 @@ import tempfile
 from . import record_vectors, tables
 from .proto import without_protoc
 
-ABOUT = "The stored run of journal_dump, and the JSON of each message."
+ABOUT = "The stored run of journal, and the JSON of each message."
 SOURCE = "conformance/records.txt, by protobuf"
 
 MAKER = pathlib.Path(__file__).with_name("protobuf_dumps.py")
@@ -32,7 +32,7 @@ def missing():
 
 
 def paths():
-    return ["crates/journal_dump/stdin", "crates/journal_dump/stdout", "conformance/json/records.txt"]
+    return ["crates/journal/stdin", "crates/journal/stdout", "conformance/json/records.txt"]
 
 
 def files():

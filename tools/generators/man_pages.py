@@ -1,17 +1,17 @@
-"""The man pages of the programs and of the library for C, from docs/PROGRAMS.md, docs/C.md and include/pendratsoa.h."""
+"""The man pages of the programs and of the library for C, from the description of the programs, docs/PROGRAMS.md,
+docs/C.md and include/pendratsoa.h."""
 import itertools
 import re
 import textwrap
 
-from . import ROOT, missing  # noqa: F401
+from . import ROOT, missing, programs  # noqa: F401
+from .programs import version
 
 ABOUT = "The man pages of the programs and of the library for C."
-SOURCE = "docs/PROGRAMS.md, docs/C.md and include/pendratsoa.h"
+SOURCE = "proto/programs.toml, docs/PROGRAMS.md, docs/C.md and include/pendratsoa.h"
 
 # The day on which the text of the pages last changed.
 DATE = "2026-11-26"
-
-PROGRAMS = ("journal_list", "journal_diff", "journal_dump", "journal_make")
 
 # What docs/C.md says that belongs into the page of the library: the heading there, and the section's name here.
 LIBRARY_SECTIONS = (
@@ -25,11 +25,6 @@ HEADER = "include/pendratsoa.h"
 
 # What roff reads as more than the character itself.
 ESCAPED = {"\\": "\\e", "-": "\\-", "'": "\\(aq", "`": "\\(ga", "^": "\\(ha", "~": "\\(ti"}
-
-
-def version():
-    """The version of the library."""
-    return re.search(r'^#define JOURNAL_LIBRARY_VERSION "(.*)"$', read(HEADER), re.M)[1]
 
 
 def read(path):
@@ -122,19 +117,41 @@ def item(text):
     """An item of a list: an argument or several, which are its tag, or else a text with a dot."""
     found = re.match(r"((?:`[^`]*`(?:, )?)+): ", text)
     if found:
-        return f".TP\n{inline(found[1])}\n{filled(text[found.end() :])}"
+        return tagged(found[1], text[found.end() :])
     return f".IP \\(bu 2\n{filled(text)}"
 
 
-def program_page(name):
-    """The man page of a program, from its section of docs/PROGRAMS.md."""
-    text, heading = section(read("docs/PROGRAMS.md"), name)
-    synopsis, *rest = blocks(text)
-    parts = {"DESCRIPTION": "", "OPTIONS": "", "EXIT STATUS": "", "EXAMPLES": ""}
+def tagged(tag, text):
+    """A text with a tag before it."""
+    return f".TP\n{inline(tag)}\n{filled(text)}"
+
+
+def see_also(name):
+    """The other pages."""
+    others = [f".BR {other.name} (1)" for other in programs.programs() if other.name != name]
+    return " ,\n".join([*others, ".BR pendratsoa (3)"]) + "\n"
+
+
+def synopsis(program):
+    """How a program is used, in lines that a terminal has room for; an option stays with its value."""
+    lines = []
+    for line in program.synopses():
+        named = line.partition(" [")[0]
+        words = re.sub(r"(\[[^]]*) ([^]]*\])", "\\1\u00a0\\2", line)
+        lines += textwrap.wrap(words, 72, subsequent_indent=" " * (len(named) + 1), break_on_hyphens=False)
+    return "\n".join(lines).replace("\u00a0", " ")
+
+
+def program_page(program):
+    """The man page of a program: its arguments as they are described, and all else from its section of PROGRAMS.md."""
+    text, heading = section(read("docs/PROGRAMS.md"), program.called)
+    _, *rest = blocks(text)
+    parts = {"DESCRIPTION": "", programs.heading(program): "", "EXIT STATUS": "", "EXAMPLES": ""}
+    parts[programs.heading(program)] = "".join(tagged(tag, said) for tag, said in program.items())
     part = "DESCRIPTION"
     for kind, block in rest:
         if kind == "item":
-            parts["OPTIONS"] += item(block)
+            # the list of the arguments
             continue
         if kind == "code":
             # it belongs to the paragraph before it
@@ -146,16 +163,17 @@ def program_page(name):
         elif block.startswith("For example, "):
             part = "EXAMPLES"
         parts[part] += ".PP\n" + filled(block)
-    terminal = prose(section(read("docs/PROGRAMS.md"), "On a terminal")[0])
-    others = [f".BR {other} (1)" for other in PROGRAMS if other != name] + [".BR pendratsoa (3)"]
+    # a subcommand's page says it
+    is_whole = program.name != programs.JOURNAL
+    terminal = prose(section(read("docs/PROGRAMS.md"), "On a terminal")[0]) if is_whole else ""
     return page(
-        name,
+        program.name,
         1,
-        ("NAME", title(name, heading.removeprefix(": "))),
-        ("SYNOPSIS", as_it_is(synopsis[1])),
+        ("NAME", title(program.name, heading.removeprefix(": "))),
+        ("SYNOPSIS", as_it_is(synopsis(program))),
         *parts.items(),
         ("ON A TERMINAL", terminal),
-        ("SEE ALSO", " ,\n".join(others) + "\n"),
+        ("SEE ALSO", see_also(program.name)),
     )
 
 
@@ -218,11 +236,11 @@ def library_page():
         *((name, prose(section(text, heading)[0])) for heading, name in LIBRARY_SECTIONS),
         ("CALLS", calls()),
         ("EXAMPLES", prose(build)),
-        ("SEE ALSO", " ,\n".join(f".BR {name} (1)" for name in PROGRAMS) + "\n"),
+        ("SEE ALSO", " ,\n".join(f".BR {program.name} (1)" for program in programs.programs()) + "\n"),
     )
 
 
 def files():
-    found = {f"share/man/man1/{name}.1": program_page(name) for name in PROGRAMS}
+    found = {f"share/man/man1/{program.name}.1": program_page(program) for program in programs.programs()}
     found["share/man/man3/pendratsoa.3"] = library_page()
     return found

@@ -1,15 +1,16 @@
 """What pages repeat of proto/journal.proto: how many schemas, types and commands there are, wherever a page or the
-header for C says so, the kinds of types in docs/FORMAT.md, and the list of schemas in docs/C.md. All else of these
-files is written by hand.
+header for C says so, the kinds of types in docs/FORMAT.md, and the list of schemas in docs/C.md; and of the description
+of the programs: how each is used in docs/PROGRAMS.md, and what its arguments do. All else of these files is written by
+hand.
 """
 import re
 import textwrap
 
-from . import ROOT, missing  # noqa: F401
+from . import ROOT, missing, programs  # noqa: F401
 from .proto import schemas, typed
 
-ABOUT = "The numbers of schemas, types and commands on pages, and the list of schemas."
-SOURCE = "proto/journal.proto"
+ABOUT = "The numbers of schemas, types and commands on pages, the list of schemas, and the arguments of the programs."
+SOURCE = "proto/journal.proto and proto/programs.toml"
 
 PAGES = ("README.md", "CHANGELOG.md", "bench/README.md", "conformance/README.md", "docs/*.md", "crates/*/README.md")
 
@@ -17,10 +18,6 @@ PAGES = ("README.md", "CHANGELOG.md", "bench/README.md", "conformance/README.md"
 MEASURED = ("docs/GATE.md", "docs/PERFORMANCE.md")
 
 SAID = re.compile(r"((?:[Tt]he|[Aa]ll|its|these|each of the) )(\d+)( (?:named )?(schemas|records|types|codes|commands))\b")
-
-DEFINED = {
-    "include/pendratsoa.h": re.compile(r"^(#define JOURNAL_SCHEMAS )(\d+)()$", re.M),
-}
 
 # The page on what bytes are: the row of the types with their kinds, and how many lines give a type's code.
 FORMAT = "docs/FORMAT.md"
@@ -30,6 +27,11 @@ CODE_LINES = re.compile(r"^(    frames\.txt, )\d+(: The code of each message typ
 LISTED = "docs/C.md"
 LIST = "\n## Numbers of schemas\n"
 LIST_MARK = "\n<!-- Written by tools/generate.py pages from here on. -->\n\n"
+
+# The page on the programs: the head of a program's section with how it is used, and the list of its arguments.
+PROGRAMS = "docs/PROGRAMS.md"
+USED = "(## {name}: .*\n\n)(?:    .*\n)+"
+ARGUMENTS = re.compile(r"(<!-- Written by tools/generate\.py pages\. -->\n\n)(?:(?:- |  ).*\n)+")
 
 
 def counted():
@@ -68,9 +70,28 @@ def list_of_schemas():
     return "\n".join(lines).replace("\u00a0", " ") + ".\n"
 
 
+def list_of_arguments(program):
+    """What a program's arguments do, an item for each."""
+    wrapped = (
+        textwrap.wrap(f"{tag}: {said}", 118, break_long_words=False, break_on_hyphens=False) for tag, said in program.items()
+    )
+    return "".join("- " + "\n  ".join(lines) + "\n" for lines in wrapped)
+
+
+def programs_page(text):
+    """The page on the programs."""
+    sections = re.split(r"^(?=## )", text, flags=re.M)
+    for program in programs.programs():
+        at = next(place for place, section in enumerate(sections) if section.startswith(f"## {program.called}: "))
+        used = f"    {program.synopses()[0]}\n"
+        section = re.sub(USED.format(name=program.called), lambda match: match[1] + used, sections[at])
+        sections[at] = ARGUMENTS.sub(lambda match: match[1] + list_of_arguments(program), section)
+    return "".join(sections)
+
+
 def paths():
     found = {str(file.relative_to(ROOT)) for pattern in PAGES for file in ROOT.glob(pattern)}
-    return sorted((found - set(MEASURED)) | set(DEFINED))
+    return sorted(found - set(MEASURED))
 
 
 def files():
@@ -78,12 +99,11 @@ def files():
     found = {}
     for path in paths():
         text = (ROOT / path).read_text(encoding="utf-8")
-        if path in DEFINED:
-            found[path] = DEFINED[path].sub(lambda match: f"{match[1]}{counts['schemas']}", text)
-            continue
         text = numbered(text, counts)
         if path == FORMAT:
             text = format_page(text)
+        if path == PROGRAMS:
+            text = programs_page(text)
         if path == LISTED:
             text = text.partition(LIST)[0] + LIST + LIST_MARK + list_of_schemas()
         found[path] = text

@@ -1,7 +1,7 @@
 """Streams and their dumps, with protobuf's own JSON printer as the judge:
 
     protobuf_dumps.py --write FOLDER FROM
-                                         writes the stored run of journal_dump and the JSON of each message below a folder, for tools/generate.py,
+                                         writes the stored run of journal and the JSON of each message below a folder, for tools/generate.py,
                                          from the records and the types below another one
     protobuf_dumps.py --random SEED COUNT PROGRAM [WORD..]
                                          COUNT random payloads of each message type in one stream, dumped by the program and printed by protobuf
@@ -214,7 +214,7 @@ def dump_random(kinds, seed, count, command):
             stream.message(name, payload_of(r, getattr(kinds, name + "Message")), flag)
     rest, end = r.randbytes(r.randrange(2, 8)), len(stream.bytes)
     given, wanted = stream.end(rest)
-    told = f"journal_dump: offset {end}: {len(rest)} bytes after the last whole item\n"
+    told = f"journal dump: offset {end}: {len(rest)} bytes after the last whole item\n"
     run = subprocess.run(command, input=given, capture_output=True, check=False)
     lines = run.stdout.decode().split("\n")[:-1]
     passed = failed = 0
@@ -243,8 +243,8 @@ def main():
     root = pathlib.Path(words[2])
     given, wanted = stored(kinds, root)
     files = {
-        "crates/journal_dump/stdin": given,
-        "crates/journal_dump/stdout": wanted.encode(),
+        "crates/journal/stdin": given,
+        "crates/journal/stdout": wanted.encode(),
         "conformance/json/records.txt": json_lines(kinds, root).encode(),
     }
     for path, data in files.items():

@@ -150,7 +150,7 @@ function detailOf(place) {
       joins.some(Boolean) ? tableRow("joined", joins) : null,
       others));
   const lines = row.filter(Boolean).map((item) => foldedNode(indented(item.line), "json"));
-  const raw = element("details", "", element("summary", "", "The line of journal_dump"), lines);
+  const raw = element("details", "", element("summary", "", "The line of journal dump"), lines);
   const title = element("h2", "", isPair ? rowTitle(row) : typeOf(row[0]));
   return element("div", "", title, table, raw);
 }

@@ -19,7 +19,7 @@ function directionOf(dump) {
 }
 
 /**
- * The values in a message, each with its path, its kind, and whether journal_diff compares it. A future is one value,
+ * The values in a message, each with its path, its kind, and whether journal diff compares it. A future is one value,
  * and so is a message without fields.
  */
 function* valuesOf(message, schema, path = "", compared = true) {

@@ -39,7 +39,7 @@ function pairCell(item) {
     element("span", "text", pieceNodes(item)));
 }
 
-/** The mark between two items: whether journal_diff found these commands the same, or different. */
+/** The mark between two items: whether journal diff found these commands the same, or different. */
 function markOf(place) {
   const command = itemsOf(place)[0].command;
   if (command === null) return element("span", "mark");

@@ -1,4 +1,4 @@
-// The page's script: it lists the lines of journal_dump that are in the page, joins them by their ids, and shows one.
+// The page's script: it lists the lines of journal dump that are in the page, joins them by their ids, and shows one.
 // A text of a journal becomes a text node and nothing else; the page's policy forbids all other ways.
 "use strict";
 

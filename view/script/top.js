@@ -24,7 +24,7 @@ function sentenceOf({ kind, index, text }) {
     case "replayed ends":
       return [`The replayed journal ends before command ${number(index)}, where the recorded one has `, quoted(0), "."];
     default:
-      return [`There is no verdict: ${text.replace(/^journal_diff: /, "")}.`];
+      return [`There is no verdict: ${text.replace(/^journal diff: /, "")}.`];
   }
 }
 

@@ -117,13 +117,13 @@ class Verdicts(unittest.TestCase):
             ("recorded ends at command 0", "recorded ends", 0),
             ("replayed ends at command 12", "replayed ends", 12),
             ("command 2: Found a mismatch\n- more", "differs", 2),
-            ("journal_diff: the recorded command 1 is malformed", "recorded malformed", 1),
-            ("journal_diff: the replayed command 3 is malformed", "replayed malformed", 3),
+            ("journal diff: the recorded command 1 is malformed", "recorded malformed", 1),
+            ("journal diff: the replayed command 3 is malformed", "replayed malformed", 3),
         ):
             self.assertEqual(make_page.verdict_of(text), {"kind": kind, "index": index, "text": text})
 
     def test_other_texts_are_no_verdict(self):
-        for text in ("", "same", "journal_diff: out of memory", "recorded ends at command", "x\ncommand 1: y"):
+        for text in ("", "same", "journal diff: out of memory", "recorded ends at command", "x\ncommand 1: y"):
             self.assertIsNone(make_page.verdict_of(text))
 
 
@@ -163,7 +163,7 @@ class Endings(unittest.TestCase):
         path = WORK / "refused.html"
         status, output, error = run("--protocol", "4", STREAMS / "replay", "-o", path)
         self.assertEqual((status, output), (2, ""))
-        self.assertIn("journal_dump ended with the status 2", error)
+        self.assertIn("journal dump ended with the status 2", error)
         self.assertFalse(path.exists())
 
 
@@ -221,7 +221,7 @@ class Files(unittest.TestCase):
 
     def test_the_input_as_both_journals(self):
         status, output, lines = self.make("-", "-", "-o", "-")
-        self.assertEqual((status, output, lines[-1]), (2, b"", "run.sh view: error: - is one of two journals at most"))
+        self.assertEqual((status, output, lines[-1]), (2, b"", "run.sh journal view: error: - is one of two journals at most"))
 
     def test_fifos(self):
         paths = [STREAMS / "recorded", STREAMS / "replayed_other_handler"]

@@ -123,7 +123,7 @@ class Examples(PageTest):
         self.assertEqual(self.value("document.querySelector('#row-1 .type').classList.contains('command')"), True)
 
     def test_each_type_of_the_protocol(self):
-        self.open(STREAMS.parent.parent / "crates" / "journal_dump" / "stdin")
+        self.open(STREAMS.parent.parent / "crates" / "journal" / "stdin")
         count = self.rows()
         self.assertGreater(count, 100)
         for _ in range(count):

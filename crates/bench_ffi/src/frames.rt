@@ -92,7 +92,7 @@ fn frame_of(
         payload,
         rounds,
     };
-    visit_message(ty, framing).ok_or(CallError::Unknown)?
+    visit_message(ty, framing).ok_or(CallError::UnknownType)?
 }
 
 /// Decodes a payload to a record, and returns its frame.

@@ -4,8 +4,8 @@ ghost use Rattle.std.specs.Prelude.{◌≡◌, ◌++◌, OnOk};
 ghost use Rattle.command_line.specs.Painting.{closing, opening, painted_part};
 
 use crate::terminal::{takes_sequences, wants_no_color};
-use clap::{Arg, ArgMatches};
-use std::alloc::{AllocError, Global};
+use clap::ArgMatches;
+use std::alloc::AllocError;
 use std::io::IsTerminal;
 
 /// How a part of a text is shown.
@@ -53,16 +53,6 @@ fn closing(style: Style) -> &'static [u8]
         Style::Plain => b"",
         Style::Bold | Style::Red | Style::Green => b"\x1b[0m",
     }
-}
-
-/// The option `--color`.
-pub fn color_option<'a>(alloc: Global) -> Arg<'a> {
-    Arg::new(alloc, "color")
-        .long("color")
-        .value_name("WHEN")
-        .value_parser(&["auto", "always", "never"][..])
-        .default_value("auto")
-        .help("When the output has colors: auto is on a terminal, unless NO_COLOR is set")
 }
 
 /// When an output has colors, as `--color` says.

@@ -1,4 +1,4 @@
-//! The definitions of flags and of operands.
+//! The definitions of flags, of options with a value and of operands.
 
 use clap::{Arg, ArgAction};
 use std::alloc::Global;
@@ -8,6 +8,14 @@ pub fn flag<'a>(alloc: Global, name: &'a str, help: &'a str) -> Arg<'a> {
     Arg::new(alloc, name)
         .long(name)
         .action(ArgAction::SetTrue)
+        .help(help)
+}
+
+/// An option `--NAME VALUE`, whose value help and errors show as `value`.
+pub fn option<'a>(alloc: Global, name: &'a str, value: &'a str, help: &'a str) -> Arg<'a> {
+    Arg::new(alloc, name)
+        .long(name)
+        .value_name(value)
         .help(help)
 }
 

@@ -15,12 +15,12 @@ ghost use Rattle.std.specs.Prelude.{◌≡◌};
 ghost use Rattle.std.specs.Process.{exit_status};
 
 pub use crate::arguments::{ArgumentsError, read_arguments};
-pub use crate::colors::{ColorChoice, Style, color_of, color_option, has_color, paint};
-pub use crate::definitions::{flag, operand};
+pub use crate::colors::{ColorChoice, Style, color_of, has_color, paint};
+pub use crate::definitions::{flag, operand, option};
 pub use crate::input::{Input, OpenError, input_size, is_stdin_open, open};
 pub use crate::pipe::Pipe;
 pub use crate::progress::{Progress, Watched};
-pub use crate::protocol::{protocol_of, protocol_option};
+pub use crate::protocol::protocol_of;
 pub use crate::terminal_text::{Escapes, Escaping, is_steering, push_escaped};
 use clap::Error;
 use clap::error::ErrorKind;

@@ -1,4 +1,4 @@
-//! The option `--protocol`.
+//! The value of the option `--protocol`.
 
 ghost use Rattle.std.specs.Prelude.{◌≡◌, ◌≤◌, Some, None, IfSome, decimal};
 ghost use Rattle.clap.specs.Matches.{found_of};
@@ -7,18 +7,8 @@ ghost use Rattle.shared_core_base.specs.declared.version.Version.{Version as Any
 ghost use Rattle.shared_core_base.specs.declared.version.Version.TheVariants.{V8};
 ghost use Rattle.command_line.specs.Protocol.{protocol_value};
 
-use clap::{Arg, ArgMatches};
+use clap::ArgMatches;
 use shared_core_base::version::Version;
-use std::alloc::Global;
-
-/// The option `--protocol`, whose value is the number of a supported version.
-pub fn protocol_option<'a>(alloc: Global, help: &'a str) -> Arg<'a> {
-    Arg::new(alloc, "protocol")
-        .long("protocol")
-        .value_name("VERSION")
-        .value_parser(Version::supported_numbers())
-        .help(help)
-}
 
 /// The version whose number is the value of the option, or V8 without it.
 pub fn protocol_of(matches: &ArgMatches<'_>) -> Version

@@ -1,5 +1,6 @@
 -- What `{}` writes of a number of 128 bits is a number of JSON.
-use Rattle.std.proofs.Common.{◌≡◌, ℕ, suc, ◌+◌, ◌%◌, ◌^◌, ◌<◌, Bool, true, false, cond, List, [], ◌∷◌, ◌++◌, length, get_or, decimal, refl, arith, length-append}
+use Rattle.std.proofs.Common.{◌≡◌, ℕ, suc, ◌+◌, ◌%◌, ◌^◌, ◌<◌, Bool, true, false, cond, List, [], ◌∷◌, ◌++◌, length}
+use Rattle.std.proofs.Common.{get_or, decimal, refl, arith, length-append}
 use lib.ListN.{get_or-append}
 use Rattle.std.proofs.lemmas.Bool.{ne_eqb, le-leb, and_from}
 use Rattle.std.proofs.lemmas.List.{drop_all}
@@ -18,7 +19,8 @@ record IsWhole (n : ℕ) (ds : List ℕ) : Type 0 where
 is_digit : (m : ℕ) → m < 10 → is_ascii_digit (48 + m) ≡ true
 is_digit m l = and_from _ _ (le-leb 48 (48 + m) (omega arith)) (le-leb (48 + m) 57 (omega arith))
 
-one_more : (ds : List ℕ) (m : ℕ) → m < 10 → prefix_len is_ascii_digit ds ≡ length ds → prefix_len is_ascii_digit (ds ++ ((48 + m) ∷ [])) ≡ length (ds ++ ((48 + m) ∷ []))
+one_more : (ds : List ℕ) (m : ℕ) → m < 10 → prefix_len is_ascii_digit ds ≡ length ds → prefix_len is_ascii_digit
+    (ds ++ ((48 + m) ∷ [])) ≡ length (ds ++ ((48 + m) ∷ []))
 one_more [] m l e = rw (is_digit m l) refl
 one_more (d ∷ ds) m l e = by (is_ascii_digit d) e (one_more ds m l)
   where
@@ -46,7 +48,14 @@ unfolding after_number
 whole_number n [] some h = absurd (omega (arith, h.some))
 whole_number n (d ∷ ds) some h =
     let first = h.first some in
-    rw (ne_eqb d 45 (λ e. omega arith), ne_eqb d 48 (λ e. omega arith), h.digits, ne_eqb (suc (length ds)) 0 (λ e. omega arith), drop_all (length ds) ds (omega arith)) refl
+    rw (
+      ne_eqb d 45 (λ e. omega arith),
+      ne_eqb d 48 (λ e. omega arith),
+      h.digits,
+      ne_eqb (suc (length ds)) 0
+          (λ e. omega arith),
+      drop_all (length ds) ds (omega arith),
+    ) refl
 
 pub wide_is_number : (n : ℕ) → 0 < n → n < 2 ^ 128 → IsNumber (decimal n)
 wide_is_number n some small = whole_number n (decimal n) some (whole_decimal n small)

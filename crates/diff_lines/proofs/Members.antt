@@ -2,7 +2,9 @@
 use Rattle.std.proofs.Common.{◌≡◌, List, ◌++◌, ◌∙◌, append_assoc}
 use Rattle.json.specs.Token.{Token}
 
-pub three_after : (old one two new last first second third : List Token) → one ≡ old ++ first → two ≡ one ++ second → new ≡ two ++ third
+pub three_after : (old one two new last first second third : List Token) → one ≡ old ++ first → two ≡ one ++ second →
+    new ≡ two ++ third
     → new ++ last ≡ old ++ (first ++ (second ++ (third ++ last)))
 three_after old one two new last first second third a b c =
-    rw (c, b, a) (append_assoc ((old ++ first) ++ second) third last ∙ (append_assoc (old ++ first) second (third ++ last) ∙ append_assoc old first (second ++ (third ++ last))))
+    rw (c, b, a) (append_assoc ((old ++ first) ++ second) third last ∙
+    (append_assoc (old ++ first) second (third ++ last) ∙ append_assoc old first (second ++ (third ++ last))))

@@ -22,7 +22,8 @@ painted_then a b x y (before, a_is, x_is) (after, b_is, y_is) = (
 )
 
 -- a part in its style is appended
-pub paints_one : (old new part : List ℕ) (style : Style) → new ≡ old ++ painted_part style part → PaintsMore old new part
+pub paints_one : (old new part : List ℕ) (style : Style) → new ≡ old ++ painted_part style part → PaintsMore old new
+    part
 paints_one old new part style is = (painted_part style part, is, one_painted style part)
 
 -- a part is appended, and one after it
@@ -36,7 +37,10 @@ pub paints_five : (line p q r s t after_p after_q after_r a b c d e f : List ℕ
     → PaintsMore a b p → PaintsMore b c q → PaintsMore c d r → PaintsMore d e s → PaintsMore e f t
     → PaintsMore a f line
 paints_five line p q r s t after_p after_q after_r a b c d e f line_is p_is q_is r_is one two three four five =
-    let last : PaintsMore d f after_r = subst (λ (xs : List ℕ). PaintsMore d f xs) (sym r_is) (paints_then d e f s t four five) in
-    let more : PaintsMore c f after_q = subst (λ (xs : List ℕ). PaintsMore c f xs) (sym q_is) (paints_then c d f r after_r three last) in
-    let most : PaintsMore b f after_p = subst (λ (xs : List ℕ). PaintsMore b f xs) (sym p_is) (paints_then b c f q after_q two more) in
+    let last : PaintsMore d f after_r = subst (λ (xs : List ℕ). PaintsMore d f xs) (sym r_is)
+    (paints_then d e f s t four five) in
+    let more : PaintsMore c f after_q = subst (λ (xs : List ℕ). PaintsMore c f xs) (sym q_is)
+    (paints_then c d f r after_r three last) in
+    let most : PaintsMore b f after_p = subst (λ (xs : List ℕ). PaintsMore b f xs) (sym p_is)
+    (paints_then b c f q after_q two more) in
     subst (λ (xs : List ℕ). PaintsMore a f xs) (sym line_is) (paints_then a b f p after_p one most)

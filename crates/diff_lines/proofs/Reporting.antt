@@ -1,4 +1,5 @@
-use Rattle.std.proofs.Common.{◌≡◌, ℕ, Bool, List, [], ◌++◌, Option, Some, None, Result, Ok, Err, ap, refl, sym, subst, ◌∙◌}
+use Rattle.std.proofs.Common.{◌≡◌, ℕ, Bool, List, [], ◌++◌, Option, Some, None, Result, Ok, Err, ap, refl, sym, subst}
+use Rattle.std.proofs.Common.{◌∙◌}
 use Rattle.shared_core_base.specs.declared.version.Version.{Version}
 use Rattle.replay_bench.specs.declared.verdicts.Comparison.{Comparison}
 use Rattle.replay_bench.specs.declared.verdicts.BenchError.TheVariants.{OutOfMemory}
@@ -13,46 +14,62 @@ use Rattle.diff_lines.specs.PassedOver.{strict_trouble}
 use Rattle.diff_lines.specs.Verdicts.{Reports, ReportsFound, ReportsWithColors, WritesWithColors}
 
 -- an allocation may always fail
-pub out_of_memory : (version : Version) (ignore : Bool) (a b : Option (List ℕ)) → ComparesKnown version ignore a b (Err (Bench OutOfMemory))
+pub out_of_memory : (version : Version) (ignore : Bool) (a b : Option (List ℕ)) → ComparesKnown version ignore a b
+    (Err (Bench OutOfMemory))
 out_of_memory version ignore (Some a) (Some b) = tt
 out_of_memory version ignore (Some a) None = tt
 out_of_memory version ignore None b = tt
 
 -- what is reported is what was found of the two journals
-pub reported : (version : Version) (ignore is_strict : Bool) (form : Form) (a b : Option (List ℕ)) (found : Comparison) (result : Result Findings DiffError) (written : List ℕ)
-    → IsComparison version ignore is_strict a b found → strict_trouble is_strict found.recorded found.replayed ≡ None → ReportsFound form found result written
+pub reported : (version : Version) (ignore is_strict : Bool) (form : Form) (a b : Option (List ℕ)) (found : Comparison)
+    (result : Result Findings DiffError) (written : List ℕ)
+    → IsComparison version ignore is_strict a b found → strict_trouble is_strict found.recorded found.replayed ≡ None →
+    ReportsFound form found result written
     → Reports version ignore is_strict form a b result written
-reported version ignore is_strict form a b found (Ok findings) written compared none reports = (found, record { compared = compared; trouble_is = none }, reports)
-reported version ignore is_strict form a b found (Err Output) written compared none reports = (found, record { compared = compared; trouble_is = none }, reports)
+reported version ignore is_strict form a b found (Ok findings) written compared none reports =
+    (found, record { compared = compared; trouble_is = none }, reports)
+reported version ignore is_strict form a b found (Err Output) written compared none reports =
+    (found, record { compared = compared; trouble_is = none }, reports)
 reported version ignore is_strict form a b found (Err (Faulty trouble)) written compared none reports = absurd reports
-reported version ignore is_strict form a b found (Err (NoVerdict why)) written compared none reports =
-    (subst (λ w. ComparesKnown version ignore a b (Err w)) (sym reports.0) (out_of_memory version ignore a b), reports.1)
+reported version ignore is_strict form a b found (Err (NoVerdict why)) written compared none reports = (
+  subst (λ w. ComparesKnown version ignore a b (Err w)) (sym reports.0) (out_of_memory version ignore a b),
+  reports.1,
+)
 
 -- what is reported in colors is what is reported without them
-reported_with_colors : (version : Version) (ignore is_strict : Bool) (form : Form) (a b : Option (List ℕ)) (findings : Findings) (text : List ℕ) (result : Result Findings DiffError) (written : List ℕ)
+reported_with_colors : (version : Version) (ignore is_strict : Bool) (form : Form) (a b : Option (List ℕ))
+    (findings : Findings) (text : List ℕ) (result : Result Findings DiffError) (written : List ℕ)
     → Reports version ignore is_strict form a b (Ok findings) text → WritesWithColors findings text result written
     → ReportsWithColors version ignore is_strict form a b result written
 reported_with_colors version ignore is_strict form a b findings text (Ok found) written reports painted =
     (text, subst (λ f. Reports version ignore is_strict form a b (Ok f) text) (sym painted.0) reports, painted.1)
 reported_with_colors version ignore is_strict form a b findings text (Err Output) written reports painted =
     (findings, text, painted.0, reports, painted.1)
-reported_with_colors version ignore is_strict form a b findings text (Err (Faulty trouble)) written reports painted = absurd painted
-reported_with_colors version ignore is_strict form a b findings text (Err (NoVerdict why)) written reports painted =
-    (subst (λ w. ComparesKnown version ignore a b (Err w)) (sym painted.0) (out_of_memory version ignore a b), painted.1)
+reported_with_colors version ignore is_strict form a b findings text (Err (Faulty trouble)) written reports painted =
+    absurd painted
+reported_with_colors version ignore is_strict form a b findings text (Err (NoVerdict why)) written reports painted = (
+  subst (λ w. ComparesKnown version ignore a b (Err w)) (sym painted.0) (out_of_memory version ignore a b),
+  painted.1,
+)
 
 -- what is wrong with a journal is reported alike with colors
-pub reported_faulty : (version : Version) (ignore is_strict : Bool) (form : Form) (a b : Option (List ℕ)) (trouble : Trouble) (result : Result Findings DiffError) (written : List ℕ)
+pub reported_faulty : (version : Version) (ignore is_strict : Bool) (form : Form) (a b : Option (List ℕ))
+    (trouble : Trouble) (result : Result Findings DiffError) (written : List ℕ)
     → result ≡ Err (Faulty trouble) → Reports version ignore is_strict form a b result written
     → ReportsWithColors version ignore is_strict form a b (Err (Faulty trouble)) []
 reported_faulty version ignore is_strict form a b trouble result written is reports =
-    let (found, has, none) = subst (λ (r : Result Findings DiffError). Reports version ignore is_strict form a b r written) is reports in
+    let (found, has, none) = subst (λ (r : Result Findings DiffError). Reports version ignore is_strict form a b r
+    written) is reports in
     (found, has, refl)
 
 -- the same of a text that was written into an empty vector
-pub reported_text : (version : Version) (ignore is_strict : Bool) (form : Form) (a b : Option (List ℕ)) (findings : Findings) (start items slice text : List ℕ) (result : Result Findings DiffError) (written : List ℕ)
+pub reported_text : (version : Version) (ignore is_strict : Bool) (form : Form) (a b : Option (List ℕ))
+    (findings : Findings) (start items slice text : List ℕ) (result : Result Findings DiffError) (written : List ℕ)
     → start ≡ [] → items ≡ start ++ text → slice ≡ items
     → Reports version ignore is_strict form a b (Ok findings) text → WritesWithColors findings slice result written
     → ReportsWithColors version ignore is_strict form a b result written
-reported_text version ignore is_strict form a b findings start items slice text result written start_is items_is slice_is reports painted =
+reported_text version ignore is_strict form a b findings start items slice text result written start_is items_is
+    slice_is reports painted =
     let is : slice ≡ text = slice_is ∙ items_is ∙ ap (λ (xs : List ℕ). xs ++ text) start_is in
-    reported_with_colors version ignore is_strict form a b findings text result written reports (subst (λ (xs : List ℕ). WritesWithColors findings xs result written) is painted)
+    reported_with_colors version ignore is_strict form a b findings text result written reports
+    (subst (λ (xs : List ℕ). WritesWithColors findings xs result written) is painted)

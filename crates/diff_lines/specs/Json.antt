@@ -8,7 +8,8 @@ use Rattle.json.specs.Print.{print}
 use Rattle.replay_bench.specs.declared.fields.FieldDifference.{FieldDifference}
 use Rattle.replay_bench.specs.declared.verdicts.Comparison.{Comparison}
 use Rattle.replay_bench.specs.declared.verdicts.Verdict.{Verdict}
-use Rattle.replay_bench.specs.declared.verdicts.Verdict.TheVariants.{Same, RecordedEnded, ReplayedEnded, TypeMismatch, HeaderMismatch}
+use Rattle.replay_bench.specs.declared.verdicts.Verdict.TheVariants.{Same, RecordedEnded, ReplayedEnded, TypeMismatch}
+use Rattle.replay_bench.specs.declared.verdicts.Verdict.TheVariants.{HeaderMismatch}
 
 -- A number before other members.
 abbrev pub number_member : List ℕ → ℕ → Members → Members

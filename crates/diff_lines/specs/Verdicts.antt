@@ -1,9 +1,11 @@
 -- What is printed for two compared journals.
-use Rattle.std.specs.Prelude.{◌≡◌, ℕ, Bool, true, false, List, [], ◌++◌, codes, decimal, nat_eq, if◌then◌else◌, Option, Some, None, Result, Ok, Err}
+use Rattle.std.specs.Prelude.{◌≡◌, ℕ, Bool, true, false, List, [], ◌++◌, codes, decimal, nat_eq, if◌then◌else◌, Option}
+use Rattle.std.specs.Prelude.{Some, None, Result, Ok, Err}
 use Rattle.std.specs.String.{string_bytes}
 use Rattle.shared_core_base.specs.declared.version.Version.{Version}
 use Rattle.replay_bench.specs.declared.verdicts.Verdict.{Verdict}
-use Rattle.replay_bench.specs.declared.verdicts.Verdict.TheVariants.{Same, RecordedEnded, ReplayedEnded, TypeMismatch, HeaderMismatch}
+use Rattle.replay_bench.specs.declared.verdicts.Verdict.TheVariants.{Same, RecordedEnded, ReplayedEnded, TypeMismatch}
+use Rattle.replay_bench.specs.declared.verdicts.Verdict.TheVariants.{HeaderMismatch}
 use Rattle.replay_bench.specs.declared.verdicts.BenchError.TheVariants.{OutOfMemory}
 use Rattle.replay_bench.specs.declared.verdicts.ReaderError.TheVariants.{Bench}
 use Rattle.replay_bench.specs.Texts.{reader_error_text}
@@ -30,8 +32,10 @@ abbrev pub verdict_line : Verdict → List ℕ
 verdict_line (Same count) = codes "same, " ++ (decimal count ++ (codes " " ++ (commands_word count ++ codes "\n")))
 verdict_line (RecordedEnded index) = codes "recorded ends at command " ++ (decimal index ++ codes "\n")
 verdict_line (ReplayedEnded index) = codes "replayed ends at command " ++ (decimal index ++ codes "\n")
-verdict_line (TypeMismatch index text) = codes "command " ++ (decimal index ++ (codes ": " ++ (string_bytes text ++ codes "\n")))
-verdict_line (HeaderMismatch index text) = codes "command " ++ (decimal index ++ (codes ": " ++ (string_bytes text ++ codes "\n")))
+verdict_line (TypeMismatch index text) = codes "command " ++
+    (decimal index ++ (codes ": " ++ (string_bytes text ++ codes "\n")))
+verdict_line (HeaderMismatch index text) = codes "command " ++
+    (decimal index ++ (codes ": " ++ (string_bytes text ++ codes "\n")))
 
 -- The line of a verdict on a terminal, with the fields of the lines of its text.
 abbrev pub terminal_line : Verdict → List FieldDifference → List ℕ
@@ -74,19 +78,22 @@ ReportsFound form found (Err (Faulty trouble)) written = ⊥
 ReportsFound form found (Err Output) written = (rest : List ℕ) × (found_line form found ≡ written ++ rest)
 
 -- Two journals have this comparison, and this is what is wrong with them, if that is an error.
-pub record HasFound (version : Version) (ignore is_strict : Bool) (recorded replayed : Option (List ℕ)) (found : Comparison) (trouble : Option Trouble) : Type 0 where
+pub record HasFound (version : Version) (ignore is_strict : Bool) (recorded replayed : Option (List ℕ))
+    (found : Comparison) (trouble : Option Trouble) : Type 0 where
   pub compared : IsComparison version ignore is_strict recorded replayed found
   pub trouble_is : strict_trouble is_strict found.recorded found.replayed ≡ trouble
 
 -- What a comparison of two readers' journals writes and returns: their verdict is reported, if nothing is wrong that is
 -- an error; or else nothing is written, and the error is what is wrong, or why there is no verdict.
-abbrev pub Reports : Version → Bool → Bool → Form → Option (List ℕ) → Option (List ℕ) → Result Findings DiffError → List ℕ → Type 0
+abbrev pub Reports : Version → Bool → Bool → Form → Option (List ℕ) → Option (List ℕ) → Result Findings DiffError → List
+    ℕ → Type 0
 Reports version ignore is_strict form recorded replayed (Err (NoVerdict why)) written =
     ComparesKnown version ignore recorded replayed (Err why) × (written ≡ [])
 Reports version ignore is_strict form recorded replayed (Err (Faulty trouble)) written =
     (found : Comparison) × HasFound version ignore is_strict recorded replayed found (Some trouble) × (written ≡ [])
 Reports version ignore is_strict form recorded replayed result written =
-    (found : Comparison) × HasFound version ignore is_strict recorded replayed found None × ReportsFound form found result written
+    (found : Comparison) × HasFound version ignore is_strict recorded replayed found None × ReportsFound form found
+    result written
 
 -- What is written and returned for a text with colors: the text in parts with their colors, and the findings; nothing,
 -- if an allocation fails; or a prefix of these parts, if the output failed.
@@ -98,9 +105,11 @@ WritesWithColors findings text (Err Output) written = (rest : List ℕ) × IsPai
 
 -- What a comparison with colors writes and returns: what it would write without them, with colors, and what it would
 -- return.
-abbrev pub ReportsWithColors : Version → Bool → Bool → Form → Option (List ℕ) → Option (List ℕ) → Result Findings DiffError → List ℕ → Type 0
+abbrev pub ReportsWithColors : Version → Bool → Bool → Form → Option (List ℕ) → Option (List ℕ) → Result Findings
+    DiffError → List ℕ → Type 0
 ReportsWithColors version ignore is_strict form recorded replayed (Ok findings) written =
-    (text : List ℕ) × Reports version ignore is_strict form recorded replayed (Ok findings) text × IsPainted text written
+    (text : List ℕ) × Reports version ignore is_strict form recorded replayed (Ok findings) text × IsPainted text
+    written
 ReportsWithColors version ignore is_strict form recorded replayed (Err Output) written =
     (findings : Findings) × (text rest : List ℕ)
     × Reports version ignore is_strict form recorded replayed (Ok findings) text × IsPainted text (written ++ rest)

@@ -11,14 +11,15 @@ use crate::colors::with_colors;
 use crate::json_line::json_line;
 use crate::passed_over::{Trouble, strict_trouble};
 use crate::shown::shown_text;
-use replay_bench::{BenchError, Comparison, FieldDifference, ReaderError, Verdict, survey_readers};
+use replay_bench::{
+    BenchError, Comparison, FieldDifference, ReaderError, Survey, Verdict, survey_readers,
+};
 use shared_core_base::version::Version;
 use std::alloc::{AllocError, Global};
 use std::error::Error;
 use std::fmt;
 use std::io::{Read, Write};
 use stream_lines::output::{OutputFailed, write_whole};
-use stream_survey::Survey;
 
 /// The number of bytes that are read at a time.
 const CHUNK_SIZE: usize = 65536;

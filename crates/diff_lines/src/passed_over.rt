@@ -4,10 +4,9 @@ ghost use Rattle.std.specs.Prelude.{◌≡◌};
 ghost use Rattle.diff_lines.specs.PassedOver.{headers_word, bytes_word, rest_note, strict_trouble, unknown_note};
 ghost use Rattle.diff_lines.specs.PassedOver.{no_item_note};
 
-use replay_bench::Side;
+use replay_bench::{Fault, Side, Survey};
 use shared_core_base::version::Version;
 use std::fmt;
-use stream_survey::{Fault, Survey};
 
 /// What is wrong with the journal of a side.
 #[derive(Debug, Clone, Copy, PartialEq, Eq, Drop)]

@@ -8,14 +8,16 @@ use Rattle.shared_core_compare.specs.Differences.{difference}
 use Rattle.shared_core_compare.specs.Erasure.{AreSame}
 use Rattle.shared_core.specs.Visiting.{command_schema}
 use Rattle.journal_c_api.specs.declared.outcome.CallError.{CallError}
-use Rattle.journal_c_api.specs.declared.outcome.CallError.TheVariants.{Malformed, OutOfMemory, Unknown}
+use Rattle.journal_c_api.specs.declared.outcome.CallError.TheVariants.{Malformed, MalformedSecond, OutOfMemory, UnknownType}
 
 -- If both payloads are well-formed for the schema, this holds of the result and of the two commands that they mean;
--- otherwise the result is Malformed. An allocation may fail.
+-- otherwise the result is Malformed if the first is not, and MalformedSecond if the second alone is not. An allocation
+-- may fail.
 abbrev pub ComparesPayloads : {T : Type 0} → (T → Parts → Parts → Type 0) → ℕ → List ℕ → List ℕ → Result T CallError → Type 0
 ComparesPayloads holds s first second (Ok outcome) =
     IsAccepted s first × IsAccepted s second × holds outcome (payload_meaning s first) (payload_meaning s second)
-ComparesPayloads holds s first second (Err Malformed) = ¬ (IsAccepted s first × IsAccepted s second)
+ComparesPayloads holds s first second (Err Malformed) = ¬ (IsAccepted s first)
+ComparesPayloads holds s first second (Err MalformedSecond) = IsAccepted s first × ¬ (IsAccepted s second)
 ComparesPayloads holds s first second (Err OutOfMemory) = Unit {0}
 ComparesPayloads holds s first second (Err error) = ⊥
 
@@ -27,10 +29,10 @@ IsOneWhereSame s ignore number a b = ((number ≡ 1) × AreSame s ignore a b) �
 abbrev pub IsDifference : ℕ → List ℕ → Parts → Parts → Type 0
 IsDifference s text a b = text ≡ difference s (codes "   ") a b
 
--- What holds at the schema of a command's type; without a schema the result is Unknown.
+-- What holds at the schema of a command's type; without a schema the result is UnknownType.
 abbrev pub AtSchema : {T : Type 0} → Option ℕ → Result T CallError → (ℕ → Type 0) → Type 0
 AtSchema (Some s) outcome holds = holds s
-AtSchema None outcome holds = outcome ≡ Err Unknown
+AtSchema None outcome holds = outcome ≡ Err UnknownType
 
 -- The schema of a type's payloads, if there is a type and its messages are commands.
 abbrev pub schema_of_type : Option MessageType → Option ℕ

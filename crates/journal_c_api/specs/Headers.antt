@@ -9,7 +9,7 @@ use Rattle.shared_core_base.specs.MessageHeader.{word_of}
 use Rattle.shared_core_base.specs.MessageType.{type_of}
 use Rattle.shared_core_base.specs.Version.{requests_acknowledgement}
 use Rattle.journal_c_api.specs.declared.outcome.CallError.{CallError}
-use Rattle.journal_c_api.specs.declared.outcome.CallError.TheVariants.{Unknown}
+use Rattle.journal_c_api.specs.declared.outcome.CallError.TheVariants.{UnknownVersion, UnknownType}
 use Rattle.journal_c_api.specs.Outcomes.{supported_version}
 
 -- The flag of a type's headers at a version: the proposal of a run's result requests an acknowledgement from V7 on, and
@@ -22,10 +22,12 @@ flag_at version ty = None
 abbrev pub header_at : Version → MessageType → ℕ → MessageHeader
 header_at version ty payload_length = record { ty = ty; length = payload_length; requested_ack = flag_at version ty }
 
--- The eight bytes of a header, the first byte highest; Unknown if there is no version or no type.
+-- The eight bytes of a header, the first byte highest; UnknownVersion if there is no version, otherwise UnknownType if
+-- there is no type.
 abbrev pub header_outcome : Option Version → Option MessageType → ℕ → Result (List ℕ) CallError
 header_outcome (Some version) (Some ty) payload_length = Ok (to_be_bytes w64 (word_of (header_at version ty payload_length)))
-header_outcome version ty payload_length = Err Unknown
+header_outcome (Some version) None payload_length = Err UnknownType
+header_outcome None ty payload_length = Err UnknownVersion
 
 -- The result of journal_header.
 abbrev pub ReturnsHeader : ℕ → ℕ → ℕ → Result (List ℕ) CallError → Type 0

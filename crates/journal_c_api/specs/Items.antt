@@ -8,7 +8,7 @@ use Rattle.shared_core_stream.specs.declared.encoding.item.Item.TheVariants.{Mes
 use Rattle.shared_core_stream.specs.Items.{front_word, IsItem, NoItemBegins}
 use Rattle.shared_core_stream.specs.Borrowed.{missing_bytes}
 use Rattle.journal_c_api.specs.declared.outcome.CallError.{CallError}
-use Rattle.journal_c_api.specs.declared.outcome.CallError.TheVariants.{NoRoom, Unknown}
+use Rattle.journal_c_api.specs.declared.outcome.CallError.TheVariants.{NoRoom, UnknownVersion}
 use Rattle.journal_c_api.specs.Outcomes.{supported_version, written_over}
 
 -- Which of the three kinds an item is.
@@ -53,12 +53,12 @@ pub record FindsItem (version : Version) (bytes old new : List ℕ) (missing : �
   pub found : missing ≡ 0 → WritesItem version bytes old new
   pub kept : 0 < missing → new ≡ old
 
--- The result of journal_next, and what it writes: Unknown if the number denotes no version, otherwise NoRoom if the
--- slice has fewer than six numbers; after either the slice is unchanged.
+-- The result of journal_next, and what it writes: UnknownVersion if the number denotes no version, otherwise NoRoom if
+-- the slice has fewer than six numbers; after either the slice is unchanged.
 abbrev pub WritesNext : ℕ → List ℕ → List ℕ → List ℕ → Result ℕ CallError → Type 0
 WritesNext number bytes old new (Ok missing) =
     (version : Version) × (supported_version number ≡ Some version) × (6 ≤ length old) × FindsItem version bytes old new missing
-WritesNext number bytes old new (Err Unknown) = (supported_version number ≡ None) × (new ≡ old)
+WritesNext number bytes old new (Err UnknownVersion) = (supported_version number ≡ None) × (new ≡ old)
 WritesNext number bytes old new (Err NoRoom) =
     (version : Version) × (supported_version number ≡ Some version) × (length old < 6) × (new ≡ old)
 WritesNext number bytes old new (Err error) = ⊥

@@ -8,7 +8,7 @@ use Rattle.shared_core_json_reader.specs.declared.error.JsonReadError.{JsonReadE
 use Rattle.shared_core_json_reader.specs.Reading.{json_of_text, text_payload}
 use Rattle.shared_core_json_reader.specs.FirstError.{value_error, IsPlace}
 use Rattle.journal_c_api.specs.declared.outcome.CallError.{CallError}
-use Rattle.journal_c_api.specs.declared.outcome.CallError.TheVariants.{OutOfMemory, NoRoom, TooLong, Unknown}
+use Rattle.journal_c_api.specs.declared.outcome.CallError.TheVariants.{OutOfMemory, NoRoom, TooLong, UnknownSchema}
 use Rattle.journal_c_api.specs.declared.json_payloads.Reading.{Reading}
 use Rattle.journal_c_api.specs.declared.json_payloads.Reading.TheVariants.{Payload, NotJson, NotTaken}
 use Rattle.journal_c_api.specs.Outcomes.{written_over}
@@ -81,10 +81,10 @@ IsIfShort bytes (Ok (Payload payload)) = (payload.items ≡ bytes) × (length by
 IsIfShort bytes (Ok reading) = ⊥
 IsIfShort bytes (Err failure) = (failure ≡ TooLong) × (2 ^ 32 ≤ length bytes)
 
--- Why the call is rejected: Unknown if no schema has the number, otherwise NoRoom if there is room for fewer than two
--- numbers, otherwise for the reason for which the text is rejected.
+-- Why the call is rejected: UnknownSchema if no schema has the number, otherwise NoRoom if there is room for fewer than
+-- two numbers, otherwise for the reason for which the text is rejected.
 abbrev pub RejectsReading : ℕ → ℕ → List ℕ → CallError → Type 0
-RejectsReading s room text Unknown = nat_lt s schema_count ≡ false
+RejectsReading s room text UnknownSchema = nat_lt s schema_count ≡ false
 RejectsReading s room text NoRoom = (nat_lt s schema_count ≡ true) × (room < 2)
 RejectsReading s room text failure = (nat_lt s schema_count ≡ true) × (2 ≤ room) × ReadsText s text (Err failure)
 

@@ -18,7 +18,7 @@ use Rattle.shared_core_parts.specs.contracts.state_keys.StateKeysWireRecord.TheI
 use Rattle.shared_core.specs.Typed.{MeansParts}
 use Rattle.shared_core.specs.View.{notification_parts, LacksField}
 use Rattle.journal_c_api.specs.declared.outcome.CallError.{CallError}
-use Rattle.journal_c_api.specs.declared.outcome.CallError.TheVariants.{Malformed, OutOfMemory, NoRoom, TooLong, Unknown, NoId, NoResult}
+use Rattle.journal_c_api.specs.declared.outcome.CallError.TheVariants.{Malformed, OutOfMemory, NoRoom, TooLong, UnknownType, NoId, NoResult}
 use Rattle.journal_c_api.specs.Outcomes.{written_over}
 
 -- The code is that of a type of notifications, named or custom.
@@ -102,10 +102,10 @@ abbrev pub RejectsPayload : List ℕ → CallError → Type 0
 RejectsPayload payload TooLong = (found : Notification) × MeansNotification payload found × IsTooLong found.result
 RejectsPayload payload error = ReadsNotification payload (Err error)
 
--- Why the call is rejected: Unknown if the code is that of no notification, otherwise NoRoom if there is room for fewer
--- than four numbers, otherwise for the reason for which the payload is rejected.
+-- Why the call is rejected: UnknownType if the code is that of no notification, otherwise NoRoom if there is room for
+-- fewer than four numbers, otherwise for the reason for which the payload is rejected.
 abbrev pub RejectsCall : ℕ → ℕ → List ℕ → CallError → Type 0
-RejectsCall code room payload Unknown = ¬ (IsNotificationCode code)
+RejectsCall code room payload UnknownType = ¬ (IsNotificationCode code)
 RejectsCall code room payload NoRoom = IsNotificationCode code × (room < 4)
 RejectsCall code room payload error = IsNotificationCode code × (4 ≤ room) × RejectsPayload payload error
 

@@ -9,17 +9,21 @@ use Rattle.shared_core_codec.specs.declared.error.EncodingError.TheVariants.{Pay
 use Rattle.shared_core_json.specs.declared.error.JsonError.{JsonError}
 use Rattle.shared_core_json.specs.declared.error.JsonError.TheVariants as json
 use Rattle.journal_c_api.specs.declared.outcome.CallError.{CallError}
-use Rattle.journal_c_api.specs.declared.outcome.CallError.TheVariants.{Malformed, OutOfMemory as NoMemory, NoRoom, TooLong, Unknown, NoId, NoResult}
+use Rattle.journal_c_api.specs.declared.outcome.CallError.TheVariants.{Malformed, MalformedSecond, OutOfMemory as NoMemory, NoRoom, TooLong}
+use Rattle.journal_c_api.specs.declared.outcome.CallError.TheVariants.{UnknownVersion, UnknownSchema, UnknownType, NoId, NoResult}
 
--- The number that denotes an error.
+-- The number that denotes an error. Its remainder by 16 is that of its kind, which those of several arguments share.
 abbrev pub error_number : CallError → ℤ
 error_number Malformed = negsuc 0
 error_number NoMemory = negsuc 1
 error_number NoRoom = negsuc 2
 error_number TooLong = negsuc 3
-error_number Unknown = negsuc 4
 error_number NoId = negsuc 5
 error_number NoResult = negsuc 6
+error_number MalformedSecond = negsuc 16
+error_number UnknownVersion = negsuc 20
+error_number UnknownSchema = negsuc 36
+error_number UnknownType = negsuc 52
 
 -- The number that denotes a result: a count unchanged, if it is below 2 ^ 63, or the error's number.
 abbrev pub outcome_number : Result ℕ CallError → ℤ
@@ -46,10 +50,10 @@ json_error json.Malformed = Malformed
 json_error json.TooLong = TooLong
 json_error json.OutOfMemory = NoMemory
 
--- The result is the version that the number denotes, and Unknown if it denotes none.
+-- The result is the version that the number denotes, and UnknownVersion if it denotes none.
 abbrev pub IsSpoken : ℕ → Result Version CallError → Type 0
 IsSpoken number (Ok version) = supported_version number ≡ Some version
-IsSpoken number (Err error) = (error ≡ Unknown) × (supported_version number ≡ None)
+IsSpoken number (Err error) = (error ≡ UnknownVersion) × (supported_version number ≡ None)
 
 -- A slice, with these elements written at its front if it has room for all of them; otherwise unchanged.
 abbrev pub written_over : {A : Type 0} → List A → List A → List A
@@ -66,7 +70,7 @@ abbrev pub Writes : (Result (List ℕ) CallError → Type 0) → List ℕ → Li
 Writes holds old new (Ok count) = (bytes : List ℕ) × holds (Ok bytes) × (count ≡ length bytes) × (new ≡ written_over bytes old)
 Writes holds old new (Err error) = holds (Err error) × (new ≡ old)
 
--- What holds at the version that a number denotes; if it denotes none, the result is Unknown.
+-- What holds at the version that a number denotes; if it denotes none, the result is UnknownVersion.
 abbrev pub AtVersion : {T : Type 0} → Option Version → Result T CallError → (Version → Type 0) → Type 0
 AtVersion (Some version) outcome holds = holds version
-AtVersion None outcome holds = outcome ≡ Err Unknown
+AtVersion None outcome holds = outcome ≡ Err UnknownVersion

@@ -16,7 +16,8 @@ use Rattle.shared_core.specs.Visiting.{written_form}
 use Rattle.shared_core_json.specs.Form.{json_text}
 use Rattle.shared_core_json.specs.Payloads.{IsEncoding, IsTooLong}
 use Rattle.journal_c_api.specs.declared.outcome.CallError.{CallError}
-use Rattle.journal_c_api.specs.declared.outcome.CallError.TheVariants.{Malformed, OutOfMemory, TooLong, Unknown}
+use Rattle.journal_c_api.specs.declared.outcome.CallError.TheVariants.{Malformed, MalformedSecond, OutOfMemory, TooLong}
+use Rattle.journal_c_api.specs.declared.outcome.CallError.TheVariants.{UnknownSchema, UnknownType}
 use Rattle.journal_c_api.specs.Outcomes.{AtVersion, supported_version}
 
 -- A record has the parts that a payload means for the schema. Malformed if the payload is not well-formed. An
@@ -27,8 +28,14 @@ MeansRecord s parts payload (Err Malformed) = ¬ (IsAccepted s payload)
 MeansRecord s parts payload (Err OutOfMemory) = Unit {0}
 MeansRecord s parts payload (Err error) = ⊥
 
+-- The same of the second of two payloads: MalformedSecond if it is not well-formed.
+abbrev pub MeansSecond : {M : Type 0} → ℕ → (M → Parts) → List ℕ → Result M CallError → Type 0
+MeansSecond s parts payload (Err MalformedSecond) = ¬ (IsAccepted s payload)
+MeansSecond s parts payload (Err Malformed) = ⊥
+MeansSecond s parts payload outcome = MeansRecord s parts payload outcome
+
 -- If each part of a payload is well-formed, the result is the canonical payload of what the joined parts mean, or that
--- it is too long for a header; otherwise it is Malformed. An allocation may fail.
+-- it is too long for a header; otherwise it is Malformed, whichever part is not. An allocation may fail.
 abbrev pub ReturnsMeaning : ℕ → List ℕ → List (List ℕ) → Result (List ℕ) CallError → Type 0
 ReturnsMeaning s first rest (Ok bytes) =
     IsAccepted s first × All (IsAccepted s) rest × (bytes ≡ canonical_payload table s (payload_meaning s (first ++ concat rest)))
@@ -38,10 +45,18 @@ ReturnsMeaning s first rest (Err TooLong) =
 ReturnsMeaning s first rest (Err OutOfMemory) = Unit {0}
 ReturnsMeaning s first rest (Err error) = ⊥
 
--- The result of journal_merge, for a payload and those that are merged into it: Unknown if no schema has the number.
+-- The same, with a malformed first part told apart: Malformed if it is the first that is not well-formed, and
+-- MalformedSecond if the first is and another is not.
+abbrev pub TellsParts : ℕ → List ℕ → List (List ℕ) → Result (List ℕ) CallError → Type 0
+TellsParts s first rest (Err Malformed) = ¬ (IsAccepted s first)
+TellsParts s first rest (Err MalformedSecond) = IsAccepted s first × ¬ (All (IsAccepted s) rest)
+TellsParts s first rest outcome = ReturnsMeaning s first rest outcome
+
+-- The result of journal_merge, for a payload and those that are merged into it: UnknownSchema if no schema has the
+-- number.
 abbrev pub ReturnsMerged : ℕ → List ℕ → List (List ℕ) → Result (List ℕ) CallError → Type 0
 ReturnsMerged s first rest outcome =
-    MatchBool (nat_lt s (length schemas)) (ReturnsMeaning s first rest outcome) (outcome ≡ Err Unknown)
+    MatchBool (nat_lt s (length schemas)) (TellsParts s first rest outcome) (outcome ≡ Err UnknownSchema)
 
 -- A payload that is canonical is the result, whatever allocations would fail.
 abbrev pub KeepsCanonical : ℕ → List ℕ → Result (List ℕ) CallError → Type 0
@@ -69,18 +84,18 @@ PrintsPayload s payload (Err TooLong) = IsTooLong s payload
 PrintsPayload s payload (Err OutOfMemory) = Unit {0}
 PrintsPayload s payload (Err error) = ⊥
 
--- The result of journal_json: Unknown if no schema has the number.
+-- The result of journal_json: UnknownSchema if no schema has the number.
 abbrev pub ReturnsJson : ℕ → List ℕ → Result (List ℕ) CallError → Type 0
-ReturnsJson s payload outcome = MatchBool (nat_lt s (length schemas)) (PrintsPayload s payload outcome) (outcome ≡ Err Unknown)
+ReturnsJson s payload outcome = MatchBool (nat_lt s (length schemas)) (PrintsPayload s payload outcome) (outcome ≡ Err UnknownSchema)
 
 -- The result is 1 if the payload is well-formed for the schema, otherwise 0; never an error.
 abbrev pub ChecksPayload : ℕ → List ℕ → Result ℕ CallError → Type 0
 ChecksPayload s payload (Ok outcome) = ((outcome ≡ 1) × IsAccepted s payload) ⊎ ((outcome ≡ 0) × ¬ (IsAccepted s payload))
 ChecksPayload s payload (Err error) = ⊥
 
--- The result of journal_is_well_formed: Unknown if no schema has the number.
+-- The result of journal_is_well_formed: UnknownSchema if no schema has the number.
 abbrev pub ReturnsWellFormed : ℕ → List ℕ → Result ℕ CallError → Type 0
-ReturnsWellFormed s payload outcome = MatchBool (nat_lt s (length schemas)) (ChecksPayload s payload outcome) (outcome ≡ Err Unknown)
+ReturnsWellFormed s payload outcome = MatchBool (nat_lt s (length schemas)) (ChecksPayload s payload outcome) (outcome ≡ Err UnknownSchema)
 
 -- The result is the frame of a wire form, or that its payload is too long for a header. An allocation may fail.
 abbrev pub EncodesForm : MessageType → WireForm → Result (List ℕ) CallError → Type 0
@@ -97,15 +112,15 @@ EncodesFrame ty s version payload (Err OutOfMemory) = Unit {0}
 EncodesFrame ty s version payload outcome =
     IsAccepted s payload × EncodesForm ty (written_form ty s version (payload_meaning s payload)) outcome
 
--- The result for a type with this schema: Unknown if it has none.
+-- The result for a type with this schema: UnknownType if it has none.
 abbrev pub ReturnsFrameOf : MessageType → Option ℕ → Version → List ℕ → Result (List ℕ) CallError → Type 0
 ReturnsFrameOf ty (Some s) version payload outcome = EncodesFrame ty s version payload outcome
-ReturnsFrameOf ty None version payload outcome = outcome ≡ Err Unknown
+ReturnsFrameOf ty None version payload outcome = outcome ≡ Err UnknownType
 
--- The result for the type that a code denotes: Unknown if it denotes none.
+-- The result for the type that a code denotes: UnknownType if it denotes none.
 abbrev pub ReturnsFrameAt : Option MessageType → Version → List ℕ → Result (List ℕ) CallError → Type 0
 ReturnsFrameAt (Some ty) version payload outcome = ReturnsFrameOf ty (message_schema ty) version payload outcome
-ReturnsFrameAt None version payload outcome = outcome ≡ Err Unknown
+ReturnsFrameAt None version payload outcome = outcome ≡ Err UnknownType
 
 -- The result of journal_frame.
 abbrev pub ReturnsFrame : ℕ → ℕ → List ℕ → Result (List ℕ) CallError → Type 0

@@ -3,18 +3,21 @@
 ghost use Rattle.journal_c_api.specs.Outcomes.{Writes, bytes_of};
 ghost use Rattle.journal_c_api.specs.Commands.{ReturnsDifference, ReturnsSameness};
 ghost use Rattle.journal_c_api.specs.Commands.{ComparesPayloads, IsDifference, IsOneWhereSame};
+ghost use Rattle.journal_c_api.specs.Payloads.{MeansSecond};
 
 use crate::outcome::{CallError, write_outcome};
 use crate::payloads::decoded;
 use shared_core::fmt::Difference;
 use shared_core::header::MessageType;
 use shared_core::messages::{CommandMessage, CommandVisitor, visit_command};
+use shared_core::wire::WireRecord;
 use std::alloc::Global;
 
 /// 1 if the commands that two payloads of a code mean are the same for a replay, otherwise 0; if payloads are ignored,
 /// the content of user data is not compared, but that of a signal is.
 ///
-/// `Malformed` if one of the two is not well-formed for the type, `Unknown` if the code is that of no command.
+/// `UnknownType` if the code is that of no command, otherwise `Malformed` if the first payload is not well-formed for
+/// the type, otherwise `MalformedSecond` if the second is not.
 pub fn header_eq(
     alloc: Global,
     code: u16,
@@ -31,13 +34,13 @@ pub fn header_eq(
         second,
         ignore_payloads,
     };
-    visit_command(ty, comparing).ok_or(CallError::Unknown)?
+    visit_command(ty, comparing).ok_or(CallError::UnknownType)?
 }
 
 /// Writes a line for each printed field in which the commands that two payloads of a code mean differ: a line feed,
 /// three spaces and `name: first != second`.
 ///
-/// `Malformed` if one of the two is not well-formed for the type, `Unknown` if the code is that of no command.
+/// The errors are those of `header_eq`.
 #[tactic(auto, using(crate::proofs::Writing::writes_outcome))]
 pub fn write_difference(
     alloc: Global,
@@ -61,7 +64,7 @@ fn difference(alloc: Global, code: u16, first: &[u8], second: &[u8]) -> Result<V
         first,
         second,
     };
-    visit_command(ty, printing).ok_or(CallError::Unknown)?
+    visit_command(ty, printing).ok_or(CallError::UnknownType)?
 }
 
 /// Decodes two payloads, and returns 1 if the commands are the same, otherwise 0.
@@ -81,7 +84,7 @@ impl<'a> CommandVisitor for Comparing<'a> {
 
     fn visit<M: CommandMessage>(self) -> Result<usize, CallError> {
         let first = decoded::<M>(self.alloc, self.first)?;
-        let second = decoded::<M>(self.alloc, self.second)?;
+        let second = decoded_second::<M>(self.alloc, self.second)?;
         Ok(usize::from(first.header_eq(&second, self.ignore_payloads)))
     }
 }
@@ -102,11 +105,21 @@ impl<'a> CommandVisitor for Printing<'a> {
 
     fn visit<M: CommandMessage>(self) -> Result<Vec<u8>, CallError> {
         let actual = decoded::<M>(self.alloc, self.first)?;
-        let expected = decoded::<M>(self.alloc, self.second)?;
+        let expected = decoded_second::<M>(self.alloc, self.second)?;
         let difference = Difference {
             actual: &actual,
             expected: &expected,
         };
         Ok(difference.to_string(self.alloc)?.into_bytes())
+    }
+}
+
+/// The record that the second of two payloads means.
+fn decoded_second<M: WireRecord>(alloc: Global, payload: &[u8]) -> Result<M, CallError>
+    ensures { MeansSecond M.schema M.parts payload.now result }
+{
+    match decoded::<M>(alloc, payload) {
+        Err(CallError::Malformed) => Err(CallError::MalformedSecond),
+        outcome => outcome,
     }
 }

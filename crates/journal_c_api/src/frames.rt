@@ -13,6 +13,8 @@ use std::alloc::Global;
 use std::fmt::Debug;
 
 /// Writes the frame, at a version, of the message of a named type that a payload encodes.
+///
+/// `UnknownVersion` if the number denotes no version, otherwise `UnknownType` if the code is that of no named type.
 #[tactic(auto, using(crate::proofs::Writing::writes_outcome))]
 pub fn write_frame(
     alloc: Global,
@@ -49,7 +51,7 @@ fn frame_of(
         encoder,
         payload,
     };
-    visit_message(ty, framing).ok_or(CallError::Unknown)?
+    visit_message(ty, framing).ok_or(CallError::UnknownType)?
 }
 
 /// Decodes a payload to a record, and returns its frame.

@@ -10,6 +10,8 @@ use shared_core::version::Version;
 
 /// Writes the eight bytes of the header that a message of a type has at a version, by the length of its payload in
 /// bytes, and returns 8.
+///
+/// `UnknownVersion` if the number denotes no version, otherwise `UnknownType` if the code is that of no type.
 pub fn write_header(
     version: u32,
     code: u16,

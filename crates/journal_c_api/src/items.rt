@@ -25,9 +25,9 @@ const SKIPPED: u64 = 2;
 /// its code, its flag, its size in bytes, and where its payload begins. Returns 0, or the least number of missing
 /// bytes; then nothing is written. It copies nothing and does not allocate.
 ///
-/// `Unknown` if the number denotes no version, otherwise `NoRoom` if the slice has fewer than six numbers. A reader
-/// that continues after the size of each item finds the items that the stream splits into, and stops at the rest that
-/// begins with no item.
+/// `UnknownVersion` if the number denotes no version, otherwise `NoRoom` if the slice has fewer than six numbers. A
+/// reader that continues after the size of each item finds the items that the stream splits into, and stops at the rest
+/// that begins with no item.
 pub fn write_next(version: u32, bytes: &[u8], item: &mut [u64]) -> Result<usize, CallError>
     ensures { WritesNext version bytes.now item.old item.new result }
 {

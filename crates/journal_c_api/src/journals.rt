@@ -18,8 +18,8 @@ const VERDICT_NUMBERS: usize = 2;
 /// text of a mismatch. Returns the number of bytes of the text, 0 if there is none; if there is no room for it, the
 /// numbers are written nevertheless.
 ///
-/// `Unknown` if the number denotes no version, otherwise `NoRoom` if the slice has fewer than two numbers, before any
-/// comparison.
+/// `UnknownVersion` if the number denotes no version, otherwise `NoRoom` if the slice has fewer than two numbers,
+/// before any comparison.
 pub fn write_verdict(
     alloc: Global,
     version: u32,

@@ -17,8 +17,8 @@ const READ_NUMBERS: usize = 2;
 /// canonical payload of what the text means, or the path to the rejected value. Returns the number of these bytes; if
 /// there is no room for them, the numbers are written nevertheless.
 ///
-/// `Unknown` if no schema has the number, otherwise `NoRoom` if there is room for fewer than two numbers, before the
-/// text is read; `TooLong` if the payload would have more than 4,294,967,295 bytes.
+/// `UnknownSchema` if no schema has the number, otherwise `NoRoom` if there is room for fewer than two numbers, before
+/// the text is read; `TooLong` if the payload would have more than 4,294,967,295 bytes.
 pub fn write_payload_of_json(
     alloc: Global,
     schema: u32,
@@ -29,7 +29,7 @@ pub fn write_payload_of_json(
     ensures { WritesReading schema json.now numbers.old numbers.new out.old out.new result }
 {
     if !is_schema(schema) {
-        return Err(CallError::Unknown);
+        return Err(CallError::UnknownSchema);
     }
     if numbers.len() < READ_NUMBERS {
         return Err(CallError::NoRoom);

@@ -23,12 +23,14 @@ pub fn write_library_version(out: &mut [u8]) -> Result<usize, CallError>
 }
 
 /// The number of the schema that payloads of a type have at a version.
+///
+/// `UnknownVersion` if the number denotes no version, otherwise `UnknownType` if the code is that of no named type.
 pub fn schema(version: u32, code: u16) -> Result<usize, CallError>
     ensures { ReturnsSchema version code result }
 {
     let version = version_of(version)?;
     let ty = MessageType::try_from(code)?;
-    let schema = schema_at(version, ty).ok_or(CallError::Unknown)?;
+    let schema = schema_at(version, ty).ok_or(CallError::UnknownType)?;
     Ok(schema as usize)
 }
 
@@ -48,7 +50,7 @@ pub fn type_code(name: &[u8]) -> Result<usize, CallError>
 {
     match MessageType::from_name(name) {
         Some(ty) => Ok(usize::from(u16::from(ty))),
-        None => Err(CallError::Unknown),
+        None => Err(CallError::UnknownType),
     }
 }
 

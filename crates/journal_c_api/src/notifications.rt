@@ -22,8 +22,8 @@ const NOTIFICATION_NUMBERS: usize = 4;
 /// the result's canonical payload or text. Returns the number of these bytes; if there is no room for them, the numbers
 /// are written nevertheless.
 ///
-/// `Unknown` if the code is that of no notification, then `NoRoom` if there is room for fewer than four numbers, then
-/// `Malformed`, `NoId`, `NoResult`, and last `TooLong` if the result's payload would have more than 4,294,967,295
+/// `UnknownType` if the code is that of no notification, then `NoRoom` if there is room for fewer than four numbers,
+/// then `Malformed`, `NoId`, `NoResult`, and last `TooLong` if the result's payload would have more than 4,294,967,295
 /// bytes.
 pub fn write_notification(
     alloc: Global,
@@ -35,7 +35,7 @@ pub fn write_notification(
     ensures { WritesNotification code payload.now numbers.old numbers.new out.old out.new result }
 {
     if !is_notification(code) {
-        return Err(CallError::Unknown);
+        return Err(CallError::UnknownType);
     }
     if numbers.len() < NOTIFICATION_NUMBERS {
         return Err(CallError::NoRoom);

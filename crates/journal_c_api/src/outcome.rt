@@ -17,16 +17,22 @@ use std::alloc::AllocError;
 /// The errors of the calls.
 #[derive(Clone, Copy, Debug, PartialEq, Eq)]
 pub enum CallError {
-    /// A payload is not well-formed for its schema.
+    /// The payload, or the first of two, is not well-formed for its schema.
     Malformed,
+    /// The second payload is not well-formed for its schema, and the first one is.
+    MalformedSecond,
     /// An allocation failed.
     OutOfMemory,
     /// The slice for numbers is too short.
     NoRoom,
     /// A payload would have more than 4,294,967,295 bytes.
     TooLong,
-    /// The number denotes no supported version, no schema or no named type.
-    Unknown,
+    /// The number denotes no supported version.
+    UnknownVersion,
+    /// The number denotes no schema.
+    UnknownSchema,
+    /// The code or the name is that of no type, or of none of the kind that the call is for.
+    UnknownType,
     /// A notification has no id.
     NoId,
     /// A notification has an id, and no result.
@@ -46,12 +52,12 @@ impl From<AllocError> for CallError {
 
 impl From<UnknownMessageType> for CallError {
     ghost use Rattle.std.specs.Prelude.{◌≡◌};
-    ghost use Rattle.journal_c_api.specs.declared.outcome.CallError.TheVariants.{Unknown};
+    ghost use Rattle.journal_c_api.specs.declared.outcome.CallError.TheVariants.{UnknownType};
 
-    ghost from_gives = { λ _ failure. failure ≡ Unknown };
+    ghost from_gives = { λ _ failure. failure ≡ UnknownType };
 
     fn from(_error: UnknownMessageType) -> CallError {
-        CallError::Unknown
+        CallError::UnknownType
     }
 }
 
@@ -98,7 +104,8 @@ impl From<JsonError> for CallError {
     }
 }
 
-/// Returns a count unchanged, and an error as its number. A count of 2^63 or more, which no slice holds, is `TooLong`.
+/// Returns a count unchanged, and an error as its number, whose remainder by 16 is that of its kind. A count of 2^63 or
+/// more, which no slice holds, is `TooLong`.
 pub fn outcome_of(outcome: Result<usize, CallError>) -> i64
     ensures { result ≡ outcome_number outcome }
 {
@@ -114,9 +121,12 @@ pub fn outcome_of(outcome: Result<usize, CallError>) -> i64
         CallError::OutOfMemory => -2,
         CallError::NoRoom => -3,
         CallError::TooLong => -4,
-        CallError::Unknown => -5,
         CallError::NoId => -6,
         CallError::NoResult => -7,
+        CallError::MalformedSecond => -17,
+        CallError::UnknownVersion => -21,
+        CallError::UnknownSchema => -37,
+        CallError::UnknownType => -53,
     }
 }
 
@@ -124,7 +134,7 @@ pub fn outcome_of(outcome: Result<usize, CallError>) -> i64
 pub fn version_of(number: u32) -> Result<Version, CallError>
     ensures { IsSpoken number result }
 {
-    Version::from_number(number).ok_or(CallError::Unknown)
+    Version::from_number(number).ok_or(CallError::UnknownVersion)
 }
 
 /// Writes elements at the front of a slice if it has room for all of them, otherwise nothing.

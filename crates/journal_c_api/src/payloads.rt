@@ -1,9 +1,9 @@
 //! Payloads of any schema, decoded and written again.
 
-ghost use Rattle.std.specs.Prelude.{[], ◌∷◌};
+ghost use Rattle.std.specs.Prelude.{[], ◌∷◌, ℕ, List};
 ghost use Rattle.journal_c_api.specs.Outcomes.{Writes, bytes_of};
 ghost use Rattle.journal_c_api.specs.Payloads.{ReturnsCanonical, ReturnsMerged, ReturnsJson, ReturnsMeaning};
-ghost use Rattle.journal_c_api.specs.Payloads.{ReturnsWellFormed, MeansRecord, EncodesPayload};
+ghost use Rattle.journal_c_api.specs.Payloads.{ReturnsWellFormed, MeansRecord, EncodesPayload, TellsParts};
 
 use crate::outcome::{CallError, write_outcome, write_over};
 use bytes::Bytes;
@@ -66,7 +66,7 @@ pub fn is_well_formed(schema: u32, payload: &[u8]) -> Result<usize, CallError>
     ensures { ReturnsWellFormed schema payload.now result }
 {
     if !check::is_schema(schema) {
-        return Err(CallError::Unknown);
+        return Err(CallError::UnknownSchema);
     }
     if check::is_well_formed(schema, payload) {
         Ok(1)
@@ -76,10 +76,11 @@ pub fn is_well_formed(schema: u32, payload: &[u8]) -> Result<usize, CallError>
 }
 
 /// The canonical payload of what a payload means.
+#[tactic(auto, using(crate::proofs::Parts::only_part))]
 fn canonical(alloc: Global, schema: u32, payload: &[u8]) -> Result<Vec<u8>, CallError>
     ensures { ReturnsMerged schema payload.now [] (bytes_of result) }
 {
-    visit_record(schema, Encoding { alloc, payload }).ok_or(CallError::Unknown)?
+    visit_record(schema, Encoding { alloc, payload }).ok_or(CallError::UnknownSchema)?
 }
 
 /// Decodes a payload, and returns the canonical payload of what it means.
@@ -111,7 +112,28 @@ fn merged(alloc: Global, schema: u32, first: &[u8], second: &[u8]) -> Result<Vec
         first,
         second,
     };
-    visit_record(schema, merging).ok_or(CallError::Unknown)?
+    tell_parts(
+        schema,
+        first,
+        visit_record(schema, merging).ok_or(CallError::UnknownSchema)?,
+    )
+}
+
+/// The error of two payloads of which one is malformed: which it is. Other results are returned as they are.
+fn tell_parts(
+    schema: u32,
+    first: &[u8],
+    merged: Result<Vec<u8>, CallError>,
+) -> Result<Vec<u8>, CallError>
+    ensures { (rest : List (List ℕ)) → ReturnsMeaning schema first.now rest (bytes_of merged)
+        → TellsParts schema first.now rest (bytes_of result) }
+{
+    match merged {
+        Err(CallError::Malformed) if check::is_well_formed(schema, first) => {
+            Err(CallError::MalformedSecond)
+        }
+        merged => merged,
+    }
 }
 
 /// Decodes a payload that comes in two parts, and returns the canonical payload of what it means.
@@ -143,7 +165,7 @@ fn json(alloc: Global, schema: u32, payload: &[u8]) -> Result<Vec<u8>, CallError
     ensures { ReturnsJson schema payload.now (bytes_of result) }
 {
     if !check::is_schema(schema) {
-        return Err(CallError::Unknown);
+        return Err(CallError::UnknownSchema);
     }
     let mut text = Writer::new(Vec::new(alloc));
     let mut base64 = Vec::new(alloc);
@@ -151,7 +173,7 @@ fn json(alloc: Global, schema: u32, payload: &[u8]) -> Result<Vec<u8>, CallError
         return Ok(text.into_inner());
     }
     let decoding = CanonicalPayload { alloc, payload };
-    let canonical = visit_record(schema, decoding).ok_or(CallError::Unknown)??;
+    let canonical = visit_record(schema, decoding).ok_or(CallError::UnknownSchema)??;
     text = Writer::new(Vec::new(alloc));
     write_encoding(&mut text, &mut base64, false, schema, canonical.as_slice())?;
     Ok(text.into_inner())

@@ -3,12 +3,13 @@
 ghost use Rattle.std.specs.Prelude.{IfOk, IfSome};
 ghost use Rattle.journal_list.specs.Options.{IsAccepted};
 
+use crate::definitions;
 use crate::options::options;
+use clap::Error;
 use clap::error::ErrorKind;
-use clap::{Command, Error};
-use command_line::{operand, protocol_of, protocol_option};
+use command_line::protocol_of;
 use shared_core_base::version::Version;
-use std::alloc::{AllocError, Global};
+use std::alloc::Global;
 
 /// The parsed command line.
 #[derive(Clone, Copy, Drop)]
@@ -38,30 +39,6 @@ fn is_option(word: &str) -> bool {
 /// Whether an argument can name a file. A number cannot, since it is a number of bytes.
 fn can_be_path(word: &str) -> bool {
     !word.bytes().all(|byte| byte.is_ascii_digit())
-}
-
-/// The clap definition of the command line.
-fn command<'a>(alloc: Global) -> Result<Command<'a>, AllocError> {
-    Command::new(alloc, "journal_list")
-        .version("0.1.0")
-        .about("Lists a stream of the protocol, a line for each of its items.")
-        .arg(protocol_option(
-            alloc,
-            "The version of the protocol of the stream, which is 8 without it",
-        ))?
-        .arg(operand(
-            alloc,
-            "file",
-            "FILE",
-            "The stream: a file, or - or nothing for the standard input",
-        ))?
-        .arg(operand(
-            alloc,
-            "bytes",
-            "BYTES",
-            "The number of bytes that are read at a time, from 1 to 65536",
-        ))?
-        .arg(operand(alloc, "v9", "v9", "The same as --protocol 9"))
 }
 
 /// What arguments without options say.
@@ -101,7 +78,7 @@ fn read_words(words: &[String]) -> Option<Words>
 pub fn parse_arguments<'a>(alloc: Global, arguments: &'a [String]) -> Result<Arguments<'a>, Error>
     ensures { IfOk result (λ parsed. IsAccepted parsed.version parsed.chunk_size) }
 {
-    let mut command = command(alloc)?;
+    let mut command = definitions::list(alloc, "journal_list")?;
     let matches = command.try_get_matches_from_mut(arguments)?;
     let mut words = Vec::new(alloc);
     for id in ["file", "bytes", "v9"] {

@@ -4,6 +4,7 @@
 ghost use Rattle.journal_list.specs.Options.{IsAccepted};
 
 mod arguments;
+mod definitions;
 mod error;
 mod list;
 mod options;

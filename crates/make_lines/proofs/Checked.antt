@@ -11,4 +11,5 @@ pub same_members : {T A : Type 0} (r : Result T LineError) (xs ys : List (Bor (L
     → MatchResult r (λ x. members_fault (members_view xs) ≡ None) (HasFault (members_fault (members_view xs)))
     → MatchResult r (λ x. members_fault (members_view ys) ≡ None) (HasFault (members_fault (members_view ys)))
 same_members {T} {A} r xs ys e h =
-    subst (λ (zs : List (Bor (List ℕ) × Value A)). MatchResult r (λ x. members_fault (members_view zs) ≡ None) (HasFault (members_fault (members_view zs)))) e h
+    subst (λ (zs : List (Bor (List ℕ) × Value A)). MatchResult r (λ x. members_fault (members_view zs) ≡ None)
+    (HasFault (members_fault (members_view zs)))) e h

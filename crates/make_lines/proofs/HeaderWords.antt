@@ -1,5 +1,6 @@
 -- The words of headers, as bytes.
-use Rattle.std.proofs.Common.{◌≡◌, ℕ, ◌+◌, ◌*◌, ◌/◌, ◌%◌, ◌^◌, ◌<◌, ◌≤◌, List, [], ◌∷◌, ◌++◌, length, take, drop, refl, sym, ap, subst, ◌∙◌, append-nil, arith}
+use Rattle.std.proofs.Common.{◌≡◌, ℕ, ◌+◌, ◌*◌, ◌/◌, ◌%◌, ◌^◌, ◌<◌, ◌≤◌, List, [], ◌∷◌, ◌++◌, length, take, drop, refl}
+use Rattle.std.proofs.Common.{sym, ap, subst, ◌∙◌, append-nil, arith}
 use native.Mathlib.Nat as nat
 use Rattle.std.specs.Int.{w32, w64, to_be_bytes, from_be_bytes}
 use Rattle.std.proofs.lemmas.Nat.{be_bytes_8}
@@ -13,7 +14,8 @@ upper : (n hi lo p : ℕ) → n / 4294967296 ≡ hi → n / (4294967296 * p) ≡
 upper n hi lo p e = sym (nat.div-div-eq-div-mul n 4294967296 p) ∙ ap (λ m. m / p) e
 
 -- a word by its high four bytes and its low ones
-pub halves : (n hi lo : ℕ) → n ≡ hi * 4294967296 + lo → lo < 4294967296 → to_be_bytes w64 n ≡ to_be_bytes w32 hi ++ to_be_bytes w32 lo
+pub halves : (n hi lo : ℕ) → n ≡ hi * 4294967296 + lo → lo < 4294967296 → to_be_bytes w64 n ≡ to_be_bytes w32 hi ++
+    to_be_bytes w32 lo
 halves n hi lo e h =
     let high : n / 4294967296 ≡ hi = omega (arith, e, h) in
     let a : n / 72057594037927936 % 256 ≡ hi / 16777216 % 256 = ap (λ m. m % 256) (upper n hi lo 16777216 high) in
@@ -49,24 +51,30 @@ pub record Headed (bytes : List ℕ) (word : ℕ) : Type 0 where
 
 module _ (bytes : List ℕ) (word : ℕ) (headed : Headed bytes word) where
   pub word_small : word < 2 ^ 64
-  word_small = subst (λ (n : ℕ). n < 2 ^ 64) (sym headed.reads) (word_below (take 8 bytes) (front_is_bytes 8 bytes headed.small))
+  word_small = subst (λ (n : ℕ). n < 2 ^ 64) (sym headed.reads)
+      (word_below (take 8 bytes) (front_is_bytes 8 bytes headed.small))
 
   pub word_bytes : to_be_bytes w64 word ≡ take 8 bytes
-  word_bytes = be_bytes_8 (take 8 bytes) word (length-take-le 8 bytes headed.eight) (front_is_bytes 8 bytes headed.small) headed.reads
+  word_bytes = be_bytes_8 (take 8 bytes) word (length-take-le 8 bytes headed.eight)
+      (front_is_bytes 8 bytes headed.small) headed.reads
 
   pub word_is_bytes : IsBytes (to_be_bytes w64 word)
   word_is_bytes = subst IsBytes (sym word_bytes) (front_is_bytes 8 bytes headed.small)
 
   -- the code and the flags
   pub front_four : to_be_bytes w32 (word / 4294967296) ≡ take 4 bytes
-  front_four = ap (take 4) (sym (halves word (word / 4294967296) (word % 4294967296) (omega arith) (omega arith)) ∙ word_bytes) ∙ take_four bytes
+  front_four = ap (take 4) (sym (halves word (word / 4294967296) (word % 4294967296) (omega arith) (omega arith)) ∙
+      word_bytes) ∙ take_four bytes
 
   -- a word with the same code and flags, and another length
-  pub other_length : (n size : ℕ) → n ≡ word / 4294967296 * 4294967296 + size → size < 4294967296 → to_be_bytes w64 n ≡ take 4 bytes ++ to_be_bytes w32 size
-  other_length n size e h = halves n (word / 4294967296) size e h ∙ ap (λ (xs : List ℕ). xs ++ to_be_bytes w32 size) front_four
+  pub other_length : (n size : ℕ) → n ≡ word / 4294967296 * 4294967296 + size → size < 4294967296 → to_be_bytes w64 n ≡
+      take 4 bytes ++ to_be_bytes w32 size
+  other_length n size e h = halves n (word / 4294967296) size e h ∙ ap (λ (xs : List ℕ). xs ++ to_be_bytes w32 size)
+      front_four
 
   pub four_of_word : take 4 (to_be_bytes w64 word) ≡ take 4 bytes
   four_of_word = ap (take 4) word_bytes ∙ take_four bytes
 
   pub whole_head : drop 8 bytes ≡ [] → take 8 bytes ≡ bytes
-  whole_head e = sym (append-nil (take 8 bytes)) ∙ ap (λ (xs : List ℕ). take 8 bytes ++ xs) (sym e) ∙ take-append-drop 8 bytes
+  whole_head e = sym (append-nil (take 8 bytes)) ∙ ap (λ (xs : List ℕ). take 8 bytes ++ xs) (sym e) ∙ take-append-drop 8
+      bytes

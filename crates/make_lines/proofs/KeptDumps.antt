@@ -1,5 +1,7 @@
 -- A stream whose payloads are made again as they are.
-use Rattle.std.proofs.Common.{◌≡◌, ℕ, ◌+◌, ◌/◌, ◌%◌, ◌≤◌, List, [], ◌∷◌, ◌++◌, length, take, drop, Bool, true, false, cond, Option, Some, None, option_map, refl, sym, ap, ap₂, subst, ◌∙◌, append_assoc, length-append, arith}
+use Rattle.std.proofs.Common.{◌≡◌, ℕ, ◌+◌, ◌/◌, ◌%◌, ◌≤◌, List, [], ◌∷◌, ◌++◌, length, take, drop, Bool, true, false}
+use Rattle.std.proofs.Common.{cond, Option, Some, None, option_map, refl, sym, ap, ap₂, subst, ◌∙◌, append_assoc}
+use Rattle.std.proofs.Common.{length-append, arith}
 use Rattle.std.proofs.lemmas.Bool.{lt-ltb}
 use Rattle.std.proofs.lemmas.List.{take-append-drop, take_all}
 use Rattle.std.specs.Int.{w32, to_be_bytes}
@@ -22,14 +24,17 @@ use Rattle.shared_core_stream.specs.Items.{front_word, item_of, IsItem, AreItems
 use Rattle.stream_lines.specs.Printing.{item_size, items_size, lines as printed_lines, all_lines}
 use Rattle.dump_lines.specs.Lines.{line_of, rest_line}
 use Rattle.make_lines.specs.Made.{AreLines, both}
-use Rattle.make_lines.specs.MadeAgain.{payload_again, with_payload, item_again, stream_again, IsKept, AreKept, ItemIsMadeAgain, DumpIsMadeAgain, KeepsStreams, ThereAndBack}
+use Rattle.make_lines.specs.MadeAgain.{payload_again, with_payload, item_again, stream_again, IsKept, AreKept}
+use Rattle.make_lines.specs.MadeAgain.{ItemIsMadeAgain, DumpIsMadeAgain, KeepsStreams, ThereAndBack}
 use Rattle.make_lines.proofs.HeaderWords.{Headed, word_bytes, other_length}
-use Rattle.make_lines.proofs.ItemLines.{typed_item, typed_length, other_item, other_length_of, headed_of, body_long, item_made}
+use Rattle.make_lines.proofs.ItemLines.{typed_item, typed_length, other_item, other_length_of, headed_of, body_long}
+use Rattle.make_lines.proofs.ItemLines.{item_made}
 use Rattle.make_lines.proofs.WholeDumps.{sized, after_front, again_more, stream_means}
 
 -- a canonical payload is made again as it is
 pub canonical_kept : (s : ℕ) (payload : List ℕ) → IsCanonical s payload → payload_again (Some s) payload ≡ payload
-canonical_kept s payload c = ap (λ (b : Bool). cond b (canonical_payload table s (payload_meaning s payload)) payload) c.accepted ∙ sym c.canonical
+canonical_kept s payload c = ap (λ (b : Bool). cond b (canonical_payload table s (payload_meaning s payload)) payload)
+    c.accepted ∙ sym c.canonical
 
 -- ---- one item
 
@@ -38,37 +43,58 @@ module _ (version : Version) (bytes : List ℕ) (word : ℕ) (headed : Headed by
   whole_again : length (drop 8 bytes) ≡ word % 4294967296 → with_payload (take 4 bytes) (drop 8 bytes) ≡ Some bytes
   whole_again long =
       let size = length (drop 8 bytes) in
-      ap (λ (b : Bool). option_map (λ h. h ++ drop 8 bytes) (cond b (Some (take 4 bytes ++ to_be_bytes w32 size)) None)) (lt-ltb size 4294967296 (omega (arith, long)))
+      ap (λ (b : Bool). option_map (λ h. h ++ drop 8 bytes) (cond b (Some (take 4 bytes ++ to_be_bytes w32 size)) None))
+      (lt-ltb size 4294967296 (omega (arith, long)))
       ∙ ap (λ (n : ℕ). Some ((take 4 bytes ++ to_be_bytes w32 n) ++ drop 8 bytes)) long
-      ∙ ap (λ (xs : List ℕ). Some (xs ++ drop 8 bytes)) (sym (other_length bytes word headed word (word % 4294967296) (omega arith) (omega arith)) ∙ word_bytes bytes word headed)
+      ∙ ap (λ (xs : List ℕ). Some (xs ++ drop 8 bytes)) (sym
+      (other_length bytes word headed word (word % 4294967296) (omega arith) (omega arith)) ∙ word_bytes bytes word
+      headed)
       ∙ ap (λ (xs : List ℕ). Some xs) (take-append-drop 8 bytes)
 
-kept_item : (version : Version) (bytes : List ℕ) (item : Item) → IsItem version bytes item → IsBytes bytes → IsKept version item → item_again version bytes item ≡ Some bytes
+kept_item : (version : Version) (bytes : List ℕ) (item : Item) → IsItem version bytes item → IsBytes bytes → IsKept
+    version item → item_again version bytes item ≡ Some bytes
 kept_item version bytes item is small kept =
-    ap (item_again version bytes) is.means ∙ by_type (type_of (front_word bytes / 281474976710656)) refl (subst (IsKept version) is.means kept)
+    ap (item_again version bytes) is.means ∙ by_type (type_of (front_word bytes / 281474976710656)) refl
+    (subst (IsKept version) is.means kept)
   where
     headed : Headed bytes (front_word bytes)
     headed = headed_of version bytes item is small
 
-    by_skip : (b : Bool) → skips_unknown_messages version ≡ b → type_of (front_word bytes / 281474976710656) ≡ None → item_again version bytes (cond b (Skipped (front_word bytes / 281474976710656) (drop 8 bytes)) (Unknown (front_word bytes / 281474976710656))) ≡ Some bytes
+    by_skip : (b : Bool) → skips_unknown_messages version ≡ b → type_of (front_word bytes / 281474976710656) ≡ None →
+        item_again version bytes (cond b (Skipped (front_word bytes / 281474976710656) (drop 8 bytes))
+        (Unknown (front_word bytes / 281474976710656))) ≡ Some bytes
     by_skip true e none =
-        let long = body_long bytes (front_word bytes % 4294967296) (is.whole ∙ ap (λ (n : ℕ). 8 + n) (other_length_of version (front_word bytes) none ∙ ap (λ (b : Bool). cond b (front_word bytes % 4294967296) 0) e)) in
+        let long = body_long bytes (front_word bytes % 4294967296)
+        (is.whole ∙ ap (λ (n : ℕ). 8 + n) (other_length_of version (front_word bytes) none ∙ ap
+        (λ (b : Bool). cond b (front_word bytes % 4294967296) 0) e)) in
         whole_again version bytes (front_word bytes) headed long
     by_skip false e none =
-        let eight : length bytes ≡ 8 = omega (arith, is.whole, other_length_of version (front_word bytes) none ∙ ap (λ (b : Bool). cond b (front_word bytes % 4294967296) 0) e) in
+        let eight : length bytes ≡ 8 = omega (
+          arith,
+          is.whole,
+          other_length_of version (front_word bytes) none ∙ ap
+              (λ (b : Bool). cond b (front_word bytes % 4294967296) 0) e,
+        ) in
         ap (λ (xs : List ℕ). Some xs) (take_all 8 bytes (omega (arith, eight)))
 
-    by_type : (o : Option MessageType) → type_of (front_word bytes / 281474976710656) ≡ o → IsKept version (item_of version (front_word bytes) (drop 8 bytes)) → item_again version bytes (item_of version (front_word bytes) (drop 8 bytes)) ≡ Some bytes
-    by_type None none k = ap (item_again version bytes) (other_item version (front_word bytes) (drop 8 bytes) none) ∙ by_skip (skips_unknown_messages version) refl none
+    by_type : (o : Option MessageType) → type_of (front_word bytes / 281474976710656) ≡ o → IsKept version
+        (item_of version (front_word bytes) (drop 8 bytes)) → item_again version bytes
+        (item_of version (front_word bytes) (drop 8 bytes)) ≡ Some bytes
+    by_type None none k = ap (item_again version bytes) (other_item version (front_word bytes) (drop 8 bytes) none) ∙
+        by_skip (skips_unknown_messages version) refl none
     by_type (Some ty) typed k =
         let item_is = typed_item version (front_word bytes) (drop 8 bytes) ty typed in
-        let same : payload_again (schema_at version ty) (drop 8 bytes) ≡ drop 8 bytes = subst (IsKept version) item_is k in
-        let long = body_long bytes (front_word bytes % 4294967296) (is.whole ∙ ap (λ (n : ℕ). 8 + n) (typed_length version (front_word bytes) ty typed)) in
-        ap (item_again version bytes) item_is ∙ ap (with_payload (take 4 bytes)) same ∙ whole_again version bytes (front_word bytes) headed long
+        let same : payload_again (schema_at version ty) (drop 8 bytes) ≡ drop 8 bytes = subst (IsKept version) item_is k
+        in
+        let long = body_long bytes (front_word bytes % 4294967296)
+        (is.whole ∙ ap (λ (n : ℕ). 8 + n) (typed_length version (front_word bytes) ty typed)) in
+        ap (item_again version bytes) item_is ∙ ap (with_payload (take 4 bytes)) same ∙ whole_again version bytes
+        (front_word bytes) headed long
 
 -- ---- a stream
 
-kept_front : (version : Version) (front rest : List ℕ) (items : List Item) → AreItems version front items → IsBytes front → AreKept version items → stream_again version (front ++ rest) items rest ≡ Some (front ++ rest)
+kept_front : (version : Version) (front rest : List ℕ) (items : List Item) → AreItems version front items → IsBytes
+    front → AreKept version items → stream_again version (front ++ rest) items rest ≡ Some (front ++ rest)
 kept_front version front rest [] are small kept = ap (λ (xs : List ℕ). Some (xs ++ rest)) (sym are)
 kept_front version front rest (item ∷ items) are small kept =
     let first = are.0 in
@@ -76,10 +102,15 @@ kept_front version front rest (item ∷ items) are small kept =
     let split : front ≡ first ++ others = are.4 in
     let long : 8 ≤ length first = omega (arith, are.2.whole) in
     let one = kept_item version first item are.2 (front_bytes first others (subst IsBytes split small)) kept.0 in
-    let more = kept_front version others rest items are.3 (back_bytes first others (subst IsBytes split small)) kept.1 in
-    let joined : front ++ rest ≡ first ++ (others ++ rest) = ap (λ (xs : List ℕ). xs ++ rest) split ∙ append_assoc first others rest in
-    let after_is : drop (item_size item) (front ++ rest) ≡ others ++ rest = ap (drop (item_size item)) joined ∙ after_front (item_size item) first (others ++ rest) (sized version first item are.2) in
-    ap₂ (λ (o : Option (List ℕ)) (ys : List ℕ). both o (stream_again version ys items rest)) (ap (λ (xs : List ℕ). item_again version xs item) joined ∙ again_more version first (others ++ rest) item long ∙ one) after_is
+    let more = kept_front version others rest items are.3 (back_bytes first others (subst IsBytes split small)) kept.1
+    in
+    let joined : front ++ rest ≡ first ++ (others ++ rest) = ap (λ (xs : List ℕ). xs ++ rest) split ∙ append_assoc first
+    others rest in
+    let after_is : drop (item_size item) (front ++ rest) ≡ others ++ rest = ap (drop (item_size item)) joined ∙
+    after_front (item_size item) first (others ++ rest) (sized version first item are.2) in
+    ap₂ (λ (o : Option (List ℕ)) (ys : List ℕ). both o (stream_again version ys items rest))
+    (ap (λ (xs : List ℕ). item_again version xs item) joined ∙ again_more version first (others ++ rest) item long ∙
+    one) after_is
     ∙ ap (both (Some first)) more ∙ ap (λ (xs : List ℕ). Some xs) (sym joined)
 
 -- ---- the laws
@@ -88,26 +119,36 @@ pub kept_streams : (version : Version) → KeepsStreams version
 kept_streams version stream rest items small split kept =
     let then = split.items_then in
     ap (λ (bytes : List ℕ). stream_again version bytes items rest) then.whole
-    ∙ kept_front version then.front rest items then.encoded (front_bytes then.front rest (subst IsBytes then.whole small)) kept
+    ∙ kept_front version then.front rest items then.encoded (front_bytes then.front rest
+    (subst IsBytes then.whole small)) kept
     ∙ ap (λ (bytes : List ℕ). Some bytes) (sym then.whole)
 
 pub item_again_made : (options : Options) → ItemIsMadeAgain options
-item_again_made options at bytes item whole early small is = (item_made options at bytes item whole early is small).means
+item_again_made options at bytes item whole early small is =
+    (item_made options at bytes item whole early is small).means
 
 pub dump_again_made : (options : Options) → DumpIsMadeAgain options
 dump_again_made options stream rest items lines last whole small short split are =
     let then = split.items_then in
     let held = subst IsBytes then.whole small in
-    let total : length stream ≡ length then.front + length rest = omega (arith, ap length then.whole, length-append then.front rest) in
-    let means = stream_means options whole rest (back_bytes then.front rest held) (omega (arith, total)) 0 then.front items then.encoded (front_bytes then.front rest held) (omega (arith, total)) in
-    let text_is : all_lines (line_of options) (rest_line options) stream items rest ≡ printed_lines (line_of options) 0 (then.front ++ rest) items ++ rest_line options (0 + items_size items) rest =
+    let total : length stream ≡ length then.front + length rest = omega
+    (arith, ap length then.whole, length-append then.front rest) in
+    let means = stream_means options whole rest (back_bytes then.front rest held) (omega (arith, total)) 0 then.front
+    items then.encoded (front_bytes then.front rest held) (omega (arith, total)) in
+    let text_is : all_lines (line_of options) (rest_line options) stream items rest ≡ printed_lines (line_of options) 0
+    (then.front ++ rest) items ++ rest_line options (0 + items_size items) rest =
     ap (λ (bytes : List ℕ). all_lines (line_of options) (rest_line options) bytes items rest) then.whole
-    ∙ ap (λ (n : ℕ). printed_lines (line_of options) 0 (then.front ++ rest) items ++ rest_line options n rest) (omega arith) in
+    ∙ ap (λ (n : ℕ). printed_lines (line_of options) 0 (then.front ++ rest) items ++ rest_line options n rest)
+    (omega arith) in
     means lines last (subst (λ (text : List ℕ). AreLines text lines last) text_is are)
     ∙ ap (λ (bytes : List ℕ). stream_again options.version bytes items rest) (sym then.whole)
 
 pub there_and_back : (options : Options) → ThereAndBack options
 there_and_back options report stream dump bytes left after whole small short dumped back =
     let are = subst (λ (text : List ℕ). AreLines text back.lines back.rest) dumped.written_for.1 back.split in
-    let means = sym (dump_again_made options stream dumped.rest dumped.items back.lines back.rest whole small short dumped.split are) ∙ back.stands.1 in
-    (means, λ kept. let e = sym means ∙ kept_streams options.version stream dumped.rest dumped.items small dumped.split kept in cc)
+    let means = sym (dump_again_made options stream dumped.rest dumped.items back.lines back.rest whole small short
+    dumped.split are) ∙ back.stands.1 in (
+      means,
+      λ kept. let e = sym means ∙ kept_streams options.version stream dumped.rest dumped.items small dumped.split
+          kept in cc,
+    )

@@ -1,5 +1,7 @@
 -- The text of a line has no newline, and is read as the line's value.
-use Rattle.std.proofs.Common.{◌≡◌, ℕ, zero, suc, ◌^◌, ◌<◌, ◌≤◌, List, [], ◌∷◌, ◌++◌, Bool, true, false, cond, not, ◌&&◌, eqb, decimal, Option, Some, None, option_map, option_and_then, IsUtf8, inl, inr, refl, ap, ◌∙◌, arith}
+use Rattle.std.proofs.Common.{◌≡◌, ℕ, zero, suc, ◌^◌, ◌<◌, ◌≤◌, List, [], ◌∷◌, ◌++◌, Bool, true, false, cond, not, ◌&&◌}
+use Rattle.std.proofs.Common.{eqb, decimal, Option, Some, None, option_map, option_and_then, IsUtf8, inl, inr, refl, ap}
+use Rattle.std.proofs.Common.{◌∙◌, arith}
 use Rattle.std.proofs.lemmas.Bool.{ne_eqb, leb-true, cases_lt, cases_eq, and_parts}
 use Rattle.std.proofs.lemmas.Str.{IsUtf8-append, IsUtf8-from_ascii}
 use Rattle.std.proofs.lemmas.Fmt.{IsAscii-decimal}
@@ -24,7 +26,8 @@ use Rattle.shared_core_codec.specs.Payloads.{payload_meaning}
 use Rattle.shared_core_json.specs.Form.{byte_string_json, json_with}
 use Rattle.shared_core_json_reader.proofs.LawOfJson.{byte_string_depth, value_low}
 use Rattle.shared_core_json_reader.proofs.Meanings.{accepted_means}
-use Rattle.shared_core_json_reader.proofs.Printed.{are_visible, visible_decimal, MayPrint, MembersMay, TokenMay, TokensMay, tokens_may, printed_back}
+use Rattle.shared_core_json_reader.proofs.Printed.{are_visible, visible_decimal, MayPrint, MembersMay, TokenMay}
+use Rattle.shared_core_json_reader.proofs.Printed.{TokensMay, tokens_may, printed_back}
 use Rattle.shared_core_json_reader.proofs.PrintedValues.{byte_string_may, value_may}
 use Rattle.base64.specs.GeneralPurpose.{IsBytes}
 use Rattle.dump_lines.specs.Lines.{ack_members, payload_members}
@@ -60,7 +63,8 @@ all_below = refl
 escaped_byte : (x : ℕ) → has_newline (escape_byte x) ≡ false
 escaped_byte x = elim (cases_lt x 128) [
   | inl small ↦ escape_below 128 all_below x small
-  | inr big ↦ ap has_newline (escape_byte_plain x (λ e. omega arith) (λ e. omega arith) (omega arith)) ∙ ap (λ (b : Bool). cond b true false) (ne_eqb x 10 (λ e. omega arith))
+  | inr big ↦ ap has_newline (escape_byte_plain x (λ e. omega arith) (λ e. omega arith) (omega arith)) ∙ ap
+      (λ (b : Bool). cond b true false) (ne_eqb x 10 (λ e. omega arith))
 ]
 
 escaped : (s : List ℕ) → has_newline (escape s) ≡ false
@@ -111,7 +115,8 @@ pub record IsLineText (j : Json) : Type 0 where
 pub single_line : (j : Json) → IsLineText j → has_newline (print (json_tokens j)) ≡ false
 single_line j h = printed_line false (json_tokens j) (tokens_may j h.may)
 
-pub line_reads : (version : Version) (ms : Members) → IsLineText (object ms) → line_made version (print (json_tokens (object ms))) ≡ value_made version (object ms)
+pub line_reads : (version : Version) (ms : Members) → IsLineText (object ms) → line_made version
+    (print (json_tokens (object ms))) ≡ value_made version (object ms)
 unfolding line_made print_from
 line_reads version ms h = ap (option_and_then (value_made version)) (printed_back (object ms) h.may h.low)
 
@@ -129,7 +134,9 @@ ascii_decimal n h = IsUtf8-from_ascii (decimal n) (IsAscii-decimal n (omega arit
 
 pub name_utf8 : (ty : MessageType) → code_of ty < 65536 → IsUtf8 (debug_name_of ty)
 name_utf8 ty = elim ty as (λ ty. code_of ty < 65536 → IsUtf8 (debug_name_of ty)) [
-  | CustomEntry code ↦ λ h. IsUtf8-append (codes "CustomEntry(") (decimal code ++ codes ")") (IsUtf8-are_ascii (codes "CustomEntry(") refl) (IsUtf8-append (decimal code) (codes ")") (ascii_decimal code h) (IsUtf8-are_ascii (codes ")") refl))
+  | CustomEntry code ↦ λ h. IsUtf8-append (codes "CustomEntry(") (decimal code ++ codes ")")
+      (IsUtf8-are_ascii (codes "CustomEntry(") refl) (IsUtf8-append (decimal code) (codes ")") (ascii_decimal code h)
+      (IsUtf8-are_ascii (codes ")") refl))
   | _ ↦ λ h. IsUtf8-are_ascii _ refl
 ]
 
@@ -142,59 +149,100 @@ pub record AreTexts (ms : Members) : Type 0 where
   pub may : MembersMay ms
   pub low : members_depth ms ≤ 990
 
-header_texts : (header : Option (List ℕ)) (others : Members) → OptionIs header → AreTexts others → AreTexts (header_if header others)
+header_texts : (header : Option (List ℕ)) (others : Members) → OptionIs header → AreTexts others → AreTexts
+    (header_if header others)
 header_texts None others u h = h
-header_texts (Some s) others u h = record { may = (IsUtf8-are_ascii (codes "header") refl, u, h.may); low = omega (arith, h.low) }
+header_texts (Some s) others u h = record {
+  may = (IsUtf8-are_ascii (codes "header") refl, u, h.may);
+  low = omega
+      (arith, h.low);
+}
 
 flag_texts : (flag : Option Bool) (others : Members) → AreTexts others → AreTexts (ack_members flag others)
 flag_texts None others h = h
-flag_texts (Some f) others h = record { may = (IsUtf8-are_ascii (codes "requestedAck") refl, tt, h.may); low = omega (arith, h.low) }
+flag_texts (Some f) others h = record {
+  may = (IsUtf8-are_ascii (codes "requestedAck") refl, tt, h.may);
+  low = omega
+      (arith, h.low);
+}
 
-number_texts : (name : List ℕ) (n : ℕ) (others : Members) → IsUtf8 name → n < 2 ^ 128 → AreTexts others → AreTexts (member name (number (decimal n)) others)
+number_texts : (name : List ℕ) (n : ℕ) (others : Members) → IsUtf8 name → n < 2 ^ 128 → AreTexts others → AreTexts
+    (member name (number (decimal n)) others)
 number_texts name n others u h g = record { may = (u, wide_number n h, g.may); low = omega (arith, g.low) }
 
-true_texts : (name : List ℕ) (others : Members) → IsUtf8 name → AreTexts others → AreTexts (member name (boolean true) others)
+true_texts : (name : List ℕ) (others : Members) → IsUtf8 name → AreTexts others → AreTexts
+    (member name (boolean true) others)
 true_texts name others u g = record { may = (u, tt, g.may); low = omega (arith, g.low) }
 
 bytes_texts : (texts : Bool) (b : List ℕ) → AreTexts (member (codes "bytes") (byte_string_json texts b) no_members)
-bytes_texts texts b = record { may = (IsUtf8-are_ascii (codes "bytes") refl, byte_string_may texts b, tt); low = omega (arith, byte_string_depth texts b) }
+bytes_texts texts b = record {
+  may = (IsUtf8-are_ascii (codes "bytes") refl, byte_string_may texts b, tt);
+  low = omega
+      (arith, byte_string_depth texts b);
+}
 
-pub payload_texts : (texts : Bool) (schema : Option ℕ) (payload : List ℕ) → IsBytes payload → AreTexts (payload_members texts schema payload)
+pub payload_texts : (texts : Bool) (schema : Option ℕ) (payload : List ℕ) → IsBytes payload → AreTexts
+    (payload_members texts schema payload)
 payload_texts texts None payload i = bytes_texts texts payload
 payload_texts texts (Some s) payload i = by_test (accepts_payload table 100 s payload) refl
   where
     by_test : (b : Bool) → accepts_payload table 100 s payload ≡ b
-        → AreTexts (cond b (member (codes "message") (json_with texts s (payload_meaning s payload)) no_members) (member (codes "malformed") (boolean true) (member (codes "bytes") (byte_string_json texts payload) no_members)))
+        → AreTexts (cond b (member (codes "message") (json_with texts s (payload_meaning s payload)) no_members)
+        (member (codes "malformed") (boolean true) (member (codes "bytes") (byte_string_json texts payload)
+        no_members)))
     by_test true a =
         let is = accepted_means s payload a i in
-        record { may = (IsUtf8-are_ascii (codes "message") refl, value_may texts s (payload_meaning s payload) is.fits, tt); low = omega (arith, value_low texts s (payload_meaning s payload) is.fits, is.low) }
-    by_test false a = true_texts (codes "malformed") _ (IsUtf8-are_ascii (codes "malformed") refl) (bytes_texts texts payload)
+        record {
+          may = (
+            IsUtf8-are_ascii (codes "message") refl,
+            value_may texts s (payload_meaning s payload) is.fits,
+            tt,
+          );
+          low = omega (arith, value_low texts s (payload_meaning s payload) is.fits, is.low);
+        }
+    by_test false a = true_texts (codes "malformed") _ (IsUtf8-are_ascii (codes "malformed") refl)
+        (bytes_texts texts payload)
 
 as_line : (ms : Members) → AreTexts ms → IsLineText (object ms)
 as_line ms h = record { may = h.may; low = omega (arith, h.low) }
 
-pub message_texts : (at code len : ℕ) (name : List ℕ) (flag : Option Bool) (header : Option (List ℕ)) (others : Members) → at < 2 ^ 128 → code < 2 ^ 128 → len < 2 ^ 128 → IsUtf8 name → OptionIs header → AreTexts others
+pub message_texts : (at code len : ℕ) (name : List ℕ) (flag : Option Bool) (header : Option (List ℕ)) (others : Members)
+    → at < 2 ^ 128 → code < 2 ^ 128 → len < 2 ^ 128 → IsUtf8 name → OptionIs header → AreTexts others
     → IsLineText (message_line (decimal at) name (decimal code) (decimal len) flag header others)
 message_texts at code len name flag header others h g f u v t =
-    let after = number_texts (codes "code") code _ (IsUtf8-are_ascii (codes "code") refl) g (number_texts (codes "length") len _ (IsUtf8-are_ascii (codes "length") refl) f (flag_texts flag _ (header_texts header others v t))) in
-    as_line _ (number_texts (codes "offset") at _ (IsUtf8-are_ascii (codes "offset") refl) h (record { may = (IsUtf8-are_ascii (codes "type") refl, u, after.may); low = omega (arith, after.low) }))
+    let after = number_texts (codes "code") code _ (IsUtf8-are_ascii (codes "code") refl) g
+    (number_texts (codes "length") len _ (IsUtf8-are_ascii (codes "length") refl) f
+    (flag_texts flag _ (header_texts header others v t))) in
+    as_line _ (number_texts (codes "offset") at _ (IsUtf8-are_ascii (codes "offset") refl) h
+    (record { may = (IsUtf8-are_ascii (codes "type") refl, u, after.may); low = omega (arith, after.low) }))
 
-pub unknown_texts : (at code : ℕ) (header : Option (List ℕ)) → at < 2 ^ 128 → code < 2 ^ 128 → OptionIs header → IsLineText (unknown_line (decimal at) (decimal code) header)
+pub unknown_texts : (at code : ℕ) (header : Option (List ℕ)) → at < 2 ^ 128 → code < 2 ^ 128 → OptionIs header →
+    IsLineText (unknown_line (decimal at) (decimal code) header)
 unknown_texts at code header h g v =
-    as_line _ (number_texts (codes "offset") at _ (IsUtf8-are_ascii (codes "offset") refl) h (true_texts (codes "unknown") _ (IsUtf8-are_ascii (codes "unknown") refl)
-    (number_texts (codes "code") code _ (IsUtf8-are_ascii (codes "code") refl) g (header_texts header no_members v (record { may = tt; low = omega arith })))))
+    as_line _ (number_texts (codes "offset") at _ (IsUtf8-are_ascii (codes "offset") refl) h
+    (true_texts (codes "unknown") _ (IsUtf8-are_ascii (codes "unknown") refl)
+    (number_texts (codes "code") code _ (IsUtf8-are_ascii (codes "code") refl) g
+    (header_texts header no_members v (record { may = tt; low = omega arith })))))
 
-pub skipped_texts : (texts : Bool) (at code len : ℕ) (header : Option (List ℕ)) (b : List ℕ) → at < 2 ^ 128 → code < 2 ^ 128 → len < 2 ^ 128 → OptionIs header
+pub skipped_texts : (texts : Bool) (at code len : ℕ) (header : Option (List ℕ)) (b : List ℕ) → at < 2 ^ 128 → code < 2 ^
+    128 → len < 2 ^ 128 → OptionIs header
     → IsLineText (skipped_line (decimal at) (decimal code) (decimal len) header (byte_string_json texts b))
 skipped_texts texts at code len header b h g f v =
-    as_line _ (number_texts (codes "offset") at _ (IsUtf8-are_ascii (codes "offset") refl) h (true_texts (codes "skipped") _ (IsUtf8-are_ascii (codes "skipped") refl)
-    (number_texts (codes "code") code _ (IsUtf8-are_ascii (codes "code") refl) g (number_texts (codes "length") len _ (IsUtf8-are_ascii (codes "length") refl) f (header_texts header _ v (bytes_texts texts b))))))
+    as_line _ (number_texts (codes "offset") at _ (IsUtf8-are_ascii (codes "offset") refl) h
+    (true_texts (codes "skipped") _ (IsUtf8-are_ascii (codes "skipped") refl)
+    (number_texts (codes "code") code _ (IsUtf8-are_ascii (codes "code") refl) g
+    (number_texts (codes "length") len _ (IsUtf8-are_ascii (codes "length") refl) f
+    (header_texts header _ v (bytes_texts texts b))))))
 
-pub rest_texts : (texts : Bool) (at len : ℕ) (o : Option (List ℕ)) → at < 2 ^ 128 → len < 2 ^ 128 → IsLineText (rest_line (decimal at) (decimal len) (option_map (byte_string_json texts) o))
+pub rest_texts : (texts : Bool) (at len : ℕ) (o : Option (List ℕ)) → at < 2 ^ 128 → len < 2 ^ 128 → IsLineText
+    (rest_line (decimal at) (decimal len) (option_map (byte_string_json texts) o))
 rest_texts texts at len None h g =
-    as_line _ (number_texts (codes "offset") at _ (IsUtf8-are_ascii (codes "offset") refl) h (number_texts (codes "rest") len _ (IsUtf8-are_ascii (codes "rest") refl) g (record { may = tt; low = omega arith })))
+    as_line _ (number_texts (codes "offset") at _ (IsUtf8-are_ascii (codes "offset") refl) h
+    (number_texts (codes "rest") len _ (IsUtf8-are_ascii (codes "rest") refl) g
+    (record { may = tt; low = omega arith })))
 rest_texts texts at len (Some b) h g =
-    as_line _ (number_texts (codes "offset") at _ (IsUtf8-are_ascii (codes "offset") refl) h (number_texts (codes "rest") len _ (IsUtf8-are_ascii (codes "rest") refl) g (bytes_texts texts b)))
+    as_line _ (number_texts (codes "offset") at _ (IsUtf8-are_ascii (codes "offset") refl) h
+    (number_texts (codes "rest") len _ (IsUtf8-are_ascii (codes "rest") refl) g (bytes_texts texts b)))
 
 pub header_text_is : (word written : ℕ) → OptionIs (header_text word written)
 header_text_is word written = by_test (eqb word written)

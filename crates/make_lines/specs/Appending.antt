@@ -1,5 +1,6 @@
 -- What a call appends, and why a line is rejected.
-use Rattle.std.specs.Prelude.{◌≡◌, ◌≢◌, ℕ, ◌-◌, Bool, false, not, ◌&&◌, ◌||◌, List, [], ◌∷◌, ◌++◌, length, slice_get, ◌==◌, if◌then◌else◌, Option, Some, None, Result, Ok, Err, MatchOption, MatchResult}
+use Rattle.std.specs.Prelude.{◌≡◌, ◌≢◌, ℕ, ◌-◌, Bool, false, not, ◌&&◌, ◌||◌, List, [], ◌∷◌, ◌++◌, length, slice_get}
+use Rattle.std.specs.Prelude.{◌==◌, if◌then◌else◌, Option, Some, None, Result, Ok, Err, MatchOption, MatchResult}
 use Rattle.shared_core_base.specs.declared.version.Version.{Version}
 use Rattle.shared_core_json_reader.specs.Reading.{json_of_text}
 use Rattle.shared_core_json_reader.specs.FirstError.{IsPlace}
@@ -16,10 +17,11 @@ HasFault fault error = error.reason ≢ lack → fault ≡ Some (fault_of error)
 abbrev pub Rejects : {A : Type 0} → Result A LineFault → LineError → Type 0
 Rejects read error = error.reason ≢ lack → read ≡ Err (fault_of error)
 
--- A call appends these bytes, if they are read; otherwise it fails with their fault, and nothing is appended. It may also
--- fail because an allocation fails.
+-- A call appends these bytes, if they are read; otherwise it fails with their fault, and nothing is appended. It may
+-- also fail because an allocation fails.
 abbrev pub Appends : {T : Type 0} → Result T LineError → Result (List ℕ) LineFault → List ℕ → List ℕ → Type 0
-Appends r read old new = MatchResult r (λ _. (bytes : List ℕ) × (read ≡ Ok bytes) × (new ≡ old ++ bytes)) (λ error. error.reason ≢ lack → (read ≡ Err (fault_of error)) × (new ≡ old))
+Appends r read old new = MatchResult r (λ _. (bytes : List ℕ) × (read ≡ Ok bytes) × (new ≡ old ++ bytes))
+    (λ error. error.reason ≢ lack → (read ≡ Err (fault_of error)) × (new ≡ old))
 
 -- Whether a line begins an object.
 abbrev pub begins_object : List ℕ → Bool
@@ -34,7 +36,8 @@ closes (Some b) = (b == 125) || (b == 93)
 -- Whether a line that stops being JSON at an offset ends within an object: it begins one, the offset is at its end, and
 -- it does not close what is not open.
 abbrev pub is_cut_off : List ℕ → ℕ → Bool
-is_cut_off text offset = (begins_object text && (offset == length text)) && not (closes (slice_get text (length text - 1)))
+is_cut_off text offset = (begins_object text && (offset == length text)) && not
+    (closes (slice_get text (length text - 1)))
 
 -- The fault of a line that stops being JSON at this offset.
 abbrev pub text_fault : List ℕ → ℕ → LineFault
@@ -43,7 +46,8 @@ text_fault text offset = if is_cut_off text offset then at [] CutOff else not_js
 -- A line is rejected for where it stops being JSON, or for the fault of its value.
 abbrev pub IsFaultOf : Version → List ℕ → LineError → Type 0
 IsFaultOf version text error =
-    MatchOption (json_of_text text) ((offset : ℕ) × IsPlace text (Some offset) × (fault_of error ≡ text_fault text offset))
+    MatchOption (json_of_text text) ((offset : ℕ) × IsPlace text (Some offset) ×
+    (fault_of error ≡ text_fault text offset))
     (λ j. line_said version j ≡ Err (fault_of error))
 
 -- A line means nothing, and this error says why.
@@ -55,4 +59,5 @@ pub record IsRejected (version : Version) (text : List ℕ) (error : LineError) 
 -- fail because an allocation fails.
 abbrev pub AppendsLine : {T : Type 0} → Version → List ℕ → Result T LineError → List ℕ → List ℕ → Type 0
 AppendsLine version text r old new =
-    MatchResult r (λ _. (bytes : List ℕ) × (line_made version text ≡ Some bytes) × (new ≡ old ++ bytes)) (λ error. error.reason ≢ lack → IsRejected version text error × (new ≡ old))
+    MatchResult r (λ _. (bytes : List ℕ) × (line_made version text ≡ Some bytes) × (new ≡ old ++ bytes))
+    (λ error. error.reason ≢ lack → IsRejected version text error × (new ≡ old))

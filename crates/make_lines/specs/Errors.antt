@@ -1,11 +1,15 @@
 -- Why a line is rejected, and the texts of errors.
-use Rattle.std.specs.Prelude.{◌≡◌, ℕ, List, [], ◌++◌, length, codes, decimal, ◌==◌, if◌then◌else◌, Option, Some, None, option_map}
+use Rattle.std.specs.Prelude.{◌≡◌, ℕ, List, [], ◌++◌, length, codes, decimal, ◌==◌, if◌then◌else◌, Option, Some, None}
+use Rattle.std.specs.Prelude.{option_map}
 use Rattle.std.specs.String.{string_bytes}
 use Rattle.shared_core_json_reader.specs.declared.error.Reason.{Reason}
 use Rattle.shared_core_json_reader.specs.declared.error.Reason.TheVariants.{NotJson, OutOfMemory as NoMemory}
 use Rattle.shared_core_json_reader.specs.Errors as json
 use Rattle.make_lines.specs.declared.error.LineReason.{LineReason}
-use Rattle.make_lines.specs.declared.error.LineReason.TheVariants.{Json, CutOff, NoType, UnknownType, OtherType, NoPayload, SeveralPayloads, NoSchema, NoFlag, HeaderLength, OtherCode, OtherFlag, NoSuchPayload, CodeOfType, TooLong, ItemInRest, NoBytes}
+use Rattle.make_lines.specs.declared.error.LineReason.TheVariants.{Json, CutOff, NoType, UnknownType, OtherType}
+use Rattle.make_lines.specs.declared.error.LineReason.TheVariants.{NoPayload, SeveralPayloads, NoSchema, NoFlag}
+use Rattle.make_lines.specs.declared.error.LineReason.TheVariants.{HeaderLength, OtherCode, OtherFlag, NoSuchPayload}
+use Rattle.make_lines.specs.declared.error.LineReason.TheVariants.{CodeOfType, TooLong, ItemInRest, NoBytes}
 use Rattle.make_lines.specs.declared.error.LineError.{LineError}
 use Rattle.make_lines.specs.declared.error.MakeError.{MakeError}
 use Rattle.make_lines.specs.declared.error.MakeError.TheVariants.{Input, Output, OutOfMemory, Line}
@@ -21,7 +25,13 @@ pub record LineFault : Type 0 where
 -- What an error says.
 abbrev pub fault_of : LineError → LineFault
 fault_of error =
-    record { reason = error.reason; offset = error.offset; path = string_bytes error.path; name = option_map string_bytes error.name }
+    record {
+      reason = error.reason;
+      offset = error.offset;
+      path = string_bytes error.path;
+      name = option_map
+          string_bytes error.name;
+    }
 
 -- The reason of a failed allocation.
 abbrev pub lack : LineReason
@@ -35,7 +45,8 @@ at member reason = record { reason = reason; offset = None; path = member; name 
 
 -- The path to what a path inside a member leads to; each of them may be empty.
 abbrev pub path_inside : List ℕ → List ℕ → List ℕ
-path_inside member inside = if length member == 0 then inside else (if length inside == 0 then member else member ++ (codes "." ++ inside))
+path_inside member inside = if length member == 0 then inside else
+    (if length inside == 0 then member else member ++ (codes "." ++ inside))
 
 -- The fault of a value inside a member.
 abbrev pub inside : List ℕ → Reason → List ℕ → LineFault

@@ -1,5 +1,7 @@
 -- What a line means: the bytes of an item, or those after the last one; or why it is rejected.
-use Rattle.std.specs.Prelude.{ℕ, ◌+◌, ◌*◌, ◌/◌, ◌%◌, ◌^◌, Bool, true, false, not, ◌&&◌, ◌||◌, List, [], ◌∷◌, ◌++◌, length, take, codes, nat_lt, ◌==◌, if◌then◌else◌, Option, Some, None, ok_or, option_map, option_and_then, Result, Ok, Err}
+use Rattle.std.specs.Prelude.{ℕ, ◌+◌, ◌*◌, ◌/◌, ◌%◌, ◌^◌, Bool, true, false, not, ◌&&◌, ◌||◌, List, [], ◌∷◌, ◌++◌}
+use Rattle.std.specs.Prelude.{length, take, codes, nat_lt, ◌==◌, if◌then◌else◌, Option, Some, None, ok_or, option_map}
+use Rattle.std.specs.Prelude.{option_and_then, Result, Ok, Err}
 use Rattle.std.specs.Option.{is_none}
 use Rattle.std.specs.Result.{result_ok}
 use Rattle.std.specs.Int.{w32, w64, to_be_bytes, from_be_bytes}
@@ -17,7 +19,10 @@ use Rattle.shared_core_json_reader.specs.declared.error.Reason.TheVariants.{Wron
 use Rattle.shared_core_json_reader.specs.Scalars.{unsigned_read, bytes_read}
 use Rattle.shared_core_json_reader.specs.Reading.{value_payload, json_of_text}
 use Rattle.shared_core_json_reader.specs.FirstError.{number_reason, bytes_reason, value_error}
-use Rattle.make_lines.specs.declared.error.LineReason.TheVariants.{Json as Wrong, NoType, OtherType, NoPayload, SeveralPayloads, NoSchema, NoFlag, HeaderLength, OtherCode, OtherFlag, NoSuchPayload, CodeOfType, TooLong, ItemInRest, NoBytes}
+use Rattle.make_lines.specs.declared.error.LineReason.TheVariants.{Json as Wrong, NoType, OtherType, NoPayload}
+use Rattle.make_lines.specs.declared.error.LineReason.TheVariants.{SeveralPayloads, NoSchema, NoFlag, HeaderLength}
+use Rattle.make_lines.specs.declared.error.LineReason.TheVariants.{OtherCode, OtherFlag, NoSuchPayload, CodeOfType}
+use Rattle.make_lines.specs.declared.error.LineReason.TheVariants.{TooLong, ItemInRest, NoBytes}
 use Rattle.make_lines.specs.Errors.{LineFault, lack, at, inside, no_type_named}
 use Rattle.make_lines.specs.Members.{given, given_either, given_name, shape_fault}
 
@@ -94,7 +99,8 @@ message_read m s = ok_or (value_payload s m) (message_fault (value_error s m))
 -- The payload of a message of the type that has this code.
 abbrev pub message_said : Version → ℕ → Json → Result (List ℕ) LineFault
 message_said version code m =
-    then_read (message_read m) (ok_or (option_and_then (schema_at version) (type_of code)) (at (codes "message") NoSchema))
+    then_read (message_read m) (ok_or (option_and_then (schema_at version) (type_of code))
+    (at (codes "message") NoSchema))
 
 -- No payload, if a member says that there is none and the code is no type's.
 abbrev pub nothing_if : Option Bool → Option MessageType → Result (List ℕ) LineFault
@@ -123,7 +129,8 @@ bytes_name j = given_name (codes "bytes") (codes "payload") j
 -- The payload of the item that a line describes.
 abbrev pub line_payload : Version → ℕ → Json → Result (List ℕ) LineFault
 line_payload version code j =
-    payload_said version code (bytes_name j) (given (codes "message") j) (given_either (codes "bytes") (codes "payload") j) (given (codes "unknown") j)
+    payload_said version code (bytes_name j) (given (codes "message") j)
+    (given_either (codes "bytes") (codes "payload") j) (given (codes "unknown") j)
 
 -- ---- the header
 
@@ -165,10 +172,12 @@ word_fault code flag word =
     then (if agrees_in_flag code flag word then None else Some (at (codes "header") OtherFlag))
     else Some (at (codes "header") OtherCode)
 
--- A header that stands alone. Where a message of an unknown type is skipped with its payload, it must not have a length.
+-- A header that stands alone. Where a message of an unknown type is skipped with its payload, it must not have a
+-- length.
 abbrev pub alone_given : Version → ℕ → List ℕ → Result (List ℕ) LineFault
 alone_given version word bytes =
-    if skips_unknown_messages version && not (word_length word == 0) then Err (at (codes "header") NoSuchPayload) else Ok bytes
+    if skips_unknown_messages version && not (word_length word == 0) then Err (at (codes "header") NoSuchPayload) else
+    Ok bytes
 
 -- The header by given bytes with this word: all of them if there is no payload, otherwise the first four and the length
 -- of the payload.
@@ -182,7 +191,8 @@ unless (Some fault) read = Err fault
 
 -- The header by given bytes with this word, which has to have this code and this flag.
 abbrev pub checked_given : Version → ℕ → Bool → ℕ → Bool → ℕ → List ℕ → Result (List ℕ) LineFault
-checked_given version code flag size alone word bytes = unless (word_fault code flag word) (word_given version alone size word bytes)
+checked_given version code flag size alone word bytes = unless (word_fault code flag word)
+    (word_given version alone size word bytes)
 
 -- The header by eight given bytes.
 abbrev pub header_given : Version → ℕ → Bool → ℕ → Bool → List ℕ → Result (List ℕ) LineFault
@@ -215,12 +225,14 @@ framed version code flag j payload = read_map (λ h. h ++ payload) (line_header 
 -- The bytes of the item that a line describes.
 unfoldable pub item_said : Version → Json → Result (List ℕ) LineFault
 item_said version j =
-    then_read (λ code. then_read (λ flag. then_read (framed version code flag j) (line_payload version code j)) (line_flag code j)) (line_code j)
+    then_read (λ code. then_read (λ flag. then_read (framed version code flag j) (line_payload version code j))
+    (line_flag code j)) (line_code j)
 
 -- Whether a line has none of the members that say what an item is.
 abbrev pub says_no_item : Json → Bool
 says_no_item j =
-    ((((is_none (given (codes "type") j) && is_none (given (codes "code") j)) && is_none (given (codes "message") j)) && is_none (given (codes "unknown") j))
+    ((((is_none (given (codes "type") j) && is_none (given (codes "code") j)) && is_none (given (codes "message") j)) &&
+    is_none (given (codes "unknown") j))
     && is_none (given (codes "header") j)) && is_none (given_either (codes "requestedAck") (codes "ack") j)
 
 -- The number of bytes that a line does not have.
@@ -229,7 +241,8 @@ none_left n = if n == 0 then Ok [] else Err (at (codes "rest") NoBytes)
 
 -- The bytes after the last item: those that a member of this name gives, or none if their number is 0.
 abbrev pub rest_bytes : Json → List ℕ → Option Json → Result (List ℕ) LineFault
-rest_bytes r name None = then_read none_left (ok_or (unsigned_read 18446744073709551616 r) (at (codes "rest") (Wrong (number_reason r))))
+rest_bytes r name None = then_read none_left (ok_or (unsigned_read 18446744073709551616 r)
+    (at (codes "rest") (Wrong (number_reason r))))
 rest_bytes r name (Some b) = bytes_said name b
 
 -- The bytes of the line of the bytes after the last item.

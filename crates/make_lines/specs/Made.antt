@@ -1,5 +1,6 @@
 -- What is written when the making of a stream ends.
-use Rattle.std.specs.Prelude.{◌≡◌, ◌⊎◌, ℕ, suc, Bool, false, List, [], ◌∷◌, ◌++◌, length, min, ◌==◌, if◌then◌else◌, Option, Some, None, option_map, option_and_then, Result, Ok, Err}
+use Rattle.std.specs.Prelude.{◌≡◌, ◌⊎◌, ℕ, suc, Bool, false, List, [], ◌∷◌, ◌++◌, length, min, ◌==◌, if◌then◌else◌}
+use Rattle.std.specs.Prelude.{Option, Some, None, option_map, option_and_then, Result, Ok, Err}
 use Rattle.std.specs.Io.KnownBytes.{IsAtEnd}
 use Rattle.shared_core_base.specs.declared.version.Version.{Version}
 use Rattle.stream_lines.specs.Printing.{Begins}
@@ -51,21 +52,26 @@ AreFirst done lines rest left = Begins done lines ⊎ (IsAtEnd left × (done ≡
 abbrev pub counted : ℕ → ℕ
 counted n = min n 18446744073709551615
 
--- What is written for each result, where a line means bytes or fails with an error, for these lines and this rest, and what the reader has left: what all lines mean, at
--- the input's end; what the whole lines mean; a prefix of what the first lines mean; what the first lines mean; or what
--- the lines before a rejected one mean.
-abbrev pub StandsMade : (List ℕ → Option (List ℕ)) → (List ℕ → LineError → Type 0) → Result (Unit {0}) MakeError → List (List ℕ) → List ℕ → List ℕ → Option (List ℕ) → Type 0
-StandsMade means fails (Ok done) lines rest written left = IsAtEnd left × (made means (lines ++ rest ∷ []) ≡ Some written)
+-- What is written for each result, where a line means bytes or fails with an error, for these lines and this rest, and
+-- what the reader has left: what all lines mean, at the input's end; what the whole lines mean; a prefix of what the
+-- first lines mean; what the first lines mean; or what the lines before a rejected one mean.
+abbrev pub StandsMade : (List ℕ → Option (List ℕ)) → (List ℕ → LineError → Type 0) → Result (Unit {0}) MakeError → List
+    (List ℕ) → List ℕ → List ℕ → Option (List ℕ) → Type 0
+StandsMade means fails (Ok done) lines rest written left = IsAtEnd left ×
+    (made means (lines ++ rest ∷ []) ≡ Some written)
 StandsMade means fails (Err Input) lines rest written left = made means lines ≡ Some written
 StandsMade means fails (Err Output) lines rest written left =
-    (done : List (List ℕ)) × (bytes : List ℕ) × AreFirst done lines rest left × (made means done ≡ Some bytes) × Begins written bytes
-StandsMade means fails (Err OutOfMemory) lines rest written left = (done : List (List ℕ)) × Begins done lines × (made means done ≡ Some written)
+    (done : List (List ℕ)) × (bytes : List ℕ) × AreFirst done lines rest left × (made means done ≡ Some bytes) × Begins
+    written bytes
+StandsMade means fails (Err OutOfMemory) lines rest written left = (done : List (List ℕ)) × Begins done lines ×
+    (made means done ≡ Some written)
 StandsMade means fails (Err (Line number error)) lines rest written left =
     (done : List (List ℕ)) × (line : List ℕ) × AreFirst (done ++ line ∷ []) lines rest left
     × (made means done ≡ Some written) × fails line error × (number ≡ counted (suc (length done)))
 
 -- The bytes that were read are these lines and this rest, and what is written is as the result says.
-pub record IsMade (version : Version) (result : Result (Unit {0}) MakeError) (read written : List ℕ) (left : Option (List ℕ)) : Type 0 where
+pub record IsMade (version : Version) (result : Result (Unit {0}) MakeError) (read written : List ℕ)
+    (left : Option (List ℕ)) : Type 0 where
   pub lines : List (List ℕ)
   pub rest : List ℕ
   pub split : AreLines read lines rest

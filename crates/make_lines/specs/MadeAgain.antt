@@ -1,5 +1,6 @@
 -- What is made of the lines of a dump.
-use Rattle.std.specs.Prelude.{◌≡◌, ◌<◌, ◌^◌, ℕ, true, false, nat_lt, List, [], ◌∷◌, ◌++◌, length, take, drop, if◌then◌else◌, Option, Some, None, option_map, Ok}
+use Rattle.std.specs.Prelude.{◌≡◌, ◌<◌, ◌^◌, ℕ, true, false, nat_lt, List, [], ◌∷◌, ◌++◌, length, take, drop}
+use Rattle.std.specs.Prelude.{if◌then◌else◌, Option, Some, None, option_map, Ok}
 use Rattle.std.specs.Int.{w32, to_be_bytes}
 use Rattle.base64.specs.GeneralPurpose.{IsBytes}
 use Rattle.json.specs.Tree.{json_tokens}
@@ -21,21 +22,24 @@ use Rattle.stream_lines.specs.declared.report.Report.{Report}
 use Rattle.dump_lines.specs.Dump.{IsDumped}
 use Rattle.make_lines.specs.Made.{both, made, AreLines, IsMade}
 
--- The payload of a schema as it is made again: of a well-formed one the canonical payload of what it means, of any other
--- one, or without a schema, the payload itself.
+-- The payload of a schema as it is made again: of a well-formed one the canonical payload of what it means, of any
+-- other one, or without a schema, the payload itself.
 abbrev pub payload_again : Option ℕ → List ℕ → List ℕ
 payload_again None payload = payload
-payload_again (Some s) payload = if accepts_payload table 100 s payload then canonical_payload table s (payload_meaning s payload) else payload
+payload_again (Some s) payload = if accepts_payload table 100 s payload then canonical_payload table s
+    (payload_meaning s payload) else payload
 
 -- The first four bytes of a header, which are the code and the flags, then the length of a payload, and the payload;
 -- nothing if it is too long for a header.
 abbrev pub with_payload : List ℕ → List ℕ → Option (List ℕ)
-with_payload front payload = option_map (λ h. h ++ payload) (if nat_lt (length payload) 4294967296 then Some (front ++ to_be_bytes w32 (length payload)) else None)
+with_payload front payload = option_map (λ h. h ++ payload) (if nat_lt (length payload) 4294967296 then Some
+    (front ++ to_be_bytes w32 (length payload)) else None)
 
--- The bytes that are made of the line of an item that the bytes begin with, if there are any: a header alone is the same;
--- any other item has its own code and flags, and its payload as it is made again.
+-- The bytes that are made of the line of an item that the bytes begin with, if there are any: a header alone is the
+-- same; any other item has its own code and flags, and its payload as it is made again.
 abbrev pub item_again : Version → List ℕ → Item → Option (List ℕ)
-item_again version bytes (Message message) = with_payload (take 4 bytes) (payload_again (schema_at version message.header.ty) message.payload)
+item_again version bytes (Message message) = with_payload (take 4 bytes)
+    (payload_again (schema_at version message.header.ty) message.payload)
 item_again version bytes (Unknown code) = Some (take 8 bytes)
 item_again version bytes (Skipped code payload) = with_payload (take 4 bytes) payload
 
@@ -43,7 +47,8 @@ item_again version bytes (Skipped code payload) = with_payload (take 4 bytes) pa
 -- each line means something.
 abbrev pub stream_again : Version → List ℕ → List Item → List ℕ → Option (List ℕ)
 stream_again version stream [] rest = Some rest
-stream_again version stream (item ∷ items) rest = both (item_again version stream item) (stream_again version (drop (item_size item) stream) items rest)
+stream_again version stream (item ∷ items) rest = both (item_again version stream item)
+    (stream_again version (drop (item_size item) stream) items rest)
 
 -- The payload is made again as it is.
 abbrev pub IsKept : Version → Item → Type 0
@@ -64,23 +69,30 @@ pub record IsWhole (options : Options) : Type 0 where
 
 -- The line of an item means the item, with its payload as it is made again. (A slice is of bytes.)
 abbrev pub ItemIsMadeAgain : Options → Type 0
-ItemIsMadeAgain options = (at : ℕ) (bytes : List ℕ) (item : Item) → IsWhole options → at < 2 ^ 128 → IsBytes bytes → IsItem options.version bytes item
-    → line_made options.version (print (json_tokens (item_json options at (front_word bytes) item))) ≡ item_again options.version bytes item
+ItemIsMadeAgain options = (at : ℕ) (bytes : List ℕ) (item : Item) → IsWhole options → at < 2 ^ 128 → IsBytes bytes →
+    IsItem options.version bytes item
+    → line_made options.version (print (json_tokens (item_json options at (front_word bytes) item))) ≡ item_again
+    options.version bytes item
 
 -- What the lines of a dump mean, one after the other, is the stream with its payloads as they are made again.
 abbrev pub DumpIsMadeAgain : Options → Type 0
-DumpIsMadeAgain options = (stream rest : List ℕ) (items : List Item) (lines : List (List ℕ)) (last : List ℕ) → IsWhole options → IsBytes stream → length stream < 2 ^ 128
-    → SplitsInto options.version stream items rest → AreLines (all_lines (line_of options) (rest_line options) stream items rest) lines last
+DumpIsMadeAgain options = (stream rest : List ℕ) (items : List Item) (lines : List (List ℕ)) (last : List ℕ) → IsWhole
+    options → IsBytes stream → length stream < 2 ^ 128
+    → SplitsInto options.version stream items rest → AreLines
+    (all_lines (line_of options) (rest_line options) stream items rest) lines last
     → made (line_made options.version) (lines ++ last ∷ []) ≡ stream_again options.version stream items rest
 
 -- If all payloads are made again as they are, this is the stream itself.
 abbrev pub KeepsStreams : Version → Type 0
-KeepsStreams version = (stream rest : List ℕ) (items : List Item) → IsBytes stream → SplitsInto version stream items rest → AreKept version items
+KeepsStreams version = (stream rest : List ℕ) (items : List Item) → IsBytes stream → SplitsInto version stream items
+    rest → AreKept version items
     → stream_again version stream items rest ≡ Some stream
 
--- Let a dump of a stream end well, and the making of a stream of that dump. What is made is the stream with its payloads
--- as they are made again; if all are made again as they are, it is the stream itself.
+-- Let a dump of a stream end well, and the making of a stream of that dump. What is made is the stream with its
+-- payloads as they are made again; if all are made again as they are, it is the stream itself.
 abbrev pub ThereAndBack : Options → Type 0
-ThereAndBack options = (report : Report) (stream dump bytes : List ℕ) (left after : Option (List ℕ)) → IsWhole options → IsBytes stream → length stream < 2 ^ 128
+ThereAndBack options = (report : Report) (stream dump bytes : List ℕ) (left after : Option (List ℕ)) → IsWhole options →
+    IsBytes stream → length stream < 2 ^ 128
     → (dumped : IsDumped options (Ok report) stream dump left) → IsMade options.version (Ok tt) dump bytes after
-    → (stream_again options.version stream dumped.items dumped.rest ≡ Some bytes) × (AreKept options.version dumped.items → bytes ≡ stream)
+    → (stream_again options.version stream dumped.items dumped.rest ≡ Some bytes) ×
+    (AreKept options.version dumped.items → bytes ≡ stream)

@@ -1,5 +1,6 @@
 -- The members of a line, by their names.
-use Rattle.std.specs.Prelude.{ℕ, Bool, true, false, not, ◌&&◌, ◌||◌, List, [], codes, if◌then◌else◌, Option, Some, None, option_and_then}
+use Rattle.std.specs.Prelude.{ℕ, Bool, true, false, not, ◌&&◌, ◌||◌, List, [], codes, if◌then◌else◌, Option, Some, None}
+use Rattle.std.specs.Prelude.{option_and_then}
 use Rattle.std.specs.Option.{is_none, option_or}
 use Rattle.std.specs.Str.{bytes_eq}
 use Rattle.json.specs.Json.{Json, null, boolean, number, string, array, object, Members, no_members, member}
@@ -12,7 +13,8 @@ use Rattle.make_lines.specs.Errors.{LineFault, at}
 -- Whether a key is one of those that say what an item is.
 abbrev pub says_item : List ℕ → Bool
 says_item key =
-    ((((bytes_eq key (codes "type") || bytes_eq key (codes "code")) || bytes_eq key (codes "message")) || bytes_eq key (codes "unknown"))
+    ((((bytes_eq key (codes "type") || bytes_eq key (codes "code")) || bytes_eq key (codes "message")) || bytes_eq key
+    (codes "unknown"))
     || (bytes_eq key (codes "header") || bytes_eq key (codes "requestedAck"))) || bytes_eq key (codes "ack")
 
 -- Whether a key is one of those that give bytes, or say that these are after the last item.
@@ -22,7 +24,8 @@ says_bytes key = (bytes_eq key (codes "bytes") || bytes_eq key (codes "payload")
 -- Whether a key is one of the others of a dump, which are ignored.
 abbrev pub is_passed_over : List ℕ → Bool
 is_passed_over key =
-    ((bytes_eq key (codes "offset") || bytes_eq key (codes "length")) || bytes_eq key (codes "malformed")) || bytes_eq key (codes "skipped")
+    ((bytes_eq key (codes "offset") || bytes_eq key (codes "length")) || bytes_eq key (codes "malformed")) || bytes_eq
+    key (codes "skipped")
 
 -- Whether a line may have a member with this key.
 abbrev pub is_known : List ℕ → Bool
@@ -37,7 +40,8 @@ has_key key (member k j ms) = if bytes_eq k key then true else has_key key ms
 abbrev pub members_fault : Members → Option LineFault
 members_fault no_members = None
 members_fault (member k j ms) =
-    if is_known k then (if has_key k ms then Some (at k (Wrong RepeatedMember)) else members_fault ms) else Some (at k (Wrong UnknownMember))
+    if is_known k then (if has_key k ms then Some (at k (Wrong RepeatedMember)) else members_fault ms) else Some
+    (at k (Wrong UnknownMember))
 
 -- The fault of a value that should be an object of such members.
 abbrev pub object_fault : Json → Option LineFault
@@ -69,7 +73,8 @@ abbrev pub pairs_fault : Json → Option LineFault
 pairs_fault j =
     if gives_both (codes "bytes") (codes "payload") j
     then Some (at [] SeveralPayloads)
-    else (if gives_both (codes "requestedAck") (codes "ack") j then Some (at (codes "ack") (Wrong RepeatedMember)) else None)
+    else (if gives_both (codes "requestedAck") (codes "ack") j then Some (at (codes "ack") (Wrong RepeatedMember)) else
+    None)
 
 -- The fault of a value that should be an object of members that a line may have, none of them twice or under two names.
 unfoldable pub shape_fault : Json → Option LineFault

@@ -1,6 +1,8 @@
 //! The program of the README: it reads a stream, changes one command, and writes the stream again.
 #![tactic(auto)]
 
+mod callers;
+
 use anyhow::Result;
 use bytes::Bytes;
 use shared_core::encoding::{DecodeMessage, Decoder, Encoder, Item};

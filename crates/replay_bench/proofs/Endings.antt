@@ -1,5 +1,6 @@
 -- How a comparison goes on, and how it ends.
-use Rattle.std.proofs.Common.{◌≡◌, ℕ, ◌+◌, Bool, true, false, List, [], ◌∷◌, Option, Some, None, Ok, Err, refl, inl, inr}
+use Rattle.std.proofs.Common.{◌≡◌, ℕ, ◌+◌, Bool, true, false, List, [], ◌∷◌, Option, Some, None, Ok, Err, refl, inl}
+use Rattle.std.proofs.Common.{inr}
 use Rattle.std.specs.Prelude.{MatchOption, is_some}
 use Rattle.shared_core_base.specs.declared.version.Version.{Version}
 use Rattle.shared_core_stream.specs.declared.encoding.raw_message.RawMessage.{RawMessage}
@@ -18,7 +19,8 @@ module _ (version : Version) (ignore : Bool) where
   -- Whatever is the outcome, from this index on, of what is left of two journals is the outcome of the whole ones.
   pub record Decides (recorded replayed : List ℕ) (index : ℕ) (left others : List ℕ) : Type 0 where
     pub decides : (left_commands other_commands : List RawMessage) (outcome : Outcome)
-        → IsJournal version left left_commands → IsJournal version others other_commands → IsOutcome ignore index left_commands other_commands outcome
+        → IsJournal version left left_commands → IsJournal version others other_commands → IsOutcome ignore index
+        left_commands other_commands outcome
         → HasOutcome version ignore recorded replayed outcome
 
   -- The same of journals whose bytes are known.
@@ -38,54 +40,75 @@ module _ (version : Version) (ignore : Bool) where
   all_left (Some recorded) None = tt
   all_left (Some recorded) (Some replayed) = record {
     decides = λ recorded_commands replayed_commands outcome is other verdict.
-        record { recorded_commands = recorded_commands; replayed_commands = replayed_commands; is_recorded = is; is_replayed = other; is_outcome = verdict };
+        record {
+          recorded_commands = recorded_commands;
+          replayed_commands = replayed_commands;
+          is_recorded = is;
+          is_replayed = other;
+          is_outcome = verdict;
+        };
   }
 
   -- ---- one command of each is taken
 
-  pub are_alike : (is_listed : Bool) (index : ℕ) (recorded_command replayed_command : RawMessage) → ReturnsPair ignore is_listed index recorded_command replayed_command (Ok None) → AreAlike ignore recorded_command replayed_command
+  pub are_alike : (is_listed : Bool) (index : ℕ) (recorded_command replayed_command : RawMessage) → ReturnsPair ignore
+      is_listed index recorded_command replayed_command (Ok None) → AreAlike ignore recorded_command replayed_command
   unfolding ReturnsPair
   are_alike is_listed index recorded_command replayed_command is = is
 
-  pub is_found : (is_listed : Bool) (index : ℕ) (recorded_command replayed_command : RawMessage) (found : Found) → ReturnsPair ignore is_listed index recorded_command replayed_command (Ok (Some found))
-      → IsFound ignore index recorded_command replayed_command (outcome_of found.verdict) × HasFields is_listed recorded_command replayed_command found.verdict found.fields.items
+  pub is_found : (is_listed : Bool) (index : ℕ) (recorded_command replayed_command : RawMessage) (found : Found) →
+      ReturnsPair ignore is_listed index recorded_command replayed_command (Ok (Some found))
+      → IsFound ignore index recorded_command replayed_command (outcome_of found.verdict) × HasFields is_listed
+      recorded_command replayed_command found.verdict found.fields.items
   unfolding ReturnsPair
   is_found is_listed index recorded_command replayed_command found is = is
 
   module _ (index : ℕ) (recorded_command replayed_command : RawMessage) where
     -- they are alike
-    pub goes_after : (recorded replayed left others now then : Option (List ℕ)) → GoesOn recorded replayed index left others
-        → TakesFirst version left (Some recorded_command) now → TakesFirst version others (Some replayed_command) then → AreAlike ignore recorded_command replayed_command
+    pub goes_after : (recorded replayed left others now then : Option (List ℕ)) → GoesOn recorded replayed index left
+        others
+        → TakesFirst version left (Some recorded_command) now → TakesFirst version others (Some replayed_command) then →
+        AreAlike ignore recorded_command replayed_command
         → GoesOn recorded replayed (index + 1) now then
     goes_after None replayed left others now then goes one other alike = tt
     goes_after (Some recorded) None left others now then goes one other alike = tt
     goes_after (Some recorded) (Some replayed) None others now then goes one other alike = absurd goes
     goes_after (Some recorded) (Some replayed) (Some left) None now then goes one other alike = absurd goes
     goes_after (Some recorded) (Some replayed) (Some left) (Some others) None then goes one other alike = absurd one
-    goes_after (Some recorded) (Some replayed) (Some left) (Some others) (Some now) None goes one other alike = absurd other
-    goes_after (Some recorded) (Some replayed) (Some left) (Some others) (Some now) (Some then) goes one other alike = record {
-      decides = λ rest more outcome is is_other verdict.
-          goes.decides (recorded_command ∷ rest) (replayed_command ∷ more) outcome (one rest is) (other more is_other) (inl (alike, verdict));
-    }
+    goes_after (Some recorded) (Some replayed) (Some left) (Some others) (Some now) None goes one other alike = absurd
+        other
+    goes_after (Some recorded) (Some replayed) (Some left) (Some others) (Some now) (Some then) goes one other alike =
+        record {
+          decides = λ rest more outcome is is_other verdict.
+              goes.decides (recorded_command ∷ rest) (replayed_command ∷ more) outcome (one rest is)
+              (other more is_other) (inl (alike, verdict));
+        }
 
     -- they are not
-    pub ends_found : (recorded replayed left others now then : Option (List ℕ)) (outcome : Outcome) → GoesOn recorded replayed index left others
-        → TakesFirst version left (Some recorded_command) now → TakesFirst version others (Some replayed_command) then → IsFound ignore index recorded_command replayed_command outcome
+    pub ends_found : (recorded replayed left others now then : Option (List ℕ)) (outcome : Outcome) → GoesOn recorded
+        replayed index left others
+        → TakesFirst version left (Some recorded_command) now → TakesFirst version others (Some replayed_command) then →
+        IsFound ignore index recorded_command replayed_command outcome
         → IsKnownOutcome recorded replayed outcome
     ends_found None replayed left others now then outcome goes one other found = tt
     ends_found (Some recorded) None left others now then outcome goes one other found = tt
     ends_found (Some recorded) (Some replayed) None others now then outcome goes one other found = absurd goes
     ends_found (Some recorded) (Some replayed) (Some left) None now then outcome goes one other found = absurd goes
-    ends_found (Some recorded) (Some replayed) (Some left) (Some others) None then outcome goes one other found = absurd one
-    ends_found (Some recorded) (Some replayed) (Some left) (Some others) (Some now) None outcome goes one other found = absurd other
-    ends_found (Some recorded) (Some replayed) (Some left) (Some others) (Some now) (Some then) outcome goes one other found =
+    ends_found (Some recorded) (Some replayed) (Some left) (Some others) None then outcome goes one other found = absurd
+        one
+    ends_found (Some recorded) (Some replayed) (Some left) (Some others) (Some now) None outcome goes one other found =
+        absurd other
+    ends_found (Some recorded) (Some replayed) (Some left) (Some others) (Some now) (Some then) outcome goes one other
+        found =
         let (rest, is) = journal_of version now in
         let (more, is_other) = journal_of version then in
-        goes.decides (recorded_command ∷ rest) (replayed_command ∷ more) outcome (one rest is) (other more is_other) (inr found)
+        goes.decides (recorded_command ∷ rest) (replayed_command ∷ more) outcome (one rest is) (other more is_other)
+        (inr found)
 
   -- ---- a journal has ended
 
-  pub ends_both : (index : ℕ) (recorded replayed left others : Option (List ℕ)) → GoesOn recorded replayed index left others
+  pub ends_both : (index : ℕ) (recorded replayed left others : Option (List ℕ)) → GoesOn recorded replayed index left
+      others
       → HasNoCommand version left → HasNoCommand version others → IsKnownOutcome recorded replayed (SameCommands index)
   ends_both index None replayed left others goes none neither = tt
   ends_both index (Some recorded) None left others goes none neither = tt
@@ -94,25 +117,34 @@ module _ (version : Version) (ignore : Bool) where
   ends_both index (Some recorded) (Some replayed) (Some left) (Some others) goes none neither =
       goes.decides [] [] (SameCommands index) none neither refl
 
-  pub ends_recorded : (index : ℕ) (replayed_command : RawMessage) (recorded replayed left others then : Option (List ℕ)) → GoesOn recorded replayed index left others
-      → HasNoCommand version left → TakesFirst version others (Some replayed_command) then → IsKnownOutcome recorded replayed (RecordedEnds index)
+  pub ends_recorded : (index : ℕ) (replayed_command : RawMessage) (recorded replayed left others then : Option (List ℕ))
+      → GoesOn recorded replayed index left others
+      → HasNoCommand version left → TakesFirst version others (Some replayed_command) then → IsKnownOutcome recorded
+      replayed (RecordedEnds index)
   ends_recorded index replayed_command None replayed left others then goes none other = tt
   ends_recorded index replayed_command (Some recorded) None left others then goes none other = tt
   ends_recorded index replayed_command (Some recorded) (Some replayed) None others then goes none other = absurd goes
-  ends_recorded index replayed_command (Some recorded) (Some replayed) (Some left) None then goes none other = absurd goes
-  ends_recorded index replayed_command (Some recorded) (Some replayed) (Some left) (Some others) None goes none other = absurd other
-  ends_recorded index replayed_command (Some recorded) (Some replayed) (Some left) (Some others) (Some then) goes none other =
+  ends_recorded index replayed_command (Some recorded) (Some replayed) (Some left) None then goes none other = absurd
+      goes
+  ends_recorded index replayed_command (Some recorded) (Some replayed) (Some left) (Some others) None goes none other =
+      absurd other
+  ends_recorded index replayed_command (Some recorded) (Some replayed) (Some left) (Some others) (Some then) goes none
+      other =
       let (more, is_other) = journal_of version then in
       goes.decides [] (replayed_command ∷ more) (RecordedEnds index) none (other more is_other) refl
 
-  pub ends_replayed : (index : ℕ) (recorded_command : RawMessage) (recorded replayed left others now : Option (List ℕ)) → GoesOn recorded replayed index left others
-      → TakesFirst version left (Some recorded_command) now → HasNoCommand version others → IsKnownOutcome recorded replayed (ReplayedEnds index)
+  pub ends_replayed : (index : ℕ) (recorded_command : RawMessage) (recorded replayed left others now : Option (List ℕ))
+      → GoesOn recorded replayed index left others
+      → TakesFirst version left (Some recorded_command) now → HasNoCommand version others → IsKnownOutcome recorded
+      replayed (ReplayedEnds index)
   ends_replayed index recorded_command None replayed left others now goes one none = tt
   ends_replayed index recorded_command (Some recorded) None left others now goes one none = tt
   ends_replayed index recorded_command (Some recorded) (Some replayed) None others now goes one none = absurd goes
   ends_replayed index recorded_command (Some recorded) (Some replayed) (Some left) None now goes one none = absurd goes
-  ends_replayed index recorded_command (Some recorded) (Some replayed) (Some left) (Some others) None goes one none = absurd one
-  ends_replayed index recorded_command (Some recorded) (Some replayed) (Some left) (Some others) (Some now) goes one none =
+  ends_replayed index recorded_command (Some recorded) (Some replayed) (Some left) (Some others) None goes one none =
+      absurd one
+  ends_replayed index recorded_command (Some recorded) (Some replayed) (Some left) (Some others) (Some now) goes one
+      none =
       let (rest, is) = journal_of version now in
       goes.decides (recorded_command ∷ rest) [] (ReplayedEnds index) (one rest is) none refl
 
@@ -121,46 +153,62 @@ module _ (version : Version) (ignore : Bool) where
   IsNext v known found new = MatchOption found (HasNoCommand v known) (λ command. TakesFirst v known (Some command) new)
 
   -- the recorded journal has ended, and the replayed one has not, or has
-  pub ends_first : (index : ℕ) (found : Option RawMessage) (recorded replayed left others then : Option (List ℕ)) → GoesOn recorded replayed index left others
-      → HasNoCommand version left → is_some found ≡ true → IsNext version others found then → IsKnownOutcome recorded replayed (RecordedEnds index)
+  pub ends_first : (index : ℕ) (found : Option RawMessage) (recorded replayed left others then : Option (List ℕ)) →
+      GoesOn recorded replayed index left others
+      → HasNoCommand version left → is_some found ≡ true → IsNext version others found then → IsKnownOutcome recorded
+      replayed (RecordedEnds index)
   ends_first index None recorded replayed left others then goes none some next = absurd (not_some some)
     where
       not_some : is_some {T = RawMessage} None ≡ true → ⊥
       not_some is = cc
-  ends_first index (Some replayed_command) recorded replayed left others then goes none some next = ends_recorded index replayed_command recorded replayed left others then goes none next
+  ends_first index (Some replayed_command) recorded replayed left others then goes none some next = ends_recorded index
+      replayed_command recorded replayed left others then goes none next
 
-  pub ends_together : (index : ℕ) (found : Option RawMessage) (recorded replayed left others then : Option (List ℕ)) → GoesOn recorded replayed index left others
-      → HasNoCommand version left → is_some found ≡ false → IsNext version others found then → IsKnownOutcome recorded replayed (SameCommands index)
-  ends_together index None recorded replayed left others then goes none ended next = ends_both index recorded replayed left others goes none next
-  ends_together index (Some replayed_command) recorded replayed left others then goes none ended next = absurd (some ended)
+  pub ends_together : (index : ℕ) (found : Option RawMessage) (recorded replayed left others then : Option (List ℕ)) →
+      GoesOn recorded replayed index left others
+      → HasNoCommand version left → is_some found ≡ false → IsNext version others found then → IsKnownOutcome recorded
+      replayed (SameCommands index)
+  ends_together index None recorded replayed left others then goes none ended next = ends_both index recorded replayed
+      left others goes none next
+  ends_together index (Some replayed_command) recorded replayed left others then goes none ended next = absurd
+      (some ended)
     where
       some : is_some (Some replayed_command) ≡ false → ⊥
       some is = cc
 
   -- ---- what is returned then
 
-  pub returns_verdict : (recorded replayed : Option (List ℕ)) (verdict : Verdict) → IsKnownOutcome recorded replayed (outcome_of verdict) → ComparesKnown version ignore recorded replayed (Ok verdict)
+  pub returns_verdict : (recorded replayed : Option (List ℕ)) (verdict : Verdict) → IsKnownOutcome recorded replayed
+      (outcome_of verdict) → ComparesKnown version ignore recorded replayed (Ok verdict)
   returns_verdict None replayed verdict has = tt
   returns_verdict (Some recorded) None verdict has = tt
   returns_verdict (Some recorded) (Some replayed) verdict has = has
 
-  pub returns_out_of_memory : (recorded replayed : Option (List ℕ)) → ComparesKnown version ignore recorded replayed (Err (Bench OutOfMemory))
+  pub returns_out_of_memory : (recorded replayed : Option (List ℕ)) → ComparesKnown version ignore recorded replayed
+      (Err (Bench OutOfMemory))
   returns_out_of_memory None replayed = tt
   returns_out_of_memory (Some recorded) None = tt
   returns_out_of_memory (Some recorded) (Some replayed) = tt
 
   -- two commands have an error
-  pub returns_error : (is_listed : Bool) (index : ℕ) (recorded_command replayed_command : RawMessage) (recorded replayed left others now then : Option (List ℕ)) (error : BenchError)
+  pub returns_error : (is_listed : Bool) (index : ℕ) (recorded_command replayed_command : RawMessage)
+      (recorded replayed left others now then : Option (List ℕ)) (error : BenchError)
       → GoesOn recorded replayed index left others
-      → TakesFirst version left (Some recorded_command) now → TakesFirst version others (Some replayed_command) then → ReturnsPair ignore is_listed index recorded_command replayed_command (Err error)
+      → TakesFirst version left (Some recorded_command) now → TakesFirst version others (Some replayed_command) then →
+      ReturnsPair ignore is_listed index recorded_command replayed_command (Err error)
       → ComparesKnown version ignore recorded replayed (Err (Bench error))
   unfolding ReturnsPair
-  returns_error is_listed index recorded_command replayed_command recorded replayed left others now then OutOfMemory goes one other rejected = returns_out_of_memory recorded replayed
-  returns_error is_listed index recorded_command replayed_command recorded replayed left others now then TooLong goes one other rejected = absurd rejected
-  returns_error is_listed index recorded_command replayed_command recorded replayed left others now then (Malformed side at) goes one other rejected =
-      returns_malformed recorded replayed (ends_found index recorded_command replayed_command recorded replayed left others now then (NotWellFormed side at) goes one other rejected)
+  returns_error is_listed index recorded_command replayed_command recorded replayed left others now then OutOfMemory
+      goes one other rejected = returns_out_of_memory recorded replayed
+  returns_error is_listed index recorded_command replayed_command recorded replayed left others now then TooLong goes
+      one other rejected = absurd rejected
+  returns_error is_listed index recorded_command replayed_command recorded replayed left others now then
+      (Malformed side at) goes one other rejected =
+      returns_malformed recorded replayed (ends_found index recorded_command replayed_command recorded replayed left
+      others now then (NotWellFormed side at) goes one other rejected)
     where
-      returns_malformed : (recorded replayed : Option (List ℕ)) → IsKnownOutcome recorded replayed (NotWellFormed side at) → ComparesKnown version ignore recorded replayed (Err (Bench (Malformed side at)))
+      returns_malformed : (recorded replayed : Option (List ℕ)) → IsKnownOutcome recorded replayed
+          (NotWellFormed side at) → ComparesKnown version ignore recorded replayed (Err (Bench (Malformed side at)))
       returns_malformed None replayed has = tt
       returns_malformed (Some recorded) None has = tt
       returns_malformed (Some recorded) (Some replayed) has = has

@@ -1,3 +1,4 @@
+pub mod Surveys
 pub mod Fronts
 pub mod Lengths
 pub mod Listing

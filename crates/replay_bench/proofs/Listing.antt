@@ -1,5 +1,6 @@
 -- Fields that are listed.
-use Rattle.std.proofs.Common.{◌≡◌, List, ℕ, [], ◌∷◌, ◌++◌, ◌∙◌, Option, Some, None, refl, sym, ap, append_assoc, append-nil}
+use Rattle.std.proofs.Common.{◌≡◌, List, ℕ, [], ◌∷◌, ◌++◌, ◌∙◌, Option, Some, None, refl, sym, ap, append_assoc}
+use Rattle.std.proofs.Common.{append-nil}
 use Rattle.std.specs.Prelude.{IfSome, IsSome, unwrap_or}
 use Rattle.std.specs.List.{FoldsTo}
 use Rattle.std.proofs.lemmas.Bool.{both_ways}
@@ -8,12 +9,14 @@ use Rattle.replay_bench.specs.declared.fields.FieldDifference.{FieldDifference}
 use Rattle.replay_bench.specs.Fields.{listed_texts, texts_of}
 
 -- A text that is what is printed, where something is.
-pub text_is : (output : Option (List ℕ)) (text : List ℕ) → IsSome output → IfSome output (λ bytes. text ≡ bytes) → text ≡ unwrap_or output []
+pub text_is : (output : Option (List ℕ)) (text : List ℕ) → IsSome output → IfSome output (λ bytes. text ≡ bytes) → text
+    ≡ unwrap_or output []
 text_is None text some is = absurd (both_ways _ refl some)
 text_is (Some bytes) text some is = is
 
 -- A field after others.
-pub listed_after : (fields : List FieldDifference) (field : FieldDifference) → listed_texts (fields ++ (field ∷ [])) ≡ listed_texts fields ++ (texts_of field ∷ [])
+pub listed_after : (fields : List FieldDifference) (field : FieldDifference) → listed_texts (fields ++ (field ∷ [])) ≡
+    listed_texts fields ++ (texts_of field ∷ [])
 listed_after [] field = refl
 listed_after (first ∷ fields) field = ap (λ (rest : List FieldTexts). texts_of first ∷ rest) (listed_after fields field)
 
@@ -25,9 +28,11 @@ module _ {T : Type 0} (texts : T → List FieldTexts) where
   folded : (old new : T) (fields : List FieldTexts) → FoldsTo Lists old fields new → texts new ≡ texts old ++ fields
   folded old new [] p = ap texts (sym p) ∙ sym (append-nil (texts old))
   folded old new (field ∷ fields) p =
-      folded p.0 new fields p.2 ∙ ap (λ (xs : List FieldTexts). xs ++ fields) p.1 ∙ append_assoc (texts old) (field ∷ []) fields
+      folded p.0 new fields p.2 ∙ ap (λ (xs : List FieldTexts). xs ++ fields) p.1 ∙ append_assoc (texts old)
+      (field ∷ []) fields
 
   -- Fields that are written to what has none.
-  pub all_listed : (old new : T) (fields : List FieldTexts) → texts old ≡ [] → HasWrittenFields Lists old fields new → texts new ≡ fields
+  pub all_listed : (old new : T) (fields : List FieldTexts) → texts old ≡ [] → HasWrittenFields Lists old fields new →
+      texts new ≡ fields
   all_listed old new fields none written =
       folded old new fields written.folds ∙ ap (λ (xs : List FieldTexts). xs ++ fields) none

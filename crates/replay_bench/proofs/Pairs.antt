@@ -1,5 +1,6 @@
 -- What is returned for two commands.
-use Rattle.std.proofs.Common.{Global, ◌≡◌, ◌≢◌, ℕ, pos, Bool, List, Option, Some, None, Ok, Err, refl, sym, ap, ◌∙◌, subst}
+use Rattle.std.proofs.Common.{Global, ◌≡◌, ◌≢◌, ℕ, pos, Bool, List, Option, Some, None, Ok, Err, refl, sym, ap, ◌∙◌}
+use Rattle.std.proofs.Common.{subst}
 use Rattle.std.specs.Prelude.{[], codes, IsTrue, String, Vec}
 use Rattle.std.specs.Option.{IsSomeAnd}
 use Rattle.std.specs.String.{string_bytes}
@@ -27,7 +28,8 @@ pub record AreTyped (recorded replayed : RawMessage) (s : ℕ) : Type 0 where
   pub one_type : recorded.header.ty ≡ replayed.header.ty
   pub schema : message_schema recorded.header.ty ≡ Some s
 
-pub are_typed : (index : ℕ) (recorded replayed : RawMessage) (ty : MessageType) (s : ℕ) → IsPair index recorded replayed ty → message_schema ty ≡ Some s → AreTyped recorded replayed s
+pub are_typed : (index : ℕ) (recorded replayed : RawMessage) (ty : MessageType) (s : ℕ) → IsPair index recorded replayed
+    ty → message_schema ty ≡ Some s → AreTyped recorded replayed s
 are_typed index recorded replayed ty s pair own = record {
   one_type = pair.typed;
   schema = ap message_schema pair.is ∙ own;
@@ -41,16 +43,21 @@ module _ (ignore is_listed : Bool) (index : ℕ) (recorded replayed : RawMessage
 
   -- the payloads are the same bytes, which are well-formed
   pub pair_same_bytes : recorded.header.ty ≡ replayed.header.ty → recorded.payload ≡ replayed.payload
-      → IsSomeAnd (message_schema recorded.header.ty) (λ s. IsAccepted s recorded.payload) → ReturnsPair ignore is_listed index recorded replayed (Ok None)
+      → IsSomeAnd (message_schema recorded.header.ty) (λ s. IsAccepted s recorded.payload) → ReturnsPair ignore
+      is_listed index recorded replayed (Ok None)
   unfolding ReturnsPair
   pair_same_bytes typed same accepted = (typed, by_schema (message_schema recorded.header.ty) accepted)
     where
-      by_schema : (schema : Option ℕ) → IsSomeAnd schema (λ s. IsAccepted s recorded.payload) → IsSomeAnd schema (MeanTheSame ignore recorded.payload replayed.payload)
+      by_schema : (schema : Option ℕ) → IsSomeAnd schema (λ s. IsAccepted s recorded.payload) → IsSomeAnd schema
+          (MeanTheSame ignore recorded.payload replayed.payload)
       by_schema None h = h
       by_schema (Some s) h = subst (λ (other : List ℕ). MeanTheSame ignore recorded.payload other s) same (h, h, refl)
 
   -- the types differ
-  pub pair_types : (text : String Global) (fields : Vec FieldDifference Global) → fields.items ≡ [] → recorded.header.ty ≢ replayed.header.ty → string_bytes text ≡ command_type_mismatch_text (pos index) recorded.header.ty replayed.header.ty → ReturnsPair ignore is_listed index recorded replayed (Ok (Some (record { verdict = TypeMismatch index text; fields = fields })))
+  pub pair_types : (text : String Global) (fields : Vec FieldDifference Global) → fields.items ≡ [] → recorded.header.ty
+      ≢ replayed.header.ty → string_bytes text ≡ command_type_mismatch_text (pos index) recorded.header.ty
+      replayed.header.ty → ReturnsPair ignore is_listed index recorded replayed
+      (Ok (Some (record { verdict = TypeMismatch index text; fields = fields })))
   unfolding ReturnsPair
   pair_types text fields none differ says = ((refl, differ, says), none)
 
@@ -59,39 +66,65 @@ module _ (ignore is_listed : Bool) (index : ℕ) (recorded replayed : RawMessage
     of_schema holds is = subst (λ schema. IsSomeAnd schema holds) (sym typed.schema) is
 
     -- the recorded command is not decoded
-    pub pair_recorded : (error : WireError) → (error ≡ wire.Malformed → ¬ (IsAccepted s recorded.payload)) → ReturnsPair ignore is_listed index recorded replayed (Err (bench_error_of Recorded index error))
+    pub pair_recorded : (error : WireError) → (error ≡ wire.Malformed → ¬ (IsAccepted s recorded.payload)) → ReturnsPair
+        ignore is_listed index recorded replayed (Err (bench_error_of Recorded index error))
     unfolding ReturnsPair
     pair_recorded wire.OutOfMemory rejected = tt
     pair_recorded wire.Malformed rejected =
         (typed.one_type, refl, of_schema (IsMalformedOn Recorded recorded.payload replayed.payload) (rejected refl))
 
     -- the replayed one is not
-    pub pair_replayed : (one : Parts) (error : WireError) → MeansParts s recorded.payload one → (error ≡ wire.Malformed → ¬ (IsAccepted s replayed.payload)) → ReturnsPair ignore is_listed index recorded replayed (Err (bench_error_of Replayed index error))
+    pub pair_replayed : (one : Parts) (error : WireError) → MeansParts s recorded.payload one →
+        (error ≡ wire.Malformed → ¬ (IsAccepted s replayed.payload)) → ReturnsPair ignore is_listed index recorded
+        replayed (Err (bench_error_of Replayed index error))
     unfolding ReturnsPair
     pair_replayed one wire.OutOfMemory means rejected = tt
-    pair_replayed one wire.Malformed means rejected =
-        (typed.one_type, refl, of_schema (IsMalformedOn Replayed recorded.payload replayed.payload) (means.0, rejected refl))
+    pair_replayed one wire.Malformed means rejected = (
+      typed.one_type,
+      refl,
+      of_schema (IsMalformedOn Replayed recorded.payload replayed.payload)
+          (means.0, rejected refl),
+    )
 
-    module _ (one other : Parts) (means : MeansParts s recorded.payload one) (means_other : MeansParts s replayed.payload other) where
+    module _ (one other : Parts) (means : MeansParts s recorded.payload one)
+        (means_other : MeansParts s replayed.payload other) where
       -- both mean the same
-      pub pair_alike : erased s ignore one ≡ erased s ignore other → ReturnsPair ignore is_listed index recorded replayed (Ok None)
+      pub pair_alike : erased s ignore one ≡ erased s ignore other → ReturnsPair ignore is_listed index recorded
+          replayed (Ok None)
       unfolding ReturnsPair
-      pair_alike same =
-          (typed.one_type, of_schema (MeanTheSame ignore recorded.payload replayed.payload) (means.0, means_other.0, ap (erased s ignore) (sym means.1) ∙ same ∙ ap (erased s ignore) means_other.1))
+      pair_alike same = (
+        typed.one_type,
+        of_schema (MeanTheSame ignore recorded.payload replayed.payload)
+            (means.0, means_other.0, ap (erased s ignore) (sym means.1) ∙ same ∙ ap (erased s ignore) means_other.1),
+      )
 
       -- they do not
       pub pair_differs : (text : String Global) (fields : Vec FieldDifference Global)
-          → (IsTrue is_listed → listed_texts fields.items ≡ differing_fields s one other) → ¬ (erased s ignore one ≡ erased s ignore other) → string_bytes text ≡ command_mismatch_text recorded.header.ty (pos index) (difference s (codes "   ") one other) → ReturnsPair ignore is_listed index recorded replayed (Ok (Some (record { verdict = HeaderMismatch index text; fields = fields })))
+          → (IsTrue is_listed → listed_texts fields.items ≡ differing_fields s one other) → ¬
+          (erased s ignore one ≡ erased s ignore other) → string_bytes text ≡ command_mismatch_text
+          recorded.header.ty (pos index) (difference s (codes "   ") one other) → ReturnsPair ignore is_listed index
+          recorded replayed (Ok (Some (record { verdict = HeaderMismatch index text; fields = fields })))
       unfolding ReturnsPair
       pair_differs text fields listed differ says =
-          let as_read : string_bytes text ≡ command_mismatch_text recorded.header.ty (pos index) (difference s (codes "   ") (payload_meaning s recorded.payload) (payload_meaning s replayed.payload)) =
+          let as_read : string_bytes text ≡ command_mismatch_text recorded.header.ty (pos index)
+          (difference s (codes "   ") (payload_meaning s recorded.payload) (payload_meaning s replayed.payload)) =
           says
           ∙ ap (λ v. command_mismatch_text recorded.header.ty (pos index) (difference s (codes "   ") v other)) means.1
-          ∙ ap (λ v. command_mismatch_text recorded.header.ty (pos index) (difference s (codes "   ") (payload_meaning s recorded.payload) v)) means_other.1 in
-          let not_same : ¬ (AreSame s ignore (payload_meaning s recorded.payload) (payload_meaning s replayed.payload)) =
+          ∙ ap (λ v. command_mismatch_text recorded.header.ty (pos index)
+          (difference s (codes "   ") (payload_meaning s recorded.payload) v)) means_other.1 in
+          let not_same : ¬ (AreSame s ignore (payload_meaning s recorded.payload) (payload_meaning s replayed.payload))
+          =
           λ same. differ (ap (erased s ignore) means.1 ∙ same ∙ ap (erased s ignore) (sym means_other.1)) in
-          let fields_of : IsTrue is_listed → listed_texts fields.items ≡ differing_fields s (payload_meaning s recorded.payload) (payload_meaning s replayed.payload) =
-          λ is. listed is ∙ ap (λ v. differing_fields s v other) means.1 ∙ ap (λ v. differing_fields s (payload_meaning s recorded.payload) v) means_other.1 in (
-            (typed.one_type, refl, of_schema (MeanOthers ignore index recorded.header.ty recorded.payload replayed.payload (string_bytes text)) (means.0, means_other.0, not_same, as_read)),
-            λ is. of_schema (λ s. listed_texts fields.items ≡ differing_fields s (payload_meaning s recorded.payload) (payload_meaning s replayed.payload)) (fields_of is),
+          let fields_of : IsTrue is_listed → listed_texts fields.items ≡ differing_fields s
+          (payload_meaning s recorded.payload) (payload_meaning s replayed.payload) =
+          λ is. listed is ∙ ap (λ v. differing_fields s v other) means.1 ∙ ap
+          (λ v. differing_fields s (payload_meaning s recorded.payload) v) means_other.1 in (
+            (
+              typed.one_type,
+              refl,
+              of_schema (MeanOthers ignore index recorded.header.ty recorded.payload
+                  replayed.payload (string_bytes text)) (means.0, means_other.0, not_same, as_read),
+            ),
+            λ is. of_schema (λ s. listed_texts fields.items ≡ differing_fields s (payload_meaning s recorded.payload)
+                (payload_meaning s replayed.payload)) (fields_of is),
           )

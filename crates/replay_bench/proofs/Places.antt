@@ -1,11 +1,13 @@
 -- The place of a command in its journal.
-use Rattle.std.proofs.Common.{◌≡◌, ℕ, ◌+◌, Bool, List, [], ◌∷◌, ◌++◌, Option, Some, None, length, refl, sym, ap, ◌∙◌, subst, append_assoc, length-append}
+use Rattle.std.proofs.Common.{◌≡◌, ℕ, ◌+◌, Bool, List, [], ◌∷◌, ◌++◌, Option, Some, None, length, refl, sym, ap, ◌∙◌}
+use Rattle.std.proofs.Common.{subst, append_assoc, length-append}
 use Rattle.std.specs.Prelude.{IsTrue}
 use Rattle.shared_core_base.specs.declared.version.Version.{Version}
 use Rattle.shared_core_stream.specs.declared.encoding.raw_message.RawMessage.{RawMessage}
 use Rattle.replay_bench.specs.declared.fields.FieldDifference.{FieldDifference}
 use Rattle.replay_bench.specs.declared.verdicts.Verdict.{Verdict}
-use Rattle.replay_bench.specs.declared.verdicts.Verdict.TheVariants.{Same, RecordedEnded, ReplayedEnded, TypeMismatch, HeaderMismatch}
+use Rattle.replay_bench.specs.declared.verdicts.Verdict.TheVariants.{Same, RecordedEnded, ReplayedEnded, TypeMismatch}
+use Rattle.replay_bench.specs.declared.verdicts.Verdict.TheVariants.{HeaderMismatch}
 use Rattle.replay_bench.specs.Fields.{IsKnownCommandAt}
 use Rattle.replay_bench.specs.Journals.{IsJournal}
 use Rattle.replay_bench.specs.Outcomes.{outcome_of}
@@ -25,14 +27,10 @@ module _ (version : Version) where
   IsKnownAfter (Some journal) index None = ⊥
   IsKnownAfter (Some journal) index (Some left) = IsAfter journal index left
 
-  -- at first all is left
-  pub after_none : (journal : Option (List ℕ)) → IsKnownAfter journal 0 journal
-  after_none None = tt
-  after_none (Some journal) = record { whole = λ commands is. ([], refl, is) }
-
   module _ (index : ℕ) (command : RawMessage) where
     -- a command is taken
-    pub after_more : (journal left now : Option (List ℕ)) → IsKnownAfter journal index left → TakesFirst version left (Some command) now
+    pub after_more : (journal left now : Option (List ℕ)) → IsKnownAfter journal index left
+        → TakesFirst version left (Some command) now
         → IsKnownAfter journal (index + 1) now
     after_more None left now after takes = tt
     after_more (Some journal) None now after takes = absurd after
@@ -42,12 +40,14 @@ module _ (version : Version) where
           let (before, place, whole) = after.whole (command ∷ commands) (takes commands is) in (
             before ++ (command ∷ []),
             length-append before (command ∷ []) ∙ ap (λ n. n + 1) place,
-            subst (λ (all : List RawMessage). IsJournal version journal all) (sym (append_assoc before (command ∷ []) commands)) whole,
+            subst (λ (all : List RawMessage). IsJournal version journal all)
+                (sym (append_assoc before (command ∷ []) commands)) whole,
           );
     }
 
     -- it is the command at this index
-    pub command_is_at : (journal left now : Option (List ℕ)) → IsKnownAfter journal index left → TakesFirst version left (Some command) now
+    pub command_is_at : (journal left now : Option (List ℕ)) → IsKnownAfter journal index left
+        → TakesFirst version left (Some command) now
         → IsKnownCommandAt version journal index command
     command_is_at None left now after takes = tt
     command_is_at (Some journal) None now after takes = absurd after
@@ -58,18 +58,24 @@ module _ (version : Version) where
         record { before = before; after = commands; is = whole; place = place }
 
   -- fields of two commands are those of their verdict
-  pub fields_found : (ignore is_listed : Bool) (index : ℕ) (one other : RawMessage) (recorded replayed : Option (List ℕ)) (verdict : Verdict) (fields : List FieldDifference)
+  pub fields_found : (ignore is_listed : Bool) (index : ℕ) (one other : RawMessage)
+      (recorded replayed : Option (List ℕ)) (verdict : Verdict) (fields : List FieldDifference)
       → IsKnownCommandAt version recorded index one → IsKnownCommandAt version replayed index other
-      → IsFound ignore index one other (outcome_of verdict) → HasFields is_listed one other verdict fields → IsTrue is_listed
+      → IsFound ignore index one other (outcome_of verdict) → HasFields is_listed one other verdict fields
+      → IsTrue is_listed
       → HasFieldsOn version recorded replayed verdict fields
   fields_found ignore is_listed index one other recorded replayed (Same count) fields at at_other found has listed = has
-  fields_found ignore is_listed index one other recorded replayed (RecordedEnded count) fields at at_other found has listed = has
-  fields_found ignore is_listed index one other recorded replayed (ReplayedEnded count) fields at at_other found has listed = has
-  fields_found ignore is_listed index one other recorded replayed (TypeMismatch place text) fields at at_other found has listed = has
-  fields_found ignore is_listed index one other recorded replayed (HeaderMismatch place text) fields at at_other found has listed = (
-    one,
-    other,
-    subst (λ (n : ℕ). IsKnownCommandAt version recorded n one) (sym found.1) at,
-    subst (λ (n : ℕ). IsKnownCommandAt version replayed n other) (sym found.1) at_other,
-    has listed,
-  )
+  fields_found ignore is_listed index one other recorded replayed
+      (RecordedEnded count) fields at at_other found has listed = has
+  fields_found ignore is_listed index one other recorded replayed
+      (ReplayedEnded count) fields at at_other found has listed = has
+  fields_found ignore is_listed index one other recorded replayed
+      (TypeMismatch place text) fields at at_other found has listed = has
+  fields_found ignore is_listed index one other recorded replayed
+      (HeaderMismatch place text) fields at at_other found has listed = (
+        one,
+        other,
+        subst (λ (n : ℕ). IsKnownCommandAt version recorded n one) (sym found.1) at,
+        subst (λ (n : ℕ). IsKnownCommandAt version replayed n other) (sym found.1) at_other,
+        has listed,
+      )

@@ -21,7 +21,8 @@ listed_texts fields = map texts_of fields
 -- These are the fields in which two commands of one type differ: those of the lines of their difference, in order.
 abbrev pub AreFieldsOf : RawMessage → RawMessage → List FieldDifference → Type 0
 AreFieldsOf recorded replayed fields = IsSomeAnd (message_schema recorded.header.ty)
-    (λ s. listed_texts fields ≡ differing_fields s (payload_meaning s recorded.payload) (payload_meaning s replayed.payload))
+    (λ s. listed_texts fields ≡ differing_fields s (payload_meaning s recorded.payload)
+    (payload_meaning s replayed.payload))
 
 -- A journal has this command after this number of others.
 pub record IsCommandAt (version : Version) (journal : List ℕ) (index : ℕ) (command : RawMessage) : Type 0 where
@@ -37,5 +38,6 @@ IsKnownCommandAt version known index command = IfSome known (λ journal. IsComma
 -- These are the fields in which the commands at an index of two journals differ.
 abbrev pub AreFieldsAt : Version → Option (List ℕ) → Option (List ℕ) → ℕ → List FieldDifference → Type 0
 AreFieldsAt version recorded replayed index fields =
-    (one other : RawMessage) × IsKnownCommandAt version recorded index one × IsKnownCommandAt version replayed index other
+    (one other : RawMessage) × IsKnownCommandAt version recorded index one × IsKnownCommandAt version replayed index
+    other
     × AreFieldsOf one other fields

@@ -1,3 +1,5 @@
+pub mod Survey
+pub mod FaultTexts
 pub mod Outcomes
 pub mod Journals
 pub mod Reading

@@ -4,8 +4,8 @@ use Rattle.std.specs.Io.KnownBytes.{Consumes, IsAtEnd}
 use Rattle.shared_core_base.specs.declared.version.Version.{Version}
 use Rattle.shared_core_stream.specs.declared.encoding.item.Item.{Item}
 use Rattle.shared_core_stream.specs.Items.{IsItemsThen, NoItemBegins}
-use Rattle.stream_survey.specs.declared.totals.Survey.{Survey}
-use Rattle.stream_survey.specs.Survey.{IsSurvey, is_command, last_command, survey_of}
+use Rattle.replay_bench.specs.declared.survey.Survey.{Survey}
+use Rattle.replay_bench.specs.Survey.{IsSurvey, is_command, last_command, survey_of}
 use Rattle.replay_bench.specs.declared.verdicts.Side.{Side}
 
 -- The bytes that came are items, of which this is the survey, and then those that are held.
@@ -15,7 +15,8 @@ pub record HasItems (version : Version) (is_strict : Bool) (came held : List ℕ
   pub is : survey ≡ survey_of version is_strict items 0
 
 -- Of the bytes that were to come at first this many came, and were read so.
-pub record HasRead (version : Version) (is_strict : Bool) (first coming : Option (List ℕ)) (held : List ℕ) (taken : ℕ) (survey : Survey) : Type 0 where
+pub record HasRead (version : Version) (is_strict : Bool) (first coming : Option (List ℕ)) (held : List ℕ) (taken : ℕ)
+    (survey : Survey) : Type 0 where
   pub came : List ℕ
   pub gave : Consumes first coming came
   pub long : taken ≡ length came
@@ -32,13 +33,15 @@ IsLeft version true left coming held = IsAtEnd left × NoItemBegins version held
 IsLeft version false left coming held = left ≡ coming
 
 -- A journal was read to its end, or not: as far as its source has given.
-pub record HasReadOn (version : Version) (is_strict : Bool) (first : Option (List ℕ)) (has_ended : Bool) (coming : Option (List ℕ)) (held : List ℕ) (taken : ℕ) (survey : Survey) : Type 0 where
+pub record HasReadOn (version : Version) (is_strict : Bool) (first : Option (List ℕ)) (has_ended : Bool)
+    (coming : Option (List ℕ)) (held : List ℕ) (taken : ℕ) (survey : Survey) : Type 0 where
   pub left : Option (List ℕ)
   pub has_read : HasRead version is_strict first left held taken survey
   pub is_left : IsLeft version has_ended left coming held
 
 -- Of a journal on a side nothing was read yet.
-pub record IsNew (version : Version) (side own : Side) (notes reads : Version) (held : List ℕ) (taken : ℕ) (survey : Survey) : Type 0 where
+pub record IsNew (version : Version) (side own : Side) (notes reads : Version) (held : List ℕ) (taken : ℕ)
+    (survey : Survey) : Type 0 where
   pub side_is : own ≡ side
   pub version_is : reads ≡ version
   pub noted_is : notes ≡ version
@@ -47,7 +50,9 @@ pub record IsNew (version : Version) (side own : Side) (notes reads : Version) (
   pub nothing_noted : survey ≡ survey_of version survey.is_strict [] 0
 
 -- A journal on a side was read on, to its end or not, and has this many commands so far.
-pub record IsReading (version : Version) (side : Side) (is_strict : Bool) (first : Option (List ℕ)) (has_ended : Bool) (count : ℕ) (own : Side) (notes reads : Version) (coming : Option (List ℕ)) (held : List ℕ) (taken : ℕ) (survey : Survey) : Type 0 where
+pub record IsReading (version : Version) (side : Side) (is_strict : Bool) (first : Option (List ℕ)) (has_ended : Bool)
+    (count : ℕ) (own : Side) (notes reads : Version) (coming : Option (List ℕ)) (held : List ℕ) (taken : ℕ)
+    (survey : Survey) : Type 0 where
   pub side_is : own ≡ side
   pub version_is : reads ≡ version
   pub noted_is : notes ≡ version

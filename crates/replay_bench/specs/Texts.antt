@@ -21,7 +21,8 @@ source_error_text source.OutOfMemory = codes "out of memory"
 
 -- The text of why two journals have no verdict.
 abbrev pub bench_error_text : BenchError → List ℕ
-bench_error_text (Malformed side index) = codes "the " ++ (side_text side ++ (codes " command " ++ (decimal index ++ codes " is malformed")))
+bench_error_text (Malformed side index) = codes "the " ++ (side_text side ++
+    (codes " command " ++ (decimal index ++ codes " is malformed")))
 bench_error_text TooLong = codes "a journal has more than 2^64 - 1 bytes"
 bench_error_text OutOfMemory = codes "out of memory"
 

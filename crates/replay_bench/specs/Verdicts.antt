@@ -1,5 +1,6 @@
 -- The verdict on the commands of two journals, and their comparison.
-use Rattle.std.specs.Prelude.{IsTrue, ◌≡◌, ◌≢◌, ◌⊎◌, ℕ, ◌+◌, ◌^◌, ◌<◌, ◌≤◌, pos, Bool, true, false, List, [], ◌∷◌, length, codes, Option, Some, None, Result, Ok, Err}
+use Rattle.std.specs.Prelude.{IsTrue, ◌≡◌, ◌≢◌, ◌⊎◌, ℕ, ◌+◌, ◌^◌, ◌<◌, ◌≤◌, pos, Bool, true, false, List, [], ◌∷◌}
+use Rattle.std.specs.Prelude.{length, codes, Option, Some, None, Result, Ok, Err}
 use Rattle.std.specs.Option.{IsSomeAnd}
 use Rattle.shared_core_base.specs.declared.header.MessageType.{MessageType}
 use Rattle.shared_core_base.specs.declared.version.Version.{Version}
@@ -18,12 +19,14 @@ use Rattle.replay_bench.specs.declared.fields.FieldDifference.{FieldDifference}
 use Rattle.replay_bench.specs.declared.mismatches.Found.{Found}
 use Rattle.replay_bench.specs.declared.verdicts.Comparison.{Comparison}
 use Rattle.replay_bench.specs.declared.verdicts.Verdict.{Verdict}
-use Rattle.replay_bench.specs.declared.verdicts.Verdict.TheVariants.{Same, RecordedEnded, ReplayedEnded, TypeMismatch, HeaderMismatch}
+use Rattle.replay_bench.specs.declared.verdicts.Verdict.TheVariants.{Same, RecordedEnded, ReplayedEnded, TypeMismatch}
+use Rattle.replay_bench.specs.declared.verdicts.Verdict.TheVariants.{HeaderMismatch}
 use Rattle.replay_bench.specs.declared.verdicts.BenchError.{BenchError}
 use Rattle.replay_bench.specs.declared.verdicts.BenchError.TheVariants.{Malformed, TooLong, OutOfMemory}
 use Rattle.replay_bench.specs.declared.verdicts.ReaderError.{ReaderError}
 use Rattle.replay_bench.specs.declared.verdicts.ReaderError.TheVariants.{Read, Bench}
-use Rattle.replay_bench.specs.Outcomes.{Outcome, SameCommands, RecordedEnds, ReplayedEnds, OtherType, OtherCommand, NotWellFormed, outcome_of}
+use Rattle.replay_bench.specs.Outcomes.{Outcome, SameCommands, RecordedEnds, ReplayedEnds, OtherType, OtherCommand}
+use Rattle.replay_bench.specs.Outcomes.{NotWellFormed, outcome_of}
 use Rattle.replay_bench.specs.Fields.{AreFieldsAt, AreFieldsOf}
 use Rattle.replay_bench.specs.Journals.{IsCommand, IsJournal}
 use Rattle.replay_bench.specs.Reading.{IsKnownLast, IsKnownSurvey}
@@ -34,7 +37,8 @@ use Rattle.replay_bench.specs.Reading.{IsKnownLast, IsKnownSurvey}
 -- compared.
 abbrev pub MeanTheSame : Bool → List ℕ → List ℕ → ℕ → Type 0
 MeanTheSame ignore recorded replayed s =
-    IsAccepted s recorded × IsAccepted s replayed × AreSame s ignore (payload_meaning s recorded) (payload_meaning s replayed)
+    IsAccepted s recorded × IsAccepted s replayed × AreSame s ignore (payload_meaning s recorded)
+    (payload_meaning s replayed)
 
 -- Both payloads are well-formed for the schema, the commands that they mean are not the same, and the text has their
 -- difference.
@@ -42,7 +46,8 @@ abbrev pub MeanOthers : Bool → ℕ → MessageType → List ℕ → List ℕ �
 MeanOthers ignore index ty recorded replayed text s =
     IsAccepted s recorded × IsAccepted s replayed
     × ¬ (AreSame s ignore (payload_meaning s recorded) (payload_meaning s replayed))
-    × (text ≡ command_mismatch_text ty (pos index) (difference s (codes "   ") (payload_meaning s recorded) (payload_meaning s replayed)))
+    × (text ≡ command_mismatch_text ty (pos index) (difference s (codes "   ") (payload_meaning s recorded)
+    (payload_meaning s replayed)))
 
 -- The payload of this side is not well-formed for the schema; where it is the replayed one, the recorded one is.
 abbrev pub IsMalformedOn : Side → List ℕ → List ℕ → ℕ → Type 0
@@ -52,7 +57,8 @@ IsMalformedOn Replayed recorded replayed s = IsAccepted s recorded × ¬ (IsAcce
 -- Two commands at the same index are alike: of one type, both well-formed, and the same but for what is not compared.
 abbrev pub AreAlike : Bool → RawMessage → RawMessage → Type 0
 AreAlike ignore recorded replayed =
-    (recorded.header.ty ≡ replayed.header.ty) × IsSomeAnd (message_schema recorded.header.ty) (MeanTheSame ignore recorded.payload replayed.payload)
+    (recorded.header.ty ≡ replayed.header.ty) × IsSomeAnd (message_schema recorded.header.ty)
+    (MeanTheSame ignore recorded.payload replayed.payload)
 
 -- Two commands at an index are not alike, and this is the outcome: their types differ; or they are of one type, and a
 -- payload is not well-formed, or they do not mean the same. In a text the recorded one is the actual one.
@@ -62,7 +68,8 @@ IsFound ignore index recorded replayed (OtherType found text) =
     × (text ≡ command_type_mismatch_text (pos index) recorded.header.ty replayed.header.ty)
 IsFound ignore index recorded replayed (OtherCommand found text) =
     (recorded.header.ty ≡ replayed.header.ty) × (found ≡ index)
-    × IsSomeAnd (message_schema recorded.header.ty) (MeanOthers ignore index recorded.header.ty recorded.payload replayed.payload text)
+    × IsSomeAnd (message_schema recorded.header.ty) (MeanOthers ignore index recorded.header.ty recorded.payload
+    replayed.payload text)
 IsFound ignore index recorded replayed (NotWellFormed side found) =
     (recorded.header.ty ≡ replayed.header.ty) × (found ≡ index)
     × IsSomeAnd (message_schema recorded.header.ty) (IsMalformedOn side recorded.payload replayed.payload)
@@ -71,7 +78,8 @@ IsFound ignore index recorded replayed outcome = ⊥
 -- The fields of a verdict on two commands: if both are of one type and differ, those in which they do, where these are
 -- listed; otherwise none.
 abbrev pub HasFields : Bool → RawMessage → RawMessage → Verdict → List FieldDifference → Type 0
-HasFields is_listed recorded replayed (HeaderMismatch index text) fields = IsTrue is_listed → AreFieldsOf recorded replayed fields
+HasFields is_listed recorded replayed (HeaderMismatch index text) fields = IsTrue is_listed → AreFieldsOf recorded
+    replayed fields
 HasFields is_listed recorded replayed verdict fields = fields ≡ []
 
 -- The result for two commands at an index: nothing if they are the same, otherwise what differs, and in which fields;
@@ -81,7 +89,8 @@ ReturnsPair ignore is_listed index recorded replayed (Ok None) = AreAlike ignore
 ReturnsPair ignore is_listed index recorded replayed (Ok (Some found)) =
     IsFound ignore index recorded replayed (outcome_of found.verdict)
     × HasFields is_listed recorded replayed found.verdict found.fields.items
-ReturnsPair ignore is_listed index recorded replayed (Err (Malformed side found)) = IsFound ignore index recorded replayed (NotWellFormed side found)
+ReturnsPair ignore is_listed index recorded replayed (Err (Malformed side found)) = IsFound ignore index recorded
+    replayed (NotWellFormed side found)
 ReturnsPair ignore is_listed index recorded replayed (Err OutOfMemory) = Unit {0}
 ReturnsPair ignore is_listed index recorded replayed (Err TooLong) = ⊥
 
@@ -110,18 +119,21 @@ IsOutcome ignore index (recorded ∷ more_recorded) (replayed ∷ more_replayed)
     ⊎ IsFound ignore index recorded replayed outcome
 
 -- The outcome of two journals is that of their commands, from index 0 on.
-pub record HasOutcome (version : Version) (ignore : Bool) (recorded replayed : List ℕ) (outcome : Outcome) : Type 0 where
-  pub recorded_commands : List RawMessage
-  pub replayed_commands : List RawMessage
-  pub is_recorded : IsJournal version recorded recorded_commands
-  pub is_replayed : IsJournal version replayed replayed_commands
-  pub is_outcome : IsOutcome ignore 0 recorded_commands replayed_commands outcome
+pub record HasOutcome (version : Version) (ignore : Bool) (recorded replayed : List ℕ) (outcome : Outcome) : Type 0
+  where
+    pub recorded_commands : List RawMessage
+    pub replayed_commands : List RawMessage
+    pub is_recorded : IsJournal version recorded recorded_commands
+    pub is_replayed : IsJournal version replayed replayed_commands
+    pub is_outcome : IsOutcome ignore 0 recorded_commands replayed_commands outcome
 
 -- What a comparison of two journals returns: their verdict; whose command is not well-formed; that one of them is too
 -- long, where it is; or that an allocation fails.
 abbrev pub Compares : Version → Bool → List ℕ → List ℕ → Result Verdict BenchError → Type 0
-Compares version ignore recorded replayed (Ok verdict) = HasOutcome version ignore recorded replayed (outcome_of verdict)
-Compares version ignore recorded replayed (Err (Malformed side index)) = HasOutcome version ignore recorded replayed (NotWellFormed side index)
+Compares version ignore recorded replayed (Ok verdict) = HasOutcome version ignore recorded replayed
+    (outcome_of verdict)
+Compares version ignore recorded replayed (Err (Malformed side index)) = HasOutcome version ignore recorded replayed
+    (NotWellFormed side index)
 Compares version ignore recorded replayed (Err TooLong) = (2 ^ 64 ≤ length recorded) ⊎ (2 ^ 64 ≤ length replayed)
 Compares version ignore recorded replayed (Err OutOfMemory) = Unit {0}
 
@@ -130,12 +142,14 @@ Compares version ignore recorded replayed (Err OutOfMemory) = Unit {0}
 -- What a comparison of the journals of two sources returns: the same, or that one of them could not be read.
 abbrev pub ComparesRead : Version → Bool → List ℕ → List ℕ → Result Verdict ReaderError → Type 0
 ComparesRead version ignore recorded replayed (Ok verdict) = Compares version ignore recorded replayed (Ok verdict)
-ComparesRead version ignore recorded replayed (Err (Bench failure)) = Compares version ignore recorded replayed (Err failure)
+ComparesRead version ignore recorded replayed (Err (Bench failure)) = Compares version ignore recorded replayed
+    (Err failure)
 ComparesRead version ignore recorded replayed (Err (Read side)) = Unit {0}
 
 -- The same of the bytes that two sources will give, where both are known.
 abbrev pub ComparesKnown : Version → Bool → Option (List ℕ) → Option (List ℕ) → Result Verdict ReaderError → Type 0
-ComparesKnown version ignore (Some recorded) (Some replayed) result = ComparesRead version ignore recorded replayed result
+ComparesKnown version ignore (Some recorded) (Some replayed) result = ComparesRead version ignore recorded replayed
+    result
 ComparesKnown version ignore recorded replayed result = Unit {0}
 
 -- A result without the fields that come with its verdict.
@@ -145,7 +159,8 @@ without_fields (Err error) = Err error
 
 -- The fields that come with a verdict on two journals: if its commands differ, those in which they do; otherwise none.
 abbrev pub HasFieldsOn : Version → Option (List ℕ) → Option (List ℕ) → Verdict → List FieldDifference → Type 0
-HasFieldsOn version recorded replayed (HeaderMismatch index text) fields = AreFieldsAt version recorded replayed index fields
+HasFieldsOn version recorded replayed (HeaderMismatch index text) fields = AreFieldsAt version recorded replayed index
+    fields
 HasFieldsOn version recorded replayed verdict fields = fields ≡ []
 
 -- A read is said to have failed only on a side where it may.
@@ -186,7 +201,8 @@ replayed_seen (HeaderMismatch index text) = index + 1
 
 -- Two journals, as far as their bytes are known, have this verdict, these fields in which its commands differ, these
 -- surveys, and at these offsets the last commands that the verdict has seen.
-pub record IsComparison (version : Version) (ignore is_strict : Bool) (recorded replayed : Option (List ℕ)) (found : Comparison) : Type 0 where
+pub record IsComparison (version : Version) (ignore is_strict : Bool) (recorded replayed : Option (List ℕ))
+    (found : Comparison) : Type 0 where
   pub verdict : ComparesKnown version ignore recorded replayed (Ok found.verdict)
   pub fields : HasFieldsOn version recorded replayed found.verdict found.fields.items
   pub recorded_survey : IsKnownSurvey version is_strict recorded found.recorded
@@ -196,5 +212,7 @@ pub record IsComparison (version : Version) (ignore is_strict : Bool) (recorded 
 
 -- What a comparison that surveys both journals returns: their comparison, or why there is no verdict or no survey.
 abbrev pub Surveys : Version → Bool → Bool → Option (List ℕ) → Option (List ℕ) → Result Comparison ReaderError → Type 0
-Surveys version ignore is_strict recorded replayed (Ok found) = IsComparison version ignore is_strict recorded replayed found
-Surveys version ignore is_strict recorded replayed (Err error) = ComparesKnown version ignore recorded replayed (Err error)
+Surveys version ignore is_strict recorded replayed (Ok found) = IsComparison version ignore is_strict recorded replayed
+    found
+Surveys version ignore is_strict recorded replayed (Err error) = ComparesKnown version ignore recorded replayed
+    (Err error)

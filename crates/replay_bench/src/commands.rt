@@ -16,13 +16,13 @@ ghost use Rattle.replay_bench.specs.Taking.{known_length, HasNoCommand, LeadsTo}
 ghost use Rattle.replay_bench.specs.Taking.{KeepsLength, MayReject, RejectsLength, TakesFirst};
 
 use crate::sources::{Source, SourceError};
+use crate::survey::Survey;
 use crate::verdicts::{BenchError, ReaderError, Side};
 use bytes::Bytes;
 use shared_core::CommandType;
 use shared_core::encoding::{Decoder, Item, PushError, RawMessage};
 use shared_core::version::Version;
 use std::alloc::{AllocError, Global};
-use stream_survey::Survey;
 
 /// The commands of a journal that comes in chunks, one after the other. Of the journal it holds the chunks that no item
 /// has used up.

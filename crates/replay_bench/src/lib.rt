@@ -1,20 +1,24 @@
-//! Two journals compared, what was recorded with what is replayed, command by command: a crate above `shared_core`,
-//! over its public calls and their contracts alone.
+//! Two journals compared, what was recorded with what is replayed, command by command, and each surveyed: a crate above
+//! `shared_core`, over its public calls and their contracts alone.
 #![tactic(auto)]
 
 mod commands;
 mod comparison;
+mod faults;
 mod fields;
 pub mod laws;
 mod mismatches;
 mod reader_chunks;
 mod sources;
+mod survey;
 mod verdicts;
 
 pub use crate::comparison::{
     compare_journals, compare_readers, compare_sources, survey_readers, survey_sources,
 };
+pub use crate::faults::{Fault, FaultReason};
 pub use crate::fields::FieldDifference;
 pub use crate::reader_chunks::ReaderChunks;
 pub use crate::sources::{SliceChunks, Source, SourceError};
+pub use crate::survey::Survey;
 pub use crate::verdicts::{BenchError, Comparison, ReaderError, Side, Verdict};

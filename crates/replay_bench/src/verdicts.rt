@@ -4,10 +4,10 @@ ghost use Rattle.std.specs.Prelude.{◌≡◌};
 ghost use Rattle.replay_bench.specs.Verdicts.{recorded_ended, replayed_ended};
 
 use crate::fields::FieldDifference;
+use crate::survey::Survey;
 use std::alloc::AllocError;
 use std::error::Error;
 use std::fmt;
-use stream_survey::Survey;
 
 /// One of the two journals that are compared.
 #[derive(Clone, Copy, Debug, PartialEq, Eq)]

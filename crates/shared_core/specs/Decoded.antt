@@ -33,8 +33,10 @@ FrameEncodes version ty form HasProperty =
 
 -- What a decoder returns if its pending bytes are the frame of a wire form and then the rest: the message that decodes
 -- to what was written, and the rest is left; or an allocation fails, and all bytes are left.
-abbrev pub ReturnsWritten : MessageType → WireForm → List ℕ → Result (Option RawMessage) DecodingError → List ℕ → List ℕ → Type 0
-ReturnsWritten ty form old (Ok (Some message)) rest new = DecodesTo ty form.schema form.parts (Message message) × (new ≡ rest)
+abbrev pub ReturnsWritten : MessageType → WireForm → List ℕ → Result (Option RawMessage) DecodingError → List ℕ → List ℕ
+    → Type 0
+ReturnsWritten ty form old (Ok (Some message)) rest new = DecodesTo ty form.schema form.parts (Message message) ×
+    (new ≡ rest)
 ReturnsWritten ty form old (Ok None) rest new = ⊥
 ReturnsWritten ty form old (Err error) rest new = (error ≡ OutOfMemory) × (new ≡ old)
 

@@ -8,7 +8,9 @@ use Rattle.shared_core_base.specs.MessageType.{debug_name_of, unknown_type_text}
 pub use Rattle.shared_core_stream.specs.Errors.{push_error_text, pieces_error_text, missing_bytes_text}
 use Rattle.shared_core_errors.specs.Mismatch.{mismatch_head, command_type_mismatch_text}
 use Rattle.shared_core.specs.declared.encoding.error.DecodingError.{DecodingError}
-use Rattle.shared_core.specs.declared.encoding.error.DecodingError.TheVariants.{DecodeMessage, UnexpectedMessageType, MissingField, UnknownMessageType, SkippedMessage, OutOfMemory}
+use Rattle.shared_core.specs.declared.encoding.error.DecodingError.TheVariants.{DecodeMessage, UnexpectedMessageType}
+use Rattle.shared_core.specs.declared.encoding.error.DecodingError.TheVariants.{MissingField, UnknownMessageType}
+use Rattle.shared_core.specs.declared.encoding.error.DecodingError.TheVariants.{SkippedMessage, OutOfMemory}
 
 -- The text of a mismatch of two commands of a type at a command index, with their difference.
 abbrev pub command_mismatch_text : MessageType → ℤ → List ℕ → List ℕ

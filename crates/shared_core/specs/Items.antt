@@ -8,7 +8,8 @@ pub use Rattle.shared_core_stream.specs.Items.{skips_unknown_messages, front_wor
 pub use Rattle.shared_core_stream.specs.Items.{IsItem, AreItems, TakesItem, NoItemBegins, IsItemsThen, SplitsInto}
 pub use Rattle.shared_core_stream.specs.Items.{BeginsWithWritten, HasPayload, PayloadIsNext, PushFails}
 use Rattle.shared_core.specs.declared.encoding.error.DecodingError.{DecodingError}
-use Rattle.shared_core.specs.declared.encoding.error.DecodingError.TheVariants.{UnknownMessageType, SkippedMessage, OutOfMemory}
+use Rattle.shared_core.specs.declared.encoding.error.DecodingError.TheVariants.{UnknownMessageType, SkippedMessage}
+use Rattle.shared_core.specs.declared.encoding.error.DecodingError.TheVariants.{OutOfMemory}
 
 -- What a result says of the bytes before the call, and which bytes are left: the next message is taken; no item is
 -- whole; an unknown code's eight bytes are taken; a skipped message is taken; or an allocation failed for a whole

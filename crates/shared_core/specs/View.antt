@@ -1,5 +1,6 @@
 -- The view of a notification, whatever its type.
-use Rattle.std.specs.Prelude.{◌≡◌, ◌≢◌, ◌⊎◌, ℕ, Bool, List, Option, Some, None, Result, Ok, Err, true, codes, nat_eq, if◌then◌else◌}
+use Rattle.std.specs.Prelude.{◌≡◌, ◌≢◌, ◌⊎◌, ℕ, Bool, List, Option, Some, None, Result, Ok, Err, true, codes, nat_eq}
+use Rattle.std.specs.Prelude.{if◌then◌else◌}
 use Rattle.std.specs.List.{list_any}
 use Rattle.shared_core_wire.specs.Schema.{OneOf, includes, all_numbers, numbers}
 use Rattle.shared_core_wire.specs.Overlay.{payload_records}
@@ -34,7 +35,8 @@ LacksField field parts =
 -- When the view is rejected: the payload is, or it means a template that lacks a field, the id first.
 abbrev pub RejectsNotification : RawMessage → DecodingError → Type 0
 RejectsNotification message (MissingField expected missing) =
-    (expected ≡ message.header.ty) × (parts : Parts) × MeansParts notification_template message.payload parts × LacksField missing.now parts
+    (expected ≡ message.header.ty) × (parts : Parts) × MeansParts notification_template message.payload parts ×
+    LacksField missing.now parts
 RejectsNotification message error = RejectsPayload notification_template message error
 
 -- The numbers of an id in the template.
@@ -51,7 +53,8 @@ has_record ns payload = list_any (λ r. includes ns r.number) (payload_records 1
 
 -- The field that a payload lacks: the id if no record is one, otherwise the result if no record is one.
 abbrev pub lacking_field : List ℕ → Option (List ℕ)
-lacking_field payload = if has_record id_numbers payload then (if has_record result_numbers payload then None else Some (codes "result")) else Some (codes "id")
+lacking_field payload = if has_record id_numbers payload then
+    (if has_record result_numbers payload then None else Some (codes "result")) else Some (codes "id")
 
 -- The result by the field that is lacking, if any: the error that it is missing, otherwise the view. An allocation may
 -- fail.

@@ -31,17 +31,21 @@ use Rattle.shared_core_base.specs.declared.values.Value.{Value}
 use Rattle.shared_core_base.specs.declared.values.Value.TheVariants as value
 use Rattle.shared_core_base.specs.declared.values.CommandRelationship.{CommandRelationship}
 use Rattle.shared_core_base.specs.declared.values.CommandRelationship.TheVariants as relationship
-use Rattle.shared_core_base.specs.Values.{failure_parts, value_parts, relationship_parts, Success, Failure, StateKeys, InvocationId}
+use Rattle.shared_core_base.specs.Values.{failure_parts, value_parts, relationship_parts, Success, Failure, StateKeys}
+use Rattle.shared_core_base.specs.Values.{InvocationId}
 use Rattle.shared_core_base.specs.Error.{command_parts, notification_parts, error_parts, RelatedToCommand, Awakeable}
 
 -- a test of two optional values decides as the test of two values does
-options_decide : {X Y : Type 0} {test : X → X → Bool} {part : X → Y} → ((a b : X) → Decides (test a b) (part a ≡ part b)) → (a b : Option X) → Decides (option_eq test a b) (option_map part a ≡ option_map part b)
+options_decide : {X Y : Type 0} {test : X → X → Bool} {part : X → Y} →
+    ((a b : X) → Decides (test a b) (part a ≡ part b)) → (a b : Option X) → Decides (option_eq test a b)
+    (option_map part a ≡ option_map part b)
 options_decide decides None None = (λ is. refl, λ same. refl)
 options_decide decides (Some x) (Some y) = (λ is. ap Some ((decides x y).0 is), λ same. (decides x y).1 (cc))
 options_decide decides a b = (λ is. cc, λ same. cc)
 
 -- a test of two lists decides as the test of two elements does
-lists_decide : {X Y : Type 0} {test : X → X → Bool} {part : X → Y} → ((a b : X) → Decides (test a b) (part a ≡ part b)) → (xs ys : List X) → Decides (pointwise test xs ys) (map part xs ≡ map part ys)
+lists_decide : {X Y : Type 0} {test : X → X → Bool} {part : X → Y} → ((a b : X) → Decides (test a b) (part a ≡ part b))
+    → (xs ys : List X) → Decides (pointwise test xs ys) (map part xs ≡ map part ys)
 lists_decide decides [] [] = (λ is. refl, λ same. refl)
 lists_decide {test = test} decides (x ∷ xs) (y ∷ ys) = (
   λ is.
@@ -58,7 +62,9 @@ texts_decide : (a b : String Global) → Decides (string_eq a b) (string_bytes a
 texts_decide a b = bytes_decides (string_bytes a) (string_bytes b)
 
 -- names
-names_decide : (a b : Option (CowStr Global)) → Decides (option_eq (λ x y. pointwise eqb (cow_str_bytes x) (cow_str_bytes y)) a b) (option_map cow_str_bytes a ≡ option_map cow_str_bytes b)
+names_decide : (a b : Option (CowStr Global)) → Decides (option_eq
+    (λ x y. pointwise eqb (cow_str_bytes x) (cow_str_bytes y)) a b)
+    (option_map cow_str_bytes a ≡ option_map cow_str_bytes b)
 names_decide = options_decide (λ x y. bytes_decides (cow_str_bytes x) (cow_str_bytes y))
 
 -- commands' metadata
@@ -73,13 +79,17 @@ commands_decide a b = (
       cc,
   λ same.
       and_from _ _ (eq-eqb a.index b.index (ap (λ p. p.index) same))
-      (and_from _ _ (types_same a.ty b.ty (ap (λ p. p.ty) same)) ((names_decide a.name b.name).1 (ap (λ p. p.name) same))),
+      (and_from _ _ (types_same a.ty b.ty (ap (λ p. p.ty) same))
+      ((names_decide a.name b.name).1 (ap (λ p. p.name) same))),
 )
 
 -- notifications' metadata
-pub notifications_decide : (a b : NotificationMetadata) → Decides (notifications.eq-value.it a b) (notification_parts a ≡ notification_parts b)
-notifications_decide (notification.RelatedToCommand x) (notification.RelatedToCommand y) = (λ is. ap RelatedToCommand ((commands_decide x y).0 is), λ same. (commands_decide x y).1 (cc))
-notifications_decide (notification.Awakeable x) (notification.Awakeable y) = (λ is. ap Awakeable ((texts_decide x y).0 is), λ same. (texts_decide x y).1 (cc))
+pub notifications_decide : (a b : NotificationMetadata) → Decides (notifications.eq-value.it a b)
+    (notification_parts a ≡ notification_parts b)
+notifications_decide (notification.RelatedToCommand x) (notification.RelatedToCommand y) =
+    (λ is. ap RelatedToCommand ((commands_decide x y).0 is), λ same. (commands_decide x y).1 (cc))
+notifications_decide (notification.Awakeable x) (notification.Awakeable y) =
+    (λ is. ap Awakeable ((texts_decide x y).0 is), λ same. (texts_decide x y).1 (cc))
 notifications_decide notification.Cancellation notification.Cancellation = (λ is. refl, λ same. refl)
 notifications_decide a b = (λ is. cc, λ same. cc)
 
@@ -104,9 +114,14 @@ behaviors_decide Pause Pause = (λ is. refl, λ same. refl)
 behaviors_decide a b = (λ is. cc, λ same. cc)
 
 -- optional delays
-optional_delays_decide : (a b : Option Duration) → Decides (option_eq (λ x y. eqb x.secs y.secs && eqb x.nanos y.nanos) a b) (a ≡ b)
+optional_delays_decide : (a b : Option Duration) → Decides (option_eq (λ x y. eqb x.secs y.secs && eqb x.nanos y.nanos)
+    a b) (a ≡ b)
 optional_delays_decide None None = (λ is. refl, λ same. refl)
-optional_delays_decide (Some x) (Some y) = (λ is. ap Some ((delays_decide x y).0 is), λ same. (delays_decide x y).1 (cc))
+optional_delays_decide (Some x) (Some y) = (
+  λ is. ap Some ((delays_decide x y).0 is),
+  λ same. (delays_decide x y).1
+      (cc),
+)
 optional_delays_decide a b = (λ is. cc, λ same. cc)
 
 -- errors
@@ -115,8 +130,10 @@ errors_decide a b = (
   λ is.
       let with_code = and_parts (eqb a.code b.code) _ is in
       let with_message = and_parts (pointwise eqb (cow_str_bytes a.message) (cow_str_bytes b.message)) _ with_code.1 in
-      let with_command = and_parts (option_eq commands.eq-value.it a.related_command b.related_command) _ with_message.1 in
-      let with_delay = and_parts (option_eq (λ x y. eqb x.secs y.secs && eqb x.nanos y.nanos) a.next_retry_delay b.next_retry_delay) _ with_command.1 in
+      let with_command = and_parts (option_eq commands.eq-value.it a.related_command b.related_command) _ with_message.1
+      in
+      let with_delay = and_parts (option_eq (λ x y. eqb x.secs y.secs && eqb x.nanos y.nanos) a.next_retry_delay
+      b.next_retry_delay) _ with_command.1 in
       let code_is = eqb-true a.code b.code with_code.0 in
       let message_is = (bytes_decides (cow_str_bytes a.message) (cow_str_bytes b.message)).0 with_message.0 in
       let command_is = (options_decide commands_decide a.related_command b.related_command).0 with_command.0 in
@@ -126,8 +143,10 @@ errors_decide a b = (
   λ same.
       and_from _ _ (eq-eqb a.code b.code (ap (λ p. p.code) same))
       (and_from _ _ ((bytes_decides (cow_str_bytes a.message) (cow_str_bytes b.message)).1 (ap (λ p. p.message) same))
-      (and_from _ _ ((options_decide commands_decide a.related_command b.related_command).1 (ap (λ p. p.related_command) same))
-      (and_from _ _ ((optional_delays_decide a.next_retry_delay b.next_retry_delay).1 (ap (λ p. p.next_retry_delay) same))
+      (and_from _ _ ((options_decide commands_decide a.related_command b.related_command).1
+      (ap (λ p. p.related_command) same))
+      (and_from _ _ ((optional_delays_decide a.next_retry_delay b.next_retry_delay).1
+      (ap (λ p. p.next_retry_delay) same))
       ((behaviors_decide a.behavior b.behavior).1 (ap (λ p. p.behavior) same))))),
 )
 
@@ -136,7 +155,8 @@ abbrev text_pair : String Global × String Global → List ℕ × List ℕ
 text_pair pair = (string_bytes pair.0, string_bytes pair.1)
 
 -- pairs of texts
-pairs_decide : (a b : String Global × String Global) → Decides (string_eq a.0 b.0 && string_eq a.1 b.1) (text_pair a ≡ text_pair b)
+pairs_decide : (a b : String Global × String Global) → Decides (string_eq a.0 b.0 && string_eq a.1 b.1)
+    (text_pair a ≡ text_pair b)
 pairs_decide a b = (
   λ is.
       let both = and_parts (string_eq a.0 b.0) _ is in
@@ -165,13 +185,22 @@ failures_decide a b = (
 -- values
 pub values_decide : (a b : Value) → Decides (values.eq-value.it a b) (value_parts a ≡ value_parts b)
 values_decide value.Void value.Void = (λ is. refl, λ same. refl)
-values_decide (value.Success x) (value.Success y) = (λ is. ap Success ((bytes_decides x y).0 is), λ same. (bytes_decides x y).1 (cc))
-values_decide (value.Failure x) (value.Failure y) = (λ is. ap Failure ((failures_decide x y).0 is), λ same. (failures_decide x y).1 (cc))
+values_decide (value.Success x) (value.Success y) = (
+  λ is. ap Success ((bytes_decides x y).0 is),
+  λ same.
+      (bytes_decides x y).1 (cc),
+)
+values_decide (value.Failure x) (value.Failure y) = (
+  λ is. ap Failure ((failures_decide x y).0 is),
+  λ same.
+      (failures_decide x y).1 (cc),
+)
 values_decide (value.StateKeys x) (value.StateKeys y) = (
   λ is. ap StateKeys ((lists_decide texts_decide x.items y.items).0 is),
   λ same. (lists_decide texts_decide x.items y.items).1 (cc),
 )
-values_decide (value.InvocationId x) (value.InvocationId y) = (λ is. ap InvocationId ((texts_decide x y).0 is), λ same. (texts_decide x y).1 (cc))
+values_decide (value.InvocationId x) (value.InvocationId y) =
+    (λ is. ap InvocationId ((texts_decide x y).0 is), λ same. (texts_decide x y).1 (cc))
 values_decide a b = (λ is. cc, λ same. cc)
 
 -- command types
@@ -179,7 +208,8 @@ command_types_decide : (a b : CommandType) → Decides (command_types.eq-value.i
 command_types_decide a b = search rules
 
 -- commands that an error is about
-pub relationships_decide : (a b : CommandRelationship) → Decides (relationships.eq-value.it a b) (relationship_parts a ≡ relationship_parts b)
+pub relationships_decide : (a b : CommandRelationship) → Decides (relationships.eq-value.it a b)
+    (relationship_parts a ≡ relationship_parts b)
 relationships_decide relationship.Last relationship.Last = (λ is. refl, λ same. refl)
 relationships_decide (relationship.Next ty name) (relationship.Next ty' name') = (
   λ is.
@@ -197,6 +227,7 @@ relationships_decide (relationship.Specific index ty name) (relationship.Specifi
       let type_is = (command_types_decide ty ty').0 with_type.0 in
       let name_is = (names_decide name name').0 with_type.1 in
       cc,
-  λ same. and_from _ _ (eq-eqb index index' (cc)) (and_from _ _ ((command_types_decide ty ty').1 (cc)) ((names_decide name name').1 (cc))),
+  λ same. and_from _ _ (eq-eqb index index' (cc)) (and_from _ _ ((command_types_decide ty ty').1 (cc))
+      ((names_decide name name').1 (cc))),
 )
 relationships_decide a b = (λ is. cc, λ same. cc)

@@ -28,7 +28,8 @@ found_by_name ty = elim ty as (λ ty. IsNamed ty → type_in named_types (varian
   | _ ↦ λ named. refl
 ]
 
-type_in-find : (types : List MessageType) (name : List ℕ) → type_in types name ≡ find (λ ty. bytes_eq (variant_name_of ty) name) types
+type_in-find : (types : List MessageType) (name : List ℕ) → type_in types name ≡ find
+    (λ ty. bytes_eq (variant_name_of ty) name) types
 type_in-find [] name = refl
 type_in-find (ty ∷ types) name =
     elim (bytes_eq (variant_name_of ty) name) as (λ b. cond b (Some ty) (type_in types name)
@@ -38,10 +39,12 @@ type_in-find (ty ∷ types) name =
     ]
 
 -- a name finds a type among the named types if and only if the type is named so
-pub type_of_name : (name : List ℕ) (ty : MessageType) → (type_in named_types name ≡ Some ty) ↔ (IsNamed ty × (variant_name_of ty ≡ name))
+pub type_of_name : (name : List ℕ) (ty : MessageType) → (type_in named_types name ≡ Some ty) ↔
+    (IsNamed ty × (variant_name_of ty ≡ name))
 type_of_name name ty = (
   λ is.
-      let found : find (λ t. bytes_eq (variant_name_of t) name) named_types ≡ Some ty = sym (type_in-find named_types name) ∙ is in
+      let found : find (λ t. bytes_eq (variant_name_of t) name) named_types ≡ Some ty = sym
+      (type_in-find named_types name) ∙ is in
       let both = found_passes (λ t. bytes_eq (variant_name_of t) name) is_named named_types ty all_named found in
       (named_from ty both.1, (bytes_eq-Decides (variant_name_of ty) name).0 both.0),
   λ named. ap (type_in named_types) (sym named.1) ∙ found_by_name ty named.0,

@@ -1,5 +1,6 @@
 -- Codes and types convert back to each other, and types and headers that are found equal are the same.
-use Rattle.std.proofs.Common.{◌≡◌, ℕ, List, [], ◌∷◌, Some, None, Bool, true, false, cond, eqb, inl, inr, refl, sym, ap, ◌∙◌}
+use Rattle.std.proofs.Common.{◌≡◌, ℕ, List, [], ◌∷◌, Some, None, Bool, true, false, cond, eqb, inl, inr, refl, sym, ap}
+use Rattle.std.proofs.Common.{◌∙◌}
 use Rattle.std.specs.Prelude.{find, bit_and, ◌≢◌, ◌↔◌, ◌⊎◌, Option, not, ◌||◌}
 use Rattle.std.specs.Bool.{beq}
 use Rattle.std.specs.List.{list_all}
@@ -14,7 +15,8 @@ use Rattle.shared_core_base.specs.contracts.message_header.MessageHeaderPartialE
 use Rattle.shared_core_base.specs.MessageType.{code_of, named_types, IsNamed, custom_entry, type_of}
 
 -- what is found passes the test, and passes any other that each element does
-pub found_passes : {X : Type 0} (test other : X → Bool) (xs : List X) (x : X) → list_all other xs ≡ true → find test xs ≡ Some x → (test x ≡ true) × (other x ≡ true)
+pub found_passes : {X : Type 0} (test other : X → Bool) (xs : List X) (x : X) → list_all other xs ≡ true → find test xs
+    ≡ Some x → (test x ≡ true) × (other x ≡ true)
 found_passes test other [] x all found = cc
 found_passes test other (y ∷ ys) x all found =
     let both = and_parts (other y) (list_all other ys) all in
@@ -47,11 +49,14 @@ named_type_of_code ty = elim ty as (λ ty. is_named ty ≡ true → named_type (
 ]
 
 -- a named type passes each test that all named types pass
-named_passes : (test : MessageType → Bool) → list_all test named_types ≡ true → (ty : MessageType) → is_named ty ≡ true → test ty ≡ true
+named_passes : (test : MessageType → Bool) → list_all test named_types ≡ true → (ty : MessageType) → is_named ty ≡ true
+    → test ty ≡ true
 unfolding named_type
-named_passes test all ty named = (found_passes (λ t. eqb (code_of t) (code_of ty)) test named_types ty all (named_type_of_code ty named)).1
+named_passes test all ty named = (found_passes (λ t. eqb (code_of t) (code_of ty)) test named_types ty all
+    (named_type_of_code ty named)).1
 
-named_type_found : (code : ℕ) (ty : MessageType) → named_type code ≡ Some ty → (code_of ty ≡ code) × (is_named ty ≡ true)
+named_type_found : (code : ℕ) (ty : MessageType) → named_type code ≡ Some ty → (code_of ty ≡ code) ×
+    (is_named ty ≡ true)
 unfolding named_types is_named named_type
 named_type_found code ty found =
     let both = found_passes (λ t. eqb (code_of t) code) is_named named_types ty refl found in
@@ -70,19 +75,27 @@ custom_entry_code code ty is =
 pub code_of_type : (code : ℕ) (ty : MessageType) → type_of code ≡ Some ty → code_of ty ≡ code
 unfolding type_of named_type
 code_of_type code ty is =
-    (elim (named_type code) as (λ found. named_type code ≡ found → option_or found (custom_entry code) ≡ Some ty → code_of ty ≡ code) [
+    (elim (named_type code) as (λ found. named_type code ≡ found → option_or found (custom_entry code) ≡ Some ty →
+    code_of ty ≡ code) [
       | Some named ↦ λ found chosen. let same : named ≡ ty = cc in (named_type_found code ty (found ∙ ap Some same)).0
       | None ↦ λ found chosen. custom_entry_code code ty chosen
     ]) refl is
 
 -- a code denotes its custom entry if and only if no named type has it and one of its upper six bits is set
-pub type_of_custom : (code : ℕ) → (type_of code ≡ Some (CustomEntry code)) ↔ ((find (λ ty. eqb (code_of ty) code) named_types ≡ None) × (bit_and code 0xFC00 ≢ 0))
+pub type_of_custom : (code : ℕ) → (type_of code ≡ Some (CustomEntry code)) ↔
+    ((find (λ ty. eqb (code_of ty) code) named_types ≡ None) × (bit_and code 0xFC00 ≢ 0))
 unfolding type_of named_type is_named
 type_of_custom code = (
   λ is.
-      (elim (named_type code) as (λ found. named_type code ≡ found → option_or found (custom_entry code) ≡ Some (CustomEntry code) → (named_type code ≡ None) × (bit_and code 0xFC00 ≢ 0)) [
-        | Some named ↦ λ found chosen. absurd (both_ways _ refl (named_type_found code (CustomEntry code) (found ∙ chosen)).1)
-        | None ↦ λ found chosen. (found, λ zero_bits. none-some (CustomEntry code) (sym (ap (λ n. cond (eqb n 0) None (Some (CustomEntry code))) zero_bits) ∙ chosen))
+      (elim (named_type code) as (λ found. named_type code ≡ found → option_or found (custom_entry code) ≡ Some
+      (CustomEntry code) → (named_type code ≡ None) × (bit_and code 0xFC00 ≢ 0)) [
+        | Some named ↦ λ found chosen. absurd (both_ways _ refl
+            (named_type_found code (CustomEntry code) (found ∙ chosen)).1)
+        | None ↦ λ found chosen. (
+          found,
+          λ zero_bits. none-some (CustomEntry code)
+              (sym (ap (λ n. cond (eqb n 0) None (Some (CustomEntry code))) zero_bits) ∙ chosen),
+        )
       ]) refl is,
   λ is. ap (λ found. option_or found (custom_entry code)) is.0
       ∙ ap (λ b. cond b None (Some (CustomEntry code))) (ne_eqb _ _ is.1),
@@ -113,9 +126,11 @@ all_agree = refl
 named_equal : (a b : MessageType) → is_named a ≡ true → is_named b ≡ true → types.eq-value.it a b ≡ true → a ≡ b
 unfolding agrees
 named_equal a b named other is =
-    let tested = named_passes (agrees a) (named_passes (λ t. list_all (agrees t) named_types) all_agree a named) b other in
+    let tested = named_passes (agrees a) (named_passes (λ t. list_all (agrees t) named_types) all_agree a named) b other
+    in
     let codes_are : code_of a ≡ code_of b = eqb-true _ _ (agrees_is _ _ tested is) in
-    let types_are : Some a ≡ Some b = sym (named_type_of_code a named) ∙ ap named_type codes_are ∙ named_type_of_code b other in
+    let types_are : Some a ≡ Some b = sym (named_type_of_code a named) ∙ ap named_type codes_are ∙ named_type_of_code b
+    other in
     cc
 
 custom_on_the_left : (code : ℕ) (b : MessageType) → is_named b ≡ true → types.eq-value.it (CustomEntry code) b ≡ false
@@ -138,12 +153,15 @@ types_equal a b =
     elim (custom_or_named a) as (λ _. types.eq-value.it a b ≡ true → a ≡ b) [
       | inl (x, a_is) ↦
           (elim (custom_or_named b) as (λ _. types.eq-value.it a b ≡ true → a ≡ b) [
-            | inl (y, b_is) ↦ λ is. let codes_equal = rw (a_is, b_is) at is in a_is ∙ ap CustomEntry (eqb-true x y codes_equal) ∙ sym b_is
-            | inr b_named ↦ λ is. absurd (both_ways _ (ap (λ t. types.eq-value.it t b) a_is ∙ custom_on_the_left x b b_named) is)
+            | inl (y, b_is) ↦ λ is. let codes_equal = rw (a_is, b_is) at is in a_is ∙ ap CustomEntry
+                (eqb-true x y codes_equal) ∙ sym b_is
+            | inr b_named ↦ λ is. absurd (both_ways _ (ap (λ t. types.eq-value.it t b) a_is ∙ custom_on_the_left x b
+                b_named) is)
           ])
       | inr a_named ↦
           (elim (custom_or_named b) as (λ _. types.eq-value.it a b ≡ true → a ≡ b) [
-            | inl (y, b_is) ↦ λ is. absurd (both_ways _ (ap (types.eq-value.it a) b_is ∙ custom_on_the_right a y a_named) is)
+            | inl (y, b_is) ↦ λ is. absurd (both_ways _ (ap (types.eq-value.it a) b_is ∙ custom_on_the_right a y
+                a_named) is)
             | inr b_named ↦ named_equal a b a_named b_named
           ])
     ]
@@ -190,4 +208,5 @@ headers_equal a b is =
 pub headers_same : (a b : MessageHeader) → a ≡ b → headers.eq-value.it a b ≡ true
 headers_same a b same =
     ap (headers.eq-value.it a) (sym same)
-    ∙ and_from _ _ (types_same a.ty a.ty refl) (and_from _ _ (eq-eqb a.length a.length refl) (flag_to_itself a.requested_ack))
+    ∙ and_from _ _ (types_same a.ty a.ty refl) (and_from _ _ (eq-eqb a.length a.length refl)
+    (flag_to_itself a.requested_ack))

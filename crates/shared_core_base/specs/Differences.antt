@@ -12,7 +12,8 @@ bytes_text bytes = if is_utf8 bytes
 
 -- A line of a difference: a line feed, the indentation, and `field: actual != expected`.
 abbrev pub diff_line : List ℕ → List ℕ → List ℕ → List ℕ → List ℕ
-diff_line indentation field actual expected = 10 ∷ (indentation ++ (field ++ (codes ": " ++ (actual ++ (codes " != " ++ expected)))))
+diff_line indentation field actual expected = 10 ∷ (indentation ++
+    (field ++ (codes ": " ++ (actual ++ (codes " != " ++ expected)))))
 
 -- The same line of two outputs; it is unspecified where one of them is.
 abbrev pub diff_output : List ℕ → List ℕ → Option (List ℕ) → Option (List ℕ) → Option (List ℕ)

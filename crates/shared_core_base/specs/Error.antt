@@ -1,5 +1,6 @@
 -- The errors of an invocation: codes, parts and texts.
-use Rattle.std.specs.Prelude.{◌≡◌, ℕ, ℤ, pos, ◌^◌, List, ◌++◌, Option, Some, None, option_map, codes, if◌then◌else◌, nat_lt}
+use Rattle.std.specs.Prelude.{◌≡◌, ℕ, ℤ, pos, ◌^◌, List, ◌++◌, Option, Some, None, option_map, codes, if◌then◌else◌}
+use Rattle.std.specs.Prelude.{nat_lt}
 use Rattle.std.specs.Fmt.{decimal}
 use Rattle.std.specs.Cow.{cow_str_bytes}
 use Rattle.std.specs.String.{string_bytes}
@@ -42,7 +43,8 @@ related_command_text None = codes ""
 
 -- The text of an error: its code in parentheses, its message, and the line of the command that it names.
 abbrev pub error_text : Error → List ℕ
-error_text error = codes "(" ++ (decimal error.code ++ (codes ") " ++ (cow_str_bytes error.message ++ related_command_text error.related_command)))
+error_text error = codes "(" ++ (decimal error.code ++ (codes ") " ++
+    (cow_str_bytes error.message ++ related_command_text error.related_command)))
 
 -- The contents of a command's metadata, apart from where its name is in memory.
 pub record CommandParts : Type 0 where
@@ -86,7 +88,13 @@ error_parts error = record {
 
 -- The parts of an error that has only a code and a message: it names no command, has no delay and is retried.
 abbrev pub plain_error : ℕ → List ℕ → ErrorParts
-plain_error code message = record { code = code; message = message; related_command = None; next_retry_delay = None; behavior = Retry }
+plain_error code message = record {
+  code = code;
+  message = message;
+  related_command = None;
+  next_retry_delay = None;
+  behavior = Retry;
+}
 
 -- The parts of the error by which an invocation is suspended.
 abbrev pub suspended_parts : ErrorParts

@@ -7,4 +7,5 @@ use Rattle.std.specs.declared.alloc.Global.{Global}
 -- The value of the first pair whose key is the name, whatever the case of ASCII letters.
 abbrev pub header_value : List ℕ → List (String Global × String Global) → Option (List ℕ)
 header_value name headers =
-    option_map (λ header. string_bytes header.1) (find (λ header. str_eq_ignore_ascii_case (string_bytes header.0) name) headers)
+    option_map (λ header. string_bytes header.1) (find (λ header. str_eq_ignore_ascii_case (string_bytes header.0) name)
+    headers)

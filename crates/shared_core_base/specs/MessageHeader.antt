@@ -1,6 +1,7 @@
 -- The eight bytes before a payload, as a number, the first byte highest: the type's code in bits 48 to 63, the request
 -- for an acknowledgement in bit 47, the payload's length in bits 0 to 31.
-use Rattle.std.specs.Prelude.{◌≡◌, ℕ, ◌+◌, ◌*◌, ◌/◌, ◌%◌, ◌^◌, Bool, true, Option, Some, None, Result, Ok, Err, ◌==◌, if◌then◌else◌}
+use Rattle.std.specs.Prelude.{◌≡◌, ℕ, ◌+◌, ◌*◌, ◌/◌, ◌%◌, ◌^◌, Bool, true, Option, Some, None, Result, Ok, Err, ◌==◌}
+use Rattle.std.specs.Prelude.{if◌then◌else◌}
 use Rattle.std.specs.Option.{option_map}
 use Rattle.shared_core_base.specs.declared.message_header.MessageHeader.{MessageHeader}
 use Rattle.shared_core_base.specs.declared.type_kinds.UnknownMessageType.{UnknownMessageType}

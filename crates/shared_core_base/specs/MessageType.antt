@@ -1,5 +1,6 @@
 -- The types of messages, and the 16-bit codes that denote them in a header.
-use Rattle.std.specs.Prelude.{◌≡◌, ℕ, ◌++◌, Bool, true, false, codes, decimal, find, List, Option, Some, None, Result, Ok, Err, ◌==◌, if◌then◌else◌, bit_and, [], ◌∷◌}
+use Rattle.std.specs.Prelude.{◌≡◌, ℕ, ◌++◌, Bool, true, false, codes, decimal, find, List, Option, Some, None, Result}
+use Rattle.std.specs.Prelude.{Ok, Err, ◌==◌, if◌then◌else◌, bit_and, [], ◌∷◌}
 use Rattle.std.specs.Option.{option_or}
 use Rattle.std.specs.Str.{bytes_eq}
 use Rattle.std.specs.Fmt.{digits}

@@ -1,11 +1,13 @@
 -- The versions of the protocol, and the content types that name them.
-use Rattle.std.specs.Prelude.{◌≡◌, ◌≢◌, ◌==◌, ℕ, Bool, List, [], ◌∷◌, ◌++◌, codes, decimal, true, false, Option, Result, Ok, Err, nat_eq, nat_le, nat_lt, find}
+use Rattle.std.specs.Prelude.{◌≡◌, ◌≢◌, ◌==◌, ℕ, Bool, List, [], ◌∷◌, ◌++◌, codes, decimal, true, false, Option, Result}
+use Rattle.std.specs.Prelude.{Ok, Err, nat_eq, nat_le, nat_lt, find}
 use Rattle.std.specs.List.{starts_with}
 use Rattle.std.specs.String.{string_bytes}
 use Rattle.shared_core_base.specs.declared.version.Version.{Version}
 use Rattle.shared_core_base.specs.declared.version.Version.TheVariants.{V1, V2, V3, V4, V5, V6, V7, V8, V9}
 use Rattle.shared_core_base.specs.declared.version.ContentTypeError.{ContentTypeError}
-use Rattle.shared_core_base.specs.declared.version.ContentTypeError.TheVariants.{RestateContentType, OtherContentType, OutOfMemory}
+use Rattle.shared_core_base.specs.declared.version.ContentTypeError.TheVariants.{RestateContentType, OtherContentType}
+use Rattle.shared_core_base.specs.declared.version.ContentTypeError.TheVariants.{OutOfMemory}
 
 -- A version's number.
 abbrev pub version_number : Version → ℕ
@@ -54,8 +56,10 @@ NamesNoVersion text = (version : Version) → text ≢ content_type_of version
 -- A rejected text is returned: if it begins as a content type of the protocol, in the error for these, otherwise in the
 -- other; unless it is not empty and the allocation to keep it failed.
 abbrev pub RejectsContentType : List ℕ → ContentTypeError → Type 0
-RejectsContentType text (RestateContentType kept) = (starts_with nat_eq text restate_content_types ≡ true) × (string_bytes kept ≡ text)
-RejectsContentType text (OtherContentType kept) = (starts_with nat_eq text restate_content_types ≡ false) × (string_bytes kept ≡ text)
+RejectsContentType text (RestateContentType kept) = (starts_with nat_eq text restate_content_types ≡ true) ×
+    (string_bytes kept ≡ text)
+RejectsContentType text (OtherContentType kept) = (starts_with nat_eq text restate_content_types ≡ false) ×
+    (string_bytes kept ≡ text)
 RejectsContentType text OutOfMemory = text ≢ []
 
 -- Reading a text returns the version whose content type it is, and rejects the text of no version.
@@ -71,7 +75,8 @@ content_type_error_code OutOfMemory = 500
 
 -- The text of an error, with the text that was rejected.
 abbrev pub content_type_error_text : ContentTypeError → List ℕ
-content_type_error_text (RestateContentType kept) = codes "unsupported protocol version '" ++ (string_bytes kept ++ codes "'")
+content_type_error_text (RestateContentType kept) = codes "unsupported protocol version '" ++
+    (string_bytes kept ++ codes "'")
 content_type_error_text (OtherContentType kept) =
     codes "unrecognized content-type '"
     ++ (string_bytes kept

@@ -13,10 +13,16 @@ IsMeasured view at k xs first i now =
     (capped (now + length (from_index view at k xs i)) ≡ capped (first + length (from_index view at k xs 0)))
     × (now ≤ 2 ^ 32) × (FitFrom view k xs i → FitFrom view k xs 0)
 
-pub measure_step : {M : Type 0} (view : M → Part) (at : ℕ) (k : Kind) (xs : List M) (i : ℕ) (x : M) (first old now : ℕ) → i < length xs → x ≡ get_or xs i x
-    → now ≡ capped (old + length (value_bytes at k (view x))) → ValueFits k (view x) → IsMeasured view at k xs first i old → IsMeasured view at k xs first (i + 1) now
-measure_step view at k xs i x first old now h e s f w =
-    (rw s (sym (count_next view at k xs i x old h e) ∙ w.0), omega (arith, s), λ g. w.2 (fit_next view k xs i x h e f g))
+pub measure_step : {M : Type 0} (view : M → Part) (at : ℕ) (k : Kind) (xs : List M) (i : ℕ) (x : M) (first old now : ℕ)
+    → i < length xs → x ≡ get_or xs i x
+    → now ≡ capped (old + length (value_bytes at k (view x))) → ValueFits k (view x) → IsMeasured view at k xs first i
+    old → IsMeasured view at k xs first (i + 1) now
+measure_step view at k xs i x first old now h e s f w = (
+  rw s (sym (count_next view at k xs i x old h e) ∙ w.0),
+  omega (arith, s),
+  λ g. w.2
+      (fit_next view k xs i x h e f g),
+)
 
 abbrev pub IsPacked : List ℕ → ℕ → ℕ → ℕ → Type 0
 IsPacked ns first i now =

@@ -1,5 +1,6 @@
 -- Which parts fit.
-use Rattle.std.proofs.Common.{◌≡◌, ℕ, suc, ◌+◌, ◌^◌, ◌<◌, ◌≤◌, ℤ, pos, negsuc, List, [], ◌∷◌, length, drop, get_or, add-one, drop-cons, refl, sym, ◌∙◌, arith, true, false, Bool}
+use Rattle.std.proofs.Common.{◌≡◌, ℕ, suc, ◌+◌, ◌^◌, ◌<◌, ◌≤◌, ℤ, pos, negsuc, List, [], ◌∷◌, length, drop, get_or}
+use Rattle.std.proofs.Common.{add-one, drop-cons, refl, sym, ◌∙◌, arith, true, false, Bool}
 use Rattle.std.proofs.lemmas.List.{drop_all}
 use Rattle.std.proofs.lemmas.Bool.{lt-ltb, ne_eqb}
 use Rattle.std.specs.Prelude.{◌-◌, ◌==◌, nat_eq, FitsSigned, String, string_bytes}
@@ -9,7 +10,8 @@ use Rattle.shared_core_codec.specs.FieldParts.{elements_part, enum_number, parts
 use Rattle.shared_core_codec.specs.RowFitting.{FieldFits, FieldsFit, RowFits, ValueFits}
 use Rattle.shared_core_codec.specs.Table.{table}
 use Rattle.shared_core_wire.specs.Fitting.{ElementsFit, Fits, PartFits}
-use Rattle.shared_core_wire.specs.Schema.{Boolean, Enumeration, Kind, Message, OneOf, Optional, Plain, Repeated, Row, Text, U32}
+use Rattle.shared_core_wire.specs.Schema.{Boolean, Enumeration, Kind, Message, OneOf, Optional, Plain, Repeated, Row}
+use Rattle.shared_core_wire.specs.Schema.{Text, U32}
 use Rattle.shared_core_wire.specs.Value.{Absent, Bytes, Elements, Member, Nested, Number, Part, Parts, cons, nil}
 
 pub fits_row : (row : Row) (p : Part) → FieldFits row p → RowFits row p
@@ -44,12 +46,14 @@ fit_message s ps h = (refl, fits_rows (table s) ps h)
 pub FitFrom : {M : Type 0} → (M → Part) → Kind → List M → ℕ → Type 0
 FitFrom view k xs i = ElementsFit table (parts_of view (drop i xs)) k
 
-pub fit_next : {M : Type 0} (view : M → Part) (k : Kind) (xs : List M) (i : ℕ) (x : M) → i < length xs → x ≡ get_or xs i x
+pub fit_next : {M : Type 0} (view : M → Part) (k : Kind) (xs : List M) (i : ℕ) (x : M) → i < length xs → x ≡ get_or xs i
+    x
     → ValueFits k (view x) → FitFrom view k xs (i + 1) → FitFrom view k xs i
 unfolding FitFrom ValueFits ElementsFit
 fit_next view k xs i x h e f g = rw (drop-cons xs i x h, ← e) (f.0, f.1, rw add-one at g)
 
-pub fit_end : {M : Type 0} (view : M → Part) (at : ℕ) (k : Kind) (xs : List M) (i : ℕ) → length xs ≤ i → (FitFrom view k xs i → FitFrom view k xs 0) → FieldFits (Repeated at k) (elements_part view xs)
+pub fit_end : {M : Type 0} (view : M → Part) (at : ℕ) (k : Kind) (xs : List M) (i : ℕ) → length xs ≤ i →
+    (FitFrom view k xs i → FitFrom view k xs 0) → FieldFits (Repeated at k) (elements_part view xs)
 unfolding FitFrom RowFits PartFits ElementsFit
 fit_end view at k xs i h f = (refl, f (rw (drop_all i xs h) tt))
 
@@ -82,6 +86,7 @@ unfolding ValueFits PartFits
 fit_boolean true = (refl, omega arith)
 fit_boolean false = (refl, omega arith)
 
-pub fit_number : (ns : List ℕ) (i n : ℕ) → i < length ns → n ≡ get_or ns i 0 → n < 2 ^ 32 → FitFrom Number U32 ns (i + 1) → FitFrom Number U32 ns i
+pub fit_number : (ns : List ℕ) (i n : ℕ) → i < length ns → n ≡ get_or ns i 0 → n < 2 ^ 32 → FitFrom Number U32 ns
+    (i + 1) → FitFrom Number U32 ns i
 unfolding FitFrom ElementsFit PartFits
 fit_number ns i n h e f g = rw (drop-cons ns i 0 h, ← e) (refl, f, rw add-one at g)

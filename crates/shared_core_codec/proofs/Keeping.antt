@@ -1,5 +1,6 @@
 -- What merging keeps.
-use Rattle.std.proofs.Common.{◌≡◌, ℕ, suc, List, [], ◌∷◌, ◌++◌, take, Bool, true, false, cond, Some, None, Result, Ok, Err, refl, sym, ap, subst, ◌∙◌}
+use Rattle.std.proofs.Common.{◌≡◌, ℕ, suc, List, [], ◌∷◌, ◌++◌, take, Bool, true, false, cond, Some, None, Result, Ok}
+use Rattle.std.proofs.Common.{Err, refl, sym, ap, subst, ◌∙◌}
 use Rattle.std.specs.Prelude.{OnErr}
 use Rattle.shared_core_wire.proofs.Runs.{parts_append_nil, parts_append_assoc}
 use Rattle.shared_core_wire.specs.declared.error.WireError.{WireError}
@@ -10,11 +11,13 @@ use Rattle.shared_core_wire.specs.Places.{EachLies}
 use Rattle.shared_core_wire.specs.ReadRecords.{PlacedRecord}
 use Rattle.shared_core_wire.specs.Reader.{◌>>=◌}
 use Rattle.shared_core_wire.specs.Schema.{Row, numbers, includes}
-use Rattle.shared_core_wire.specs.Value.{Part, Parts, Absent, Number, Bytes, Nested, Elements, Member, nil, cons, one_part, ◌+++◌}
+use Rattle.shared_core_wire.specs.Value.{Part, Parts, Absent, Number, Bytes, Nested, Elements, Member, nil, cons}
+use Rattle.shared_core_wire.specs.Value.{one_part, ◌+++◌}
 use Rattle.shared_core_codec.proofs.FieldElements.{parts_push}
 use Rattle.shared_core_codec.specs.FieldParts.{parts_of}
 use Rattle.shared_core_codec.specs.Folding.{fold_read}
-use Rattle.shared_core_codec.specs.Kept.{BeginsWith, PartKept, PartsKept, PartAfter, RowAfter, RowsAfter, IsPartlyMerged}
+use Rattle.shared_core_codec.specs.Kept.{BeginsWith, PartKept, PartsKept, PartAfter, RowAfter, RowsAfter}
+use Rattle.shared_core_codec.specs.Kept.{IsPartlyMerged}
 use Rattle.shared_core_codec.specs.Occurrences.{merged_with}
 use Rattle.shared_core_codec.specs.Table.{table}
 
@@ -61,16 +64,20 @@ mutual
 -- ---- lists
 
 -- A list that did not change.
-pub same_elements : {A : Type 0} (view : A → Part) (xs ys : List A) → ys ≡ xs → BeginsWith (parts_of view xs) (parts_of view ys)
+pub same_elements : {A : Type 0} (view : A → Part) (xs ys : List A) → ys ≡ xs → BeginsWith (parts_of view xs)
+    (parts_of view ys)
 same_elements view xs ys e = (nil, ap (parts_of view) e ∙ sym (parts_append_nil (parts_of view xs)))
 
 -- A list to which an element was appended.
-pub pushed_elements : {A : Type 0} (view : A → Part) (xs ys : List A) (x : A) → ys ≡ xs ++ x ∷ [] → BeginsWith (parts_of view xs) (parts_of view ys)
+pub pushed_elements : {A : Type 0} (view : A → Part) (xs ys : List A) (x : A) → ys ≡ xs ++ x ∷ [] → BeginsWith
+    (parts_of view xs) (parts_of view ys)
 pushed_elements view xs ys x e = (one_part (view x), ap (parts_of view) e ∙ parts_push view xs x)
 
 -- A list to which an element more was appended.
-pub pushed_more : {A : Type 0} (view : A → Part) (ws xs ys : List A) (x : A) → ys ≡ xs ++ x ∷ [] → BeginsWith (parts_of view ws) (parts_of view xs) → BeginsWith (parts_of view ws) (parts_of view ys)
-pushed_more view ws xs ys x e h = begins_on (parts_of view ws) (parts_of view xs) (parts_of view ys) h (pushed_elements view xs ys x e)
+pub pushed_more : {A : Type 0} (view : A → Part) (ws xs ys : List A) (x : A) → ys ≡ xs ++ x ∷ [] → BeginsWith
+    (parts_of view ws) (parts_of view xs) → BeginsWith (parts_of view ws) (parts_of view ys)
+pushed_more view ws xs ys x e h = begins_on (parts_of view ws) (parts_of view xs) (parts_of view ys) h
+    (pushed_elements view xs ys x e)
 
 -- ---- one record
 
@@ -97,7 +104,11 @@ row_kept false p q ok h = part_equal p q h
 
 -- After one record nothing is lost.
 pub rows_kept : (rows : List Row) (n : ℕ) (v w : Parts) (ok : Bool) → RowsAfter rows n v w ok → PartsKept v w
-rows_kept (row ∷ rows) n (cons p ps) (cons q qs) ok h = (row_kept (includes (numbers row) n) p q ok h.0, rows_kept rows n ps qs ok h.1)
+rows_kept (row ∷ rows) n (cons p ps) (cons q qs) ok h = (
+  row_kept (includes (numbers row) n) p q ok h.0,
+  rows_kept rows
+      n ps qs ok h.1,
+)
 rows_kept _ n v w ok h = parts_equal v w h
 
 -- A merge that changes nothing.
@@ -123,7 +134,8 @@ rows_stay _ n v ok = refl
 -- ---- the records of a payload
 
 -- What comes after one record lies in the payload too.
-pub lies_later : (bytes : List ℕ) (rest later : List (Result PlacedRecord WireError)) (r : PlacedRecord) → rest ≡ Ok r ∷ later → EachLies bytes rest → EachLies bytes later
+pub lies_later : (bytes : List ℕ) (rest later : List (Result PlacedRecord WireError)) (r : PlacedRecord) → rest ≡ Ok r ∷
+    later → EachLies bytes rest → EachLies bytes later
 lies_later bytes rest later r e h = (subst (EachLies bytes) e h).1
 
 -- What holds, holds where there is an error.
@@ -133,28 +145,37 @@ on_err (Err e) P h = h
 
 module _ (left s : ℕ) where
   -- A record that was merged, one of a payload whose records allow `left` levels of nesting.
-  pub one_merged : (l : ℕ) (t r : FieldRecord) (v w : Parts) → l ≡ left → t ≡ r → (accepts_records table l s (t ∷ []) ≡ true) × (w ≡ overlay table l s v (t ∷ [])) → merged_with left s v r ≡ Some w
+  pub one_merged : (l : ℕ) (t r : FieldRecord) (v w : Parts) → l ≡ left → t ≡ r →
+      (accepts_records table l s (t ∷ []) ≡ true) × (w ≡ overlay table l s v (t ∷ [])) → merged_with left s v r ≡ Some w
   one_merged l t r v w e f m =
-      ap (λ k. merged_with k s v r) (sym e) ∙ ap (merged_with l s v) (sym f) ∙ ap (λ b. cond b (Some (overlay table l s v (t ∷ []))) None) m.0 ∙ ap (λ (u : Parts). Some u) (sym m.1)
+      ap (λ k. merged_with k s v r) (sym e) ∙ ap (merged_with l s v) (sym f) ∙ ap
+      (λ b. cond b (Some (overlay table l s v (t ∷ []))) None) m.0 ∙ ap (λ (u : Parts). Some u) (sym m.1)
 
   -- What is left to merge after one record.
-  pub fold_more : (now new : Parts) (rest later : List (Result PlacedRecord WireError)) (r : PlacedRecord) → rest ≡ Ok r ∷ later → merged_with left s now r.field_record ≡ Some new
+  pub fold_more : (now new : Parts) (rest later : List (Result PlacedRecord WireError)) (r : PlacedRecord) → rest ≡ Ok r
+      ∷ later → merged_with left s now r.field_record ≡ Some new
       → fold_read (merged_with left s) new later ≡ fold_read (merged_with left s) now rest
-  fold_more now new rest later r e m = sym (ap (fold_read (merged_with left s) now) e ∙ ap (λ o. o >>= λ t. fold_read (merged_with left s) t later) m)
+  fold_more now new rest later r e m = sym (ap (fold_read (merged_with left s) now) e ∙ ap
+      (λ o. o >>= λ t. fold_read (merged_with left s) t later) m)
 
   -- Of these items those before the rest are records, which merged into old give now.
-  pub record IsMergedSoFar (old : Parts) (items : List (Result PlacedRecord WireError)) (now : Parts) (rest : List (Result PlacedRecord WireError)) : Type 0 where
+  pub record IsMergedSoFar (old : Parts) (items : List (Result PlacedRecord WireError)) (now : Parts)
+      (rest : List (Result PlacedRecord WireError)) : Type 0 where
     pub each : (w : Parts) → IsPartlyMerged left s now rest w → IsPartlyMerged left s old items w
 
   -- Nothing is merged yet.
-  pub so_far_none : (old : Parts) (items rest : List (Result PlacedRecord WireError)) → rest ≡ items → IsMergedSoFar old items old rest
+  pub so_far_none : (old : Parts) (items rest : List (Result PlacedRecord WireError)) → rest ≡ items → IsMergedSoFar old
+      items old rest
   so_far_none old items rest e = record { each = λ w h. subst (λ is. IsPartlyMerged left s old is w) e h }
 
   -- A failure now, in the field of a number.
-  pub fails_now : (old now new : Parts) (items rest : List (Result PlacedRecord WireError)) (n : ℕ) → IsMergedSoFar old items now rest → RowsAfter (table s) n now new false → IsPartlyMerged left s old items new
-  fails_now old now new items rest n h k = h.each new (record { count = 0; before = now; merged = refl; number = n; after = k })
+  pub fails_now : (old now new : Parts) (items rest : List (Result PlacedRecord WireError)) (n : ℕ) → IsMergedSoFar old
+      items now rest → RowsAfter (table s) n now new false → IsPartlyMerged left s old items new
+  fails_now old now new items rest n h k = h.each new (record
+      { count = 0; before = now; merged = refl; number = n; after = k })
 
-  fails_later : (v u w : Parts) (r : PlacedRecord) (rest : List (Result PlacedRecord WireError)) → merged_with left s v r.field_record ≡ Some u
+  fails_later : (v u w : Parts) (r : PlacedRecord) (rest : List (Result PlacedRecord WireError)) → merged_with left s v
+      r.field_record ≡ Some u
       → IsPartlyMerged left s u rest w → IsPartlyMerged left s v (Ok r ∷ rest) w
   fails_later v u w r rest e h = record {
     count = suc h.count;
@@ -165,6 +186,10 @@ module _ (left s : ℕ) where
   }
 
   -- One record more is merged.
-  pub so_far_more : (old now new : Parts) (items rest later : List (Result PlacedRecord WireError)) (r : PlacedRecord) → rest ≡ Ok r ∷ later → merged_with left s now r.field_record ≡ Some new
+  pub so_far_more : (old now new : Parts) (items rest later : List (Result PlacedRecord WireError)) (r : PlacedRecord) →
+      rest ≡ Ok r ∷ later → merged_with left s now r.field_record ≡ Some new
       → IsMergedSoFar old items now rest → IsMergedSoFar old items new later
-  so_far_more old now new items rest later r e m h = record { each = λ w k. h.each w (subst (λ is. IsPartlyMerged left s now is w) (sym e) (fails_later now new w r later m k)) }
+  so_far_more old now new items rest later r e m h = record {
+    each = λ w k. h.each w
+        (subst (λ is. IsPartlyMerged left s now is w) (sym e) (fails_later now new w r later m k));
+  }

@@ -13,13 +13,19 @@ use Rattle.shared_core_codec.proofs.Tables.{are_schemas}
 pub canonical_is_read_back : (s : ℕ) (v : Parts) → Fits table v (table s) → IsReadBackLaw s v
 canonical_is_read_back s v f z l = canonical_back table are_schemas 100 s v f l z
 
-pub reads_back : (s : ℕ) (v : Parts) (bytes : List ℕ) → Fits table v (table s) → bytes ≡ canonical_payload table s v → length bytes < 2 ^ 32 → IsReadBack s v bytes
+pub reads_back : (s : ℕ) (v : Parts) (bytes : List ℕ) → Fits table v (table s) → bytes ≡ canonical_payload table s v →
+    length bytes < 2 ^ 32 → IsReadBack s v bytes
 reads_back s v bytes f e z l =
-    rw e (canonical_back table are_schemas 100 s v f l (let k : length (canonical_payload table s v) ≡ length bytes = ap length (sym e) in omega (arith, k, z)))
+    rw e (canonical_back table are_schemas 100 s v f l (let k : length (canonical_payload table s v) ≡ length bytes = ap
+    length (sym e) in omega (arith, k, z)))
 
 pub joined_payloads : (s : ℕ) → JoinedPayloadsLaw s
 joined_payloads s v a b g h = (accepts_payload-append table 100 s a b g h, overlay_bytes-append table 100 s v a b g h)
 
-pub encodes_one : (s : ℕ) (test : Bool) (v w : Parts) → Fits table v (table s) → Fits table w (table s) → DecidesEquality test v w → HasOneEncoding s test v w
-encodes_one s test v w f g same l m z =
-    (λ e. ap (canonical_payload table s) (same.sound e), λ e. same.complete (canonical_one table are_schemas 100 s v w f g l m z e))
+pub encodes_one : (s : ℕ) (test : Bool) (v w : Parts) → Fits table v (table s) → Fits table w (table s) →
+    DecidesEquality test v w → HasOneEncoding s test v w
+encodes_one s test v w f g same l m z = (
+  λ e. ap (canonical_payload table s) (same.sound e),
+  λ e. same.complete
+      (canonical_one table are_schemas 100 s v w f g l m z e),
+)

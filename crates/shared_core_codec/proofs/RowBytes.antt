@@ -1,13 +1,17 @@
 -- The bytes of a row, and of the rows one after the other.
-use Rattle.std.proofs.Common.{◌≡◌, ℕ, ◌<◌, List, [], ◌∷◌, ◌++◌, map, length, append_assoc, append-nil, length-append, refl, ap, sym, ◌∙◌, arith, true, false, Bool}
+use Rattle.std.proofs.Common.{◌≡◌, ℕ, ◌<◌, List, [], ◌∷◌, ◌++◌, map, length, append_assoc, append-nil, length-append}
+use Rattle.std.proofs.Common.{refl, ap, sym, ◌∙◌, arith, true, false, Bool}
 use Rattle.std.specs.Prelude.{flat_map, if◌then◌else◌}
 use Rattle.std.proofs.lemmas.List.Concat.{flat_map-append}
 use Rattle.std.proofs.lemmas.List.{map-append}
 use Rattle.shared_core_codec.specs.FieldParts.{parts_of}
-use Rattle.shared_core_codec.specs.RowEncoding.{length_record, row_bytes, unpacked, value_bytes, varint_record, varints_of, before_row, before_rows, row_size, rows_size}
+use Rattle.shared_core_codec.specs.RowEncoding.{length_record, row_bytes, unpacked, value_bytes, varint_record}
+use Rattle.shared_core_codec.specs.RowEncoding.{varints_of, before_row, before_rows, row_size, rows_size}
 use Rattle.shared_core_codec.specs.Table.{table}
-use Rattle.shared_core_wire.specs.Canonical.{canonical_payload, element_values, is_default, kind_of, message_records, number_bytes, part_values, row_records, written_number}
-use Rattle.shared_core_wire.specs.Schema.{Boolean, ByteString, Enumeration, Kind, Message, OneOf, Optional, Plain, Repeated, Row, Text, U32, U64, member_kind}
+use Rattle.shared_core_wire.specs.Canonical.{canonical_payload, element_values, is_default, kind_of, message_records}
+use Rattle.shared_core_wire.specs.Canonical.{number_bytes, part_values, row_records, written_number}
+use Rattle.shared_core_wire.specs.Schema.{Boolean, ByteString, Enumeration, Kind, Message, OneOf, Optional, Plain}
+use Rattle.shared_core_wire.specs.Schema.{Repeated, Row, Text, U32, U64, member_kind}
 use Rattle.shared_core_wire.specs.Encoding.{record_bytes, record_list_bytes, shortest_varint}
 use Rattle.shared_core_wire.specs.Value.{Absent, Bytes, Elements, Member, Nested, Number, Part, Parts, cons, nil}
 
@@ -17,7 +21,8 @@ pub option_bytes : (n : ℕ) (k : Kind) (p : Part) → row_bytes (Optional n k) 
 unfolding row_bytes value_bytes part_values
 option_bytes n k p = refl
 
-pub member_bytes : (n : ℕ) (ms : List (ℕ × Kind)) (p : Part) → row_bytes (OneOf ms) (Member n p) ≡ value_bytes n (member_kind ms n) p
+pub member_bytes : (n : ℕ) (ms : List (ℕ × Kind)) (p : Part) → row_bytes (OneOf ms) (Member n p) ≡ value_bytes n
+    (member_kind ms n) p
 unfolding row_bytes value_bytes part_values
 member_bytes n ms p = refl
 
@@ -29,7 +34,8 @@ pub no_member : (ms : List (ℕ × Kind)) → row_bytes (OneOf ms) Absent ≡ []
 unfolding row_bytes part_values
 no_member ms = refl
 
-pub number_value_bytes : (at : ℕ) (k : Kind) (n : ℕ) → value_bytes at k (Number n) ≡ varint_record at (written_number k n)
+pub number_value_bytes : (at : ℕ) (k : Kind) (n : ℕ) → value_bytes at k (Number n) ≡ varint_record at
+    (written_number k n)
 unfolding value_bytes part_values
 number_value_bytes at k n = append-nil _
 
@@ -37,13 +43,16 @@ pub bytes_value_bytes : (at : ℕ) (k : Kind) (b : List ℕ) → value_bytes at 
 unfolding value_bytes part_values
 bytes_value_bytes at k b = append-nil _
 
-pub message_bytes : (at s : ℕ) (ps : Parts) → value_bytes at (Message s) (Nested ps) ≡ length_record at (canonical_payload table s ps)
+pub message_bytes : (at s : ℕ) (ps : Parts) → value_bytes at (Message s) (Nested ps) ≡ length_record at
+    (canonical_payload table s ps)
 unfolding value_bytes part_values
 message_bytes at s ps = append-nil _
 
-plain_bytes : (at : ℕ) (k : Kind) (p : Part) (b : Bool) → is_default p ≡ b → row_bytes (Plain at k) p ≡ record_list_bytes (map (λ w. record { number = at; value = w }) (if b then [] else part_values table p k))
+plain_bytes : (at : ℕ) (k : Kind) (p : Part) (b : Bool) → is_default p ≡ b → row_bytes (Plain at k) p ≡
+    record_list_bytes (map (λ w. record { number = at; value = w }) (if b then [] else part_values table p k))
 unfolding row_bytes
-plain_bytes at k p b e = ap (λ (t : Bool). record_list_bytes (map (λ w. record { number = at; value = w }) (if t then [] else part_values table p k))) e
+plain_bytes at k p b e = ap (λ (t : Bool). record_list_bytes
+    (map (λ w. record { number = at; value = w }) (if t then [] else part_values table p k))) e
 
 pub plain_default : (at : ℕ) (k : Kind) (p : Part) → is_default p ≡ true → row_bytes (Plain at k) p ≡ []
 plain_default at k p e = plain_bytes at k p true e
@@ -61,11 +70,16 @@ pub each_nil : (at : ℕ) (k : Kind) → each_bytes at k nil ≡ []
 unfolding each_bytes element_values
 each_nil at k = refl
 
-pub each_cons : (at : ℕ) (k : Kind) (p : Part) (ps : Parts) → each_bytes at k (cons p ps) ≡ value_bytes at k p ++ each_bytes at k ps
+pub each_cons : (at : ℕ) (k : Kind) (p : Part) (ps : Parts) → each_bytes at k (cons p ps) ≡ value_bytes at k p ++
+    each_bytes at k ps
 unfolding each_bytes value_bytes element_values
-each_cons at k p ps = ap record_list_bytes (map-append (λ w. record { number = at; value = w }) (part_values table p k) (element_values table ps k)) ∙ flat_map-append record_bytes (map (λ w. record { number = at; value = w }) (part_values table p k)) (map (λ w. record { number = at; value = w }) (element_values table ps k))
+each_cons at k p ps = ap record_list_bytes (map-append (λ w. record { number = at; value = w }) (part_values table p k)
+    (element_values table ps k)) ∙ flat_map-append record_bytes
+    (map (λ w. record { number = at; value = w }) (part_values table p k))
+    (map (λ w. record { number = at; value = w }) (element_values table ps k))
 
-pub elements_bytes : (at : ℕ) (k : Kind) (ps : Parts) → unpacked k ≡ true → row_bytes (Repeated at k) (Elements ps) ≡ each_bytes at k ps
+pub elements_bytes : (at : ℕ) (k : Kind) (ps : Parts) → unpacked k ≡ true → row_bytes (Repeated at k) (Elements ps) ≡
+    each_bytes at k ps
 unfolding row_bytes each_bytes part_values
 elements_bytes at U32 ps h = cc
 elements_bytes at U64 ps h = refl
@@ -75,17 +89,20 @@ elements_bytes at Text ps h = refl
 elements_bytes at ByteString ps h = refl
 elements_bytes at (Message s) ps h = refl
 
-packed_values_bytes : (ns : List ℕ) → flat_map number_bytes (element_values table (parts_of Number ns) U32) ≡ varints_of ns
+packed_values_bytes : (ns : List ℕ) → flat_map number_bytes (element_values table (parts_of Number ns) U32) ≡ varints_of
+    ns
 unfolding element_values varints_of
 packed_values_bytes [] = refl
 packed_values_bytes (n ∷ ns) = ap (λ (t : List ℕ). shortest_varint n ++ t) (packed_values_bytes ns)
 
-pub no_packed : (at : ℕ) (ns : List ℕ) → length ns ≡ 0 → row_bytes (Repeated at U32) (Elements (parts_of Number ns)) ≡ []
+pub no_packed : (at : ℕ) (ns : List ℕ) → length ns ≡ 0 → row_bytes (Repeated at U32) (Elements (parts_of Number ns)) ≡
+    []
 unfolding row_bytes part_values
 no_packed at [] h = refl
 no_packed at (n ∷ ns) h = absurd (omega (arith, h))
 
-pub some_packed : (at : ℕ) (ns : List ℕ) → 0 < length ns → row_bytes (Repeated at U32) (Elements (parts_of Number ns)) ≡ length_record at (varints_of ns)
+pub some_packed : (at : ℕ) (ns : List ℕ) → 0 < length ns → row_bytes (Repeated at U32) (Elements (parts_of Number ns)) ≡
+    length_record at (varints_of ns)
 unfolding row_bytes part_values
 some_packed at [] h = absurd (omega arith)
 some_packed at (n ∷ ns) h = append-nil _ ∙ ap (length_record at) (packed_values_bytes (n ∷ ns))
@@ -133,11 +150,15 @@ unfolding message_records
 rows_end nil = refl
 rows_end (cons p ps) = refl
 
-pub rows_cons : (p : Part) (ps : Parts) (row : Row) (rows : List Row) → record_list_bytes (message_records table (cons p ps) (row ∷ rows)) ≡ row_bytes row p ++ record_list_bytes (message_records table ps rows)
+pub rows_cons : (p : Part) (ps : Parts) (row : Row) (rows : List Row) → record_list_bytes
+    (message_records table (cons p ps) (row ∷ rows)) ≡ row_bytes row p ++ record_list_bytes
+    (message_records table ps rows)
 unfolding message_records row_bytes
-rows_cons p ps row rows = flat_map-append record_bytes (row_records row p (part_values table p (kind_of row p))) (message_records table ps rows)
+rows_cons p ps row rows = flat_map-append record_bytes (row_records row p (part_values table p (kind_of row p)))
+    (message_records table ps rows)
 
-pub before_rows_is : (rows : List Row) (ps : Parts) (xs : List ℕ) → before_rows rows ps xs ≡ record_list_bytes (message_records table ps rows) ++ xs
+pub before_rows_is : (rows : List Row) (ps : Parts) (xs : List ℕ) → before_rows rows ps xs ≡ record_list_bytes
+    (message_records table ps rows) ++ xs
 before_rows_is [] nil xs = rw (rows_nil []) refl
 before_rows_is [] (cons p ps) xs = rw (rows_end (cons p ps)) refl
 before_rows_is (row ∷ rows) nil xs = rw (rows_nil (row ∷ rows)) refl
@@ -145,14 +166,23 @@ before_rows_is (row ∷ rows) (cons p ps) xs =
     before_row_is row p (before_rows rows ps xs) ∙ ap (λ (t : List ℕ). row_bytes row p ++ t) (before_rows_is rows ps xs)
     ∙ sym (append_assoc (row_bytes row p) _ xs) ∙ ap (λ (t : List ℕ). t ++ xs) (sym (rows_cons p ps row rows))
 
-pub rows_size_is : (rows : List Row) (ps : Parts) → rows_size rows ps ≡ length (record_list_bytes (message_records table ps rows))
+pub rows_size_is : (rows : List Row) (ps : Parts) → rows_size rows ps ≡ length
+    (record_list_bytes (message_records table ps rows))
 rows_size_is [] nil = rw (rows_nil []) refl
 rows_size_is [] (cons p ps) = rw (rows_end (cons p ps)) refl
 rows_size_is (row ∷ rows) nil = rw (rows_nil (row ∷ rows)) refl
 rows_size_is (row ∷ rows) (cons p ps) =
-    omega (arith, row_size_is row p, rows_size_is rows ps, ap length (rows_cons p ps row rows), length-append (row_bytes row p) (record_list_bytes (message_records table ps rows)))
+    omega (
+      arith,
+      row_size_is row p,
+      rows_size_is rows ps,
+      ap length (rows_cons p ps row rows),
+      length-append
+          (row_bytes row p) (record_list_bytes (message_records table ps rows)),
+    )
 
-pub written_before : (s : ℕ) (ps : Parts) (xs : List ℕ) → before_rows (table s) ps xs ≡ canonical_payload table s ps ++ xs
+pub written_before : (s : ℕ) (ps : Parts) (xs : List ℕ) → before_rows (table s) ps xs ≡ canonical_payload table s ps ++
+    xs
 written_before s ps xs = before_rows_is (table s) ps xs
 
 pub payload_size : (s : ℕ) (ps : Parts) → rows_size (table s) ps ≡ length (canonical_payload table s ps)

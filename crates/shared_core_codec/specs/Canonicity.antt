@@ -1,5 +1,6 @@
 -- Which payloads are canonical, and how the records of a payload are checked for it, one after the other.
-use Rattle.std.specs.Prelude.{◌≡◌, ℕ, zero, suc, ◌+◌, ◌-◌, ◌^◌, ◌<◌, ◌≤◌, Bool, true, false, not, ◌&&◌, ◌||◌, List, [], ◌∷◌, length, nat_lt, ◌==◌, if◌then◌else◌, Option, Some, None, is_some, Result, Ok, Err}
+use Rattle.std.specs.Prelude.{◌≡◌, ℕ, zero, suc, ◌+◌, ◌-◌, ◌^◌, ◌<◌, ◌≤◌, Bool, true, false, not, ◌&&◌, ◌||◌, List, []}
+use Rattle.std.specs.Prelude.{◌∷◌, length, nat_lt, ◌==◌, if◌then◌else◌, Option, Some, None, is_some, Result, Ok, Err}
 use Rattle.shared_core_wire.specs.Grammar.{RecordValue, Varint, Length, FieldRecord}
 use Rattle.shared_core_wire.specs.Reader.{◌>>=◌, varint_at, sequence_past, record_list}
 use Rattle.shared_core_wire.specs.ReadRecords.{PlacedRecord}

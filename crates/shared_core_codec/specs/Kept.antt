@@ -46,12 +46,14 @@ RowAfter false old new ok = new ≡ old
 -- The parts of a message after one record was merged, which was ok or has failed: only the row of the record's number
 -- may have changed, and nothing is lost in it.
 abbrev pub RowsAfter : List Row → ℕ → Parts → Parts → Bool → Type 0
-RowsAfter (row ∷ rows) n (cons p ps) (cons q qs) ok = RowAfter (includes (numbers row) n) p q ok × RowsAfter rows n ps qs ok
+RowsAfter (row ∷ rows) n (cons p ps) (cons q qs) ok = RowAfter (includes (numbers row) n) p q ok × RowsAfter rows n ps
+    qs ok
 RowsAfter _ n old new ok = new ≡ old
 
 -- Merging the items of a payload into a message has failed at one of them: those before it are records, and they are
 -- merged; since then only the row of one number may have changed, and nothing is lost in it.
-pub record IsPartlyMerged (left s : ℕ) (old : Parts) (items : List (Result PlacedRecord WireError)) (new : Parts) : Type 0 where
+pub record IsPartlyMerged (left s : ℕ) (old : Parts) (items : List (Result PlacedRecord WireError)) (new : Parts) : Type
+    0 where
   pub count : ℕ
   pub before : Parts
   pub merged : fold_read (merged_with left s) old (take count items) ≡ Some before

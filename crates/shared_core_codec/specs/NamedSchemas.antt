@@ -1,7 +1,8 @@
 -- The schemas that message kinds name.
 use Rattle.std.specs.Prelude.{ℕ, Bool, List, [], ◌∷◌, length, flat_map, nat_lt}
 use Rattle.std.specs.List.{list_all}
-use Rattle.shared_core_wire.specs.Schema.{Kind, Row, U32, U64, Boolean, Enumeration, Text, ByteString, Message, Plain, Optional, Repeated, OneOf}
+use Rattle.shared_core_wire.specs.Schema.{Kind, Row, U32, U64, Boolean, Enumeration, Text, ByteString, Message, Plain}
+use Rattle.shared_core_wire.specs.Schema.{Optional, Repeated, OneOf}
 use Rattle.shared_core_codec.specs.Table.{schemas}
 
 -- The schema that a message kind names.

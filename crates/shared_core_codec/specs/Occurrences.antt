@@ -44,7 +44,8 @@ field_accepts o k = accepts_value (accepts_message table o.left) k (value_in o)
 -- The occurrence is well-formed for a field of this kind, and merged into a field that holds the part old it gives the
 -- part p.
 abbrev pub FieldBecomes : Occurrence → Kind → Part → Part → Type 0
-FieldBecomes o k old p = (field_accepts o k ≡ true) × (singular_of table (message_overlay table o.left) k old (value_in o) [] ≡ p)
+FieldBecomes o k old p = (field_accepts o k ≡ true) × (singular_of table (message_overlay table o.left) k old
+    (value_in o) [] ≡ p)
 
 -- ---- repeated fields
 
@@ -55,7 +56,8 @@ repeated_accepts o k = accepts_element (accepts_message table o.left) k (value_i
 -- The occurrence is well-formed for a repeated field of this kind, and appended to the elements old it gives the
 -- elements new.
 abbrev pub FieldExtends : Occurrence → Kind → Parts → Parts → Type 0
-FieldExtends o k old new = (repeated_accepts o k ≡ true) × (new ≡ old +++ all_elements table (message_overlay table o.left) k (value_in o ∷ []))
+FieldExtends o k old new = (repeated_accepts o k ≡ true) × (new ≡ old +++ all_elements table
+    (message_overlay table o.left) k (value_in o ∷ []))
 
 -- ---- oneofs
 
@@ -70,7 +72,8 @@ member_accepts o members = accepts_value (accepts_message table o.left) (member_
 -- The occurrence is well-formed for the member of its number, and merged into a oneof that holds the part old it gives
 -- the part p.
 abbrev pub MemberBecomes : Occurrence → List (ℕ × Kind) → Part → Part → Type 0
-MemberBecomes o members old p = (member_accepts o members ≡ true) × (oneof_over table (message_overlay table o.left) members old (record_in o ∷ []) ≡ p)
+MemberBecomes o members old p = (member_accepts o members ≡ true) ×
+    (oneof_over table (message_overlay table o.left) members old (record_in o ∷ []) ≡ p)
 
 -- ---- whole messages
 

@@ -21,7 +21,8 @@ FieldFits (Repeated n k) p = RowFits (Repeated n k) p
 FieldFits (Optional n k) Absent = Unit {0}
 FieldFits (Optional n k) p = ValueFits k p
 FieldFits (OneOf members) Absent = Unit {0}
-FieldFits (OneOf members) (Member n p) = (includes (numbers (OneOf members)) n ≡ true) × ValueFits (member_kind members n) p
+FieldFits (OneOf members) (Member n p) = (includes (numbers (OneOf members)) n ≡ true) × ValueFits
+    (member_kind members n) p
 FieldFits (OneOf members) p = RowFits (OneOf members) p
 
 -- There is a part for each row, and each fits.

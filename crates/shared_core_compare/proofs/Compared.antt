@@ -7,14 +7,19 @@ use Rattle.shared_core_wire.specs.Value.{Part, Parts, cons, empty_part}
 use Rattle.shared_core_codec.specs.Equality.{part_equal}
 use Rattle.shared_core_codec.specs.EqualityRules.{part_equal_sound, part_equal_refl, both_of}
 use Rattle.shared_core_codec.specs.Table.{table}
-use Rattle.shared_core_compare.specs.Commands.{CommandFields, command_fields, first_part, rest_parts, row_part, name_part, name_number}
+use Rattle.shared_core_compare.specs.Commands.{CommandFields, command_fields, first_part, rest_parts, row_part}
+use Rattle.shared_core_compare.specs.Commands.{name_part, name_number}
 use Rattle.shared_core_compare.specs.Erasure.{erased, erased_part, erased_parts, has_any, without_payloads}
-use Rattle.shared_core_compare.specs.Differences.{FieldTexts, are_covered, difference, differing_fields, field_difference, field_line, is_printed_whole, numbered_difference, row_text}
+use Rattle.shared_core_compare.specs.Differences.{FieldTexts, are_covered, difference, differing_fields}
+use Rattle.shared_core_compare.specs.Differences.{field_difference, field_line, is_printed_whole, numbered_difference}
+use Rattle.shared_core_compare.specs.Differences.{row_text}
 
 -- ---- erasure where payloads are ignored, after erasure where they are not
 
 erased_twice : (among payload : Bool) (empty p : Part) (without : Part → Part) →
-    (if among then empty else (if payload && true then without (if among then empty else (if payload && false then without p else p)) else (if among then empty else (if payload && false then without p else p))))
+    (if among then empty else (if payload && true then without
+    (if among then empty else (if payload && false then without p else p)) else
+    (if among then empty else (if payload && false then without p else p))))
     ≡ (if among then empty else (if payload && true then without p else p))
 erased_twice true payload empty p without = refl
 erased_twice false true empty p without = refl
@@ -24,11 +29,13 @@ erased_again : (fields : CommandFields) (rows : List Row) (v : Parts)
     → erased_parts fields true rows (erased_parts fields false rows v) ≡ erased_parts fields true rows v
 erased_again fields [] v = refl
 erased_again fields (row ∷ rows) v =
-    let head = erased_twice (has_any fields.not_compared row) (has_any fields.payloads row) (empty_part row) (first_part v) (without_payloads fields.payloads row) in
+    let head = erased_twice (has_any fields.not_compared row) (has_any fields.payloads row) (empty_part row)
+    (first_part v) (without_payloads fields.payloads row) in
     let tail = erased_again fields rows (rest_parts v) in cc
 
 -- Commands that are the same with their payloads are the same without.
-pub same_without_payloads : (s : ℕ) (a b : Parts) → erased s false a ≡ erased s false b → erased s true a ≡ erased s true b
+pub same_without_payloads : (s : ℕ) (a b : Parts) → erased s false a ≡ erased s false b → erased s true a ≡ erased s
+    true b
 same_without_payloads s a b e =
     let p = erased_again (command_fields s) (table s) a in
     let q = erased_again (command_fields s) (table s) b in cc
@@ -44,7 +51,8 @@ second_nothing [] y e = e
 second_nothing (b ∷ x) y e = cc
 
 -- Without lines there are no fields.
-no_line_no_field : (indentation : List ℕ) (fields : List FieldTexts) → flat_map (field_line indentation) fields ≡ [] → fields ≡ []
+no_line_no_field : (indentation : List ℕ) (fields : List FieldTexts) → flat_map (field_line indentation) fields ≡ [] →
+    fields ≡ []
 no_line_no_field indentation [] e = refl
 no_line_no_field indentation (field ∷ fields) e = cc
 
@@ -81,19 +89,26 @@ differing_of fields rows a b = flat_map (λ field. numbered_difference field row
 
 -- Where no field differs, the first row holds the same, if it has one of them.
 covered_same : (row : Row) (rows : List Row) (a b : Parts) (fields : List (ℕ × List ℕ))
-    → list_any (λ field. includes (numbers row) field.0) fields ≡ true → differing_of fields (row ∷ rows) a b ≡ [] → first_part a ≡ first_part b
+    → list_any (λ field. includes (numbers row) field.0) fields ≡ true → differing_of fields (row ∷ rows) a b ≡ [] →
+    first_part a ≡ first_part b
 covered_same row rows a b [] covered none = cc
 covered_same row rows a b (f ∷ fields) covered none = by_test (includes (numbers row) f.0)
     (λ t. no_field_same f.1 (row_text row) (first_part a) (first_part b) (first_nothing _ _ (rw t at none)))
     (λ t. covered_same row rows a b fields (rw t at covered) (second_nothing _ _ none))
 
 -- Where no field differs, none of the other rows' does.
-rest_none : (row : Row) (rows : List Row) (a b : Parts) (fields : List (ℕ × List ℕ)) → differing_of fields (row ∷ rows) a b ≡ []
-    → differing_of (filter (λ field. not (includes (numbers row) field.0)) fields) rows (rest_parts a) (rest_parts b) ≡ []
+rest_none : (row : Row) (rows : List Row) (a b : Parts) (fields : List (ℕ × List ℕ)) → differing_of fields (row ∷ rows)
+    a b ≡ []
+    → differing_of (filter (λ field. not (includes (numbers row) field.0)) fields) rows (rest_parts a) (rest_parts b) ≡
+    []
 rest_none row rows a b [] none = refl
 rest_none row rows a b (f ∷ fields) none =
     let after = rest_none row rows a b fields (second_nothing _ _ none) in
-    by_test (includes (numbers row) f.0) (λ t. rw t after) (λ t. rw (t, first_nothing (numbered_difference f rows (rest_parts a) (rest_parts b)) (differing_of fields (row ∷ rows) a b) (rw t at none)) after)
+    by_test (includes (numbers row) f.0) (λ t. rw t after) (λ t. rw (
+      t,
+      first_nothing (numbered_difference f rows (rest_parts a) (rest_parts b))
+          (differing_of fields (row ∷ rows) a b) (rw t at none),
+    ) after)
 
 -- Where no field differs, the rows that have one of them hold the same, and the others are erased.
 covered_rows_same : (fields : CommandFields) (printed : List (ℕ × List ℕ)) (rows : List Row) (a b : Parts)
@@ -101,15 +116,18 @@ covered_rows_same : (fields : CommandFields) (printed : List (ℕ × List ℕ)) 
     → erased_parts fields false rows a ≡ erased_parts fields false rows b
 covered_rows_same fields printed [] a b covered none = refl
 covered_rows_same fields printed (row ∷ rows) a b covered none =
-    let both = both_of (has_any fields.not_compared row || list_any (λ field. includes (numbers row) field.0) printed) _ covered in
+    let both = both_of (has_any fields.not_compared row || list_any (λ field. includes (numbers row) field.0) printed) _
+    covered in
     let head : erased_part fields false row (first_part a) ≡ erased_part fields false row (first_part b) =
     by_test (has_any fields.not_compared row) (λ t. rw t refl)
     (λ t. rw (t, covered_same row rows a b printed (rw t at both.0) none) refl) in
-    let tail = covered_rows_same fields (filter (λ field. not (includes (numbers row) field.0)) printed) rows (rest_parts a) (rest_parts b) both.1 (rest_none row rows a b printed none) in
+    let tail = covered_rows_same fields (filter (λ field. not (includes (numbers row) field.0)) printed) rows
+    (rest_parts a) (rest_parts b) both.1 (rest_none row rows a b printed none) in
     λ i. cons (head i) (tail i)
 
 -- Commands of one name and without a difference are the same, if each field that is compared is printed.
-pub same_without_lines : (s : ℕ) (indentation : List ℕ) (a b : Parts) → is_printed_whole s ≡ true → name_part s a ≡ name_part s b
+pub same_without_lines : (s : ℕ) (indentation : List ℕ) (a b : Parts) → is_printed_whole s ≡ true → name_part s a ≡
+    name_part s b
     → difference s indentation a b ≡ [] → erased s false a ≡ erased s false b
 same_without_lines s indentation a b whole name none =
     covered_rows_same (command_fields s) ((name_number, []) ∷ (command_fields s).printed) (table s) a b whole

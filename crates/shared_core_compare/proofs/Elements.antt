@@ -15,7 +15,8 @@ flat_elements part text (x ∷ xs) = ap (λ (r : List ℕ). text (part x) ++ r) 
 pub joined_elements : {X : Type 0} (part : X → Part) (text : Part → List ℕ) (separator : List ℕ) (xs : List X)
     → join_by (λ x. text (part x)) separator xs ≡ join_by text separator (listed (parts_of part xs))
 joined_elements part text separator [] = refl
-joined_elements part text separator (x ∷ xs) = ap (λ (r : List ℕ). text (part x) ++ r) (flat_elements part (λ p. separator ++ text p) xs)
+joined_elements part text separator (x ∷ xs) = ap (λ (r : List ℕ). text (part x) ++ r)
+    (flat_elements part (λ p. separator ++ text p) xs)
 
 -- Byte strings are those that their elements hold.
 pub byte_strings : (xs : List (List ℕ)) → xs ≡ map bytes_of (listed (parts_of Bytes xs))

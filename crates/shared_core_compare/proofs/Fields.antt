@@ -10,13 +10,15 @@ use Rattle.shared_core_codec.specs.Table as schema
 use Rattle.shared_core_parts.specs.Texts.{headers_text}
 use Rattle.shared_core_parts.specs.declared.header.Header.{Header}
 use Rattle.shared_core_parts.specs.contracts.header.HeaderWireRecord.TheImpl as header
-use Rattle.shared_core_compare.specs.Differences.{FieldTexts, HasWrittenFields, elements_text, field_difference, field_texts, kind_text}
+use Rattle.shared_core_compare.specs.Differences.{FieldTexts, HasWrittenFields, elements_text, field_difference}
+use Rattle.shared_core_compare.specs.Differences.{field_texts, kind_text}
 use Rattle.shared_core_compare.proofs.Elements.{joined_elements}
 
 -- ---- one field
 
 -- What is written unless a test holds that says whether two parts are the same is their field, if they differ.
-pub field_is : (test : Bool) (field : List ℕ) (text : Part → List ℕ) (p q : Part) → ((test ≡ true → p ≡ q) × (p ≡ q → test ≡ true))
+pub field_is : (test : Bool) (field : List ℕ) (text : Part → List ℕ) (p q : Part) →
+    ((test ≡ true → p ≡ q) × (p ≡ q → test ≡ true))
     → (if test then [] else (field_texts field (text p) (text q) ∷ [])) ≡ field_difference field text p q
 unfolding field_difference
 field_is test field text p q d = rw (part_test_is test p q (record { sound = d.0; complete = d.1 })) refl
@@ -26,7 +28,8 @@ abbrev pub headers_part : List Header → Part
 headers_part = elements_part (message_part header.parts-value.it)
 
 -- What headers print.
-headers_print : (headers : List Header) → headers_text headers ≡ elements_text (kind_text (Message schema.header)) (headers_part headers)
+headers_print : (headers : List Header) → headers_text headers ≡ elements_text (kind_text (Message schema.header))
+    (headers_part headers)
 headers_print = joined_elements (message_part header.parts-value.it) (kind_text (Message schema.header)) comma_space
 
 -- The same of headers.
@@ -36,21 +39,27 @@ pub headers_field_is : (test : Bool) (field : List ℕ) (a b : List Header)
     ≡ field_difference field (elements_text (kind_text (Message schema.header))) (headers_part a) (headers_part b)
 headers_field_is test field a b d =
     ap (λ (t : List ℕ). if test then [] else (field_texts field t (headers_text b) ∷ [])) (headers_print a)
-    ∙ (ap (λ (t : List ℕ). if test then [] else (field_texts field (elements_text (kind_text (Message schema.header)) (headers_part a)) t ∷ [])) (headers_print b)
+    ∙ (ap (λ (t : List ℕ). if test then [] else (field_texts field
+    (elements_text (kind_text (Message schema.header)) (headers_part a)) t ∷ [])) (headers_print b)
     ∙ field_is test field (elements_text (kind_text (Message schema.header))) (headers_part a) (headers_part b) d)
 
 -- What a list prints, from what each of its values prints.
-list_prints : {X : Type 0} (part : X → Part) (text : Part → List ℕ) (xs : List X) → join_by (λ x. text (part x)) comma_space xs ≡ elements_text text (elements_part part xs)
+list_prints : {X : Type 0} (part : X → Part) (text : Part → List ℕ) (xs : List X) → join_by (λ x. text (part x))
+    comma_space xs ≡ elements_text text (elements_part part xs)
 list_prints part text = joined_elements part text comma_space
 
 -- The same of a list.
 pub list_field_is : {X : Type 0} (part : X → Part) (each : Part → List ℕ) (test : Bool) (field : List ℕ) (a b : List X)
-    → ((test ≡ true → elements_part part a ≡ elements_part part b) × (elements_part part a ≡ elements_part part b → test ≡ true))
-    → (if test then [] else (field_texts field (join_by (λ x. each (part x)) comma_space a) (join_by (λ x. each (part x)) comma_space b) ∷ []))
+    → ((test ≡ true → elements_part part a ≡ elements_part part b) ×
+    (elements_part part a ≡ elements_part part b → test ≡ true))
+    → (if test then [] else (field_texts field (join_by (λ x. each (part x)) comma_space a)
+    (join_by (λ x. each (part x)) comma_space b) ∷ []))
     ≡ field_difference field (elements_text each) (elements_part part a) (elements_part part b)
 list_field_is part each test field a b d =
-    ap (λ (t : List ℕ). if test then [] else (field_texts field t (join_by (λ x. each (part x)) comma_space b) ∷ [])) (list_prints part each a)
-    ∙ (ap (λ (t : List ℕ). if test then [] else (field_texts field (elements_text each (elements_part part a)) t ∷ [])) (list_prints part each b)
+    ap (λ (t : List ℕ). if test then [] else (field_texts field t (join_by (λ x. each (part x)) comma_space b) ∷ []))
+    (list_prints part each a)
+    ∙ (ap (λ (t : List ℕ). if test then [] else (field_texts field (elements_text each (elements_part part a)) t ∷ []))
+    (list_prints part each b)
     ∙ field_is test field (elements_text each) (elements_part part a) (elements_part part b) d)
 
 -- ---- fields that are written

@@ -15,12 +15,14 @@ module _ {W : Type 0} (took : W → List ℕ → W → Type 0) (indentation : Li
   folded_lines : (f g : Formatter W) (fields : List FieldTexts) → FoldsTo WritesLine f fields g → IsPlainFormatter f
       → HasWritten took f (flat_map (field_line indentation) fields) g
   folded_lines f g [] p plain =
-      subst (λ (x : Formatter W). HasWritten took f [] x) p (record { wrote = writes_in_calls_nil took _; plain = plain })
+      subst (λ (x : Formatter W). HasWritten took f [] x) p (record
+      { wrote = writes_in_calls_nil took _; plain = plain })
   folded_lines f g (field ∷ fields) p plain =
       let one = p.1 plain in
       has_written_append took f _ p.0 _ g one (folded_lines p.0 g fields p.2 one.plain)
 
   -- Fields that are written as lines are the text of these lines.
-  pub fields_are_lines : (f g : Formatter W) (fields : List FieldTexts) → HasWrittenFields WritesLine f fields g → IsPlainFormatter f
+  pub fields_are_lines : (f g : Formatter W) (fields : List FieldTexts) → HasWrittenFields WritesLine f fields g →
+      IsPlainFormatter f
       → HasWritten took f (flat_map (field_line indentation) fields) g
   fields_are_lines f g fields written = folded_lines f g fields written.folds

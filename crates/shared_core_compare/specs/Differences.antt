@@ -1,15 +1,18 @@
 -- The printed difference of two commands: what values print, and the lines.
-use Rattle.std.specs.Prelude.{ℕ, Bool, true, ◌&&◌, ◌||◌, not, List, [], ◌∷◌, map, flat_map, filter, nat_eq, codes, if◌then◌else◌, IsOk, Result}
+use Rattle.std.specs.Prelude.{ℕ, Bool, true, ◌&&◌, ◌||◌, not, List, [], ◌∷◌, map, flat_map, filter, nat_eq, codes}
+use Rattle.std.specs.Prelude.{if◌then◌else◌, IsOk, Result}
 use Rattle.std.specs.Fmt.{decimal, comma_space}
 use Rattle.std.specs.List.{FoldsTo, join_by, list_any}
 use Rattle.std.specs.declared.fmt.Error.{Error}
 use Rattle.shared_core_base.specs.Differences.{bytes_text, diff_line}
-use Rattle.shared_core_wire.specs.Schema.{Kind, Row, Boolean, Text, ByteString, Message, Plain, Optional, Repeated, OneOf, numbers, includes, member_kind}
+use Rattle.shared_core_wire.specs.Schema.{Kind, Row, Boolean, Text, ByteString, Message, Plain, Optional, Repeated}
+use Rattle.shared_core_wire.specs.Schema.{OneOf, numbers, includes, member_kind}
 use Rattle.shared_core_wire.specs.Value.{Part, Parts, Number, Bytes, Nested, Elements, Member, nil, cons}
 use Rattle.shared_core_wire.specs.Template.{part_at}
 use Rattle.shared_core_codec.specs.Table.{table}
 use Rattle.shared_core_codec.specs.Table as schema
-use Rattle.shared_core_codec.specs.PartFields.{value_content, failure_code, failure_message, header_key, header_value, state_keys_keys}
+use Rattle.shared_core_codec.specs.PartFields.{value_content, failure_code, failure_message, header_key, header_value}
+use Rattle.shared_core_codec.specs.PartFields.{state_keys_keys}
 use Rattle.shared_core_codec.specs.Equality.{is_present, part_equal}
 use Rattle.shared_core_parts.specs.Texts.{value_text, failure_text, header_text, state_keys_text}
 use Rattle.shared_core_compare.specs.Commands.{command_fields, first_part, rest_parts, name_number}
@@ -100,7 +103,8 @@ field_difference name text actual expected =
 abbrev pub numbered_difference : ℕ × List ℕ → List Row → Parts → Parts → List FieldTexts
 numbered_difference field [] actual expected = []
 numbered_difference field (row ∷ rows) actual expected =
-    if includes (numbers row) field.0 then field_difference field.1 (row_text row) (first_part actual) (first_part expected)
+    if includes (numbers row) field.0 then field_difference field.1 (row_text row) (first_part actual)
+    (first_part expected)
     else numbered_difference field rows (rest_parts actual) (rest_parts expected)
 
 -- The printed fields in which two commands of a schema differ, in their order.
@@ -117,11 +121,13 @@ abbrev pub difference : ℕ → List ℕ → Parts → Parts → List ℕ
 difference s indentation actual expected = flat_map (field_line indentation) (differing_fields s actual expected)
 
 -- Some fields are written one after the other, each as this relation says.
-pub record HasWrittenFields {T : Type 0} (writes : T → FieldTexts → T → Type 0) (old : T) (fields : List FieldTexts) (new : T) : Type 0 where
+pub record HasWrittenFields {T : Type 0} (writes : T → FieldTexts → T → Type 0) (old : T) (fields : List FieldTexts)
+    (new : T) : Type 0 where
   pub folds : FoldsTo writes old fields new
 
 -- The same, if the result is `Ok`.
-abbrev pub WritesFields : {T : Type 0} → (T → FieldTexts → T → Type 0) → T → Result (Unit {0}) Error → List FieldTexts → T → Type 0
+abbrev pub WritesFields : {T : Type 0} → (T → FieldTexts → T → Type 0) → T → Result (Unit {0}) Error → List FieldTexts →
+    T → Type 0
 WritesFields writes old result fields new = IsOk result → HasWrittenFields writes old fields new
 
 -- ---- what a difference leaves out
@@ -135,4 +141,5 @@ are_covered not_compared fields (row ∷ rows) =
 
 -- Whether each field of a command that is compared is its name or printed.
 abbrev pub is_printed_whole : ℕ → Bool
-is_printed_whole s = are_covered (command_fields s).not_compared ((name_number, []) ∷ (command_fields s).printed) (table s)
+is_printed_whole s = are_covered (command_fields s).not_compared ((name_number, []) ∷ (command_fields s).printed)
+    (table s)

@@ -1,8 +1,10 @@
 -- Commands with everything erased that is not compared.
 use Rattle.std.specs.Prelude.{◌≡◌, ℕ, Bool, ◌&&◌, List, [], ◌∷◌, if◌then◌else◌}
 use Rattle.std.specs.List.{list_any}
-use Rattle.shared_core_wire.specs.Schema.{Kind, Row, Message, Plain, Optional, Repeated, OneOf, numbers, includes, member_kind}
-use Rattle.shared_core_wire.specs.Value.{Part, Parts, Absent, Nested, Elements, Member, nil, cons, default_of, empty_part, empty_value}
+use Rattle.shared_core_wire.specs.Schema.{Kind, Row, Message, Plain, Optional, Repeated, OneOf, numbers, includes}
+use Rattle.shared_core_wire.specs.Schema.{member_kind}
+use Rattle.shared_core_wire.specs.Value.{Part, Parts, Absent, Nested, Elements, Member, nil, cons, default_of}
+use Rattle.shared_core_wire.specs.Value.{empty_part, empty_value}
 use Rattle.shared_core_codec.specs.Table.{table}
 use Rattle.shared_core_compare.specs.Commands.{CommandFields, command_fields, first_part, rest_parts}
 
@@ -14,7 +16,8 @@ emptied k = default_of k
 -- A row's part with its payloads erased: its presence stays, and so does which member of a oneof it is.
 abbrev pub without_payloads : List ℕ → Row → Part → Part
 without_payloads payloads row Absent = Absent
-without_payloads payloads (OneOf members) (Member n p) = Member n (if includes payloads n then emptied (member_kind members n) else p)
+without_payloads payloads (OneOf members) (Member n p) = Member n
+    (if includes payloads n then emptied (member_kind members n) else p)
 without_payloads payloads (Repeated n k) p = Elements nil
 without_payloads payloads (Plain n k) p = emptied k
 without_payloads payloads (Optional n k) p = emptied k
@@ -35,7 +38,8 @@ erased_part fields ignore_payloads row p =
 abbrev pub erased_parts : CommandFields → Bool → List Row → Parts → Parts
 erased_parts fields ignore_payloads [] v = nil
 erased_parts fields ignore_payloads (row ∷ rows) v =
-    cons (erased_part fields ignore_payloads row (first_part v)) (erased_parts fields ignore_payloads rows (rest_parts v))
+    cons (erased_part fields ignore_payloads row (first_part v))
+    (erased_parts fields ignore_payloads rows (rest_parts v))
 
 -- A command of a schema with everything erased that is not compared.
 abbrev pub erased : ℕ → Bool → Parts → Parts

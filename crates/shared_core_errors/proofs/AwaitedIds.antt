@@ -1,5 +1,7 @@
 -- Awaited ids in their order, which depends on the set alone.
-use Rattle.std.proofs.Common.{◌≡◌, ℕ, ◌+◌, ◌<◌, List, [], ◌∷◌, ◌++◌, length, get_or, map, codes, Bool, true, false, ◌||◌, ◌==◌, if◌then◌else◌, nat_eq, Option, Some, None, ⊎_elim, refl, sym, ap, ◌∙◌, arith, rules}
+use Rattle.std.proofs.Common.{◌≡◌, ℕ, ◌+◌, ◌<◌, List, [], ◌∷◌, ◌++◌, length, get_or, map, codes, Bool, true, false}
+use Rattle.std.proofs.Common.{◌||◌, ◌==◌, if◌then◌else◌, nat_eq, Option, Some, None, ⊎_elim, refl, sym, ap, ◌∙◌, arith}
+use Rattle.std.proofs.Common.{rules}
 use Rattle.std.proofs.lemmas.Bool.{cases_Bool}
 use Rattle.std.proofs.lemmas.Cmp.{eq_by_cmp_equiv}
 use Rattle.std.proofs.lemmas.List.Folds.{flat_map-map}
@@ -54,7 +56,8 @@ equal_keys a b = by a b ∙ texts_ties (order_key a) (order_key b)
 -- ---- the ids of a set are in order once they are sorted
 
 id_eq_flips : (a b : Id) → id_eq a b ≡ id_eq b a
-id_eq_flips a b = equal_keys a b ∙ (eq_by_cmp_equiv nat_list_cmp_total).symm (order_key a) (order_key b) ∙ sym (equal_keys b a)
+id_eq_flips a b = equal_keys a b ∙ (eq_by_cmp_equiv nat_list_cmp_total).symm (order_key a) (order_key b) ∙ sym
+    (equal_keys b a)
 
 -- an id that does not come after another, and differs from it, comes before it
 less_from_sorted : (a b : Id) → is_lt (compare_ids b a) ≡ false → id_eq a b ≡ false → compare_ids a b ≡ Less
@@ -65,10 +68,12 @@ less_from_sorted a b after differ = by _ refl
     by Equal e = absurd (let no : true ≡ false = ap is_eq (sym e) ∙ sym (equal_keys a b) ∙ differ in cc)
     by Greater e =
         let flipped = nat_list_cmp_total.antisymm (order_key b) (order_key a) in
-        absurd (let no : true ≡ false = ap (λ r. is_lt (ordering_reverse r)) (sym e) ∙ ap is_lt (sym flipped) ∙ after in cc)
+        absurd (let no : true ≡ false = ap (λ r. is_lt (ordering_reverse r)) (sym e) ∙ ap is_lt (sym flipped) ∙ after in
+        cc)
 
 -- sorted ids that differ ascend strictly
-ascending : (xs : List Id) → IsSortedByKey order_key (slice_cmp nat_cmp) xs → IsDistinct id_eq xs → IsStrictlySortedBy (slice_cmp nat_cmp) (map order_key xs)
+ascending : (xs : List Id) → IsSortedByKey order_key (slice_cmp nat_cmp) xs → IsDistinct id_eq xs → IsStrictlySortedBy
+    (slice_cmp nat_cmp) (map order_key xs)
 ascending xs sorted distinct =
     let d = CompletionId 0 in
     sorted_from_all_adjacent nat_list_cmp_total (map order_key xs) (order_key d) (λ k more.
@@ -77,7 +82,8 @@ ascending xs sorted distinct =
     rw (get_or-map order_key xs k d, get_or-map order_key xs (k + 1) d)
     (less_from_sorted (get_or xs k d) (get_or xs (k + 1) d) (sorted k d (omega arith) within) differ))
 
-pub in_order : (keys xs : List Id) → IsPermutation keys xs → IsSortedByKey order_key (slice_cmp nat_cmp) xs → IsDistinct id_eq keys → IsInOrder keys xs
+pub in_order : (keys xs : List Id) → IsPermutation keys xs → IsSortedByKey order_key (slice_cmp nat_cmp) xs → IsDistinct
+    id_eq keys → IsInOrder keys xs
 in_order keys xs same sorted distinct = record {
   same = same;
   ascending = ascending xs sorted (IsDistinct-IsPermutation id_eq id_eq_flips keys xs same distinct);
@@ -110,7 +116,8 @@ id_of_key key (x ∷ xs) e = ⊎_elim
     (λ no_tie. id_of_key key xs (rw no_tie at e))
     (cases_Bool (is_same_key key (order_key x)))
 
-same_keys : (xs ys : List Id) → ((id : Id) → has_id xs id ≡ has_id ys id) → (key : List ℕ) → has_key xs key ≡ has_key ys key
+same_keys : (xs ys : List Id) → ((id : Id) → has_id xs id ≡ has_id ys id) → (key : List ℕ) → has_key xs key ≡ has_key ys
+    key
 same_keys xs ys same key = by _ _ refl refl
   where
     at_id : (id : Id) → key ≡ order_key id → has_key xs key ≡ has_key ys key
@@ -121,14 +128,17 @@ same_keys xs ys same key = by _ _ refl refl
     by false true e f = let found = id_of_key key ys f in at_id found.0 found.1
     by false false e f = e ∙ sym f
 
-pub same_order : {S : Type 0} (a b : HashSet Id S) → IsSameSet id_eq a b → (xs ys : List Id) → IsInOrder a.keys xs → IsInOrder b.keys ys
+pub same_order : {S : Type 0} (a b : HashSet Id S) → IsSameSet id_eq a b → (xs ys : List Id) → IsInOrder a.keys xs →
+    IsInOrder b.keys ys
     → map order_key xs ≡ map order_key ys
 same_order a b same xs ys of_a of_b =
     let ids_same : (id : Id) → has_id xs id ≡ has_id ys id =
-    λ id. sym (list_any-IsPermutation (id_eq id) a.keys xs of_a.same) ∙ same id ∙ list_any-IsPermutation (id_eq id) b.keys ys of_b.same in
+    λ id. sym (list_any-IsPermutation (id_eq id) a.keys xs of_a.same) ∙ same id ∙ list_any-IsPermutation (id_eq id)
+    b.keys ys of_b.same in
     let keys_of_a : BTreeSet (List ℕ) = record { keys = map order_key xs } in
     let keys_of_b : BTreeSet (List ℕ) = record { keys = map order_key ys } in
-    btree_set_from_contains nat_list_cmp_total keys_of_a keys_of_b of_a.ascending of_b.ascending (same_keys xs ys ids_same) exact_bytes
+    btree_set_from_contains nat_list_cmp_total keys_of_a keys_of_b of_a.ascending of_b.ascending
+    (same_keys xs ys ids_same) exact_bytes
 
 -- ---- ids in the same order make the same lines
 
@@ -146,7 +156,8 @@ key_text (kind ∷ rest) = if kind == 0 then codes "completion id " ++ decimal (
 text_of_key : (id : Id) → id_text id ≡ key_text (order_key id)
 text_of_key (CompletionId n) = refl
 text_of_key (SignalName name) = refl
-text_of_key (SignalId n) = ⊎_elim (λ one. let is : n ≡ 1 = grind arith in rw is refl) (λ other. rw other refl) (cases_Bool (n == 1))
+text_of_key (SignalId n) = ⊎_elim (λ one. let is : n ≡ 1 = grind arith in rw is refl) (λ other. rw other refl)
+    (cases_Bool (n == 1))
 
 abbrev line_with : List ℕ → Option NotificationMetadata → List ℕ
 line_with text (Some known) = codes "\n - " ++ notification_metadata_text known
@@ -167,5 +178,6 @@ module _ {S : Type 0} (metadata : HashMap Id NotificationMetadata S) where
   lines_of_keys : (xs : List Id) → lines_text (get id_eq metadata) xs ≡ flat_map key_line (map order_key xs)
   lines_of_keys xs = (λ i. flat_map (λ id. line_of_key id i) xs) ∙ sym (flat_map-map key_line order_key xs)
 
-  pub same_lines : (xs ys : List Id) → map order_key xs ≡ map order_key ys → lines_text (get id_eq metadata) xs ≡ lines_text (get id_eq metadata) ys
+  pub same_lines : (xs ys : List Id) → map order_key xs ≡ map order_key ys → lines_text (get id_eq metadata) xs ≡
+      lines_text (get id_eq metadata) ys
   same_lines xs ys same = lines_of_keys xs ∙ ap (flat_map key_line) same ∙ sym (lines_of_keys ys)

@@ -13,5 +13,7 @@ abbrev pub IsClosedText : (List ℕ → List ℕ → Type 0) → List ℕ → Li
 IsClosedText own event text = (text ≡ closed_text event) ⊎ own event text
 
 -- If the formatter is plain and the result is `Ok`, the formatter has written some text that meets this condition.
-abbrev pub WritesSome : {W : Type 0} → (W → List ℕ → W → Type 0) → Formatter W → Result (Unit {0}) Error → (List ℕ → Type 0) → Formatter W → Type 0
-WritesSome took old result IsAllowed new = IsPlainFormatter old → IsOk result → (text : List ℕ) × HasWritten took old text new × IsAllowed text
+abbrev pub WritesSome : {W : Type 0} → (W → List ℕ → W → Type 0) → Formatter W → Result (Unit {0}) Error →
+    (List ℕ → Type 0) → Formatter W → Type 0
+WritesSome took old result IsAllowed new = IsPlainFormatter old → IsOk result → (text : List ℕ) × HasWritten took old
+    text new × IsAllowed text

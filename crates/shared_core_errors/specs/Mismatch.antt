@@ -14,4 +14,5 @@ command_type_mismatch_text index actual expected =
     mismatch_head
     ++ (codes " - The previous execution ran and recorded the following: '" ++ (message_type_text actual
     ++ (codes "' (index '" ++ (signed_decimal index
-    ++ (codes "')\n - The current execution attempts to perform the following: '" ++ (message_type_text expected ++ codes "'"))))))
+    ++ (codes "')\n - The current execution attempts to perform the following: '" ++
+    (message_type_text expected ++ codes "'"))))))

@@ -10,13 +10,15 @@ use Rattle.shared_core_base.specs.declared.version.Version.{Version}
 abbrev pub unavailable_entry_text : MessageType → List ℕ
 unavailable_entry_text expected =
     codes "The execution replay ended unexpectedly. Expecting to read '"
-    ++ (message_type_text expected ++ codes "' from the recorded journal, but the buffered messages were already drained.")
+    ++ (message_type_text expected ++ codes
+    "' from the recorded journal, but the buffered messages were already drained.")
 
 -- The text of a state in which an event cannot happen, both quoted as `Debug` does; it is unspecified if one of them is
 -- not ASCII.
 abbrev pub unexpected_state_text : List ℕ → List ℕ → Option (List ℕ)
 unexpected_state_text state event =
-    Some (codes "Unexpected state '") ++? debug_str state ++? Some (codes "' when invoking '") ++? debug_str event ++? Some (codes "'")
+    Some (codes "Unexpected state '") ++? debug_str state ++? Some (codes "' when invoking '") ++? debug_str event ++?
+    Some (codes "'")
 
 -- The text of an eager state key that is not UTF-8.
 abbrev pub bad_state_key_text : List ℕ
@@ -28,7 +30,8 @@ unsupported_feature_text feature current minimum =
     codes "Feature '"
     ++ (feature
     ++ (codes "' is not supported by the negotiated protocol version '"
-    ++ (content_type_of current ++ (codes "', the minimum required version is '" ++ (content_type_of minimum ++ codes "'")))))
+    ++ (content_type_of current ++ (codes "', the minimum required version is '" ++
+    (content_type_of minimum ++ codes "'")))))
 
 -- The text of an acknowledgement of a run that was not proposed, by its completion id.
 abbrev pub unproposed_run_text : ℕ → List ℕ

@@ -2,3 +2,5 @@ pub mod RunNumbers
 pub mod ByValue
 pub mod Reading
 pub mod Back
+pub mod Depths
+pub mod Appending

@@ -2,3 +2,4 @@ pub mod Runs
 pub mod Fields
 pub mod Coming
 pub mod Views
+pub mod Entries

@@ -1,8 +1,9 @@
 //! The fields of canonical payloads, read without a record and without allocating. A payload is checked once; reading
-//! it has no error.
+//! it has no error. Those of all levels can be appended to a table.
 #![tactic(auto)]
 
 pub mod fields;
 pub mod laws;
 pub mod runs;
+pub mod table;
 mod typed;

@@ -1,5 +1,6 @@
 -- The fields of a schema, with their JSON names.
-use Rattle.std.specs.Prelude.{ℕ, zero, suc, Bool, true, false, List, [], ◌∷◌, ◌++◌, map, nat_eq, if◌then◌else◌, Option, Some, None}
+use Rattle.std.specs.Prelude.{ℕ, zero, suc, Bool, true, false, List, [], ◌∷◌, ◌++◌, map, nat_eq, if◌then◌else◌, Option}
+use Rattle.std.specs.Prelude.{Some, None}
 use Rattle.shared_core_wire.specs.Schema.{Row, Plain, Optional, Repeated, OneOf, Kind as AnyKind}
 use Rattle.shared_core_codec.specs.Table.{table}
 use Rattle.shared_core_codec.specs.ProgramRows.{kind_view}
@@ -58,7 +59,13 @@ field_numbered (f ∷ fs) n = if nat_eq n f.number then Some f else field_number
 
 -- The field of the schema s as JSON has it, which is one of the program.
 abbrev pub field_view : ℕ → Field → NamedField
-field_view s f = record { number = f.number; name = name_of (names_of s) f.number; kind = kind_view f.kind; is_element = f.is_element }
+field_view s f = record {
+  number = f.number;
+  name = name_of (names_of s) f.number;
+  kind = kind_view f.kind;
+  is_element =
+      f.is_element;
+}
 
 -- The number and the name of a name of the program.
 abbrev pub name_view : Name → ℕ × List ℕ

@@ -1,12 +1,15 @@
 -- The JSON form of a value of the protocol's messages, by proto3's JSON mapping, and with bytes as texts.
-use Rattle.std.specs.Prelude.{ℕ, ◌-◌, ◌^◌, Bool, true, false, not, ◌&&◌, List, [], ◌∷◌, ◌++◌, codes, decimal, nat_lt, ◌==◌, if◌then◌else◌}
+use Rattle.std.specs.Prelude.{ℕ, ◌-◌, ◌^◌, Bool, true, false, not, ◌&&◌, List, [], ◌∷◌, ◌++◌, codes, decimal, nat_lt}
+use Rattle.std.specs.Prelude.{◌==◌, if◌then◌else◌}
 use Rattle.std.specs.Str.{is_utf8}
 use Rattle.base64.specs.GeneralPurpose.{encode_of}
 use Rattle.base64.specs.Engines.{standard}
-use Rattle.json.specs.Json.{Json, null, boolean, number, string, array, object, Items, no_items, item, Members, no_members, member}
+use Rattle.json.specs.Json.{Json, null, boolean, number, string, array, object, Items, no_items, item, Members}
+use Rattle.json.specs.Json.{no_members, member}
 use Rattle.json.specs.Tree.{json_tokens}
 use Rattle.json.specs.Print.{print}
-use Rattle.shared_core_wire.specs.Schema.{Kind, Row, U64, Boolean, Enumeration, ByteString, Message, Plain, Optional, Repeated, OneOf}
+use Rattle.shared_core_wire.specs.Schema.{Kind, Row, U64, Boolean, Enumeration, ByteString, Message, Plain, Optional}
+use Rattle.shared_core_wire.specs.Schema.{Repeated, OneOf}
 use Rattle.shared_core_wire.specs.Value.{Part, Parts, Absent, Number, Bytes, Nested, Elements, Member, nil, cons}
 use Rattle.shared_core_wire.specs.Canonical.{number_of, kind_of, rows_of_kind, is_default}
 use Rattle.shared_core_codec.specs.Table.{table}
@@ -27,7 +30,8 @@ number_json k n = number (decimal n)
 -- one member `text`.
 abbrev pub byte_string_json : Bool → List ℕ → Json
 byte_string_json texts bytes =
-    if texts && is_utf8 bytes then object (member (codes "text") (string bytes) no_members) else string (encode_of standard bytes)
+    if texts && is_utf8 bytes then object (member (codes "text") (string bytes) no_members) else string
+    (encode_of standard bytes)
 
 -- Length-delimited bytes: a text unchanged, others as bytes of any kind.
 abbrev pub bytes_json : Bool → Kind → List ℕ → Json
@@ -74,7 +78,8 @@ unfoldable mutual
   members_json texts names nil rows = no_members
   members_json texts names (cons p ps) [] = no_members
   members_json texts names (cons p ps) (row ∷ rows) =
-      member_if (is_present row p) (name_of names (number_of row p)) (part_json texts p (kind_of row p)) (members_json texts names ps rows)
+      member_if (is_present row p) (name_of names (number_of row p)) (part_json texts p (kind_of row p))
+      (members_json texts names ps rows)
 
 -- The JSON of a value of the schema s, with texts or without.
 abbrev pub json_with : Bool → ℕ → Parts → Json

@@ -1,6 +1,8 @@
 -- The tokens that are written for the records of a payload, one after the other.
-use Rattle.std.specs.Prelude.{ℕ, zero, suc, ◌-◌, ◌%◌, Bool, not, List, [], ◌∷◌, ◌++◌, map, length, decimal, nat_eq, ◌==◌, if◌then◌else◌, Option, Some, None, Result, Ok, Err}
-use Rattle.json.specs.Token.{Token, begin_object, end_object, begin_array, end_array, key, string, number, boolean, null}
+use Rattle.std.specs.Prelude.{ℕ, zero, suc, ◌-◌, ◌%◌, Bool, not, List, [], ◌∷◌, ◌++◌, map, length, decimal, nat_eq}
+use Rattle.std.specs.Prelude.{◌==◌, if◌then◌else◌, Option, Some, None, Result, Ok, Err}
+use Rattle.json.specs.Token.{Token, begin_object, end_object, begin_array, end_array, key, string, number, boolean}
+use Rattle.json.specs.Token.{null}
 use Rattle.json.specs.Tree.{json_tokens}
 use Rattle.shared_core_wire.specs.Grammar.{RecordValue, Varint, Fixed64, Length, Group, Fixed32}
 use Rattle.shared_core_wire.specs.Reader.{varint_at}
@@ -65,7 +67,8 @@ end_tokens open_list = if open_list == 0 then [] else end_array ∷ []
 
 -- What comes before the value of a field: nothing if it is one more element of the open list, otherwise its name.
 abbrev pub lead_tokens : ℕ → NamedField → List Token
-lead_tokens open_list f = if nat_eq open_list f.number then [] else (end_tokens open_list ++ key f.name ∷ (if f.is_element then begin_array ∷ [] else []))
+lead_tokens open_list f = if nat_eq open_list f.number then [] else
+    (end_tokens open_list ++ key f.name ∷ (if f.is_element then begin_array ∷ [] else []))
 
 -- The list that is open after the value of a field.
 abbrev pub open_list_after : NamedField → ℕ
@@ -82,17 +85,20 @@ next_open_list open_list None = open_list
 next_open_list open_list (Some f) = open_list_after f
 
 -- The tokens of the items that reading a payload gives.
-unfoldable pub items_tokens : Bool → (ℕ → List ℕ → List Token) → List NamedField → ℕ → List (Result PlacedRecord WireError) → List Token
+unfoldable pub items_tokens : Bool → (ℕ → List ℕ → List Token) → List NamedField → ℕ → List
+    (Result PlacedRecord WireError) → List Token
 items_tokens texts nested fields open_list [] = end_tokens open_list
 items_tokens texts nested fields open_list (Ok r ∷ items) =
     record_tokens texts nested open_list (field_numbered fields r.field_record.number) r.field_record.value
     ++ items_tokens texts nested fields (next_open_list open_list (field_numbered fields r.field_record.number)) items
 items_tokens texts nested fields open_list (Err e ∷ items) = items_tokens texts nested fields open_list items
 
--- The tokens of a payload of the schema s that may be nested this deep, itself included; null if the depth is 0. Groups,
+-- The tokens of a payload of the schema s that may be nested this deep, itself included; null if the depth is 0.
+-- Groups,
 -- which no schema has, are not read. It goes over any bytes, so that no second definition says which values a payload
 -- has; what is written is promised of canonical payloads alone.
 unfoldable pub payload_tokens : Bool → ℕ → ℕ → List ℕ → List Token
 payload_tokens texts zero s bytes = null ∷ []
 payload_tokens texts (suc left) s bytes =
-    begin_object ∷ (items_tokens texts (payload_tokens texts left) (schema_fields s) 0 (read_records 0 bytes) ++ end_object ∷ [])
+    begin_object ∷ (items_tokens texts (payload_tokens texts left) (schema_fields s) 0 (read_records 0 bytes) ++
+    end_object ∷ [])

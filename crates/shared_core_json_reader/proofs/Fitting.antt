@@ -1,5 +1,7 @@
 -- What is read fits its schema, and is no deeper than it may be.
-use Rattle.std.proofs.Common.{◌≡◌, ℕ, zero, suc, ◌-◌, ◌%◌, ◌^◌, ◌<◌, ◌≤◌, List, [], ◌∷◌, map, Bool, true, false, cond, not, ◌&&◌, ◌||◌, Option, Some, None, option_map, option_and_then, refl, sym, ap, subst, ◌∙◌, arith, eqb, ltb, leb}
+use Rattle.std.proofs.Common.{◌≡◌, ℕ, zero, suc, ◌-◌, ◌%◌, ◌^◌, ◌<◌, ◌≤◌, List, [], ◌∷◌, map, Bool, true, false, cond}
+use Rattle.std.proofs.Common.{not, ◌&&◌, ◌||◌, Option, Some, None, option_map, option_and_then, refl, sym, ap, subst}
+use Rattle.std.proofs.Common.{◌∙◌, arith, eqb, ltb, leb}
 use Rattle.std.specs.Option.{option_or}
 use Rattle.std.specs.List.{list_all}
 use Rattle.std.specs.Str.{is_utf8, bytes_eq}
@@ -7,27 +9,36 @@ use Rattle.std.proofs.lemmas.Bool.{ltb-true}
 use Rattle.std.proofs.lemmas.Str.{is_utf8-from_IsUtf8, IsUtf8-nil}
 use Rattle.json.specs.Json.{Json, null, boolean, number, string, array, object, Items, no_items, item, Members}
 use Rattle.json.specs.Find.{as_str}
-use Rattle.shared_core_wire.specs.Schema.{Kind, Row, U32, U64, Boolean, Enumeration, Text, ByteString, Message, table_of, includes, member_kind, all_numbers}
+use Rattle.shared_core_wire.specs.Schema.{Kind, Row, U32, U64, Boolean, Enumeration, Text, ByteString, Message}
+use Rattle.shared_core_wire.specs.Schema.{table_of, includes, member_kind, all_numbers}
 use Rattle.shared_core_wire.specs.Schema as schema
-use Rattle.shared_core_wire.specs.Value.{Part, Parts, Absent, Number, Bytes, Nested, Elements, Member, nil, cons, default_of}
+use Rattle.shared_core_wire.specs.Value.{Part, Parts, Absent, Number, Bytes, Nested, Elements, Member, nil, cons}
+use Rattle.shared_core_wire.specs.Value.{default_of}
 use Rattle.shared_core_wire.specs.Canonical.{kind_of, part_levels, levels}
 use Rattle.shared_core_wire.specs.Fitting.{is_single, has_shape, NumberFits, PartFits, ElementsFit, Fits}
 use Rattle.shared_core_wire.proofs.Runs.{and_split, and_join}
 use Rattle.shared_core_codec.specs.Table.{schemas, table}
 use Rattle.shared_core_codec.proofs.Tables.{are_schemas}
 use Rattle.shared_core_json_reader.specs.EnumValues.{EnumField, enum_fields}
-use Rattle.shared_core_json_reader.specs.Rows.{NamedField, NamedRow, Plain, Optional, Repeated, OneOf, named_field, named_row, named_rows, enum_values, values_in}
-use Rattle.shared_core_json_reader.specs.Scalars.{Whole, whole_read, unsigned_below, signed_bits, unsigned_read, boolean_read, value_named, enum_read, utf8_text, text_read, bytes_read}
-use Rattle.shared_core_json_reader.specs.Reading.{are_known, given, single_read, field_read, elements_read, list_read, or_absent, member_read, oneof_read, row_read, rows_read, object_read, message_read}
+use Rattle.shared_core_json_reader.specs.Rows.{NamedField, NamedRow, Plain, Optional, Repeated, OneOf, named_field}
+use Rattle.shared_core_json_reader.specs.Rows.{named_row, named_rows, enum_values, values_in}
+use Rattle.shared_core_json_reader.specs.Scalars.{Whole, whole_read, unsigned_below, signed_bits, unsigned_read}
+use Rattle.shared_core_json_reader.specs.Scalars.{boolean_read, value_named, enum_read, utf8_text, text_read}
+use Rattle.shared_core_json_reader.specs.Scalars.{bytes_read}
+use Rattle.shared_core_json_reader.specs.Reading.{are_known, given, single_read, field_read, elements_read, list_read}
+use Rattle.shared_core_json_reader.specs.Reading.{or_absent, member_read, oneof_read, row_read, rows_read, object_read}
+use Rattle.shared_core_json_reader.specs.Reading.{message_read}
 use Rattle.shared_core_json_reader.proofs.Agreeing.{plain_row, plain_rows, Knows, RowKnows, RowsKnow, rows_know}
 
 -- ---- what an option holds
 
-pub some_map : {A B : Type 0} (f : A → B) (o : Option A) (y : B) → option_map f o ≡ Some y → (x : A) × (o ≡ Some x) × (f x ≡ y)
+pub some_map : {A B : Type 0} (f : A → B) (o : Option A) (y : B) → option_map f o ≡ Some y → (x : A) × (o ≡ Some x) ×
+    (f x ≡ y)
 some_map f None y e = absurd cc
 some_map f (Some x) y e = (x, refl, cc)
 
-pub some_then : {A B : Type 0} (f : A → Option B) (o : Option A) (y : B) → option_and_then f o ≡ Some y → (x : A) × (o ≡ Some x) × (f x ≡ Some y)
+pub some_then : {A B : Type 0} (f : A → Option B) (o : Option A) (y : B) → option_and_then f o ≡ Some y → (x : A) ×
+    (o ≡ Some x) × (f x ≡ Some y)
 some_then f None y e = absurd cc
 some_then f (Some x) y e = (x, refl, e)
 
@@ -47,10 +58,12 @@ unsigned_fits limit j m e =
 signed_fits : (w : Whole) (m : ℕ) → signed_bits w ≡ Some m → m < 2 ^ 32
 signed_fits w m e = by_sign w.negative e
   where
-    by_sign : (b : Bool) → cond b (cond (leb w.magnitude (2 ^ 31)) (Some ((2 ^ 32 - w.magnitude) % 2 ^ 32)) None) (cond (ltb w.magnitude (2 ^ 31)) (Some w.magnitude) None) ≡ Some m → m < 2 ^ 32
+    by_sign : (b : Bool) → cond b (cond (leb w.magnitude (2 ^ 31)) (Some ((2 ^ 32 - w.magnitude) % 2 ^ 32)) None)
+        (cond (ltb w.magnitude (2 ^ 31)) (Some w.magnitude) None) ≡ Some m → m < 2 ^ 32
     by_sign true h =
         let t = some_if (leb w.magnitude (2 ^ 31)) (Some ((2 ^ 32 - w.magnitude) % 2 ^ 32)) m h in
-        let q : (2 ^ 32 - w.magnitude) % 2 ^ 32 ≡ m = let s : Some ((2 ^ 32 - w.magnitude) % 2 ^ 32) ≡ Some m = t.1 in cc in
+        let q : (2 ^ 32 - w.magnitude) % 2 ^ 32 ≡ m = let s : Some ((2 ^ 32 - w.magnitude) % 2 ^ 32) ≡ Some m = t.1 in
+        cc in
         omega (arith, q)
     by_sign false h =
         let t = some_if (ltb w.magnitude (2 ^ 31)) (Some w.magnitude) m h in
@@ -70,20 +83,25 @@ boolean_fits (object ms) m e = absurd cc
 abbrev pub are_low : List (List ℕ × ℕ) → Bool
 are_low values = list_all (λ v. ltb v.1 (2 ^ 32)) values
 
-named_fits : (values : List (List ℕ × ℕ)) (s : List ℕ) (m : ℕ) → are_low values ≡ true → value_named values s ≡ Some m → m < 2 ^ 32
+named_fits : (values : List (List ℕ × ℕ)) (s : List ℕ) (m : ℕ) → are_low values ≡ true → value_named values s ≡ Some m →
+    m < 2 ^ 32
 named_fits [] s m low e = absurd cc
 named_fits (v ∷ vs) s m low e = by_test (λ h. named_fits vs s m (and_split _ _ low).1 h) (bytes_eq s v.0) e
   where
-    by_test : (value_named vs s ≡ Some m → m < 2 ^ 32) → (b : Bool) → cond b (Some v.1) (value_named vs s) ≡ Some m → m < 2 ^ 32
+    by_test : (value_named vs s ≡ Some m → m < 2 ^ 32) → (b : Bool) → cond b (Some v.1) (value_named vs s) ≡ Some m → m
+        < 2 ^ 32
     by_test later true h = let q : v.1 ≡ m = cc in omega (arith, ltb-true v.1 (2 ^ 32) (and_split _ _ low).0, q)
     by_test later false h = later h
 
-enum_fits : (values : List (List ℕ × ℕ)) (j : Json) (m : ℕ) → are_low values ≡ true → enum_read values j ≡ Some m → m < 2 ^ 32
+enum_fits : (values : List (List ℕ × ℕ)) (j : Json) (m : ℕ) → are_low values ≡ true → enum_read values j ≡ Some m → m <
+    2 ^ 32
 enum_fits values j m low e = by_name (option_and_then (value_named values) (as_str j)) refl e
   where
-    by_name : (o : Option ℕ) → option_and_then (value_named values) (as_str j) ≡ o → option_or o (option_and_then signed_bits (whole_read j)) ≡ Some m → m < 2 ^ 32
+    by_name : (o : Option ℕ) → option_and_then (value_named values) (as_str j) ≡ o → option_or o
+        (option_and_then signed_bits (whole_read j)) ≡ Some m → m < 2 ^ 32
     by_name None q h = let w = some_then signed_bits (whole_read j) m h in signed_fits w.0 m w.2
-    by_name (Some x) q h = let y : x ≡ m = cc in let w = some_then (value_named values) (as_str j) x q in omega (arith, named_fits values w.0 x low w.2, y)
+    by_name (Some x) q h = let y : x ≡ m = cc in let w = some_then (value_named values) (as_str j) x q in omega
+        (arith, named_fits values w.0 x low w.2, y)
 
 -- a kind whose default is there
 abbrev pub is_scalar : Kind → Bool
@@ -109,7 +127,8 @@ abbrev pub RowsLow : List NamedRow → Type 0
 RowsLow [] = Unit {0}
 RowsLow (row ∷ rows) = RowLow row × RowsLow rows
 
-module _ (nested : ℕ → Json → Option Parts) (bound : ℕ) (fit : (s : ℕ) (j : Json) (v : Parts) → nested s j ≡ Some v → Fits table v (table s) × (suc (levels v) ≤ bound)) where
+module _ (nested : ℕ → Json → Option Parts) (bound : ℕ) (fit : (s : ℕ) (j : Json) (v : Parts) → nested s j ≡ Some v →
+    Fits table v (table s) × (suc (levels v) ≤ bound)) where
   record Single (p : Part) (k : Kind) : Type 0 where
     single : is_single p ≡ true
     fits : PartFits table p k
@@ -119,19 +138,30 @@ module _ (nested : ℕ → Json → Option Parts) (bound : ℕ) (fit : (s : ℕ)
   unfolding PartFits part_levels
   number_single k p m e h = subst (λ (q : Part). Single q k) e (record { single = refl; fits = h; low = omega arith })
 
-  single_fits : (k : Kind) (values : List (List ℕ × ℕ)) (j : Json) (p : Part) → are_low values ≡ true → single_read nested k values j ≡ Some p → Single p k
+  single_fits : (k : Kind) (values : List (List ℕ × ℕ)) (j : Json) (p : Part) → are_low values ≡ true → single_read
+      nested k values j ≡ Some p → Single p k
   unfolding PartFits part_levels
-  single_fits U32 values j p low e = let x = some_map Number (unsigned_read 4294967296 j) p e in number_single U32 p x.0 x.2 (unsigned_fits 4294967296 j x.0 x.1)
-  single_fits U64 values j p low e = let x = some_map Number (unsigned_read 18446744073709551616 j) p e in number_single U64 p x.0 x.2 (unsigned_fits 18446744073709551616 j x.0 x.1)
-  single_fits Boolean values j p low e = let x = some_map Number (boolean_read j) p e in number_single Boolean p x.0 x.2 (boolean_fits j x.0 x.1)
-  single_fits Enumeration values j p low e = let x = some_map Number (enum_read values j) p e in number_single Enumeration p x.0 x.2 (enum_fits values j x.0 low x.1)
+  single_fits U32 values j p low e = let x = some_map Number (unsigned_read 4294967296 j) p e in number_single U32 p x.0
+      x.2 (unsigned_fits 4294967296 j x.0 x.1)
+  single_fits U64 values j p low e = let x = some_map Number (unsigned_read 18446744073709551616 j) p e in number_single
+      U64 p x.0 x.2 (unsigned_fits 18446744073709551616 j x.0 x.1)
+  single_fits Boolean values j p low e = let x = some_map Number (boolean_read j) p e in number_single Boolean p x.0 x.2
+      (boolean_fits j x.0 x.1)
+  single_fits Enumeration values j p low e = let x = some_map Number (enum_read values j) p e in number_single
+      Enumeration p x.0 x.2 (enum_fits values j x.0 low x.1)
   single_fits Text values j p low e =
       let x = some_map Bytes (text_read j) p e in
       let y = some_then utf8_text (as_str j) x.0 x.1 in
       let t = some_if (is_utf8 y.0) (Some y.0) x.0 y.2 in
       let q : y.0 ≡ x.0 = let s : Some y.0 ≡ Some x.0 = t.1 in cc in
-      subst (λ (r : Part). Single r Text) x.2 (record { single = refl; fits = subst (λ (b : List ℕ). is_utf8 b ≡ true) q t.0; low = omega arith })
-  single_fits ByteString values j p low e = let x = some_map Bytes (bytes_read j) p e in subst (λ (r : Part). Single r ByteString) x.2 (record { single = refl; fits = tt; low = omega arith })
+      subst (λ (r : Part). Single r Text) x.2 (record {
+        single = refl;
+        fits = subst (λ (b : List ℕ). is_utf8 b ≡ true) q
+            t.0;
+        low = omega arith;
+      })
+  single_fits ByteString values j p low e = let x = some_map Bytes (bytes_read j) p e in subst
+      (λ (r : Part). Single r ByteString) x.2 (record { single = refl; fits = tt; low = omega arith })
   single_fits (Message s) values j p low e =
       let x = some_map Nested (nested s j) p e in
       let f = fit s j x.0 x.1 in
@@ -144,17 +174,21 @@ module _ (nested : ℕ → Json → Option Parts) (bound : ℕ) (fit : (s : ℕ)
     fits : PartFits table p (kind_of (plain_row row) p)
     low : part_levels p ≤ bound
 
-  elements_fit : (f : NamedField) (js : Items) (ps : Parts) → are_low f.values ≡ true → elements_read nested f js ≡ Some ps → ElementsFit table ps f.kind × (levels ps ≤ bound)
+  elements_fit : (f : NamedField) (js : Items) (ps : Parts) → are_low f.values ≡ true → elements_read nested f js ≡ Some
+      ps → ElementsFit table ps f.kind × (levels ps ≤ bound)
   unfolding PartFits part_levels
-  elements_fit f no_items ps low e = let q : nil ≡ ps = cc in subst (λ (qs : Parts). ElementsFit table qs f.kind × (levels qs ≤ bound)) q (tt, omega arith)
+  elements_fit f no_items ps low e = let q : nil ≡ ps = cc in subst
+      (λ (qs : Parts). ElementsFit table qs f.kind × (levels qs ≤ bound)) q (tt, omega arith)
   elements_fit f (item j js) ps low e =
       let x = some_then (λ p. option_map (cons p) (elements_read nested f js)) (field_read nested f j) ps e in
       let y = some_map (cons x.0) (elements_read nested f js) ps x.2 in
       let one = single_fits f.kind f.values j x.0 low x.1 in
       let more = elements_fit f js y.0 low y.1 in
-      subst (λ (qs : Parts). ElementsFit table qs f.kind × (levels qs ≤ bound)) y.2 ((one.single, one.fits, more.0), omega (arith, one.low, more.1))
+      subst (λ (qs : Parts). ElementsFit table qs f.kind × (levels qs ≤ bound)) y.2
+      ((one.single, one.fits, more.0), omega (arith, one.low, more.1))
 
-  list_fits : (f : NamedField) (j : Json) (p : Part) → are_low f.values ≡ true → list_read nested f j ≡ Some p → RowFits (Repeated f) p
+  list_fits : (f : NamedField) (j : Json) (p : Part) → are_low f.values ≡ true → list_read nested f j ≡ Some p → RowFits
+      (Repeated f) p
   unfolding PartFits part_levels
   list_fits f null p low e = absurd cc
   list_fits f (boolean b) p low e = absurd cc
@@ -191,18 +225,22 @@ module _ (nested : ℕ → Json → Option Parts) (bound : ℕ) (fit : (s : ℕ)
   default_fits ByteString h = record { single = refl; fits = tt; low = omega arith }
   default_fits (Message s) h = absurd cc
 
-  given_fits : (row : NamedRow) (read : Json → Option Part) (empty : Part) (o : Option (Option Json)) (p : Part) → RowFits row empty → ((j : Json) (q : Part) → read j ≡ Some q → RowFits row q)
+  given_fits : (row : NamedRow) (read : Json → Option Part) (empty : Part) (o : Option (Option Json)) (p : Part) →
+      RowFits row empty → ((j : Json) (q : Part) → read j ≡ Some q → RowFits row q)
       → option_and_then (or_absent empty read) o ≡ Some p → RowFits row p
   given_fits row read empty None p h g e = absurd cc
   given_fits row read empty (Some None) p h g e = let q : empty ≡ p = cc in subst (RowFits row) q h
   given_fits row read empty (Some (Some j)) p h g e = g j p e
 
   -- a oneof that holds a member keeps it
-  member_stays : (ms : Members) (n : ℕ) (p q : Part) (fs : List NamedField) → oneof_read nested ms (Member n p) fs ≡ Some q → Member n p ≡ q
+  member_stays : (ms : Members) (n : ℕ) (p q : Part) (fs : List NamedField) → oneof_read nested ms (Member n p) fs ≡
+      Some q → Member n p ≡ q
   member_stays ms n p q [] e = cc
   member_stays ms n p q (f ∷ fs) e = by_given (given f ms) (λ h. member_stays ms n p q fs h) e
     where
-      by_given : (o : Option (Option Json)) → (oneof_read nested ms (Member n p) fs ≡ Some q → Member n p ≡ q) → option_and_then (λ o. option_and_then (λ now. oneof_read nested ms now fs) (or_absent (Member n p) (member_read nested (Member n p) f) o)) o ≡ Some q → Member n p ≡ q
+      by_given : (o : Option (Option Json)) → (oneof_read nested ms (Member n p) fs ≡ Some q → Member n p ≡ q) →
+          option_and_then (λ o. option_and_then (λ now. oneof_read nested ms now fs)
+          (or_absent (Member n p) (member_read nested (Member n p) f) o)) o ≡ Some q → Member n p ≡ q
       by_given None later h = absurd cc
       by_given (Some None) later h = later h
       by_given (Some (Some j)) later h = absurd cc
@@ -212,17 +250,21 @@ module _ (nested : ℕ → Json → Option Parts) (bound : ℕ) (fit : (s : ℕ)
     fits : PartFits table p (kind_of (schema.OneOf members) p)
     low : part_levels p ≤ bound
 
-  oneof_fits : (ms : Members) (members : List (ℕ × Kind)) (fs : List NamedField) (q : Part) → FieldsLow fs → Knows members fs → oneof_read nested ms Absent fs ≡ Some q → HeldFits members q
+  oneof_fits : (ms : Members) (members : List (ℕ × Kind)) (fs : List NamedField) (q : Part) → FieldsLow fs → Knows
+      members fs → oneof_read nested ms Absent fs ≡ Some q → HeldFits members q
   unfolding PartFits part_levels
-  oneof_fits ms members [] q low k e = let h : Absent ≡ q = cc in subst (HeldFits members) h (record { shape = refl; fits = tt; low = omega arith })
+  oneof_fits ms members [] q low k e = let h : Absent ≡ q = cc in subst (HeldFits members) h
+      (record { shape = refl; fits = tt; low = omega arith })
   oneof_fits ms members (f ∷ fs) q low k e = by_given (given f ms) (λ h. oneof_fits ms members fs q low.1 k.2 h) e
     where
       by_given : (o : Option (Option Json)) → (oneof_read nested ms Absent fs ≡ Some q → HeldFits members q)
-          → option_and_then (λ o. option_and_then (λ now. oneof_read nested ms now fs) (or_absent Absent (member_read nested Absent f) o)) o ≡ Some q → HeldFits members q
+          → option_and_then (λ o. option_and_then (λ now. oneof_read nested ms now fs)
+          (or_absent Absent (member_read nested Absent f) o)) o ≡ Some q → HeldFits members q
       by_given None later h = absurd cc
       by_given (Some None) later h = later h
       by_given (Some (Some j)) later h =
-          let x = some_then (λ now. oneof_read nested ms now fs) (option_map (Member f.number) (field_read nested f j)) q h in
+          let x = some_then (λ now. oneof_read nested ms now fs) (option_map (Member f.number) (field_read nested f j))
+          q h in
           let y = some_map (Member f.number) (field_read nested f j) x.0 x.1 in
           let one = single_fits f.kind f.values j y.0 low.0 y.1 in
           let stays = member_stays ms f.number y.0 q fs (ap (λ (now : Part). oneof_read nested ms now fs) y.2 ∙ x.2) in
@@ -232,33 +274,45 @@ module _ (nested : ℕ → Json → Option Parts) (bound : ℕ) (fit : (s : ℕ)
             low = one.low;
           })
 
-  row_fits : (ms : Members) (row : NamedRow) (p : Part) → RowLow row → RowKnows row → row_read nested ms row ≡ Some p → RowFits row p
+  row_fits : (ms : Members) (row : NamedRow) (p : Part) → RowLow row → RowKnows row → row_read nested ms row ≡ Some p →
+      RowFits row p
   unfolding PartFits part_levels
   row_fits ms (Plain f) p low k e =
-      given_fits (Plain f) (field_read nested f) (default_of f.kind) (given f ms) p (plain_fits f (default_of f.kind) (default_fits f.kind low.0)) (λ j q h. plain_fits f q (single_fits f.kind f.values j q low.1 h)) e
+      given_fits (Plain f) (field_read nested f) (default_of f.kind) (given f ms) p
+      (plain_fits f (default_of f.kind) (default_fits f.kind low.0))
+      (λ j q h. plain_fits f q (single_fits f.kind f.values j q low.1 h)) e
   row_fits ms (Optional f) p low k e =
-      given_fits (Optional f) (field_read nested f) Absent (given f ms) p (record { shape = refl; fits = tt; low = omega arith }) (λ j q h. optional_fits f q (single_fits f.kind f.values j q low h)) e
+      given_fits (Optional f) (field_read nested f) Absent (given f ms) p
+      (record { shape = refl; fits = tt; low = omega arith })
+      (λ j q h. optional_fits f q (single_fits f.kind f.values j q low h)) e
   row_fits ms (Repeated f) p low k e =
-      given_fits (Repeated f) (list_read nested f) (Elements nil) (given f ms) p (record { shape = refl; fits = tt; low = omega arith }) (λ j q h. list_fits f j q low h) e
-  row_fits ms (OneOf fs) p low k e = let h = oneof_fits ms (map (λ f. (f.number, f.kind)) fs) fs p low k e in record { shape = h.shape; fits = h.fits; low = h.low }
+      given_fits (Repeated f) (list_read nested f) (Elements nil) (given f ms) p
+      (record { shape = refl; fits = tt; low = omega arith }) (λ j q h. list_fits f j q low h) e
+  row_fits ms (OneOf fs) p low k e = let h = oneof_fits ms (map (λ f. (f.number, f.kind)) fs) fs p low k e in record
+      { shape = h.shape; fits = h.fits; low = h.low }
 
-  rows_fit : (ms : Members) (rows : List NamedRow) (ps : Parts) → RowsLow rows → RowsKnow rows → rows_read nested ms rows ≡ Some ps → Fits table ps (map plain_row rows) × (levels ps ≤ bound)
+  rows_fit : (ms : Members) (rows : List NamedRow) (ps : Parts) → RowsLow rows → RowsKnow rows → rows_read nested ms
+      rows ≡ Some ps → Fits table ps (map plain_row rows) × (levels ps ≤ bound)
   unfolding PartFits part_levels
-  rows_fit ms [] ps low k e = let q : nil ≡ ps = cc in subst (λ (qs : Parts). Fits table qs [] × (levels qs ≤ bound)) q (tt, omega arith)
+  rows_fit ms [] ps low k e = let q : nil ≡ ps = cc in subst (λ (qs : Parts). Fits table qs [] × (levels qs ≤ bound)) q
+      (tt, omega arith)
   rows_fit ms (row ∷ rows) ps low k e =
       let x = some_then (λ p. option_map (cons p) (rows_read nested ms rows)) (row_read nested ms row) ps e in
       let y = some_map (cons x.0) (rows_read nested ms rows) ps x.2 in
       let one = row_fits ms row x.0 low.0 k.0 x.1 in
       let more = rows_fit ms rows y.0 low.1 k.1 y.1 in
-      subst (λ (qs : Parts). Fits table qs (map plain_row (row ∷ rows)) × (levels qs ≤ bound)) y.2 ((one.shape, one.fits, more.0), omega (arith, one.low, more.1))
+      subst (λ (qs : Parts). Fits table qs (map plain_row (row ∷ rows)) × (levels qs ≤ bound)) y.2
+      ((one.shape, one.fits, more.0), omega (arith, one.low, more.1))
 
-  object_fits : (rows : List NamedRow) (j : Json) (ps : Parts) → RowsLow rows → RowsKnow rows → object_read nested rows j ≡ Some ps → Fits table ps (map plain_row rows) × (levels ps ≤ bound)
+  object_fits : (rows : List NamedRow) (j : Json) (ps : Parts) → RowsLow rows → RowsKnow rows → object_read nested rows
+      j ≡ Some ps → Fits table ps (map plain_row rows) × (levels ps ≤ bound)
   object_fits rows null ps low k e = absurd cc
   object_fits rows (boolean b) ps low k e = absurd cc
   object_fits rows (number s) ps low k e = absurd cc
   object_fits rows (string s) ps low k e = absurd cc
   object_fits rows (array js) ps low k e = absurd cc
-  object_fits rows (object ms) ps low k e = rows_fit ms rows ps low k (some_if (are_known rows ms) (rows_read nested ms rows) ps e).1
+  object_fits rows (object ms) ps low k e = rows_fit ms rows ps low k
+      (some_if (are_known rows ms) (rows_read nested ms rows) ps e).1
 
 -- ---- the rows of the schemas
 
@@ -280,7 +334,8 @@ pub have_scalars : (s : ℕ) → plain_scalars (table s) ≡ true
 unfolding plain_scalars
 have_scalars s = each_has schemas refl s
 
-low_in : (fields : List EnumField) → list_all (λ f. are_low f.values) fields ≡ true → (s n : ℕ) → are_low (values_in fields s n) ≡ true
+low_in : (fields : List EnumField) → list_all (λ f. are_low f.values) fields ≡ true → (s n : ℕ) → are_low
+    (values_in fields s n) ≡ true
 low_in [] h s n = refl
 low_in (f ∷ fs) h s n = by_test (low_in fs (and_split _ _ h).1 s n) ((eqb s f.schema) && (eqb n f.number))
   where
@@ -306,9 +361,12 @@ rows_low s (schema.OneOf members ∷ rows) h = (low_members s members, rows_low 
 
 -- ---- messages
 
-pub message_fits : (n s : ℕ) (j : Json) (v : Parts) → message_read n s j ≡ Some v → Fits table v (table s) × (suc (levels v) ≤ n)
+pub message_fits : (n s : ℕ) (j : Json) (v : Parts) → message_read n s j ≡ Some v → Fits table v (table s) ×
+    (suc (levels v) ≤ n)
 unfolding message_read named_rows
 message_fits zero s j v e = absurd cc
 message_fits (suc n) s j v e =
-    let h : Fits table v (map plain_row (named_rows s)) × (levels v ≤ n) = object_fits (message_read n) n (message_fits n) (named_rows s) j v (rows_low s (table s) (have_scalars s)) (rows_know s (table s) (and_split _ _ (are_schemas s)).1) e in
+    let h : Fits table v (map plain_row (named_rows s)) × (levels v ≤ n) = object_fits (message_read n) n
+    (message_fits n) (named_rows s) j v (rows_low s (table s) (have_scalars s))
+    (rows_know s (table s) (and_split _ _ (are_schemas s)).1) e in
     (subst (λ (rows : List Row). Fits table v rows) (plain_rows s (table s)) h.0, omega (arith, h.1))

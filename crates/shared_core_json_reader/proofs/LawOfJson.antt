@@ -1,5 +1,7 @@
 -- The JSON of a value, as tokens, is read as the value's canonical payload.
-use Rattle.std.proofs.Common.{◌≡◌, ℕ, suc, ◌+◌, ◌*◌, ◌≤◌, max, List, [], ◌∷◌, ◌++◌, length, Bool, true, false, cond, ◌&&◌, Some, option_map, option_and_then, IsUtf8, refl, sym, ap, subst, ◌∙◌, append-nil, arith}
+use Rattle.std.proofs.Common.{◌≡◌, ℕ, suc, ◌+◌, ◌*◌, ◌≤◌, max, List, [], ◌∷◌, ◌++◌, length, Bool, true, false, cond}
+use Rattle.std.proofs.Common.{◌&&◌, Some, option_map, option_and_then, IsUtf8, refl, sym, ap, subst, ◌∙◌, append-nil}
+use Rattle.std.proofs.Common.{arith}
 use Rattle.std.proofs.lemmas.Bool.{eqb-true}
 use Rattle.std.proofs.lemmas.Str.{is_utf8-from_IsUtf8}
 use Rattle.std.proofs.lemmas.List.Concat.{flat_map-append}
@@ -17,12 +19,14 @@ use Rattle.shared_core_wire.specs.Encoding.{shortest_varint, key_bytes, record_b
 use Rattle.shared_core_wire.specs.Schema.{Kind, Row, U32, U64, Boolean, Enumeration, Text, ByteString, Message}
 use Rattle.shared_core_wire.specs.Schema as schema
 use Rattle.shared_core_wire.specs.Value.{Part, Parts, Absent, Number, Bytes, Nested, Elements, Member, nil, cons}
-use Rattle.shared_core_wire.specs.Canonical.{kind_of, number_of, is_default, row_records, part_values, element_values, message_records, canonical_payload, part_levels, levels}
+use Rattle.shared_core_wire.specs.Canonical.{kind_of, number_of, is_default, row_records, part_values, element_values}
+use Rattle.shared_core_wire.specs.Canonical.{message_records, canonical_payload, part_levels, levels}
 use Rattle.shared_core_wire.specs.Fitting.{is_single, has_shape, PartFits, ElementsFit, Fits}
 use Rattle.shared_core_wire.proofs.Runs.{and_split}
 use Rattle.shared_core_codec.specs.Table.{table}
 use Rattle.shared_core_json.specs.Fields.{names_of, name_of}
-use Rattle.shared_core_json.specs.Form.{is_present, member_if, number_json, byte_string_json, bytes_json, part_json, items_json, members_json, json_with}
+use Rattle.shared_core_json.specs.Form.{is_present, member_if, number_json, byte_string_json, bytes_json, part_json}
+use Rattle.shared_core_json.specs.Form.{items_json, members_json, json_with}
 use Rattle.shared_core_json_reader.specs.Laws.{JsonIsReadBack}
 use Rattle.shared_core_json_reader.specs.Reading.{only_value, text_payload}
 use Rattle.shared_core_json_reader.proofs.Agreeing.{out_of}
@@ -43,7 +47,8 @@ number_depth (Message s) n = refl
 pub byte_string_depth : (texts : Bool) (b : List ℕ) → depth (byte_string_json texts b) ≤ 1
 byte_string_depth texts b = by_test (texts && is_utf8 b)
   where
-    by_test : (t : Bool) → depth (cond t (object (member (codes "text") (string b) no_members)) (string (encode_of standard b))) ≤ 1
+    by_test : (t : Bool) → depth (cond t (object (member (codes "text") (string b) no_members))
+        (string (encode_of standard b))) ≤ 1
     by_test true = omega arith
     by_test false = omega arith
 
@@ -88,7 +93,8 @@ record Low (texts : Bool) (p : Part) (k : Kind) : Type 0 where
   low : depth (part_json texts p k) ≤ 2 * part_levels p + 2
   lower : is_single p ≡ true → depth (part_json texts p k) ≤ 2 * part_levels p + 1
 
-member_low : (b : Bool) (name : List ℕ) (j : Json) (others : Members) (bound : ℕ) → depth j ≤ bound → members_depth others ≤ bound → members_depth (member_if b name j others) ≤ bound
+member_low : (b : Bool) (name : List ℕ) (j : Json) (others : Members) (bound : ℕ) → depth j ≤ bound → members_depth
+    others ≤ bound → members_depth (member_if b name j others) ≤ bound
 member_low true name j others bound h g = omega arith
 member_low false name j others bound h g = g
 
@@ -97,28 +103,44 @@ mutual
 
   part_low : (texts : Bool) (p : Part) (k : Kind) → PartFits table p k → HoldsSingle p → Low texts p k
   part_low texts Absent k f h = record { low = omega arith; lower = λ e. omega arith }
-  part_low texts (Number n) k f h = record { low = omega (arith, number_depth k n); lower = λ e. omega (arith, number_depth k n) }
-  part_low texts (Bytes b) k f h = record { low = omega (arith, bytes_depth texts k b); lower = λ e. omega (arith, bytes_depth texts k b) }
-  part_low texts (Nested ps) (Message t) f h = let m = members_low texts (names_of t) ps (table t) f in record { low = omega (arith, m); lower = λ e. omega (arith, m) }
+  part_low texts (Number n) k f h = record {
+    low = omega (arith, number_depth k n);
+    lower = λ e. omega
+        (arith, number_depth k n);
+  }
+  part_low texts (Bytes b) k f h = record {
+    low = omega (arith, bytes_depth texts k b);
+    lower = λ e. omega
+        (arith, bytes_depth texts k b);
+  }
+  part_low texts (Nested ps) (Message t) f h = let m = members_low texts (names_of t) ps (table t) f in record
+      { low = omega (arith, m); lower = λ e. omega (arith, m) }
   part_low texts (Nested ps) U32 f h = absurd f
   part_low texts (Nested ps) U64 f h = absurd f
   part_low texts (Nested ps) Boolean f h = absurd f
   part_low texts (Nested ps) Enumeration f h = absurd f
   part_low texts (Nested ps) Text f h = absurd f
   part_low texts (Nested ps) ByteString f h = absurd f
-  part_low texts (Elements ps) k f h = let m = items_low texts ps k f in record { low = omega (arith, m); lower = λ e. absurd cc }
-  part_low texts (Member n p) k f h = let m = part_low texts p k f (single_holds p h) in record { low = m.low; lower = λ e. absurd cc }
+  part_low texts (Elements ps) k f h = let m = items_low texts ps k f in record
+      { low = omega (arith, m); lower = λ e. absurd cc }
+  part_low texts (Member n p) k f h = let m = part_low texts p k f (single_holds p h) in record
+      { low = m.low; lower = λ e. absurd cc }
 
-  items_low : (texts : Bool) (ps : Parts) (k : Kind) → ElementsFit table ps k → items_depth (items_json texts ps k) ≤ 2 * levels ps + 1
+  items_low : (texts : Bool) (ps : Parts) (k : Kind) → ElementsFit table ps k → items_depth (items_json texts ps k) ≤ 2
+      * levels ps + 1
   items_low texts nil k f = omega arith
-  items_low texts (cons p ps) k f = let one = (part_low texts p k f.1 (single_holds p f.0)).lower f.0 in omega (arith, one, items_low texts ps k f.2)
+  items_low texts (cons p ps) k f = let one = (part_low texts p k f.1 (single_holds p f.0)).lower f.0 in omega
+      (arith, one, items_low texts ps k f.2)
 
-  members_low : (texts : Bool) (ns : List (ℕ × List ℕ)) (v : Parts) (rows : List Row) → Fits table v rows → members_depth (members_json texts ns v rows) ≤ 2 * levels v + 2
+  members_low : (texts : Bool) (ns : List (ℕ × List ℕ)) (v : Parts) (rows : List Row) → Fits table v rows →
+      members_depth (members_json texts ns v rows) ≤ 2 * levels v + 2
   members_low texts ns nil rows f = omega arith
   members_low texts ns (cons p ps) [] f = absurd f
   members_low texts ns (cons p ps) (row ∷ rows) f =
       let one = (part_low texts p (kind_of row p) f.1 (shape_holds row p f.0)).low in
-      member_low (is_present row p) (name_of ns (number_of row p)) (part_json texts p (kind_of row p)) (members_json texts ns ps rows) (2 * max (part_levels p) (levels ps) + 2) (omega (arith, one)) (omega (arith, members_low texts ns ps rows f.2))
+      member_low (is_present row p) (name_of ns (number_of row p)) (part_json texts p (kind_of row p))
+      (members_json texts ns ps rows) (2 * max (part_levels p) (levels ps) + 2) (omega (arith, one))
+      (omega (arith, members_low texts ns ps rows f.2))
 
 -- ---- the bytes of a value are those of its payload
 
@@ -140,14 +162,19 @@ WsBytes (Fixed32 b ∷ ws) = WsBytes ws
 
 ws_bytes : (n : ℕ) (ws : List RecordValue) → IsBytes (out_of n ws) → WsBytes ws
 ws_bytes n [] h = tt
-ws_bytes n (Varint m ∷ ws) h = ws_bytes n ws (back_bytes (record_bytes (record { number = n; value = Varint m })) (out_of n ws) h)
-ws_bytes n (Fixed64 b ∷ ws) h = ws_bytes n ws (back_bytes (record_bytes (record { number = n; value = Fixed64 b })) (out_of n ws) h)
+ws_bytes n (Varint m ∷ ws) h = ws_bytes n ws (back_bytes (record_bytes (record { number = n; value = Varint m }))
+    (out_of n ws) h)
+ws_bytes n (Fixed64 b ∷ ws) h = ws_bytes n ws (back_bytes (record_bytes (record { number = n; value = Fixed64 b }))
+    (out_of n ws) h)
 ws_bytes n (Length b ∷ ws) h = (
-  back_bytes (shortest_varint (length b)) b (back_bytes (key_bytes n 2) (shortest_varint (length b) ++ b) (front_bytes (record_bytes (record { number = n; value = Length b })) (out_of n ws) h)),
+  back_bytes (shortest_varint (length b)) b (back_bytes (key_bytes n 2) (shortest_varint (length b) ++ b)
+      (front_bytes (record_bytes (record { number = n; value = Length b })) (out_of n ws) h)),
   ws_bytes n ws (back_bytes (record_bytes (record { number = n; value = Length b })) (out_of n ws) h),
 )
-ws_bytes n (Group b ∷ ws) h = ws_bytes n ws (back_bytes (record_bytes (record { number = n; value = Group b })) (out_of n ws) h)
-ws_bytes n (Fixed32 b ∷ ws) h = ws_bytes n ws (back_bytes (record_bytes (record { number = n; value = Fixed32 b })) (out_of n ws) h)
+ws_bytes n (Group b ∷ ws) h = ws_bytes n ws (back_bytes (record_bytes (record { number = n; value = Group b }))
+    (out_of n ws) h)
+ws_bytes n (Fixed32 b ∷ ws) h = ws_bytes n ws (back_bytes (record_bytes (record { number = n; value = Fixed32 b }))
+    (out_of n ws) h)
 
 ws_front : (us ws : List RecordValue) → WsBytes (us ++ ws) → WsBytes us
 ws_front [] ws h = tt
@@ -192,11 +219,13 @@ run_bytes (Bytes b) h f = absurd cc
 run_bytes (Nested ps) h f = absurd cc
 run_bytes (Member n p) h f = absurd cc
 
-plain_bytes : (p : Part) (n : ℕ) (ws : List RecordValue) (b : Bool) → is_default p ≡ b → IsBytes (out_of n (cond b [] ws)) → (WsBytes ws → PartBytes p) → PartBytes p
+plain_bytes : (p : Part) (n : ℕ) (ws : List RecordValue) (b : Bool) → is_default p ≡ b → IsBytes
+    (out_of n (cond b [] ws)) → (WsBytes ws → PartBytes p) → PartBytes p
 plain_bytes p n ws true e h hold = default_bytes p e
 plain_bytes p n ws false e h hold = hold (ws_bytes n ws h)
 
-row_bytes : (row : Row) (p : Part) (ws : List RecordValue) → has_shape row p ≡ true → PartFits table p (kind_of row p) → IsBytes (record_list_bytes (row_records row p ws)) → (WsBytes ws → PartBytes p) → PartBytes p
+row_bytes : (row : Row) (p : Part) (ws : List RecordValue) → has_shape row p ≡ true → PartFits table p (kind_of row p) →
+    IsBytes (record_list_bytes (row_records row p ws)) → (WsBytes ws → PartBytes p) → PartBytes p
 row_bytes (schema.Plain n k) p ws i f h hold = plain_bytes p n ws (is_default p) refl h hold
 row_bytes (schema.Optional n k) p ws i f h hold = hold (ws_bytes n ws h)
 row_bytes (schema.Repeated n U32) p ws i f h hold = run_bytes p (shape_again p i) f
@@ -233,37 +262,50 @@ mutual
   part_bytes (Elements ps) k f h = elements_bytes ps k f h
   part_bytes (Member n p) k f h = part_bytes p k f h
 
-  elements_bytes : (ps : Parts) (k : Kind) → ElementsFit table ps k → WsBytes (element_values table ps k) → PartsBytes ps
+  elements_bytes : (ps : Parts) (k : Kind) → ElementsFit table ps k → WsBytes (element_values table ps k) → PartsBytes
+      ps
   elements_bytes nil k f h = tt
-  elements_bytes (cons p ps) k f h =
-      (part_bytes p k f.1 (ws_front (part_values table p k) (element_values table ps k) h), elements_bytes ps k f.2 (ws_back (part_values table p k) (element_values table ps k) h))
+  elements_bytes (cons p ps) k f h = (
+    part_bytes p k f.1 (ws_front (part_values table p k) (element_values table ps k) h),
+    elements_bytes ps k f.2
+        (ws_back (part_values table p k) (element_values table ps k) h),
+  )
 
-  message_bytes_of : (v : Parts) (rows : List Row) → Fits table v rows → IsBytes (record_list_bytes (message_records table v rows)) → PartsBytes v
+  message_bytes_of : (v : Parts) (rows : List Row) → Fits table v rows → IsBytes
+      (record_list_bytes (message_records table v rows)) → PartsBytes v
   message_bytes_of nil rows f h = tt
   message_bytes_of (cons p ps) [] f h = absurd f
   message_bytes_of (cons p ps) (row ∷ rows) f h =
       let ws = part_values table p (kind_of row p) in
-      let split = subst IsBytes (flat_map-append record_bytes (row_records row p ws) (message_records table ps rows)) h in (
-        row_bytes row p ws f.0 f.1 (front_bytes (record_list_bytes (row_records row p ws)) (record_list_bytes (message_records table ps rows)) split) (part_bytes p (kind_of row p) f.1),
-        message_bytes_of ps rows f.2 (back_bytes (record_list_bytes (row_records row p ws)) (record_list_bytes (message_records table ps rows)) split),
+      let split = subst IsBytes (flat_map-append record_bytes (row_records row p ws) (message_records table ps rows)) h
+      in (
+        row_bytes row p ws f.0 f.1 (front_bytes (record_list_bytes (row_records row p ws))
+            (record_list_bytes (message_records table ps rows)) split) (part_bytes p (kind_of row p) f.1),
+        message_bytes_of ps rows f.2 (back_bytes (record_list_bytes (row_records row p ws))
+            (record_list_bytes (message_records table ps rows)) split),
       )
 
 -- ---- the law
 
 pub whole_value : (j : Json) → depth j ≤ 1000 → only_value (json_tokens j) ≡ Some j
 unfolding only_value
-whole_value j h = ap (option_and_then (λ p. if_last p.0 p.1)) (ap (value 1000) (sym (append-nil (json_tokens j))) ∙ value-json_tokens j 1000 [] h)
+whole_value j h = ap (option_and_then (λ p. if_last p.0 p.1))
+    (ap (value 1000) (sym (append-nil (json_tokens j))) ∙ value-json_tokens j 1000 [] h)
 
-pub value_low : (texts : Bool) (s : ℕ) (v : Parts) → Fits table v (table s) → depth (json_with texts s v) ≤ 2 * levels v + 3
+pub value_low : (texts : Bool) (s : ℕ) (v : Parts) → Fits table v (table s) → depth (json_with texts s v) ≤ 2 * levels v
+    + 3
 value_low texts s v fits = omega (arith, members_low texts (names_of s) v (table s) fits)
 
 -- a value whose bytes are bytes, whatever its encoding
-pub value_back : (texts : Bool) (s : ℕ) (v : Parts) (text : List ℕ) → Fits table v (table s) → levels v ≤ 100 → PartsBytes v → IsUtf8 text → tokens text ≡ json_tokens (json_with texts s v)
+pub value_back : (texts : Bool) (s : ℕ) (v : Parts) (text : List ℕ) → Fits table v (table s) → levels v ≤ 100 →
+    PartsBytes v → IsUtf8 text → tokens text ≡ json_tokens (json_with texts s v)
     → text_payload s text ≡ Some (canonical_payload table s v)
 value_back texts s v text fits low held utf8 lexed =
     let deep : depth (json_with texts s v) ≤ 1000 = omega (arith, value_low texts s v fits) in
-    let is : IsText text (json_tokens (json_with texts s v)) = record { utf8 = is_utf8-from_IsUtf8 text utf8; lexed = sym lexed } in
-    text_of_value s text (json_with texts s v) (of_tokens text (json_tokens (json_with texts s v)) (Some (json_with texts s v)) is (whole_value (json_with texts s v) deep))
+    let is : IsText text (json_tokens (json_with texts s v)) = record
+    { utf8 = is_utf8-from_IsUtf8 text utf8; lexed = sym lexed } in
+    text_of_value s text (json_with texts s v) (of_tokens text (json_tokens (json_with texts s v))
+    (Some (json_with texts s v)) is (whole_value (json_with texts s v) deep))
     ∙ ap (option_map (canonical_payload table s)) (message_back texts 100 s v fits low held)
 
 pub json_back : (texts : Bool) (s : ℕ) → JsonIsReadBack texts s

@@ -1,5 +1,6 @@
 -- A message at each level, and one more element of a list.
-use Rattle.std.proofs.Common.{◌≡◌, ℕ, zero, suc, ◌+◌, ◌-◌, ◌<◌, List, [], ◌∷◌, ◌++◌, drop, map, Bool, true, false, Option, Some, None, option_and_then, refl, sym, ap, ◌∙◌, append_assoc, arith}
+use Rattle.std.proofs.Common.{◌≡◌, ℕ, zero, suc, ◌+◌, ◌-◌, ◌<◌, List, [], ◌∷◌, ◌++◌, drop, map, Bool, true, false}
+use Rattle.std.proofs.Common.{Option, Some, None, option_and_then, refl, sym, ap, ◌∙◌, append_assoc, arith}
 use Rattle.json.specs.Token.{Token}
 use Rattle.json.specs.Json.{Json, Members, if_last, value}
 use Rattle.json.specs.Value.{value_view, items_view}
@@ -9,7 +10,8 @@ use Rattle.shared_core_codec.specs.Table.{table}
 use Rattle.shared_core_codec.specs.declared.rows.Field.{Field}
 use Rattle.shared_core_json_reader.specs.Rows.{NamedField, in_schema, named_members, named_row, named_rows}
 use Rattle.shared_core_json_reader.specs.Reading.{given, only_value, or_absent}
-use Rattle.shared_core_json_reader.specs.Appended.{both, field_bytes, items_bytes, member_bytes, held_after, oneof_bytes, object_bytes, message_bytes, after}
+use Rattle.shared_core_json_reader.specs.Appended.{both, field_bytes, items_bytes, member_bytes, held_after}
+use Rattle.shared_core_json_reader.specs.Appended.{oneof_bytes, object_bytes, message_bytes, after}
 
 pub no_level : (levels s : ℕ) (j : Json) → levels ≡ 0 → message_bytes levels s j ≡ None
 unfolding message_bytes
@@ -18,7 +20,8 @@ no_level levels s j e = rw e refl
 less_one : (n : ℕ) → suc n - 1 ≡ n
 less_one n = omega arith
 
-pub at_level : (levels s : ℕ) (j : Json) → 0 < levels → object_bytes (message_bytes (levels - 1)) (named_rows s) j ≡ message_bytes levels s j
+pub at_level : (levels s : ℕ) (j : Json) → 0 < levels → object_bytes (message_bytes (levels - 1)) (named_rows s) j ≡
+    message_bytes levels s j
 unfolding message_bytes
 at_level zero s j h = absurd (omega arith)
 at_level (suc left) s j h = rw (less_one left) refl
@@ -29,26 +32,35 @@ unfolding named_rows
 with_names s rows e = ap (map (named_row s)) e
 
 -- what is appended first, and then more
-pub after_both : (old new : List ℕ) (a b : Option (List ℕ)) → after old a ≡ Some new → after old (both a b) ≡ after new b
+pub after_both : (old new : List ℕ) (a b : Option (List ℕ)) → after old a ≡ Some new → after old (both a b) ≡ after new
+    b
 after_both old new None b e = absurd cc
 after_both old new (Some xs) None e = refl
-after_both old new (Some xs) (Some ys) e = let q : old ++ xs ≡ new = cc in ap (λ (zs : List ℕ). Some zs) (sym (append_assoc old xs ys) ∙ ap (λ (zs : List ℕ). zs ++ ys) q)
+after_both old new (Some xs) (Some ys) e = let q : old ++ xs ≡ new = cc in ap (λ (zs : List ℕ). Some zs)
+    (sym (append_assoc old xs ys) ∙ ap (λ (zs : List ℕ). zs ++ ys) q)
 
-pub items_turn : {A : Type 0} (nested : ℕ → Json → Option (List ℕ)) (f : NamedField) (xs : List (Value A)) (i : ℕ) (x : Value A) (old new : List ℕ) (all : Option (List ℕ))
-    → drop i xs ≡ x ∷ drop (i + 1) xs → after old (field_bytes nested false f (value_view x)) ≡ Some new → after old (items_bytes nested f (items_view (drop i xs))) ≡ all
+pub items_turn : {A : Type 0} (nested : ℕ → Json → Option (List ℕ)) (f : NamedField) (xs : List (Value A)) (i : ℕ)
+    (x : Value A) (old new : List ℕ) (all : Option (List ℕ))
+    → drop i xs ≡ x ∷ drop (i + 1) xs → after old (field_bytes nested false f (value_view x)) ≡ Some new → after old
+    (items_bytes nested f (items_view (drop i xs))) ≡ all
     → after new (items_bytes nested f (items_view (drop (i + 1) xs))) ≡ all
 items_turn {A} nested f xs i x old new all here e h =
-    sym (after_both old new (field_bytes nested false f (value_view x)) (items_bytes nested f (items_view (drop (i + 1) xs))) e)
+    sym (after_both old new (field_bytes nested false f (value_view x))
+    (items_bytes nested f (items_view (drop (i + 1) xs))) e)
     ∙ sym (ap (λ (ys : List (Value A)). after old (items_bytes nested f (items_view ys))) here) ∙ h
 
 -- what is appended for a member of a oneof that holds none before
-one_held : (nested : ℕ → Json → Option (List ℕ)) (ms : Members) (f : NamedField) (fs : List NamedField) (j : Json) → given f ms ≡ Some (Some j)
+one_held : (nested : ℕ → Json → Option (List ℕ)) (ms : Members) (f : NamedField) (fs : List NamedField) (j : Json) →
+    given f ms ≡ Some (Some j)
     → oneof_bytes nested ms false (f ∷ fs) ≡ both (field_bytes nested false f j) (oneof_bytes nested ms true fs)
-one_held nested ms f fs j g = ap (option_and_then (λ o. both (or_absent [] (member_bytes nested false f) o) (oneof_bytes nested ms (held_after false o) fs))) g
+one_held nested ms f fs j g = ap (option_and_then (λ o. both (or_absent [] (member_bytes nested false f) o)
+    (oneof_bytes nested ms (held_after false o) fs))) g
 
-pub oneof_turn : (nested : ℕ → Json → Option (List ℕ)) (ms : Members) (s : ℕ) (xs : List Field) (i : ℕ) (x : Field) (f : NamedField) (j : Json) (held : Bool) (old new : List ℕ) (all : Option (List ℕ))
+pub oneof_turn : (nested : ℕ → Json → Option (List ℕ)) (ms : Members) (s : ℕ) (xs : List Field) (i : ℕ) (x : Field)
+    (f : NamedField) (j : Json) (held : Bool) (old new : List ℕ) (all : Option (List ℕ))
     → drop i xs ≡ x ∷ drop (i + 1) xs → f ≡ in_schema s x → given f ms ≡ Some (Some j) → held ≡ false
-    → after old (field_bytes nested false f j) ≡ Some new → after old (oneof_bytes nested ms held (named_members s (drop i xs))) ≡ all
+    → after old (field_bytes nested false f j) ≡ Some new → after old
+    (oneof_bytes nested ms held (named_members s (drop i xs))) ≡ all
     → after new (oneof_bytes nested ms true (named_members s (drop (i + 1) xs))) ≡ all
 oneof_turn nested ms s xs i x f j held old new all here named found none e h =
     let rest = named_members s (drop (i + 1) xs) in
@@ -65,7 +77,8 @@ pub no_value : (ts : List Token) → value 1000 ts ≡ None → only_value ts �
 unfolding only_value
 no_value ts e = ap (option_and_then (λ p. if_last p.0 p.1)) e
 
-pub more_values : (ts rest us : List Token) (j : Json) (t : Token) → value 1000 ts ≡ Some (j, rest) → rest ≡ t ∷ us → only_value ts ≡ None
+pub more_values : (ts rest us : List Token) (j : Json) (t : Token) → value 1000 ts ≡ Some (j, rest) → rest ≡ t ∷ us →
+    only_value ts ≡ None
 unfolding only_value
 more_values ts rest us j t e r = ap (option_and_then (λ p. if_last p.0 p.1)) e ∙ ap (if_last j) r
 

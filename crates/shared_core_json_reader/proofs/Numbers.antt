@@ -1,5 +1,6 @@
 -- Reading whole numbers.
-use Rattle.std.proofs.Common.{◌≡◌, ℕ, ◌^◌, ◌<◌, List, [], ◌∷◌, ◌++◌, length, drop, ◌↔◌, Bool, true, false, cond, Option, Some, None, option_map, refl, sym, ap, ◌∙◌, arith, eqb, ltb, eq-eqb, ◌&&◌}
+use Rattle.std.proofs.Common.{◌≡◌, ℕ, ◌^◌, ◌<◌, List, [], ◌∷◌, ◌++◌, length, drop, ◌↔◌, Bool, true, false, cond, Option}
+use Rattle.std.proofs.Common.{Some, None, option_map, refl, sym, ap, ◌∙◌, arith, eqb, ltb, eq-eqb, ◌&&◌}
 use Rattle.std.specs.Prelude.{IsTrue}
 use Rattle.std.specs.Str.Parse.{digits_value}
 use Rattle.std.proofs.lemmas.Bool.{eqb-true, ltb-true, lt-ltb, le-ltb}
@@ -28,7 +29,8 @@ minus_shorter (x ∷ xs) = by_test (eqb x 45)
 pub no_magnitude : (p : Parts) → (IsWhole p × (whole_of p < 2 ^ 64) → ⊥) → magnitude_of p ≡ None
 no_magnitude p h = by_tests (eqb _ 0) (ltb _ (2 ^ 64)) refl refl
   where
-    by_tests : (b d : Bool) → eqb (digits_value 10 (drop (point_at p) (p.whole ++ p.fraction))) 0 ≡ b → ltb (whole_of p) (2 ^ 64) ≡ d → cond (b && d) (Some (whole_of p)) None ≡ None
+    by_tests : (b d : Bool) → eqb (digits_value 10 (drop (point_at p) (p.whole ++ p.fraction))) 0 ≡ b → ltb (whole_of p)
+        (2 ^ 64) ≡ d → cond (b && d) (Some (whole_of p)) None ≡ None
     by_tests true true e f = absurd (h (eqb-true _ _ e, ltb-true _ _ f))
     by_tests true false e f = refl
     by_tests false d e f = refl
@@ -43,17 +45,22 @@ no_whole s e = rw e refl
 abbrev pub with_sign : List ℕ → Option ℕ → Option Whole
 with_sign s o = option_map (λ n. record { negative = eqb (head s) 45; magnitude = n }) o
 
-pub number_whole : (s : List ℕ) → ends_there (after_number s) ≡ true → whole_of_text s ≡ with_sign s (magnitude_of (scan (after_minus s)))
+pub number_whole : (s : List ℕ) → ends_there (after_number s) ≡ true → whole_of_text s ≡ with_sign s
+    (magnitude_of (scan (after_minus s)))
 unfolding whole_of_text
 number_whole s e = rw e refl
 
-pub not_whole : (s digits : List ℕ) (p : Parts) → ends_there (after_number s) ≡ true → digits ≡ after_minus s → p ≡ scan digits → magnitude_of p ≡ None → whole_of_text s ≡ None
+pub not_whole : (s digits : List ℕ) (p : Parts) → ends_there (after_number s) ≡ true → digits ≡ after_minus s → p ≡ scan
+    digits → magnitude_of p ≡ None → whole_of_text s ≡ None
 not_whole s digits p e d q m =
-    number_whole s e ∙ ap (λ (x : List ℕ). with_sign s (magnitude_of (scan x))) (sym d) ∙ ap (λ (x : Parts). with_sign s (magnitude_of x)) (sym q) ∙ ap (with_sign s) m
+    number_whole s e ∙ ap (λ (x : List ℕ). with_sign s (magnitude_of (scan x))) (sym d) ∙ ap
+    (λ (x : Parts). with_sign s (magnitude_of x)) (sym q) ∙ ap (with_sign s) m
 
-pub whole_is : (s digits : List ℕ) (p : Parts) (n : ℕ) → ends_there (after_number s) ≡ true → digits ≡ after_minus s → p ≡ scan digits → magnitude_of p ≡ Some n
+pub whole_is : (s digits : List ℕ) (p : Parts) (n : ℕ) → ends_there (after_number s) ≡ true → digits ≡ after_minus s → p
+    ≡ scan digits → magnitude_of p ≡ Some n
     → whole_of_text s ≡ Some (record { negative = ltb (length digits) (length s); magnitude = n })
 whole_is s digits p n e d q m =
-    number_whole s e ∙ ap (λ (x : List ℕ). with_sign s (magnitude_of (scan x))) (sym d) ∙ ap (λ (x : Parts). with_sign s (magnitude_of x)) (sym q) ∙ ap (with_sign s) m
+    number_whole s e ∙ ap (λ (x : List ℕ). with_sign s (magnitude_of (scan x))) (sym d) ∙ ap
+    (λ (x : Parts). with_sign s (magnitude_of x)) (sym q) ∙ ap (with_sign s) m
     ∙ ap (λ (b : Bool). Some (record { negative = b; magnitude = n })) (sym (minus_shorter s))
     ∙ ap (λ (x : List ℕ). Some (record { negative = ltb (length x) (length s); magnitude = n })) (sym d)

@@ -1,16 +1,19 @@
 -- The text that is printed for a JSON value is read as this value.
-use Rattle.std.proofs.Common.{◌≡◌, ◌≤◌, ℕ, List, [], ◌∷◌, ◌++◌, Bool, false, Some, IsUtf8, refl, sym, ◌+◌, ◌%◌, ◌^◌, ◌<◌, ◌&&◌, true, decimal, arith, nat_lt}
+use Rattle.std.proofs.Common.{◌≡◌, ◌≤◌, ℕ, List, [], ◌∷◌, ◌++◌, Bool, false, Some, IsUtf8, refl, sym, ◌+◌, ◌%◌, ◌^◌}
+use Rattle.std.proofs.Common.{◌<◌, ◌&&◌, true, decimal, arith, nat_lt}
 use Rattle.std.specs.Prelude.{nat_le}
 use Rattle.std.proofs.lemmas.Bool.{le-leb, lt-ltb}
 use Rattle.std.proofs.lemmas.Fmt.{decimal_by_steps_wide}
 use Rattle.shared_core_wire.proofs.Runs.{and_split, and_join}
 use Rattle.std.proofs.lemmas.Str.{IsUtf8-append, IsUtf8-nil, is_utf8-from_IsUtf8}
 use Rattle.json.specs.Token.{Token}
-use Rattle.json.specs.Json.{Json, null, boolean, number, string, array, object, Items, no_items, item, Members, no_members, member}
+use Rattle.json.specs.Json.{Json, null, boolean, number, string, array, object, Items, no_items, item, Members}
+use Rattle.json.specs.Json.{no_members, member}
 use Rattle.json.specs.Tree.{json_tokens, items_tokens, members_tokens, depth}
 use Rattle.json.specs.Print.{print, print_from, separator, token_text, ends, IsNumber, ArePrintable}
 use Rattle.json.proofs.Printed.Tokens.{tokens-print}
-use Rattle.json.proofs.Printed.Utf8.{are_ascii, IsUtf8-are_ascii, IsUtf8-quoted, IsUtf8-key, IsUtf8-boolean, IsUtf8-separator}
+use Rattle.json.proofs.Printed.Utf8.{are_ascii, IsUtf8-are_ascii, IsUtf8-quoted, IsUtf8-key, IsUtf8-boolean}
+use Rattle.json.proofs.Printed.Utf8.{IsUtf8-separator}
 use Rattle.shared_core_json_reader.specs.Reading.{json_of_text}
 use Rattle.shared_core_json_reader.proofs.LawOfJson.{whole_value}
 use Rattle.shared_core_json_reader.proofs.Whole.{IsText, of_tokens}
@@ -31,11 +34,13 @@ visible_join [] ys h g = g
 visible_join (x ∷ xs) ys h g = let e = and_split _ _ h in and_join _ _ e.0 (visible_join xs ys e.1 g)
 
 digit_visible : (m : ℕ) → m < 10 → are_visible ((48 + m) ∷ []) ≡ true
-digit_visible m l = and_join _ _ (and_join _ _ (le-leb 32 (48 + m) (omega arith)) (lt-ltb (48 + m) 128 (omega arith))) refl
+digit_visible m l = and_join _ _ (and_join _ _ (le-leb 32 (48 + m) (omega arith)) (lt-ltb (48 + m) 128 (omega arith)))
+    refl
 
 pub visible_decimal : (n : ℕ) → n < 2 ^ 128 → are_visible (decimal n) ≡ true
 visible_decimal n small =
-    decimal_by_steps_wide (λ m ds. are_visible ds ≡ true) (λ m l. digit_visible m l) (λ m ds l h. visible_join ds ((48 + m % 10) ∷ []) h (digit_visible (m % 10) (omega arith))) n (omega arith)
+    decimal_by_steps_wide (λ m ds. are_visible ds ≡ true) (λ m l. digit_visible m l)
+    (λ m ds l h. visible_join ds ((48 + m % 10) ∷ []) h (digit_visible (m % 10) (omega arith))) n (omega arith)
 
 -- each number is the text of one, and all is UTF-8
 abbrev mutual
@@ -90,7 +95,11 @@ mutual
 
   members_may : (ms : Members) → MembersMay ms → TokensMay (members_tokens ms)
   members_may no_members h = (tt, tt)
-  members_may (member k j ms) h = (h.0, may_join (json_tokens j) (members_tokens ms) (tokens_may j h.1) (members_may ms h.2))
+  members_may (member k j ms) h = (
+    h.0,
+    may_join (json_tokens j) (members_tokens ms) (tokens_may j h.1)
+        (members_may ms h.2),
+  )
 
 are_printable : (ts : List Token) → TokensMay ts → ArePrintable ts
 unfolding ArePrintable

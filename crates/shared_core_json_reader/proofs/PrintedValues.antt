@@ -1,5 +1,6 @@
 -- The JSON of a value can be printed, and its text is read as the value's canonical payload.
-use Rattle.std.proofs.Common.{◌≡◌, ℕ, zero, suc, ◌-◌, ◌^◌, ◌<◌, ◌≤◌, List, [], ◌∷◌, Bool, true, false, cond, ◌&&◌, ltb, eqb, IsUtf8, refl, negsuc, arith}
+use Rattle.std.proofs.Common.{◌≡◌, ℕ, zero, suc, ◌-◌, ◌^◌, ◌<◌, ◌≤◌, List, [], ◌∷◌, Bool, true, false, cond, ◌&&◌, ltb}
+use Rattle.std.proofs.Common.{eqb, IsUtf8, refl, negsuc, arith}
 use Rattle.std.proofs.lemmas.Bool.{ltb-true, ltb-false}
 use Rattle.std.proofs.lemmas.Fmt.{IsAscii-decimal}
 use Rattle.std.proofs.lemmas.Str.{IsUtf8-nil, IsUtf8-from_ascii, IsUtf8-from_is_utf8}
@@ -19,7 +20,8 @@ use Rattle.shared_core_wire.proofs.Runs.{and_split}
 use Rattle.shared_core_codec.specs.Table.{table}
 use Rattle.shared_core_json.specs.Names.{names}
 use Rattle.shared_core_json.specs.Fields.{names_at, names_of, name_of}
-use Rattle.shared_core_json.specs.Form.{is_present, member_if, enum_digits, number_json, byte_string_json, bytes_json, part_json, items_json, members_json, json_with}
+use Rattle.shared_core_json.specs.Form.{is_present, member_if, enum_digits, number_json, byte_string_json, bytes_json}
+use Rattle.shared_core_json.specs.Form.{part_json, items_json, members_json, json_with}
 use Rattle.shared_core_json_reader.proofs.Printed.{visible_decimal, MayPrint, ItemsMay, MembersMay}
 
 -- ---- numbers and bytes
@@ -59,7 +61,8 @@ pub byte_string_may : (texts : Bool) (b : List ℕ) → MayPrint (byte_string_js
 byte_string_may false b = IsUtf8-from_ascii (encode_of standard b) (IsAscii-encode_of standard b)
 byte_string_may true b = by_test (is_utf8 b) refl
   where
-    by_test : (t : Bool) → is_utf8 b ≡ t → MayPrint (cond t (object (member (codes "text") (string b) no_members)) (string (encode_of standard b)))
+    by_test : (t : Bool) → is_utf8 b ≡ t → MayPrint (cond t (object (member (codes "text") (string b) no_members))
+        (string (encode_of standard b)))
     by_test true e = (IsUtf8-are_ascii (codes "text") refl, IsUtf8-from_is_utf8 b e, tt)
     by_test false e = IsUtf8-from_ascii (encode_of standard b) (IsAscii-encode_of standard b)
 
@@ -95,7 +98,8 @@ are_all_ascii = refl
 name_utf8 : (ns : List (ℕ × List ℕ)) (n : ℕ) → names_ascii ns ≡ true → IsUtf8 (name_of ns n)
 unfolding names_ascii
 name_utf8 [] n h = IsUtf8-nil
-name_utf8 (name ∷ ns) n h = let e = and_split (are_ascii name.1) (names_ascii ns) h in by_test (name_utf8 ns n e.1) e.0 (eqb n name.0)
+name_utf8 (name ∷ ns) n h = let e = and_split (are_ascii name.1) (names_ascii ns) h in by_test (name_utf8 ns n e.1) e.0
+    (eqb n name.0)
   where
     by_test : IsUtf8 (name_of ns n) → are_ascii name.1 ≡ true → (b : Bool) → IsUtf8 (cond b name.1 (name_of ns n))
     by_test later one true = IsUtf8-are_ascii name.1 one
@@ -103,7 +107,8 @@ name_utf8 (name ∷ ns) n h = let e = and_split (are_ascii name.1) (names_ascii 
 
 -- ---- values
 
-member_may : (b : Bool) (name : List ℕ) (j : Json) (others : Members) → IsUtf8 name → MayPrint j → MembersMay others → MembersMay (member_if b name j others)
+member_may : (b : Bool) (name : List ℕ) (j : Json) (others : Members) → IsUtf8 name → MayPrint j → MembersMay others →
+    MembersMay (member_if b name j others)
 member_may true name j others u h g = (u, h, g)
 member_may false name j others u h g = g
 
@@ -114,7 +119,8 @@ mutual
   part_may texts Absent k f = tt
   part_may texts (Number n) k f = number_may k n f
   part_may texts (Bytes b) k f = bytes_may texts k b f
-  part_may texts (Nested ps) (Message t) f = members_may texts (names_of t) ps (table t) (ascii_at names t are_all_ascii) f
+  part_may texts (Nested ps) (Message t) f = members_may texts (names_of t) ps (table t)
+      (ascii_at names t are_all_ascii) f
   part_may texts (Nested ps) U32 f = absurd f
   part_may texts (Nested ps) U64 f = absurd f
   part_may texts (Nested ps) Boolean f = absurd f
@@ -128,11 +134,14 @@ mutual
   items_may texts nil k f = tt
   items_may texts (cons p ps) k f = (part_may texts p k f.1, items_may texts ps k f.2)
 
-  members_may : (texts : Bool) (ns : List (ℕ × List ℕ)) (v : Parts) (rows : List Row) → names_ascii ns ≡ true → Fits table v rows → MembersMay (members_json texts ns v rows)
+  members_may : (texts : Bool) (ns : List (ℕ × List ℕ)) (v : Parts) (rows : List Row) → names_ascii ns ≡ true → Fits
+      table v rows → MembersMay (members_json texts ns v rows)
   members_may texts ns nil rows a f = tt
   members_may texts ns (cons p ps) [] a f = absurd f
   members_may texts ns (cons p ps) (row ∷ rows) a f =
-      member_may (is_present row p) (name_of ns (number_of row p)) (part_json texts p (kind_of row p)) (members_json texts ns ps rows) (name_utf8 ns (number_of row p) a) (part_may texts p (kind_of row p) f.1) (members_may texts ns ps rows a f.2)
+      member_may (is_present row p) (name_of ns (number_of row p)) (part_json texts p (kind_of row p))
+      (members_json texts ns ps rows) (name_utf8 ns (number_of row p) a) (part_may texts p (kind_of row p) f.1)
+      (members_may texts ns ps rows a f.2)
 
 pub value_may : (texts : Bool) (s : ℕ) (v : Parts) → Fits table v (table s) → MayPrint (json_with texts s v)
 value_may texts s v f = members_may texts (names_of s) v (table s) (ascii_at names s are_all_ascii) f

@@ -17,14 +17,17 @@ record IsRead (s : ℕ) (payload : List ℕ) : Type 0 where
   low : levels (payload_meaning s payload) ≤ 100
   canonical : payload ≡ canonical_payload table s (payload_meaning s payload)
 
-read_is : (s : ℕ) (text payload : List ℕ) → text_payload s text ≡ Some payload → length payload < 2 ^ 64 → IsRead s payload
+read_is : (s : ℕ) (text payload : List ℕ) → text_payload s text ≡ Some payload → length payload < 2 ^ 64 → IsRead s
+    payload
 read_is s text payload e z =
     let x = some_map (canonical_payload table s) (text_meaning s text) payload e in
     let y = some_then (message_read 101 s) (json_of_text text) x.0 x.1 in
-    let read : value_payload s y.0 ≡ Some payload = ap (option_map (canonical_payload table s)) y.2 ∙ ap (λ (b : List ℕ). Some b) x.2 in
+    let read : value_payload s y.0 ≡ Some payload = ap (option_map (canonical_payload table s)) y.2 ∙ ap
+    (λ (b : List ℕ). Some b) x.2 in
     let means = payload_means s y.0 payload read z in
     let fit = message_fits 101 s y.0 (payload_meaning s payload) means.1 in
-    let same : Some (canonical_payload table s (payload_meaning s payload)) ≡ Some payload = sym (ap (option_map (canonical_payload table s)) means.1) ∙ read in
+    let same : Some (canonical_payload table s (payload_meaning s payload)) ≡ Some payload = sym
+    (ap (option_map (canonical_payload table s)) means.1) ∙ read in
     record { accepted = means.0; fits = fit.0; low = omega (arith, fit.1); canonical = cc }
 
 pub read_canonical : (s : ℕ) → ReadsCanonical s
@@ -35,4 +38,5 @@ read_canonical s text payload e z =
 pub read_again : (texts : Bool) (s : ℕ) → IsReadAgain texts s
 read_again texts s text again payload e bytes z utf8 lexed =
     let is = read_is s text payload e z in
-    json_back texts s (payload_meaning s payload) payload again (record { fits = is.fits; low = omega (arith, is.low); canonical = is.canonical }) bytes is.low utf8 lexed
+    json_back texts s (payload_meaning s payload) payload again
+    (record { fits = is.fits; low = omega (arith, is.low); canonical = is.canonical }) bytes is.low utf8 lexed

@@ -1,5 +1,7 @@
 -- Base64 read, varints appended, and the bytes of original names.
-use Rattle.std.proofs.Common.{◌≡◌, ◌≢◌, Bor, length, ℕ, ◌+◌, ◌/◌, ◌%◌, ◌<◌, ◌≤◌, List, [], ◌∷◌, ◌++◌, Bool, true, false, cond, ◌&&◌, Option, Some, None, option_and_then, Result, Ok, Err, refl, sym, ap, subst, ◌∙◌, append_assoc, eqb, leb}
+use Rattle.std.proofs.Common.{◌≡◌, ◌≢◌, Bor, length, ℕ, ◌+◌, ◌/◌, ◌%◌, ◌<◌, ◌≤◌, List, [], ◌∷◌, ◌++◌, Bool, true, false}
+use Rattle.std.proofs.Common.{cond, ◌&&◌, Option, Some, None, option_and_then, Result, Ok, Err, refl, sym, ap, subst}
+use Rattle.std.proofs.Common.{◌∙◌, append_assoc, eqb, leb}
 use Rattle.std.specs.Result.{result_ok}
 use Rattle.std.specs.Option.{option_or}
 use Rattle.std.specs.Str.{bytes_eq, is_utf8}
@@ -20,36 +22,46 @@ use Rattle.shared_core_json_reader.specs.Reading.{original_name}
 
 pub standard_bytes : (s b : List ℕ) → decode_of standard_pad_indifferent s ≡ Ok b → base64_bytes s ≡ Some b
 unfolding base64_bytes
-standard_bytes s b d = ap (λ (r : Result (List ℕ) DecodeError). option_or (result_ok r) (result_ok (decode_of url_safe_pad_indifferent s))) d
+standard_bytes s b d = ap (λ (r : Result (List ℕ) DecodeError). option_or (result_ok r)
+    (result_ok (decode_of url_safe_pad_indifferent s))) d
 
-pub other_bytes : (s : List ℕ) (x : DecodeError) (o : Option (List ℕ)) → decode_of standard_pad_indifferent s ≡ Err x → result_ok (decode_of url_safe_pad_indifferent s) ≡ o → base64_bytes s ≡ o
+pub other_bytes : (s : List ℕ) (x : DecodeError) (o : Option (List ℕ)) → decode_of standard_pad_indifferent s ≡ Err x →
+    result_ok (decode_of url_safe_pad_indifferent s) ≡ o → base64_bytes s ≡ o
 unfolding base64_bytes
-other_bytes s x o d u = ap (λ (r : Result (List ℕ) DecodeError). option_or (result_ok r) (result_ok (decode_of url_safe_pad_indifferent s))) d ∙ u
+other_bytes s x o d u = ap (λ (r : Result (List ℕ) DecodeError). option_or (result_ok r)
+    (result_ok (decode_of url_safe_pad_indifferent s))) d ∙ u
 
-pub failed_with : (s : List ℕ) (e : DecodeAllocError) (d : DecodeError) → e ≡ Failed d → IsDecodeFailure standard_pad_indifferent s e → decode_of standard_pad_indifferent s ≡ Err d
+pub failed_with : (s : List ℕ) (e : DecodeAllocError) (d : DecodeError) → e ≡ Failed d → IsDecodeFailure
+    standard_pad_indifferent s e → decode_of standard_pad_indifferent s ≡ Err d
 failed_with s e d is f = subst (IsDecodeFailure standard_pad_indifferent s) is f
 
-pub more_varint : (out new : List ℕ) (n : ℕ) → 128 ≤ n → new ≡ out ++ (n % 128 + 128) ∷ [] → new ++ shortest_varint (n / 128) ≡ out ++ shortest_varint n
+pub more_varint : (out new : List ℕ) (n : ℕ) → 128 ≤ n → new ≡ out ++ (n % 128 + 128) ∷ [] → new ++ shortest_varint
+    (n / 128) ≡ out ++ shortest_varint n
 more_varint out new n h e =
-    ap (λ (xs : List ℕ). xs ++ shortest_varint (n / 128)) e ∙ append_assoc out ((n % 128 + 128) ∷ []) (shortest_varint (n / 128)) ∙ ap (λ (xs : List ℕ). out ++ xs) (sym (shortest_large n h))
+    ap (λ (xs : List ℕ). xs ++ shortest_varint (n / 128)) e ∙ append_assoc out ((n % 128 + 128) ∷ [])
+    (shortest_varint (n / 128)) ∙ ap (λ (xs : List ℕ). out ++ xs) (sym (shortest_large n h))
 
 pub last_varint : (out new : List ℕ) (n : ℕ) → n < 128 → new ≡ out ++ n ∷ [] → new ≡ out ++ shortest_varint n
 last_varint out new n h e = e ∙ ap (λ (xs : List ℕ). out ++ xs) (sym (shortest_small n h))
 
 -- a text against a byte and more
-byte_then : (text : List ℕ) (b : ℕ) (bs : List ℕ) → bytes_eq text (b ∷ bs) ≡ elim (after_byte b text) as (λ _. Bool) [ None ↦ false | Some rest ↦ bytes_eq rest bs ]
+byte_then : (text : List ℕ) (b : ℕ) (bs : List ℕ) → bytes_eq text (b ∷ bs) ≡ elim (after_byte b text) as (λ _. Bool)
+    [ None ↦ false | Some rest ↦ bytes_eq rest bs ]
 byte_then [] b bs = refl
 byte_then (x ∷ xs) b bs = by_test (eqb x b)
   where
-    by_test : (t : Bool) → t && bytes_eq xs bs ≡ elim (cond t (Some xs) None) as (λ _. Bool) [ None ↦ false | Some rest ↦ bytes_eq rest bs ]
+    by_test : (t : Bool) → t && bytes_eq xs bs ≡ elim (cond t (Some xs) None) as (λ _. Bool)
+        [ None ↦ false | Some rest ↦ bytes_eq rest bs ]
     by_test true = refl
     by_test false = refl
 
 pub text_is : (j : Json) (s t : List ℕ) → Some s ≡ as_str j → t ≡ s → is_utf8 t ≡ true → text_read j ≡ Some t
-text_is j s t e q u = ap (λ (o : Option (List ℕ)). option_and_then utf8_text o) (sym e) ∙ ap utf8_text (sym q) ∙ ap (λ (b : Bool). cond b (Some t) None) u
+text_is j s t e q u = ap (λ (o : Option (List ℕ)). option_and_then utf8_text o) (sym e) ∙ ap utf8_text (sym q) ∙ ap
+    (λ (b : Bool). cond b (Some t) None) u
 
 -- the members of an object that has none, or several
-pub other_members : {A : Type 0} (ms : List (Bor (List ℕ) × Value A)) → length ms ≢ 1 → only_text (members_view ms) ≡ None
+pub other_members : {A : Type 0} (ms : List (Bor (List ℕ) × Value A)) → length ms ≢ 1 → only_text (members_view ms) ≡
+    None
 other_members [] h = refl
 other_members (x ∷ []) h = absurd (h refl)
 other_members (x ∷ (y ∷ ms)) h = refl

@@ -1,13 +1,17 @@
 -- The JSON of a value is read as the value.
-use Rattle.std.proofs.Common.{◌≡◌, ℕ, zero, suc, ◌≤◌, List, [], ◌∷◌, ◌++◌, map, length, Bool, true, false, cond, not, ◌&&◌, ◌||◌, Option, Some, None, option_map, option_and_then, refl, sym, ap, ap₂, ◌∙◌, append-nil, arith, eqb, eq-eqb}
+use Rattle.std.proofs.Common.{◌≡◌, ℕ, zero, suc, ◌≤◌, List, [], ◌∷◌, ◌++◌, map, length, Bool, true, false, cond, not}
+use Rattle.std.proofs.Common.{◌&&◌, ◌||◌, Option, Some, None, option_map, option_and_then, refl, sym, ap, ap₂, ◌∙◌}
+use Rattle.std.proofs.Common.{append-nil, arith, eqb, eq-eqb}
 use Rattle.std.specs.List.{list_all}
 use Rattle.std.specs.Str.{bytes_eq}
 use Rattle.std.proofs.lemmas.Bool.{eqb-true, eqb-false, ne_eqb}
 use Rattle.base64.specs.GeneralPurpose.{IsBytes}
 use Rattle.json.specs.Json.{Json, Members}
-use Rattle.shared_core_wire.specs.Schema.{Kind, Row, U32, U64, Boolean, Enumeration, Text, ByteString, Message, table_of, includes, member_kind, are_distinct, numbers, all_numbers}
+use Rattle.shared_core_wire.specs.Schema.{Kind, Row, U32, U64, Boolean, Enumeration, Text, ByteString, Message}
+use Rattle.shared_core_wire.specs.Schema.{table_of, includes, member_kind, are_distinct, numbers, all_numbers}
 use Rattle.shared_core_wire.specs.Schema as schema
-use Rattle.shared_core_wire.specs.Value.{Part, Parts, Absent, Number, Bytes, Nested, Elements, Member, nil, cons, default_of}
+use Rattle.shared_core_wire.specs.Value.{Part, Parts, Absent, Number, Bytes, Nested, Elements, Member, nil, cons}
+use Rattle.shared_core_wire.specs.Value.{default_of}
 use Rattle.shared_core_wire.specs.Canonical.{kind_of, number_of, is_default, part_levels, levels}
 use Rattle.shared_core_wire.specs.Fitting.{is_single, has_shape, NumberFits, BytesFit, PartFits, ElementsFit, Fits}
 use Rattle.shared_core_wire.proofs.ReadBack.{or_split, includes-append, distinct_back, distinct_other}
@@ -18,10 +22,15 @@ use Rattle.shared_core_json.specs.Names.{names}
 use Rattle.shared_core_json.specs.Fields.{names_at, names_of, name_of}
 use Rattle.shared_core_json.specs.Form.{is_present, member_if, part_json, items_json, members_json, json_with}
 use Rattle.shared_core_json.proofs.Lookup.{not_before}
-use Rattle.shared_core_json_reader.specs.Rows.{NamedField, NamedRow, Plain, Optional, Repeated, named_field, named_row, named_rows}
-use Rattle.shared_core_json_reader.specs.Reading.{original_name, is_named, names_field, row_names, names_row, are_known, values_named, present, the_only, given, single_read, field_read, elements_read, list_read, or_absent, member_read, oneof_read, row_read, rows_read, object_read, message_read}
+use Rattle.shared_core_json_reader.specs.Rows.{NamedField, NamedRow, Plain, Optional, Repeated, named_field, named_row}
+use Rattle.shared_core_json_reader.specs.Rows.{named_rows}
+use Rattle.shared_core_json_reader.specs.Reading.{original_name, is_named, names_field, row_names, names_row, are_known}
+use Rattle.shared_core_json_reader.specs.Reading.{values_named, present, the_only, given, single_read, field_read}
+use Rattle.shared_core_json_reader.specs.Reading.{elements_read, list_read, or_absent, member_read, oneof_read}
+use Rattle.shared_core_json_reader.specs.Reading.{row_read, rows_read, object_read, message_read}
 use Rattle.shared_core_json_reader.proofs.Agreeing.{distinct_front}
-use Rattle.shared_core_json_reader.proofs.ScalarsBack.{u32_back, u64_back, boolean_back, enum_back, text_back, byte_string_back, byte_string_there}
+use Rattle.shared_core_json_reader.proofs.ScalarsBack.{u32_back, u64_back, boolean_back, enum_back, text_back}
+use Rattle.shared_core_json_reader.proofs.ScalarsBack.{byte_string_back, byte_string_there}
 
 -- ---- the names of a schema's fields differ
 
@@ -47,7 +56,8 @@ each_apart nss [] = true
 each_apart [] (rows ∷ lists) = apart [] (all_numbers rows) && each_apart [] lists
 each_apart (ns ∷ nss) (rows ∷ lists) = apart ns (all_numbers rows) && each_apart nss lists
 
-apart_at : (nss : List (List (ℕ × List ℕ))) (lists : List (List Row)) (s : ℕ) → each_apart nss lists ≡ true → apart (names_at nss s) (all_numbers (table_of lists s)) ≡ true
+apart_at : (nss : List (List (ℕ × List ℕ))) (lists : List (List Row)) (s : ℕ) → each_apart nss lists ≡ true → apart
+    (names_at nss s) (all_numbers (table_of lists s)) ≡ true
 unfolding each_apart
 apart_at nss [] s h = refl
 apart_at [] (rows ∷ lists) zero h = (and_split _ _ h).0
@@ -67,12 +77,15 @@ one_of_all P (x ∷ xs) n h g = by_test (λ k. one_of_all P xs n (and_split _ _ 
     by_test later true e k = ap P (eqb-true n x e) ∙ (and_split _ _ h).0
     by_test later false e k = later k
 
-names_apart : (s n m : ℕ) → includes (all_numbers (table s)) n ≡ true → includes (all_numbers (table s)) m ≡ true → names_key (name_of (names_of s) n) (name_of (names_of s) m) ≡ eqb n m
+names_apart : (s n m : ℕ) → includes (all_numbers (table s)) n ≡ true → includes (all_numbers (table s)) m ≡ true →
+    names_key (name_of (names_of s) n) (name_of (names_of s) m) ≡ eqb n m
 names_apart s n m h g =
     let all = all_numbers (table s) in
     let ns = names_of s in
-    let one = one_of_all (λ n. list_all (λ m. same_test (names_key (name_of ns n) (name_of ns m)) (eqb n m)) all) all n (apart_at names schemas s all_apart) h in
-    same_test-true (names_key (name_of ns n) (name_of ns m)) (eqb n m) (one_of_all (λ m. same_test (names_key (name_of ns n) (name_of ns m)) (eqb n m)) all m one g)
+    let one = one_of_all (λ n. list_all (λ m. same_test (names_key (name_of ns n) (name_of ns m)) (eqb n m)) all) all n
+    (apart_at names schemas s all_apart) h in
+    same_test-true (names_key (name_of ns n) (name_of ns m)) (eqb n m)
+    (one_of_all (λ m. same_test (names_key (name_of ns n) (name_of ns m)) (eqb n m)) all m one g)
 
 pub same_bytes : (xs : List ℕ) → bytes_eq xs xs ≡ true
 same_bytes [] = refl
@@ -99,7 +112,8 @@ own_number : (n : ℕ) → includes (n ∷ []) n ≡ true
 own_number n = ap (λ (b : Bool). b || false) (eq-eqb n n refl)
 
 -- what is present has a number of its row
-number_within : (row : Row) (p : Part) → has_shape row p ≡ true → is_present row p ≡ true → includes (numbers row) (number_of row p) ≡ true
+number_within : (row : Row) (p : Part) → has_shape row p ≡ true → is_present row p ≡ true → includes (numbers row)
+    (number_of row p) ≡ true
 number_within (schema.Plain n k) p h g = own_number n
 number_within (schema.Optional n k) p h g = own_number n
 number_within (schema.Repeated n k) p h g = own_number n
@@ -112,44 +126,56 @@ number_within (schema.OneOf members) (Member n p) h g = (and_split _ _ h).0
 
 -- the value that a part gives the field of a number
 abbrev pub mine : Bool → ℕ → Row → Part → List Json
-mine texts n row p = cond (is_present row p) (cond (eqb n (number_of row p)) (part_json texts p (kind_of row p) ∷ []) []) []
+mine texts n row p = cond (is_present row p) (cond (eqb n (number_of row p)) (part_json texts p (kind_of row p) ∷ [])
+    []) []
 
 abbrev pub all_mine : Bool → ℕ → Parts → List Row → List Json
 all_mine texts n nil rows = []
 all_mine texts n (cons p ps) [] = []
 all_mine texts n (cons p ps) (row ∷ rows) = mine texts n row p ++ all_mine texts n ps rows
 
-mine_none : (texts : Bool) (n : ℕ) (row : Row) (p : Part) → has_shape row p ≡ true → includes (numbers row) n ≡ false → mine texts n row p ≡ []
+mine_none : (texts : Bool) (n : ℕ) (row : Row) (p : Part) → has_shape row p ≡ true → includes (numbers row) n ≡ false →
+    mine texts n row p ≡ []
 mine_none texts n row p h g = by_test (is_present row p) refl
   where
     other : is_present row p ≡ true → eqb n (number_of row p) ≡ false
-    other e = ne_eqb n (number_of row p) (λ q. absurd (let k : includes (numbers row) (number_of row p) ≡ true = number_within row p h e in let l : includes (numbers row) n ≡ includes (numbers row) (number_of row p) = ap (includes (numbers row)) q in cc))
+    other e = ne_eqb n (number_of row p) (λ q. absurd (let k : includes (numbers row) (number_of row p) ≡ true =
+        number_within row p h e in let l : includes (numbers row) n ≡ includes (numbers row) (number_of row p) = ap
+        (includes (numbers row)) q in cc))
 
-    by_test : (b : Bool) → is_present row p ≡ b → cond b (cond (eqb n (number_of row p)) (part_json texts p (kind_of row p) ∷ []) []) [] ≡ []
+    by_test : (b : Bool) → is_present row p ≡ b → cond b (cond (eqb n (number_of row p))
+        (part_json texts p (kind_of row p) ∷ []) []) [] ≡ []
     by_test true e = ap (λ (c : Bool). cond c (part_json texts p (kind_of row p) ∷ []) []) (other e)
     by_test false e = refl
 
-all_mine_none : (texts : Bool) (n : ℕ) (v : Parts) (rows : List Row) → Fits table v rows → includes (all_numbers rows) n ≡ false → all_mine texts n v rows ≡ []
+all_mine_none : (texts : Bool) (n : ℕ) (v : Parts) (rows : List Row) → Fits table v rows → includes (all_numbers rows) n
+    ≡ false → all_mine texts n v rows ≡ []
 unfolding PartFits
 all_mine_none texts n nil [] f h = refl
 all_mine_none texts n nil (row ∷ rows) f h = absurd f
 all_mine_none texts n (cons p ps) [] f h = absurd f
 all_mine_none texts n (cons p ps) (row ∷ rows) f h =
-    let e = or_split (includes (numbers row) n) (includes (all_numbers rows) n) (sym (includes-append (numbers row) (all_numbers rows) n) ∙ h) in
+    let e = or_split (includes (numbers row) n) (includes (all_numbers rows) n)
+    (sym (includes-append (numbers row) (all_numbers rows) n) ∙ h) in
     ap₂ (λ (a b : List Json). a ++ b) (mine_none texts n row p f.0 e.0) (all_mine_none texts n ps rows f.2 e.1)
 
 or_true : (b : Bool) → (b || true) ≡ true
 or_true true = refl
 or_true false = refl
 
-within_row : (row : Row) (rows : List Row) (n : ℕ) → includes (numbers row) n ≡ true → includes (all_numbers (row ∷ rows)) n ≡ true
-within_row row rows n h = includes-append (numbers row) (all_numbers rows) n ∙ ap (λ b. b || includes (all_numbers rows) n) h
+within_row : (row : Row) (rows : List Row) (n : ℕ) → includes (numbers row) n ≡ true → includes
+    (all_numbers (row ∷ rows)) n ≡ true
+within_row row rows n h = includes-append (numbers row) (all_numbers rows) n ∙ ap
+    (λ b. b || includes (all_numbers rows) n) h
 
-within_rest : (row : Row) (rows : List Row) (n : ℕ) → includes (all_numbers rows) n ≡ true → includes (all_numbers (row ∷ rows)) n ≡ true
-within_rest row rows n h = includes-append (numbers row) (all_numbers rows) n ∙ ap (λ b. includes (numbers row) n || b) h ∙ or_true (includes (numbers row) n)
+within_rest : (row : Row) (rows : List Row) (n : ℕ) → includes (all_numbers rows) n ≡ true → includes
+    (all_numbers (row ∷ rows)) n ≡ true
+within_rest row rows n h = includes-append (numbers row) (all_numbers rows) n ∙ ap (λ b. includes (numbers row) n || b)
+    h ∙ or_true (includes (numbers row) n)
 
 -- the values of a field in the object of a value
-values_are : (texts : Bool) (s n : ℕ) (k : Kind) (v : Parts) (rows : List Row) → Fits table v rows → includes (all_numbers (table s)) n ≡ true
+values_are : (texts : Bool) (s n : ℕ) (k : Kind) (v : Parts) (rows : List Row) → Fits table v rows → includes
+    (all_numbers (table s)) n ≡ true
     → ((m : ℕ) → includes (all_numbers rows) m ≡ true → includes (all_numbers (table s)) m ≡ true)
     → values_named (named_field s n k) (members_json texts (names_of s) v rows) ≡ all_mine texts n v rows
 unfolding PartFits part_json
@@ -168,79 +194,103 @@ values_are texts s n k (cons p ps) (row ∷ rows) f h w =
     j : Json
     j = part_json texts p (kind_of row p)
 
-    by_name : values_named (named_field s n k) others ≡ all_mine texts n ps rows → (b : Bool) → b ≡ eqb n (number_of row p)
-        → cond b (j ∷ values_named (named_field s n k) others) (values_named (named_field s n k) others) ≡ cond (eqb n (number_of row p)) (j ∷ []) [] ++ all_mine texts n ps rows
-    by_name later true e = ap (λ (js : List Json). j ∷ js) later ∙ ap (λ (b : Bool). cond b (j ∷ []) [] ++ all_mine texts n ps rows) e
+    by_name : values_named (named_field s n k) others ≡ all_mine texts n ps rows → (b : Bool) → b ≡ eqb n
+        (number_of row p)
+        → cond b (j ∷ values_named (named_field s n k) others) (values_named (named_field s n k) others) ≡ cond
+        (eqb n (number_of row p)) (j ∷ []) [] ++ all_mine texts n ps rows
+    by_name later true e = ap (λ (js : List Json). j ∷ js) later ∙ ap
+        (λ (b : Bool). cond b (j ∷ []) [] ++ all_mine texts n ps rows) e
     by_name later false e = later ∙ ap (λ (b : Bool). cond b (j ∷ []) [] ++ all_mine texts n ps rows) e
 
     by_test : values_named (named_field s n k) others ≡ all_mine texts n ps rows → (b : Bool) → is_present row p ≡ b
-        → values_named (named_field s n k) (member_if b key j others) ≡ cond b (cond (eqb n (number_of row p)) (j ∷ []) []) [] ++ all_mine texts n ps rows
+        → values_named (named_field s n k) (member_if b key j others) ≡ cond b
+        (cond (eqb n (number_of row p)) (j ∷ []) []) [] ++ all_mine texts n ps rows
     by_test later true e =
-        by_name later (is_named (named_field s n k) key) (names_apart s n (number_of row p) h (w (number_of row p) (within_row row rows (number_of row p) (number_within row p f.0 e))))
+        by_name later (is_named (named_field s n k) key) (names_apart s n (number_of row p) h
+        (w (number_of row p) (within_row row rows (number_of row p) (number_within row p f.0 e))))
     by_test later false e = later
 
 -- each key is known
-names_one : (s : ℕ) (members : List (ℕ × Kind)) (m : ℕ) → includes (map (λ o. o.0) members) m ≡ true → names_field (map (λ o. named_field s o.0 o.1) members) (name_of (names_of s) m) ≡ true
+names_one : (s : ℕ) (members : List (ℕ × Kind)) (m : ℕ) → includes (map (λ o. o.0) members) m ≡ true → names_field
+    (map (λ o. named_field s o.0 o.1) members) (name_of (names_of s) m) ≡ true
 names_one s [] m h = absurd cc
 names_one s (o ∷ members) m h = by_test (λ k. names_one s members m k) (eqb m o.0) refl h
   where
     key : List ℕ
     key = name_of (names_of s) m
 
-    by_test : (includes (map (λ o. o.0) members) m ≡ true → names_field (map (λ o. named_field s o.0 o.1) members) key ≡ true) → (b : Bool) → eqb m o.0 ≡ b → (b || includes (map (λ o. o.0) members) m) ≡ true
-        → ((bytes_eq key (name_of (names_of s) o.0) || bytes_eq key (original_name (name_of (names_of s) o.0))) || names_field (map (λ o. named_field s o.0 o.1) members) key) ≡ true
+    by_test : (includes (map (λ o. o.0) members) m ≡ true → names_field (map (λ o. named_field s o.0 o.1) members) key ≡
+        true) → (b : Bool) → eqb m o.0 ≡ b → (b || includes (map (λ o. o.0) members) m) ≡ true
+        → ((bytes_eq key (name_of (names_of s) o.0) || bytes_eq key (original_name (name_of (names_of s) o.0))) ||
+        names_field (map (λ o. named_field s o.0 o.1) members) key) ≡ true
     by_test later true e k =
-        ap (λ (b : Bool). (b || bytes_eq key (original_name (name_of (names_of s) o.0))) || names_field (map (λ o. named_field s o.0 o.1) members) key)
+        ap (λ (b : Bool). (b || bytes_eq key (original_name (name_of (names_of s) o.0))) || names_field
+        (map (λ o. named_field s o.0 o.1) members) key)
         (ap (λ (x : ℕ). bytes_eq key (name_of (names_of s) x)) (sym (eqb-true m o.0 e)) ∙ same_bytes key)
     by_test later false e k =
-        ap (λ (b : Bool). (bytes_eq key (name_of (names_of s) o.0) || bytes_eq key (original_name (name_of (names_of s) o.0))) || b) (later k)
+        ap (λ (b : Bool). (bytes_eq key (name_of (names_of s) o.0) || bytes_eq key
+        (original_name (name_of (names_of s) o.0))) || b) (later k)
         ∙ or_true (bytes_eq key (name_of (names_of s) o.0) || bytes_eq key (original_name (name_of (names_of s) o.0)))
 
-single_name : (s n m : ℕ) → includes (n ∷ []) m ≡ true → names_key (name_of (names_of s) n) (name_of (names_of s) m) ≡ true
+single_name : (s n m : ℕ) → includes (n ∷ []) m ≡ true → names_key (name_of (names_of s) n) (name_of (names_of s) m) ≡
+    true
 single_name s n m h =
     let q : m ≡ n = by_test (eqb m n) refl h in
-    ap (λ (x : ℕ). names_key (name_of (names_of s) n) (name_of (names_of s) x)) q ∙ ap (λ (b : Bool). b || bytes_eq (name_of (names_of s) n) (original_name (name_of (names_of s) n))) (same_bytes (name_of (names_of s) n))
+    ap (λ (x : ℕ). names_key (name_of (names_of s) n) (name_of (names_of s) x)) q ∙ ap
+    (λ (b : Bool). b || bytes_eq (name_of (names_of s) n) (original_name (name_of (names_of s) n)))
+    (same_bytes (name_of (names_of s) n))
   where
     by_test : (b : Bool) → eqb m n ≡ b → (b || false) ≡ true → m ≡ n
     by_test true e k = eqb-true m n e
     by_test false e k = absurd cc
 
-row_known : (s : ℕ) (row : Row) (m : ℕ) → includes (numbers row) m ≡ true → row_names (named_row s row) (name_of (names_of s) m) ≡ true
+row_known : (s : ℕ) (row : Row) (m : ℕ) → includes (numbers row) m ≡ true → row_names (named_row s row)
+    (name_of (names_of s) m) ≡ true
 row_known s (schema.Plain n k) m h = single_name s n m h
 row_known s (schema.Optional n k) m h = single_name s n m h
 row_known s (schema.Repeated n k) m h = single_name s n m h
 row_known s (schema.OneOf members) m h = names_one s members m h
 
-rows_known : (s : ℕ) (rows : List Row) (m : ℕ) → includes (all_numbers rows) m ≡ true → names_row (map (named_row s) rows) (name_of (names_of s) m) ≡ true
+rows_known : (s : ℕ) (rows : List Row) (m : ℕ) → includes (all_numbers rows) m ≡ true → names_row
+    (map (named_row s) rows) (name_of (names_of s) m) ≡ true
 rows_known s [] m h = absurd cc
-rows_known s (row ∷ rows) m h = by_test (λ k. rows_known s rows m k) (includes (numbers row) m) refl (sym (includes-append (numbers row) (all_numbers rows) m) ∙ h)
+rows_known s (row ∷ rows) m h = by_test (λ k. rows_known s rows m k) (includes (numbers row) m) refl
+    (sym (includes-append (numbers row) (all_numbers rows) m) ∙ h)
   where
     key : List ℕ
     key = name_of (names_of s) m
 
-    by_test : (includes (all_numbers rows) m ≡ true → names_row (map (named_row s) rows) key ≡ true) → (b : Bool) → includes (numbers row) m ≡ b → (b || includes (all_numbers rows) m) ≡ true → (row_names (named_row s row) key || names_row (map (named_row s) rows) key) ≡ true
+    by_test : (includes (all_numbers rows) m ≡ true → names_row (map (named_row s) rows) key ≡ true) → (b : Bool) →
+        includes (numbers row) m ≡ b → (b || includes (all_numbers rows) m) ≡ true →
+        (row_names (named_row s row) key || names_row (map (named_row s) rows) key) ≡ true
     by_test later true e k = ap (λ (b : Bool). b || names_row (map (named_row s) rows) key) (row_known s row m e)
-    by_test later false e k = ap (λ (b : Bool). row_names (named_row s row) key || b) (later k) ∙ or_true (row_names (named_row s row) key)
+    by_test later false e k = ap (λ (b : Bool). row_names (named_row s row) key || b) (later k) ∙ or_true
+        (row_names (named_row s row) key)
 
-all_known : (texts : Bool) (s : ℕ) (all : List NamedRow) (v : Parts) (rows : List Row) → Fits table v rows → ((m : ℕ) → includes (all_numbers rows) m ≡ true → names_row all (name_of (names_of s) m) ≡ true)
+all_known : (texts : Bool) (s : ℕ) (all : List NamedRow) (v : Parts) (rows : List Row) → Fits table v rows →
+    ((m : ℕ) → includes (all_numbers rows) m ≡ true → names_row all (name_of (names_of s) m) ≡ true)
     → are_known all (members_json texts (names_of s) v rows) ≡ true
 unfolding PartFits part_json
 all_known texts s all nil [] f w = refl
 all_known texts s all nil (row ∷ rows) f w = absurd f
 all_known texts s all (cons p ps) [] f w = absurd f
-all_known texts s all (cons p ps) (row ∷ rows) f w = by_test (all_known texts s all ps rows f.2 (λ m g. w m (within_rest row rows m g))) (is_present row p) refl
+all_known texts s all (cons p ps) (row ∷ rows) f w = by_test
+    (all_known texts s all ps rows f.2 (λ m g. w m (within_rest row rows m g))) (is_present row p) refl
   where
     others : Members
     others = members_json texts (names_of s) ps rows
 
-    by_test : are_known all others ≡ true → (b : Bool) → is_present row p ≡ b → are_known all (member_if b (name_of (names_of s) (number_of row p)) (part_json texts p (kind_of row p)) others) ≡ true
-    by_test later true e = ap₂ (λ (a b : Bool). a && b) (w (number_of row p) (within_row row rows (number_of row p) (number_within row p f.0 e))) later
+    by_test : are_known all others ≡ true → (b : Bool) → is_present row p ≡ b → are_known all
+        (member_if b (name_of (names_of s) (number_of row p)) (part_json texts p (kind_of row p)) others) ≡ true
+    by_test later true e = ap₂ (λ (a b : Bool). a && b) (w (number_of row p)
+        (within_row row rows (number_of row p) (number_within row p f.0 e))) later
     by_test later false e = later
 
 -- ---- one level
 
 module _ (texts : Bool) (s : ℕ) (ms : Members) (nested : ℕ → Json → Option Parts) (bound : ℕ)
-    (back : (t : ℕ) (ps : Parts) → Fits table ps (table t) → suc (levels ps) ≤ bound → PartsBytes ps → nested t (json_with texts t ps) ≡ Some ps) where
+    (back : (t : ℕ) (ps : Parts) → Fits table ps (table t) → suc (levels ps) ≤ bound → PartsBytes ps → nested t
+    (json_with texts t ps) ≡ Some ps) where
   record Back (k : Kind) (values : List (List ℕ × ℕ)) (p : Part) : Type 0 where
     read : single_read nested k values (part_json texts p k) ≡ Some p
     there : present (part_json texts p k) ≡ Some (part_json texts p k)
@@ -255,17 +305,23 @@ module _ (texts : Bool) (s : ℕ) (ms : Members) (nested : ℕ → Json → Opti
   number_back ByteString values n h = absurd h
   number_back (Message t) values n h = absurd h
 
-  content_back : (k : Kind) (values : List (List ℕ × ℕ)) (b : List ℕ) → BytesFit k b → IsBytes b → Back k values (Bytes b)
+  content_back : (k : Kind) (values : List (List ℕ × ℕ)) (b : List ℕ) → BytesFit k b → IsBytes b → Back k values
+      (Bytes b)
   unfolding part_json
   content_back Text values b h g = record { read = ap (option_map Bytes) (text_back b h); there = refl }
-  content_back ByteString values b h g = record { read = ap (option_map Bytes) (byte_string_back texts b g); there = byte_string_there texts b }
+  content_back ByteString values b h g = record {
+    read = ap (option_map Bytes) (byte_string_back texts b g);
+    there =
+        byte_string_there texts b;
+  }
   content_back U32 values b h g = absurd h
   content_back U64 values b h g = absurd h
   content_back Boolean values b h g = absurd h
   content_back Enumeration values b h g = absurd h
   content_back (Message t) values b h g = absurd h
 
-  nested_back : (k : Kind) (values : List (List ℕ × ℕ)) (ps : Parts) → PartFits table (Nested ps) k → suc (levels ps) ≤ bound → PartsBytes ps → Back k values (Nested ps)
+  nested_back : (k : Kind) (values : List (List ℕ × ℕ)) (ps : Parts) → PartFits table (Nested ps) k → suc (levels ps) ≤
+      bound → PartsBytes ps → Back k values (Nested ps)
   unfolding PartFits part_json
   nested_back (Message t) values ps h l g = record { read = ap (option_map Nested) (back t ps h l g); there = refl }
   nested_back U32 values ps h l g = absurd h
@@ -275,7 +331,8 @@ module _ (texts : Bool) (s : ℕ) (ms : Members) (nested : ℕ → Json → Opti
   nested_back Text values ps h l g = absurd h
   nested_back ByteString values ps h l g = absurd h
 
-  single_back : (k : Kind) (values : List (List ℕ × ℕ)) (p : Part) → is_single p ≡ true → PartFits table p k → part_levels p ≤ bound → PartBytes p → Back k values p
+  single_back : (k : Kind) (values : List (List ℕ × ℕ)) (p : Part) → is_single p ≡ true → PartFits table p k →
+      part_levels p ≤ bound → PartBytes p → Back k values p
   unfolding PartFits part_levels
   single_back k values (Number n) i h l g = number_back k values n h
   single_back k values (Bytes b) i h l g = content_back k values b h g
@@ -284,13 +341,15 @@ module _ (texts : Bool) (s : ℕ) (ms : Members) (nested : ℕ → Json → Opti
   single_back k values (Elements ps) i h l g = absurd cc
   single_back k values (Member n p) i h l g = absurd cc
 
-  elements_back : (f : NamedField) (ps : Parts) → ElementsFit table ps f.kind → levels ps ≤ bound → PartsBytes ps → elements_read nested f (items_json texts ps f.kind) ≡ Some ps
+  elements_back : (f : NamedField) (ps : Parts) → ElementsFit table ps f.kind → levels ps ≤ bound → PartsBytes ps →
+      elements_read nested f (items_json texts ps f.kind) ≡ Some ps
   unfolding PartFits part_levels part_json
   elements_back f nil h l g = refl
   elements_back f (cons p ps) h l g =
       let one = single_back f.kind f.values p h.0 h.1 (omega arith) g.0 in
       let more = elements_back f ps h.2 (omega arith) g.1 in
-      ap (option_and_then (λ q. option_map (cons q) (elements_read nested f (items_json texts ps f.kind)))) one.read ∙ ap (option_map (cons p)) more
+      ap (option_and_then (λ q. option_map (cons q) (elements_read nested f (items_json texts ps f.kind)))) one.read ∙
+      ap (option_map (cons p)) more
 
   -- ---- rows
 
@@ -301,7 +360,8 @@ module _ (texts : Bool) (s : ℕ) (ms : Members) (nested : ℕ → Json → Opti
   abbrev given_one : Bool → Json → Option (Option Json)
   given_one b j = cond b (Some (Some j)) (Some None)
 
-  only_one : (xs : List Json) (b : Bool) (j : Json) → xs ≡ cond b (j ∷ []) [] → present j ≡ Some j → the_only xs ≡ given_one b j
+  only_one : (xs : List Json) (b : Bool) (j : Json) → xs ≡ cond b (j ∷ []) [] → present j ≡ Some j → the_only xs ≡
+      given_one b j
   only_one xs true j e h = ap the_only e ∙ ap (λ (o : Option Json). Some o) h
   only_one xs false j e h = ap the_only e
 
@@ -327,7 +387,8 @@ module _ (texts : Bool) (s : ℕ) (ms : Members) (nested : ℕ → Json → Opti
   empty_default Enumeration b h e = absurd h
   empty_default (Message t) b h e = absurd h
 
-  default_back : (k : Kind) (p : Part) → is_single p ≡ true → PartFits table p k → is_default p ≡ true → default_of k ≡ p
+  default_back : (k : Kind) (p : Part) → is_single p ≡ true → PartFits table p k → is_default p ≡ true → default_of k ≡
+      p
   unfolding PartFits
   default_back k (Number m) i h e = zero_default k m h (eqb-true m 0 e)
   default_back k (Bytes b) i h e = empty_default k b h (eqb-true (length b) 0 e)
@@ -336,7 +397,8 @@ module _ (texts : Bool) (s : ℕ) (ms : Members) (nested : ℕ → Json → Opti
   default_back k (Elements ps) i h e = absurd cc
   default_back k (Member n p) i h e = absurd cc
 
-  plain_present : (n : ℕ) (k : Kind) (p : Part) → is_single p ≡ true → is_present (schema.Plain n k) p ≡ not (is_default p)
+  plain_present : (n : ℕ) (k : Kind) (p : Part) → is_single p ≡ true → is_present (schema.Plain n k) p ≡ not
+      (is_default p)
   plain_present n k (Number m) i = refl
   plain_present n k (Bytes b) i = refl
   plain_present n k (Nested ps) i = refl
@@ -344,16 +406,21 @@ module _ (texts : Bool) (s : ℕ) (ms : Members) (nested : ℕ → Json → Opti
   plain_present n k (Elements ps) i = absurd cc
   plain_present n k (Member m p) i = absurd cc
 
-  plain_back : (f : NamedField) (p : Part) → is_single p ≡ true → PartFits table p f.kind → Back f.kind f.values p → given f ms ≡ given_one (not (is_default p)) (part_json texts p f.kind)
+  plain_back : (f : NamedField) (p : Part) → is_single p ≡ true → PartFits table p f.kind → Back f.kind f.values p →
+      given f ms ≡ given_one (not (is_default p)) (part_json texts p f.kind)
       → row_read nested ms (Plain f) ≡ Some p
-  plain_back f p i h b e = ap (option_and_then (or_absent (default_of f.kind) (field_read nested f))) e ∙ by_test (is_default p) refl
+  plain_back f p i h b e = ap (option_and_then (or_absent (default_of f.kind) (field_read nested f))) e ∙ by_test
+      (is_default p) refl
     where
-      by_test : (d : Bool) → is_default p ≡ d → option_and_then (or_absent (default_of f.kind) (field_read nested f)) (given_one (not d) (part_json texts p f.kind)) ≡ Some p
+      by_test : (d : Bool) → is_default p ≡ d → option_and_then (or_absent (default_of f.kind) (field_read nested f))
+          (given_one (not d) (part_json texts p f.kind)) ≡ Some p
       by_test true q = ap (λ (x : Part). Some x) (default_back f.kind p i h q)
       by_test false q = b.read
 
-  optional_back : (f : NamedField) (p : Part) → has_shape (schema.Optional f.number f.kind) p ≡ true → (is_single p ≡ true → Back f.kind f.values p)
-      → given f ms ≡ given_one (is_present (schema.Optional f.number f.kind) p) (part_json texts p f.kind) → row_read nested ms (Optional f) ≡ Some p
+  optional_back : (f : NamedField) (p : Part) → has_shape (schema.Optional f.number f.kind) p ≡ true →
+      (is_single p ≡ true → Back f.kind f.values p)
+      → given f ms ≡ given_one (is_present (schema.Optional f.number f.kind) p) (part_json texts p f.kind) → row_read
+      nested ms (Optional f) ≡ Some p
   optional_back f Absent h b e = ap (option_and_then (or_absent Absent (field_read nested f))) e
   optional_back f (Number m) h b e = ap (option_and_then (or_absent Absent (field_read nested f))) e ∙ (b refl).read
   optional_back f (Bytes c) h b e = ap (option_and_then (or_absent Absent (field_read nested f))) e ∙ (b refl).read
@@ -362,27 +429,34 @@ module _ (texts : Bool) (s : ℕ) (ms : Members) (nested : ℕ → Json → Opti
   optional_back f (Member m p) h b e = absurd cc
 
   list_back : (f : NamedField) (ps : Parts) → elements_read nested f (items_json texts ps f.kind) ≡ Some ps
-      → given f ms ≡ given_one (is_present (schema.Repeated f.number f.kind) (Elements ps)) (part_json texts (Elements ps) f.kind) → row_read nested ms (Repeated f) ≡ Some (Elements ps)
+      → given f ms ≡ given_one (is_present (schema.Repeated f.number f.kind) (Elements ps))
+      (part_json texts (Elements ps) f.kind) → row_read nested ms (Repeated f) ≡ Some (Elements ps)
   unfolding part_json
   list_back f nil b e = ap (option_and_then (or_absent (Elements nil) (list_read nested f))) e
-  list_back f (cons p ps) b e = ap (option_and_then (or_absent (Elements nil) (list_read nested f))) e ∙ ap (option_map Elements) b
+  list_back f (cons p ps) b e = ap (option_and_then (or_absent (Elements nil) (list_read nested f))) e ∙ ap
+      (option_map Elements) b
 
   -- ---- oneofs
 
   abbrev none_given : List (ℕ × Kind) → Type 0
-  none_given members = (n : ℕ) (k : Kind) → includes (map (λ m. m.0) members) n ≡ true → values_named (named_field s n k) ms ≡ []
+  none_given members = (n : ℕ) (k : Kind) → includes (map (λ m. m.0) members) n ≡ true → values_named
+      (named_field s n k) ms ≡ []
 
   first_within : (m : ℕ × Kind) (members : List (ℕ × Kind)) → includes (map (λ o. o.0) (m ∷ members)) m.0 ≡ true
   first_within m members = ap (λ (b : Bool). b || includes (map (λ o. o.0) members) m.0) (eq-eqb m.0 m.0 refl)
 
-  later_within : (m : ℕ × Kind) (members : List (ℕ × Kind)) (n : ℕ) → includes (map (λ o. o.0) members) n ≡ true → includes (map (λ o. o.0) (m ∷ members)) n ≡ true
+  later_within : (m : ℕ × Kind) (members : List (ℕ × Kind)) (n : ℕ) → includes (map (λ o. o.0) members) n ≡ true →
+      includes (map (λ o. o.0) (m ∷ members)) n ≡ true
   later_within m members n h = ap (λ (b : Bool). eqb n m.0 || b) h ∙ or_true (eqb n m.0)
 
-  oneof_stays : (held : Part) (members : List (ℕ × Kind)) → none_given members → oneof_read nested ms held (map (λ m. named_field s m.0 m.1) members) ≡ Some held
+  oneof_stays : (held : Part) (members : List (ℕ × Kind)) → none_given members → oneof_read nested ms held
+      (map (λ m. named_field s m.0 m.1) members) ≡ Some held
   oneof_stays held [] h = refl
   oneof_stays held (m ∷ members) h =
       let f = named_field s m.0 m.1 in
-      ap (λ (xs : List Json). option_and_then (λ o. option_and_then (λ now. oneof_read nested ms now (map (λ m. named_field s m.0 m.1) members)) (or_absent held (member_read nested held f) o)) (the_only xs))
+      ap (λ (xs : List Json). option_and_then (λ o. option_and_then
+      (λ now. oneof_read nested ms now (map (λ m. named_field s m.0 m.1) members))
+      (or_absent held (member_read nested held f) o)) (the_only xs))
       (h m.0 m.1 (first_within m members))
       ∙ oneof_stays held members (λ n k g. h n k (later_within m members n g))
 
@@ -390,9 +464,11 @@ module _ (texts : Bool) (s : ℕ) (ms : Members) (nested : ℕ → Json → Opti
   not_true true e = absurd cc
   not_true false e = refl
 
-  oneof_back : (q : ℕ) (p : Part) (x : Kind) (members : List (ℕ × Kind)) → are_distinct (map (λ m. m.0) members) ≡ true → includes (map (λ m. m.0) members) q ≡ true → member_kind members q ≡ x
+  oneof_back : (q : ℕ) (p : Part) (x : Kind) (members : List (ℕ × Kind)) → are_distinct (map (λ m. m.0) members) ≡ true
+      → includes (map (λ m. m.0) members) q ≡ true → member_kind members q ≡ x
       → ((values : List (List ℕ × ℕ)) → Back x values p)
-      → ((n : ℕ) (k : Kind) → includes (map (λ m. m.0) members) n ≡ true → values_named (named_field s n k) ms ≡ cond (eqb n q) (part_json texts p x ∷ []) [])
+      → ((n : ℕ) (k : Kind) → includes (map (λ m. m.0) members) n ≡ true → values_named (named_field s n k) ms ≡ cond
+      (eqb n q) (part_json texts p x ∷ []) [])
       → oneof_read nested ms Absent (map (λ m. named_field s m.0 m.1) members) ≡ Some (Member q p)
   oneof_back q p x [] d h y b e = absurd cc
   oneof_back q p x (m ∷ members) d h y b e =
@@ -405,58 +481,76 @@ module _ (texts : Bool) (s : ℕ) (ms : Members) (nested : ℕ → Json → Opti
       f = named_field s m.0 m.1
 
       step : List Json → Option Part
-      step xs = option_and_then (λ o. option_and_then (λ now. oneof_read nested ms now fields) (or_absent Absent (member_read nested Absent f) o)) (the_only xs)
+      step xs = option_and_then (λ o. option_and_then (λ now. oneof_read nested ms now fields)
+          (or_absent Absent (member_read nested Absent f) o)) (the_only xs)
 
       other : (n : ℕ) → includes (map (λ o. o.0) members) n ≡ true → eqb n m.0 ≡ false
       other n g = ne_eqb n m.0 (λ z. absurd (
-          let k : includes (map (λ o. o.0) members) m.0 ≡ false = not_true (includes (map (λ o. o.0) members) m.0) (and_split _ _ d).0 in
-          let l : includes (map (λ o. o.0) members) n ≡ includes (map (λ o. o.0) members) m.0 = ap (includes (map (λ o. o.0) members)) z in
+          let k : includes (map (λ o. o.0) members) m.0 ≡ false = not_true (includes (map (λ o. o.0) members) m.0)
+          (and_split _ _ d).0 in
+          let l : includes (map (λ o. o.0) members) n ≡ includes (map (λ o. o.0) members) m.0 = ap
+          (includes (map (λ o. o.0) members)) z in
           cc
           ))
 
       by_test : (includes (map (λ o. o.0) members) q ≡ true → member_kind members q ≡ x
-          → ((n : ℕ) (k : Kind) → includes (map (λ o. o.0) members) n ≡ true → values_named (named_field s n k) ms ≡ cond (eqb n q) (part_json texts p x ∷ []) [])
+          → ((n : ℕ) (k : Kind) → includes (map (λ o. o.0) members) n ≡ true → values_named (named_field s n k) ms ≡
+          cond (eqb n q) (part_json texts p x ∷ []) [])
           → oneof_read nested ms Absent fields ≡ Some (Member q p))
-          → (t : Bool) → eqb q m.0 ≡ t → (t || includes (map (λ o. o.0) members) q) ≡ true → cond t m.1 (member_kind members q) ≡ x
+          → (t : Bool) → eqb q m.0 ≡ t → (t || includes (map (λ o. o.0) members) q) ≡ true → cond t m.1
+          (member_kind members q) ≡ x
           → step (values_named f ms) ≡ Some (Member q p)
       by_test later true z h y =
           let same : q ≡ m.0 = eqb-true q m.0 z in
-          let given_here = e m.0 m.1 (first_within m members) ∙ ap (λ (b : Bool). cond b (part_json texts p x ∷ []) []) (eq-eqb m.0 q (sym same)) in
-          let read : field_read nested f (part_json texts p x) ≡ Some p = ap (λ (k : Kind). single_read nested k f.values (part_json texts p x)) y ∙ (b f.values).read in
+          let given_here = e m.0 m.1 (first_within m members) ∙ ap (λ (b : Bool). cond b (part_json texts p x ∷ []) [])
+          (eq-eqb m.0 q (sym same)) in
+          let read : field_read nested f (part_json texts p x) ≡ Some p = ap
+          (λ (k : Kind). single_read nested k f.values (part_json texts p x)) y ∙ (b f.values).read in
           ap step given_here
-          ∙ ap (λ (o : Option Json). option_and_then (λ o. option_and_then (λ now. oneof_read nested ms now fields) (or_absent Absent (member_read nested Absent f) o)) (Some o)) (b f.values).there
-          ∙ ap (λ (o : Option Part). option_and_then (λ now. oneof_read nested ms now fields) (option_map (Member m.0) o)) read
-          ∙ oneof_stays (Member m.0 p) members (λ n k g. e n k (later_within m members n g) ∙ ap (λ (b : Bool). cond b (part_json texts p x ∷ []) []) (ne_eqb n q (λ w. eqb-false n m.0 (other n g) (w ∙ same))))
+          ∙ ap (λ (o : Option Json). option_and_then (λ o. option_and_then (λ now. oneof_read nested ms now fields)
+          (or_absent Absent (member_read nested Absent f) o)) (Some o)) (b f.values).there
+          ∙ ap (λ (o : Option Part). option_and_then (λ now. oneof_read nested ms now fields)
+          (option_map (Member m.0) o)) read
+          ∙ oneof_stays (Member m.0 p) members (λ n k g. e n k (later_within m members n g) ∙ ap
+          (λ (b : Bool). cond b (part_json texts p x ∷ []) [])
+          (ne_eqb n q (λ w. eqb-false n m.0 (other n g) (w ∙ same))))
           ∙ ap (λ (n : ℕ). Some (Member n p)) (sym same)
       by_test later false z h y =
-          let none = e m.0 m.1 (first_within m members) ∙ ap (λ (b : Bool). cond b (part_json texts p x ∷ []) []) (ne_eqb m.0 q (λ w. eqb-false q m.0 z (sym w))) in
+          let none = e m.0 m.1 (first_within m members) ∙ ap (λ (b : Bool). cond b (part_json texts p x ∷ []) [])
+          (ne_eqb m.0 q (λ w. eqb-false q m.0 z (sym w))) in
           ap step none ∙ later h y (λ n k g. e n k (later_within m members n g))
 
   -- ---- a row, and all of them
 
-  row_back : (row : Row) (p : Part) → has_shape row p ≡ true → PartFits table p (kind_of row p) → part_levels p ≤ bound → PartBytes p → are_distinct (numbers row) ≡ true
-      → ((n : ℕ) (k : Kind) → includes (numbers row) n ≡ true → values_named (named_field s n k) ms ≡ mine texts n row p) → row_read nested ms (named_row s row) ≡ Some p
+  row_back : (row : Row) (p : Part) → has_shape row p ≡ true → PartFits table p (kind_of row p) → part_levels p ≤ bound
+      → PartBytes p → are_distinct (numbers row) ≡ true
+      → ((n : ℕ) (k : Kind) → includes (numbers row) n ≡ true → values_named (named_field s n k) ms ≡ mine texts n row
+      p) → row_read nested ms (named_row s row) ≡ Some p
   unfolding PartFits part_levels part_json
   row_back (schema.Plain n k) p i h l g d e =
       let f = named_field s n k in
       let b = single_back k f.values p i h l g in
       let shown = ap (λ (c : Bool). cond c (part_json texts p k ∷ []) []) (plain_present n k p i) in
-      plain_back f p i h b (only_one (values_named f ms) (not (is_default p)) (part_json texts p k) (e n k (own_number n) ∙ own_mine n (is_present (schema.Plain n k) p) (part_json texts p k) ∙ shown) b.there)
+      plain_back f p i h b (only_one (values_named f ms) (not (is_default p)) (part_json texts p k)
+      (e n k (own_number n) ∙ own_mine n (is_present (schema.Plain n k) p) (part_json texts p k) ∙ shown) b.there)
   row_back (schema.Optional n k) Absent i h l g d e =
       let f = named_field s n k in
       optional_back f Absent refl (λ j. absurd cc) (ap the_only (e n k (own_number n)))
   row_back (schema.Optional n k) (Number m) i h l g d e =
       let f = named_field s n k in
       let b = single_back k f.values (Number m) refl h l g in
-      optional_back f (Number m) refl (λ j. b) (only_one (values_named f ms) true (part_json texts (Number m) k) (e n k (own_number n) ∙ own_mine n true (part_json texts (Number m) k)) b.there)
+      optional_back f (Number m) refl (λ j. b) (only_one (values_named f ms) true (part_json texts (Number m) k)
+      (e n k (own_number n) ∙ own_mine n true (part_json texts (Number m) k)) b.there)
   row_back (schema.Optional n k) (Bytes c) i h l g d e =
       let f = named_field s n k in
       let b = single_back k f.values (Bytes c) refl h l g in
-      optional_back f (Bytes c) refl (λ j. b) (only_one (values_named f ms) true (part_json texts (Bytes c) k) (e n k (own_number n) ∙ own_mine n true (part_json texts (Bytes c) k)) b.there)
+      optional_back f (Bytes c) refl (λ j. b) (only_one (values_named f ms) true (part_json texts (Bytes c) k)
+      (e n k (own_number n) ∙ own_mine n true (part_json texts (Bytes c) k)) b.there)
   row_back (schema.Optional n k) (Nested ps) i h l g d e =
       let f = named_field s n k in
       let b = single_back k f.values (Nested ps) refl h l g in
-      optional_back f (Nested ps) refl (λ j. b) (only_one (values_named f ms) true (part_json texts (Nested ps) k) (e n k (own_number n) ∙ own_mine n true (part_json texts (Nested ps) k)) b.there)
+      optional_back f (Nested ps) refl (λ j. b) (only_one (values_named f ms) true (part_json texts (Nested ps) k)
+      (e n k (own_number n) ∙ own_mine n true (part_json texts (Nested ps) k)) b.there)
   row_back (schema.Optional n k) (Elements ps) i h l g d e = absurd cc
   row_back (schema.Optional n k) (Member m p) i h l g d e = absurd cc
   row_back (schema.Repeated n k) (Elements nil) i h l g d e =
@@ -465,7 +559,8 @@ module _ (texts : Bool) (s : ℕ) (ms : Members) (nested : ℕ → Json → Opti
   row_back (schema.Repeated n k) (Elements (cons p ps)) i h l g d e =
       let f = named_field s n k in
       list_back f (cons p ps) (elements_back f (cons p ps) h l g)
-      (only_one (values_named f ms) true (part_json texts (Elements (cons p ps)) k) (e n k (own_number n) ∙ own_mine n true (part_json texts (Elements (cons p ps)) k)) refl)
+      (only_one (values_named f ms) true (part_json texts (Elements (cons p ps)) k)
+      (e n k (own_number n) ∙ own_mine n true (part_json texts (Elements (cons p ps)) k)) refl)
   row_back (schema.Repeated n k) Absent i h l g d e = absurd cc
   row_back (schema.Repeated n k) (Number m) i h l g d e = absurd cc
   row_back (schema.Repeated n k) (Bytes c) i h l g d e = absurd cc
@@ -474,38 +569,52 @@ module _ (texts : Bool) (s : ℕ) (ms : Members) (nested : ℕ → Json → Opti
   row_back (schema.OneOf members) Absent i h l g d e = oneof_stays Absent members e
   row_back (schema.OneOf members) (Member q p) i h l g d e =
       let a = and_split _ _ i in
-      oneof_back q p (member_kind members q) members d a.0 refl (λ values. single_back (member_kind members q) values p a.1 h l g) e
+      oneof_back q p (member_kind members q) members d a.0 refl
+      (λ values. single_back (member_kind members q) values p a.1 h l g) e
   row_back (schema.OneOf members) (Number m) i h l g d e = absurd cc
   row_back (schema.OneOf members) (Bytes c) i h l g d e = absurd cc
   row_back (schema.OneOf members) (Nested ps) i h l g d e = absurd cc
   row_back (schema.OneOf members) (Elements ps) i h l g d e = absurd cc
 
-  rows_back : (rows : List Row) (v : Parts) → Fits table v rows → levels v ≤ bound → PartsBytes v → are_distinct (all_numbers rows) ≡ true
-      → ((n : ℕ) (k : Kind) → includes (all_numbers rows) n ≡ true → values_named (named_field s n k) ms ≡ all_mine texts n v rows) → rows_read nested ms (map (named_row s) rows) ≡ Some v
+  rows_back : (rows : List Row) (v : Parts) → Fits table v rows → levels v ≤ bound → PartsBytes v → are_distinct
+      (all_numbers rows) ≡ true
+      → ((n : ℕ) (k : Kind) → includes (all_numbers rows) n ≡ true → values_named (named_field s n k) ms ≡ all_mine
+      texts n v rows) → rows_read nested ms (map (named_row s) rows) ≡ Some v
   unfolding PartFits part_levels
   rows_back [] nil f l g d e = refl
   rows_back [] (cons p ps) f l g d e = absurd f
   rows_back (row ∷ rows) nil f l g d e = absurd f
   rows_back (row ∷ rows) (cons p ps) f l g d e =
       let one = row_back row p f.0 f.1 (omega arith) g.0 (distinct_front (numbers row) (all_numbers rows) d)
-      (λ n k h. e n k (within_row row rows n h) ∙ ap (λ (js : List Json). mine texts n row p ++ js) (all_mine_none texts n ps rows f.2 (distinct_other (numbers row) (all_numbers rows) n d h)) ∙ append-nil (mine texts n row p)) in
+      (λ n k h. e n k (within_row row rows n h) ∙ ap (λ (js : List Json). mine texts n row p ++ js)
+      (all_mine_none texts n ps rows f.2 (distinct_other (numbers row) (all_numbers rows) n d h)) ∙ append-nil
+      (mine texts n row p)) in
       let more = rows_back rows ps f.2 (omega arith) g.1 (distinct_back (numbers row) (all_numbers rows) d)
-      (λ n k h. e n k (within_rest row rows n h) ∙ ap (λ (js : List Json). js ++ all_mine texts n ps rows) (mine_none texts n row p f.0 (not_before (numbers row) (all_numbers rows) n d h))) in
-      ap (option_and_then (λ q. option_map (cons q) (rows_read nested ms (map (named_row s) rows)))) one ∙ ap (option_map (cons p)) more
+      (λ n k h. e n k (within_rest row rows n h) ∙ ap (λ (js : List Json). js ++ all_mine texts n ps rows)
+      (mine_none texts n row p f.0 (not_before (numbers row) (all_numbers rows) n d h))) in
+      ap (option_and_then (λ q. option_map (cons q) (rows_read nested ms (map (named_row s) rows)))) one ∙ ap
+      (option_map (cons p)) more
 
 -- ---- messages
 
-level_back : (texts : Bool) (nested : ℕ → Json → Option Parts) (bound s : ℕ) (v : Parts) → ((t : ℕ) (ps : Parts) → Fits table ps (table t) → suc (levels ps) ≤ bound → PartsBytes ps → nested t (json_with texts t ps) ≡ Some ps)
-    → Fits table v (table s) → levels v ≤ bound → PartsBytes v → object_read nested (named_rows s) (json_with texts s v) ≡ Some v
+level_back : (texts : Bool) (nested : ℕ → Json → Option Parts) (bound s : ℕ) (v : Parts) →
+    ((t : ℕ) (ps : Parts) → Fits table ps (table t) → suc (levels ps) ≤ bound → PartsBytes ps → nested t
+    (json_with texts t ps) ≡ Some ps)
+    → Fits table v (table s) → levels v ≤ bound → PartsBytes v → object_read nested (named_rows s) (json_with texts s v)
+    ≡ Some v
 unfolding named_rows
 level_back texts nested bound s v back f l g =
     let rows = table s in
     let ms = members_json texts (names_of s) v rows in
     let known = all_known texts s (map (named_row s) rows) v rows f (rows_known s rows) in
     ap (λ (b : Bool). cond b (rows_read nested ms (map (named_row s) rows)) None) known
-    ∙ rows_back texts s ms nested bound back rows v f l g (and_split _ _ (are_schemas s)).1 (λ n k h. values_are texts s n k v rows f h (λ m w. w))
+    ∙ rows_back texts s ms nested bound back rows v f l g (and_split _ _ (are_schemas s)).1
+    (λ n k h. values_are texts s n k v rows f h (λ m w. w))
 
-pub message_back : (texts : Bool) (n s : ℕ) (v : Parts) → Fits table v (table s) → levels v ≤ n → PartsBytes v → message_read (suc n) s (json_with texts s v) ≡ Some v
+pub message_back : (texts : Bool) (n s : ℕ) (v : Parts) → Fits table v (table s) → levels v ≤ n → PartsBytes v →
+    message_read (suc n) s (json_with texts s v) ≡ Some v
 unfolding message_read
-message_back texts zero s v f l g = level_back texts (message_read zero) zero s v (λ t ps h k b. absurd (omega arith)) f l g
-message_back texts (suc n) s v f l g = level_back texts (message_read (suc n)) (suc n) s v (λ t ps h k b. message_back texts n t ps h (omega arith) b) f l g
+message_back texts zero s v f l g = level_back texts (message_read zero) zero s v (λ t ps h k b. absurd (omega arith)) f
+    l g
+message_back texts (suc n) s v f l g = level_back texts (message_read (suc n)) (suc n) s v
+    (λ t ps h k b. message_back texts n t ps h (omega arith) b) f l g

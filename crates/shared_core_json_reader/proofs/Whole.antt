@@ -1,5 +1,6 @@
 -- A whole text: the value that it is, and the payload that is appended for a value.
-use Rattle.std.proofs.Common.{◌≡◌, ℕ, ◌^◌, ◌<◌, length, List, [], Bool, true, false, cond, Option, Some, None, option_map, option_and_then, refl, sym, ap, subst, ◌∙◌, arith}
+use Rattle.std.proofs.Common.{◌≡◌, ℕ, ◌^◌, ◌<◌, length, List, [], Bool, true, false, cond, Option, Some, None}
+use Rattle.std.proofs.Common.{option_map, option_and_then, refl, sym, ap, subst, ◌∙◌, arith}
 use Rattle.std.specs.Str.{is_utf8}
 use Rattle.json.specs.Token.{Token}
 use Rattle.json.specs.Lex.{tokens}
@@ -9,7 +10,8 @@ use Rattle.shared_core_wire.specs.Value.{Parts}
 use Rattle.shared_core_codec.specs.Table.{table}
 use Rattle.shared_core_codec.specs.Payloads.{IsAccepted, payload_meaning}
 use Rattle.shared_core_codec.proofs.PayloadLaws.{canonical_is_read_back}
-use Rattle.shared_core_json_reader.specs.Reading.{only_value, json_of_text, message_read, value_payload, text_meaning, text_payload}
+use Rattle.shared_core_json_reader.specs.Reading.{only_value, json_of_text, message_read, value_payload, text_meaning}
+use Rattle.shared_core_json_reader.specs.Reading.{text_payload}
 use Rattle.shared_core_json_reader.specs.Appended.{message_bytes, after}
 use Rattle.shared_core_json_reader.proofs.Agreeing.{message_agrees}
 use Rattle.shared_core_json_reader.proofs.Fitting.{some_map, message_fits}
@@ -24,8 +26,10 @@ pub record IsText (text : List ℕ) (ts : List Token) : Type 0 where
   pub utf8 : is_utf8 text ≡ true
   pub lexed : ts ≡ tokens text
 
-pub of_tokens : (text : List ℕ) (ts : List Token) (o : Option Json) → IsText text ts → only_value ts ≡ o → json_of_text text ≡ o
-of_tokens text ts o t e = ap (λ (b : Bool). cond b (only_value (tokens text)) None) t.utf8 ∙ ap (λ (us : List Token). only_value us) (sym t.lexed) ∙ e
+pub of_tokens : (text : List ℕ) (ts : List Token) (o : Option Json) → IsText text ts → only_value ts ≡ o → json_of_text
+    text ≡ o
+of_tokens text ts o t e = ap (λ (b : Bool). cond b (only_value (tokens text)) None) t.utf8 ∙ ap
+    (λ (us : List Token). only_value us) (sym t.lexed) ∙ e
 
 -- ---- the payload of a value
 
@@ -33,22 +37,29 @@ nothing_before : (o : Option (List ℕ)) → after [] o ≡ o
 nothing_before None = refl
 nothing_before (Some xs) = refl
 
-pub appended_payload : (s : ℕ) (j : Json) (old out : List ℕ) → old ≡ [] → after old (message_bytes 101 s j) ≡ Some out → value_payload s j ≡ Some out
+pub appended_payload : (s : ℕ) (j : Json) (old out : List ℕ) → old ≡ [] → after old (message_bytes 101 s j) ≡ Some out →
+    value_payload s j ≡ Some out
 appended_payload s j old out n a =
-    sym (message_agrees 101 s j) ∙ sym (nothing_before (message_bytes 101 s j)) ∙ ap (λ (xs : List ℕ). after xs (message_bytes 101 s j)) (sym n) ∙ a
+    sym (message_agrees 101 s j) ∙ sym (nothing_before (message_bytes 101 s j)) ∙ ap
+    (λ (xs : List ℕ). after xs (message_bytes 101 s j)) (sym n) ∙ a
 
 pub no_payload : (s : ℕ) (j : Json) → message_bytes 101 s j ≡ None → value_payload s j ≡ None
 no_payload s j a = sym (message_agrees 101 s j) ∙ a
 
 -- a payload that a value means is accepted, and means what the value means
-pub payload_means : (s : ℕ) (j : Json) (out : List ℕ) → value_payload s j ≡ Some out → length out < 2 ^ 64 → IsAccepted s out × (message_read 101 s j ≡ Some (payload_meaning s out))
+pub payload_means : (s : ℕ) (j : Json) (out : List ℕ) → value_payload s j ≡ Some out → length out < 2 ^ 64 → IsAccepted
+    s out × (message_read 101 s j ≡ Some (payload_meaning s out))
 payload_means s j out e z =
     let x = some_map (canonical_payload table s) (message_read 101 s j) out e in
     let f = message_fits 101 s j x.0 x.1 in
-    let back = canonical_is_read_back s x.0 f.0 (subst (λ (bs : List ℕ). length bs < 2 ^ 64) (sym x.2) z) (omega (arith, f.1)) in
-    subst (λ (bs : List ℕ). IsAccepted s bs × (message_read 101 s j ≡ Some (payload_meaning s bs))) x.2 (back.0, x.1 ∙ ap (λ (v : Parts). Some v) (sym back.1))
+    let back = canonical_is_read_back s x.0 f.0 (subst (λ (bs : List ℕ). length bs < 2 ^ 64) (sym x.2) z)
+    (omega (arith, f.1)) in
+    subst (λ (bs : List ℕ). IsAccepted s bs × (message_read 101 s j ≡ Some (payload_meaning s bs))) x.2
+    (back.0, x.1 ∙ ap (λ (v : Parts). Some v) (sym back.1))
 
 -- ---- the payload of a text
 
-pub text_of_value : (s : ℕ) (text : List ℕ) (j : Json) → json_of_text text ≡ Some j → text_payload s text ≡ value_payload s j
-text_of_value s text j e = ap (λ (o : Option Json). option_map (canonical_payload table s) (option_and_then (message_read 101 s) o)) e
+pub text_of_value : (s : ℕ) (text : List ℕ) (j : Json) → json_of_text text ≡ Some j → text_payload s text ≡
+    value_payload s j
+text_of_value s text j e = ap (λ (o : Option Json). option_map (canonical_payload table s)
+    (option_and_then (message_read 101 s) o)) e

@@ -1,5 +1,6 @@
 -- The bytes that are appended for a JSON value, record by record.
-use Rattle.std.specs.Prelude.{◌≡◌, ◌≢◌, ℕ, zero, suc, Bool, true, false, ◌&&◌, List, [], ◌∷◌, ◌++◌, length, ◌==◌, if◌then◌else◌, Option, Some, None, option_map, option_and_then, Result, MatchResult}
+use Rattle.std.specs.Prelude.{◌≡◌, ◌≢◌, ℕ, zero, suc, Bool, true, false, ◌&&◌, List, [], ◌∷◌, ◌++◌, length, ◌==◌}
+use Rattle.std.specs.Prelude.{if◌then◌else◌, Option, Some, None, option_map, option_and_then, Result, MatchResult}
 use Rattle.json.specs.Json.{Json, null, boolean, number, string, array, object, Items, no_items, item, Members}
 use Rattle.shared_core_wire.specs.Schema.{Kind, U32, U64, Boolean, Enumeration, Text, ByteString, Message}
 use Rattle.shared_core_wire.specs.Encoding.{shortest_varint, key_bytes}
@@ -16,7 +17,8 @@ varint_record plain n value = if plain && (value == 0) then [] else (key_bytes n
 
 -- The record of some bytes; none for no bytes if that is left out.
 abbrev pub length_record : Bool → ℕ → List ℕ → List ℕ
-length_record plain n bytes = if plain && (length bytes == 0) then [] else (key_bytes n 2 ++ (shortest_varint (length bytes) ++ bytes))
+length_record plain n bytes = if plain && (length bytes == 0) then [] else
+    (key_bytes n 2 ++ (shortest_varint (length bytes) ++ bytes))
 
 -- A list and after it another one, if both lists exist.
 abbrev pub both : Option (List ℕ) → Option (List ℕ) → Option (List ℕ)
@@ -27,7 +29,8 @@ abbrev pub single_bytes : (ℕ → Json → Option (List ℕ)) → Bool → ℕ 
 single_bytes nested plain n U32 values j = option_map (varint_record plain n) (unsigned_read 4294967296 j)
 single_bytes nested plain n U64 values j = option_map (varint_record plain n) (unsigned_read 18446744073709551616 j)
 single_bytes nested plain n Boolean values j = option_map (varint_record plain n) (boolean_read j)
-single_bytes nested plain n Enumeration values j = option_map (λ m. varint_record plain n (written_number Enumeration m)) (enum_read values j)
+single_bytes nested plain n Enumeration values j = option_map
+    (λ m. varint_record plain n (written_number Enumeration m)) (enum_read values j)
 single_bytes nested plain n Text values j = option_map (length_record plain n) (text_read j)
 single_bytes nested plain n ByteString values j = option_map (length_record plain n) (bytes_read j)
 single_bytes nested plain n (Message s) values j = option_map (length_record false n) (nested s j)
@@ -79,7 +82,8 @@ held_after held (Some j) = true
 abbrev pub oneof_bytes : (ℕ → Json → Option (List ℕ)) → Members → Bool → List NamedField → Option (List ℕ)
 oneof_bytes nested ms held [] = Some []
 oneof_bytes nested ms held (f ∷ fs) =
-    option_and_then (λ o. both (or_absent [] (member_bytes nested held f) o) (oneof_bytes nested ms (held_after held o) fs)) (given f ms)
+    option_and_then (λ o. both (or_absent [] (member_bytes nested held f) o)
+    (oneof_bytes nested ms (held_after held o) fs)) (given f ms)
 
 -- What is appended for what an object gives a field: nothing, if that is nothing.
 abbrev pub given_bytes : (Json → Option (List ℕ)) → Option (Option Json) → Option (List ℕ)

@@ -3,7 +3,9 @@ use Rattle.std.specs.Prelude.{ℕ, List, ◌++◌, length, codes, decimal, ◌==
 use Rattle.std.specs.String.{string_bytes}
 use Rattle.shared_core_json_reader.specs.declared.error.JsonReadError.{JsonReadError}
 use Rattle.shared_core_json_reader.specs.declared.error.Reason.{Reason}
-use Rattle.shared_core_json_reader.specs.declared.error.Reason.TheVariants.{NotJson, UnknownMember, RepeatedMember, SeveralMembers, WrongKind, OutOfRange, NotBase64, TooDeep, OutOfMemory}
+use Rattle.shared_core_json_reader.specs.declared.error.Reason.TheVariants.{NotJson, UnknownMember, RepeatedMember}
+use Rattle.shared_core_json_reader.specs.declared.error.Reason.TheVariants.{SeveralMembers, WrongKind, OutOfRange}
+use Rattle.shared_core_json_reader.specs.declared.error.Reason.TheVariants.{NotBase64, TooDeep, OutOfMemory}
 
 -- The text of a reason.
 abbrev pub reason_text : Reason → List ℕ

@@ -1,5 +1,6 @@
 -- Which error a JSON value has: the first one, and the path to the rejected value.
-use Rattle.std.specs.Prelude.{◌≡◌, ◌≢◌, ◌≤◌, ℕ, zero, suc, ◌+◌, Bool, true, false, List, [], ◌∷◌, ◌++◌, length, map, codes, if◌then◌else◌, Option, Some, None, option_map, Result, MatchResult}
+use Rattle.std.specs.Prelude.{◌≡◌, ◌≢◌, ◌≤◌, ℕ, zero, suc, ◌+◌, Bool, true, false, List, [], ◌∷◌, ◌++◌, length, map}
+use Rattle.std.specs.Prelude.{codes, if◌then◌else◌, Option, Some, None, option_map, Result, MatchResult}
 use Rattle.std.specs.Option.{option_or}
 use Rattle.std.specs.Fmt.{decimal}
 use Rattle.std.specs.String.{string_bytes}
@@ -7,15 +8,19 @@ use Rattle.std.specs.Str.{is_utf8}
 use Rattle.std.specs.Str.Lossy.{utf8_valid_len}
 use Rattle.json.specs.Word.{after_number}
 use Rattle.json.specs.Find.{as_str}
-use Rattle.json.specs.Json.{Json, null, boolean, number, string, array, object, Items, no_items, item, Members, no_members, member}
+use Rattle.json.specs.Json.{Json, null, boolean, number, string, array, object, Items, no_items, item, Members}
+use Rattle.json.specs.Json.{no_members, member}
 use Rattle.shared_core_wire.specs.Schema.{Kind, U32, U64, Boolean, Enumeration, Text, ByteString, Message}
 use Rattle.shared_core_json_reader.specs.declared.error.Reason.{Reason}
-use Rattle.shared_core_json_reader.specs.declared.error.Reason.TheVariants.{NotJson, UnknownMember, RepeatedMember, SeveralMembers, WrongKind, OutOfRange, NotBase64, TooDeep, OutOfMemory}
+use Rattle.shared_core_json_reader.specs.declared.error.Reason.TheVariants.{NotJson, UnknownMember, RepeatedMember}
+use Rattle.shared_core_json_reader.specs.declared.error.Reason.TheVariants.{SeveralMembers, WrongKind, OutOfRange}
+use Rattle.shared_core_json_reader.specs.declared.error.Reason.TheVariants.{NotBase64, TooDeep, OutOfMemory}
 use Rattle.shared_core_json_reader.specs.declared.error.JsonReadError.{JsonReadError}
 use Rattle.shared_core_json_reader.specs.declared.payload.Step as program
 use Rattle.shared_core_json_reader.specs.declared.payload.Step.TheVariants as variants
 use Rattle.shared_core_json_reader.specs.Rows.{NamedField, NamedRow, Plain, Optional, Repeated, OneOf, named_rows}
-use Rattle.shared_core_json_reader.specs.Scalars.{ends_there, number_text, unsigned_read, boolean_read, enum_read, text_read, bytes_read}
+use Rattle.shared_core_json_reader.specs.Scalars.{ends_there, number_text, unsigned_read, boolean_read, enum_read}
+use Rattle.shared_core_json_reader.specs.Scalars.{text_read, bytes_read}
 use Rattle.shared_core_json_reader.specs.Reading.{names_row, given}
 
 -- A step of the path to a value: a member by its name, or an element by its index.
@@ -54,7 +59,8 @@ unread None reason path = Some (reason, path)
 unread (Some a) reason path = None
 
 -- The error of a single value of a kind, where nested has that of a nested message.
-abbrev pub single_error : (List Step → ℕ → Json → Option PathError) → List Step → Kind → List (List ℕ × ℕ) → Json → Option PathError
+abbrev pub single_error : (List Step → ℕ → Json → Option PathError) → List Step → Kind → List (List ℕ × ℕ) → Json →
+    Option PathError
 single_error nested path U32 values j = unread (unsigned_read 4294967296 j) (number_reason j) path
 single_error nested path U64 values j = unread (unsigned_read 18446744073709551616 j) (number_reason j) path
 single_error nested path Boolean values j = unread (boolean_read j) WrongKind path
@@ -70,17 +76,21 @@ field_error nested f path j = single_error nested path f.kind f.values j
 -- ---- rows
 
 -- The error of the elements of an array from an index on.
-abbrev pub items_error : (List Step → ℕ → Json → Option PathError) → NamedField → List Step → ℕ → Items → Option PathError
+abbrev pub items_error : (List Step → ℕ → Json → Option PathError) → NamedField → List Step → ℕ → Items → Option
+    PathError
 items_error nested f path i no_items = None
-items_error nested f path i (item j js) = option_or (field_error nested f (path ++ Element i ∷ []) j) (items_error nested f path (i + 1) js)
+items_error nested f path i (item j js) = option_or (field_error nested f (path ++ Element i ∷ []) j)
+    (items_error nested f path (i + 1) js)
 
 -- The error of the elements of an array of numbers of 32 bits from an index on.
 abbrev pub run_error : List Step → ℕ → Items → Option PathError
 run_error path i no_items = None
-run_error path i (item j js) = option_or (unread (unsigned_read 4294967296 j) (number_reason j) (path ++ Element i ∷ [])) (run_error path (i + 1) js)
+run_error path i (item j js) = option_or (unread (unsigned_read 4294967296 j) (number_reason j)
+    (path ++ Element i ∷ [])) (run_error path (i + 1) js)
 
 -- The error of an array.
-abbrev pub array_error : (List Step → ℕ → Json → Option PathError) → NamedField → Kind → List Step → Items → Option PathError
+abbrev pub array_error : (List Step → ℕ → Json → Option PathError) → NamedField → Kind → List Step → Items → Option
+    PathError
 array_error nested f U32 path js = run_error path 0 js
 array_error nested f U64 path js = items_error nested f path 0 js
 array_error nested f Boolean path js = items_error nested f path 0 js
@@ -99,13 +109,15 @@ list_error nested f path (array js) = array_error nested f f.kind path js
 list_error nested f path (object ms) = Some (WrongKind, path)
 
 -- The error of what an object gives a field: it is there twice, or its value has one.
-abbrev pub given_error : (List Step → Json → Option PathError) → NamedField → List Step → Option (Option Json) → Option PathError
+abbrev pub given_error : (List Step → Json → Option PathError) → NamedField → List Step → Option (Option Json) → Option
+    PathError
 given_error read f path None = Some (RepeatedMember, path ++ Member f.name ∷ [])
 given_error read f path (Some None) = None
 given_error read f path (Some (Some j)) = read (path ++ Member f.name ∷ []) j
 
 -- The error of a member of a oneof, of which a member is there before or not.
-abbrev pub member_error : (List Step → ℕ → Json → Option PathError) → Bool → NamedField → List Step → Json → Option PathError
+abbrev pub member_error : (List Step → ℕ → Json → Option PathError) → Bool → NamedField → List Step → Json → Option
+    PathError
 member_error nested true f path j = Some (SeveralMembers, path)
 member_error nested false f path j = field_error nested f path j
 
@@ -116,10 +128,12 @@ holds_after held (Some None) = held
 holds_after held (Some (Some j)) = true
 
 -- The error of a oneof, of which a member is there before these fields or not.
-abbrev pub oneof_error : (List Step → ℕ → Json → Option PathError) → Members → List Step → Bool → List NamedField → Option PathError
+abbrev pub oneof_error : (List Step → ℕ → Json → Option PathError) → Members → List Step → Bool → List NamedField →
+    Option PathError
 oneof_error nested ms path held [] = None
 oneof_error nested ms path held (f ∷ fs) =
-    option_or (given_error (member_error nested held f) f path (given f ms)) (oneof_error nested ms path (holds_after held (given f ms)) fs)
+    option_or (given_error (member_error nested held f) f path (given f ms))
+    (oneof_error nested ms path (holds_after held (given f ms)) fs)
 
 -- The error of what an object gives a row.
 abbrev pub row_error : (List Step → ℕ → Json → Option PathError) → Members → List Step → NamedRow → Option PathError
@@ -129,7 +143,8 @@ row_error nested ms path (Repeated f) = given_error (list_error nested f) f path
 row_error nested ms path (OneOf fs) = oneof_error nested ms path false fs
 
 -- The error of what an object gives some rows: that of the first row that has one.
-abbrev pub rows_error : (List Step → ℕ → Json → Option PathError) → Members → List Step → List NamedRow → Option PathError
+abbrev pub rows_error : (List Step → ℕ → Json → Option PathError) → Members → List Step → List NamedRow → Option
+    PathError
 rows_error nested ms path [] = None
 rows_error nested ms path (r ∷ rs) = option_or (row_error nested ms path r) (rows_error nested ms path rs)
 
@@ -141,16 +156,19 @@ first_unknown rows no_members = None
 first_unknown rows (member k j ms) = if names_row rows k then first_unknown rows ms else Some k
 
 -- The error of the members of an object, of which this is the first unknown key.
-abbrev pub known_error : (List Step → ℕ → Json → Option PathError) → List NamedRow → List Step → Members → Option (List ℕ) → Option PathError
+abbrev pub known_error : (List Step → ℕ → Json → Option PathError) → List NamedRow → List Step → Members → Option
+    (List ℕ) → Option PathError
 known_error nested rows path ms (Some k) = Some (UnknownMember, path ++ Member k ∷ [])
 known_error nested rows path ms None = rows_error nested ms path rows
 
 -- The error of the members of an object: an unknown key, and otherwise that of a row.
-abbrev pub members_error : (List Step → ℕ → Json → Option PathError) → List NamedRow → List Step → Members → Option PathError
+abbrev pub members_error : (List Step → ℕ → Json → Option PathError) → List NamedRow → List Step → Members → Option
+    PathError
 members_error nested rows path ms = known_error nested rows path ms (first_unknown rows ms)
 
 -- The error of a value that should be an object.
-abbrev pub object_error : (List Step → ℕ → Json → Option PathError) → List NamedRow → List Step → Json → Option PathError
+abbrev pub object_error : (List Step → ℕ → Json → Option PathError) → List NamedRow → List Step → Json → Option
+    PathError
 object_error nested rows path null = Some (WrongKind, path)
 object_error nested rows path (boolean b) = Some (WrongKind, path)
 object_error nested rows path (number s) = Some (WrongKind, path)
@@ -225,6 +243,8 @@ Leaves old new = (steps : List program.Step) (step : program.Step) → old ≡ s
 -- How a call ended: without an error, if there is none on this path, and then the path is the same; otherwise with this
 -- error, to which the path leads then.
 -- It may fail too if an allocation fails.
-abbrev pub HasError : {T : Type 0} → Result T Reason → (List Step → Option PathError) → List program.Step → List program.Step → Type 0
+abbrev pub HasError : {T : Type 0} → Result T Reason → (List Step → Option PathError) → List program.Step → List
+    program.Step → Type 0
 HasError r error old new =
-    MatchResult r (λ _. (error (path_view old) ≡ None) × (new ≡ old)) (λ reason. reason ≢ OutOfMemory → error (path_view old) ≡ Some (reason, path_view new))
+    MatchResult r (λ _. (error (path_view old) ≡ None) × (new ≡ old))
+    (λ reason. reason ≢ OutOfMemory → error (path_view old) ≡ Some (reason, path_view new))

@@ -22,22 +22,29 @@ JsonIsReadBack texts s = (v : Parts) (bytes text : List ℕ) → IsEncoding s v 
 
 -- A payload that a text is read as is canonical, if it is not too long for a header.
 abbrev pub ReadsCanonical : ℕ → Type 0
-ReadsCanonical s = (text payload : List ℕ) → text_payload s text ≡ Some payload → length payload < 2 ^ 32 → IsCanonical s payload
+ReadsCanonical s = (text payload : List ℕ) → text_payload s text ≡ Some payload → length payload < 2 ^ 32 → IsCanonical
+    s payload
 
 -- A payload that a text is read as is read again, byte for byte, of each UTF-8 text that has the tokens of its JSON,
 -- with texts or without. (Each slice is of bytes, and has fewer than 2 ^ 64 of them.)
 abbrev pub IsReadAgain : Bool → ℕ → Type 0
-IsReadAgain texts s = (text again payload : List ℕ) → text_payload s text ≡ Some payload → IsBytes payload → length payload < 2 ^ 64
-    → IsUtf8 again → tokens again ≡ json_tokens (json_with texts s (payload_meaning s payload)) → text_payload s again ≡ Some payload
+IsReadAgain texts s = (text again payload : List ℕ) → text_payload s text ≡ Some payload → IsBytes payload → length
+    payload < 2 ^ 64
+    → IsUtf8 again → tokens again ≡ json_tokens (json_with texts s (payload_meaning s payload)) → text_payload s again ≡
+    Some payload
 
--- A UTF-8 text that has the tokens of the JSON of a well-formed payload, with texts or without, is read as the canonical
+-- A UTF-8 text that has the tokens of the JSON of a well-formed payload, with texts or without, is read as the
+-- canonical
 -- payload of what the payload means.
 abbrev pub WellFormedIsReadBack : Bool → ℕ → Type 0
 WellFormedIsReadBack texts s = (payload text : List ℕ) → IsAccepted s payload → IsBytes payload → IsUtf8 text
-    → tokens text ≡ json_tokens (json_with texts s (payload_meaning s payload)) → text_payload s text ≡ Some (canonical_payload table s (payload_meaning s payload))
+    → tokens text ≡ json_tokens (json_with texts s (payload_meaning s payload)) → text_payload s text ≡ Some
+    (canonical_payload table s (payload_meaning s payload))
 
--- The text that is printed for a well-formed payload, with texts or without, is read as the canonical payload of what the
+-- The text that is printed for a well-formed payload, with texts or without, is read as the canonical payload of what
+-- the
 -- payload means.
 abbrev pub PrintedIsReadBack : Bool → ℕ → Type 0
 PrintedIsReadBack texts s = (payload : List ℕ) → IsAccepted s payload → IsBytes payload
-    → text_payload s (print (json_tokens (json_with texts s (payload_meaning s payload)))) ≡ Some (canonical_payload table s (payload_meaning s payload))
+    → text_payload s (print (json_tokens (json_with texts s (payload_meaning s payload)))) ≡ Some
+    (canonical_payload table s (payload_meaning s payload))

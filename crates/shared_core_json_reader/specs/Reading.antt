@@ -1,12 +1,15 @@
 -- Which value of a schema a JSON text means.
-use Rattle.std.specs.Prelude.{ℕ, zero, suc, ◌+◌, Bool, true, false, ◌&&◌, ◌||◌, List, [], ◌∷◌, nat_le, flat_map, if◌then◌else◌, Option, Some, None, option_map, option_and_then}
+use Rattle.std.specs.Prelude.{ℕ, zero, suc, ◌+◌, Bool, true, false, ◌&&◌, ◌||◌, List, [], ◌∷◌, nat_le, flat_map}
+use Rattle.std.specs.Prelude.{if◌then◌else◌, Option, Some, None, option_map, option_and_then}
 use Rattle.std.specs.Str.{is_utf8, bytes_eq}
-use Rattle.json.specs.Json.{Json, null, boolean, number, string, array, object, Items, no_items, item, Members, no_members, member, if_last}
+use Rattle.json.specs.Json.{Json, null, boolean, number, string, array, object, Items, no_items, item, Members}
+use Rattle.json.specs.Json.{no_members, member, if_last}
 use Rattle.json.specs.Json as json
 use Rattle.json.specs.Token.{Token}
 use Rattle.json.specs.Lex.{tokens}
 use Rattle.shared_core_wire.specs.Schema.{Kind, U32, U64, Boolean, Enumeration, Text, ByteString, Message}
-use Rattle.shared_core_wire.specs.Value.{Part, Parts, Absent, Number, Bytes, Nested, Elements, Member, nil, cons, default_of}
+use Rattle.shared_core_wire.specs.Value.{Part, Parts, Absent, Number, Bytes, Nested, Elements, Member, nil, cons}
+use Rattle.shared_core_wire.specs.Value.{default_of}
 use Rattle.shared_core_wire.specs.Canonical.{canonical_payload}
 use Rattle.shared_core_codec.specs.Table.{table}
 use Rattle.shared_core_json_reader.specs.Rows.{NamedField, NamedRow, Plain, Optional, Repeated, OneOf, named_rows}
@@ -92,7 +95,8 @@ field_read nested f j = single_read nested f.kind f.values j
 -- The elements of a repeated field.
 abbrev pub elements_read : (ℕ → Json → Option Parts) → NamedField → Items → Option Parts
 elements_read nested f no_items = Some nil
-elements_read nested f (item j js) = option_and_then (λ p. option_map (cons p) (elements_read nested f js)) (field_read nested f j)
+elements_read nested f (item j js) = option_and_then (λ p. option_map (cons p) (elements_read nested f js))
+    (field_read nested f j)
 
 -- A repeated field, as an array.
 abbrev pub list_read : (ℕ → Json → Option Parts) → NamedField → Json → Option Part
@@ -121,7 +125,8 @@ member_read nested (Member n p) f j = None
 abbrev pub oneof_read : (ℕ → Json → Option Parts) → Members → Part → List NamedField → Option Part
 oneof_read nested ms held [] = Some held
 oneof_read nested ms held (f ∷ fs) =
-    option_and_then (λ o. option_and_then (λ now. oneof_read nested ms now fs) (or_absent held (member_read nested held f) o)) (given f ms)
+    option_and_then (λ o. option_and_then (λ now. oneof_read nested ms now fs)
+    (or_absent held (member_read nested held f) o)) (given f ms)
 
 -- What an object gives a row.
 abbrev pub row_read : (ℕ → Json → Option Parts) → Members → NamedRow → Option Part
@@ -133,7 +138,8 @@ row_read nested ms (OneOf fs) = oneof_read nested ms Absent fs
 -- What an object gives some rows.
 abbrev pub rows_read : (ℕ → Json → Option Parts) → Members → List NamedRow → Option Parts
 rows_read nested ms [] = Some nil
-rows_read nested ms (r ∷ rs) = option_and_then (λ p. option_map (cons p) (rows_read nested ms rs)) (row_read nested ms r)
+rows_read nested ms (r ∷ rs) = option_and_then (λ p. option_map (cons p) (rows_read nested ms rs))
+    (row_read nested ms r)
 
 -- What an object means for some rows, if each of its members has a name of one of their fields.
 abbrev pub members_read : (ℕ → Json → Option Parts) → List NamedRow → Members → Option Parts

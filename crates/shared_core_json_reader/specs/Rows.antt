@@ -28,7 +28,8 @@ pub data NamedRow : Type 0 where
 -- The names and the numbers of an enum's values, by the schema and the number of its field; none for any other field.
 abbrev pub values_in : List EnumField → ℕ → ℕ → List (List ℕ × ℕ)
 values_in [] s n = []
-values_in (field ∷ fields) s n = if (s == field.schema) && (n == field.number) then field.values else values_in fields s n
+values_in (field ∷ fields) s n = if (s == field.schema) && (n == field.number) then field.values else values_in fields s
+    n
 
 -- The names and the numbers of the values of a field's enum.
 abbrev pub enum_values : ℕ → ℕ → List (List ℕ × ℕ)
@@ -61,7 +62,13 @@ enum_field_view f = record { schema = f.schema; number = f.number; values = map 
 
 -- The named field of a field of the program.
 abbrev pub field_view : Field → NamedField
-field_view f = record { number = f.number; name = f.name.now; kind = codec.kind_view f.kind; values = map value_view f.values.now }
+field_view f = record {
+  number = f.number;
+  name = f.name.now;
+  kind = codec.kind_view f.kind;
+  values = map value_view
+      f.values.now;
+}
 
 -- The field of the schema s that a field of the codec is, with its name.
 abbrev pub in_schema : ℕ → codec_field.Field → NamedField

@@ -1,5 +1,6 @@
 -- Which numbers, texts and bytes a JSON value means.
-use Rattle.std.specs.Prelude.{ℕ, ◌-◌, ◌%◌, ◌^◌, Bool, true, false, not, ◌&&◌, ◌||◌, List, [], ◌∷◌, ◌++◌, codes, drop, ◌==◌, nat_lt, nat_le, if◌then◌else◌, Option, Some, None, option_map, option_and_then}
+use Rattle.std.specs.Prelude.{ℕ, ◌-◌, ◌%◌, ◌^◌, Bool, true, false, not, ◌&&◌, ◌||◌, List, [], ◌∷◌, ◌++◌, codes, drop}
+use Rattle.std.specs.Prelude.{◌==◌, nat_lt, nat_le, if◌then◌else◌, Option, Some, None, option_map, option_and_then}
 use Rattle.std.specs.Option.{option_or}
 use Rattle.std.specs.Result.{result_ok}
 use Rattle.std.specs.Str.{is_utf8, bytes_eq}
@@ -35,7 +36,8 @@ ends_there (Some (b ∷ bs)) = false
 
 -- The magnitude of the number that has these parts, if it is whole and below 2 ^ 64.
 abbrev pub magnitude_of : Parts → Option ℕ
-magnitude_of p = if (digits_value 10 (drop (point_at p) (p.whole ++ p.fraction)) == 0) && nat_lt (whole_of p) (2 ^ 64) then Some (whole_of p) else None
+magnitude_of p = if (digits_value 10 (drop (point_at p) (p.whole ++ p.fraction)) == 0) && nat_lt (whole_of p) (2 ^ 64)
+    then Some (whole_of p) else None
 
 -- The whole number that a text writes, as JSON writes numbers: also with a point or an exponent, as 1.50e1.
 unfoldable pub whole_of_text : List ℕ → Option Whole
@@ -50,7 +52,8 @@ whole_read j = option_and_then whole_of_text (number_text j)
 
 -- A number without a sign that is below a limit; -0 is 0.
 abbrev pub unsigned_below : ℕ → Whole → Option ℕ
-unsigned_below limit w = if (not w.negative || (w.magnitude == 0)) && nat_lt w.magnitude limit then Some w.magnitude else None
+unsigned_below limit w = if (not w.negative || (w.magnitude == 0)) && nat_lt w.magnitude limit then Some w.magnitude
+    else None
 
 -- A number of 32 bits with a sign, as its low 32 bits.
 abbrev pub signed_bits : Whole → Option ℕ
@@ -81,7 +84,8 @@ value_named (v ∷ vs) s = if bytes_eq s v.0 then Some v.1 else value_named vs s
 
 -- A value of an enum, as its low 32 bits: by its name, or by its number.
 abbrev pub enum_read : List (List ℕ × ℕ) → Json → Option ℕ
-enum_read values j = option_or (option_and_then (value_named values) (as_str j)) (option_and_then signed_bits (whole_read j))
+enum_read values j = option_or (option_and_then (value_named values) (as_str j))
+    (option_and_then signed_bits (whole_read j))
 
 -- ---- texts and bytes
 
@@ -95,7 +99,8 @@ text_read j = option_and_then utf8_text (as_str j)
 
 -- The bytes that a text of base64 encodes: in the standard alphabet or that of URLs, with its padding or without.
 unfoldable pub base64_bytes : List ℕ → Option (List ℕ)
-base64_bytes s = option_or (result_ok (decode_of standard_pad_indifferent s)) (result_ok (decode_of url_safe_pad_indifferent s))
+base64_bytes s = option_or (result_ok (decode_of standard_pad_indifferent s))
+    (result_ok (decode_of url_safe_pad_indifferent s))
 
 -- The text of an object with the one member `text`.
 abbrev pub only_text : Members → Option (List ℕ)

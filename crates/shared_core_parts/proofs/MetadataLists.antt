@@ -10,9 +10,11 @@ entry_of_pair pair = record { key = pair.0; value = pair.1 }
 abbrev pub pair_of_entry : FailureMetadata → String Global × String Global
 pair_of_entry entry = (entry.key, entry.value)
 
-pub pairs_of_entries : (pairs : List (String Global × String Global)) → map pair_of_entry (map entry_of_pair pairs) ≡ pairs
+pub pairs_of_entries : (pairs : List (String Global × String Global)) → map pair_of_entry (map entry_of_pair pairs) ≡
+    pairs
 pairs_of_entries [] = refl
 pairs_of_entries (pair ∷ pairs) = ap (λ others. pair ∷ others) (pairs_of_entries pairs)
 
-pub entries_are_pairs : (entries : List FailureMetadata) (pairs : List (String Global × String Global)) → entries ≡ map entry_of_pair pairs → map pair_of_entry entries ≡ pairs
+pub entries_are_pairs : (entries : List FailureMetadata) (pairs : List (String Global × String Global)) → entries ≡ map
+    entry_of_pair pairs → map pair_of_entry entries ≡ pairs
 entries_are_pairs entries pairs are = ap (map pair_of_entry) are ∙ pairs_of_entries pairs

@@ -66,7 +66,8 @@ IsValueOf (result.Void void) found = found ≡ value.Void
 IsValueOf (result.Value bytes) found = found ≡ value.Success bytes.content
 IsValueOf (result.Failure failure) (value.Failure terminal) = terminal_contents terminal ≡ terminal_contents_of failure
 IsValueOf (result.InvocationId id) found = found ≡ value.InvocationId id
-IsValueOf (result.StateKeys keys) (value.StateKeys texts) = map string_bytes texts.items ≡ map lossy_text keys.keys.items
+IsValueOf (result.StateKeys keys) (value.StateKeys texts) = map string_bytes texts.items ≡ map lossy_text
+    keys.keys.items
 IsValueOf other found = ⊥
 
 -- The result is one whose conversion does not allocate: nothing, a value, the id of an invocation, a failure without

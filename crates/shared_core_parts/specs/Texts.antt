@@ -1,5 +1,6 @@
 -- The texts of the nested messages.
-use Rattle.std.specs.Prelude.{ℕ, List, [], ◌∷◌, ◌++◌, ◌/◌, ◌%◌, codes, false, nat_le, ◌==◌, ◌&&◌, if◌then◌else◌, encode_utf8_all}
+use Rattle.std.specs.Prelude.{ℕ, List, [], ◌∷◌, ◌++◌, ◌/◌, ◌%◌, codes, false, nat_le, ◌==◌, ◌&&◌, if◌then◌else◌}
+use Rattle.std.specs.Prelude.{encode_utf8_all}
 use Rattle.std.specs.Fmt.{decimal, comma_space, digit_glyph}
 use Rattle.std.specs.List.{join_by, flat_map}
 use Rattle.std.specs.Str.{is_utf8}
@@ -35,7 +36,8 @@ header_text key value = key ++ (codes ": " ++ value)
 
 -- The text of headers: each header's, joined by `, `.
 abbrev pub headers_text : List Header → List ℕ
-headers_text headers = join_by (λ header. header_text (string_bytes header.key) (string_bytes header.value)) comma_space headers
+headers_text headers = join_by (λ header. header_text (string_bytes header.key) (string_bytes header.value)) comma_space
+    headers
 
 -- Bytes as text, with U+FFFD for each sequence that is not UTF-8.
 abbrev pub lossy_text : List ℕ → List ℕ

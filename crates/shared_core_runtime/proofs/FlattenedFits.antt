@@ -6,7 +6,8 @@ use Rattle.shared_core_wire.specs.Canonical.{kind_of, levels, part_levels}
 use Rattle.shared_core_wire.specs.Fitting.{ElementsFit, Fits, PartFits, is_single}
 use Rattle.shared_core_codec.specs.Table.{table}
 use Rattle.shared_core_codec.specs.Table as tables
-use Rattle.shared_core_runtime.specs.Flattening.{elements_in, flattened, joined_lists, messages_in, messages_of_part, part_at}
+use Rattle.shared_core_runtime.specs.Flattening.{elements_in, flattened, joined_lists, messages_in, messages_of_part}
+use Rattle.shared_core_runtime.specs.Flattening.{part_at}
 
 -- ---- the messages in a suspension are futures
 
@@ -66,11 +67,13 @@ mutual
   message_futures : (ps : Parts) (rows : List Row) → HoldFutures rows → Fits table ps rows → AreFutures (messages_in ps)
   message_futures nil rows h f = tt
   message_futures (cons p ps) [] h f = absurd f
-  message_futures (cons p ps) (row ∷ rows) h f = futures_append _ _ (part_futures p (kind_of row p) (kind_holds row p h.0) f.1) (message_futures ps rows h.1 f.2)
+  message_futures (cons p ps) (row ∷ rows) h f = futures_append _ _
+      (part_futures p (kind_of row p) (kind_holds row p h.0) f.1) (message_futures ps rows h.1 f.2)
 
 -- ---- their joined lists
 
-elements_join : (k : Kind) (ps qs : Parts) → ElementsFit table ps k → ElementsFit table qs k → ElementsFit table (ps +++ qs) k
+elements_join : (k : Kind) (ps qs : Parts) → ElementsFit table ps k → ElementsFit table qs k → ElementsFit table
+    (ps +++ qs) k
 unfolding ElementsFit
 elements_join k nil qs f g = g
 elements_join k (cons p ps) qs f g = (f.0, f.1, elements_join k ps qs f.2 g)
@@ -91,14 +94,16 @@ signals_fit nil f = tt
 signals_fit (cons p nil) f = tt
 signals_fit (cons p (cons q ps)) f = part_elements U32 q f.2.1
 
-named_signals_fit : (f : Parts) → Fits table f (table tables.future) → ElementsFit table (elements_in (part_at 2 f)) Text
+named_signals_fit : (f : Parts) → Fits table f (table tables.future) → ElementsFit table (elements_in (part_at 2 f))
+    Text
 unfolding Fits
 named_signals_fit nil f = tt
 named_signals_fit (cons p nil) f = tt
 named_signals_fit (cons p (cons q nil)) f = tt
 named_signals_fit (cons p (cons q (cons r ps))) f = part_elements Text r f.2.2.1
 
-joined_fit : (place : ℕ) (k : Kind) → ((f : Parts) → Fits table f (table tables.future) → ElementsFit table (elements_in (part_at place f)) k) → (fs : List Parts) → AreFutures fs → ElementsFit table (joined_lists place fs) k
+joined_fit : (place : ℕ) (k : Kind) → ((f : Parts) → Fits table f (table tables.future) → ElementsFit table
+    (elements_in (part_at place f)) k) → (fs : List Parts) → AreFutures fs → ElementsFit table (joined_lists place fs) k
 unfolding joined_lists ElementsFit
 joined_fit place k own [] are = tt
 joined_fit place k own (f ∷ fs) are = elements_join k _ _ (own f are.0) (joined_fit place k own fs are.1)
@@ -112,13 +117,19 @@ record FlattenedFits (suspension : Parts) : Type 0 where
 lists_fit : (suspension : Parts) → Fits table suspension (table tables.suspension) → FlattenedFits suspension
 lists_fit suspension fits =
     let are = message_futures suspension (table tables.suspension) (refl, tt) fits in
-    record { completions = joined_fit 0 U32 completions_fit _ are; signals = joined_fit 1 U32 signals_fit _ are; named_signals = joined_fit 2 Text named_signals_fit _ are }
+    record {
+      completions = joined_fit 0 U32 completions_fit _ are;
+      signals = joined_fit 1 U32 signals_fit _ are;
+      named_signals = joined_fit 2 Text named_signals_fit _ are;
+    }
 
 -- ---- flattened, they fit, and have no levels
 
-pub flattened_fits : (suspension : Parts) → Fits table suspension (table tables.suspension) → Fits table (flattened suspension) (table tables.suspension_v6)
+pub flattened_fits : (suspension : Parts) → Fits table suspension (table tables.suspension) → Fits table
+    (flattened suspension) (table tables.suspension_v6)
 unfolding Fits
-flattened_fits suspension fits = let l = lists_fit suspension fits in (refl, l.completions, (refl, l.signals, (refl, l.named_signals, tt)))
+flattened_fits suspension fits = let l = lists_fit suspension fits in
+    (refl, l.completions, (refl, l.signals, (refl, l.named_signals, tt)))
 
 -- the kind has no messages
 abbrev IsScalar : Kind → Type 0
@@ -140,8 +151,10 @@ unfolding ElementsFit levels
 flat_elements nil k scalar f = refl
 flat_elements (cons p ps) k scalar f = rw (flat_part p k scalar f.0 f.1, flat_elements ps k scalar f.2) refl
 
-pub flattened_levels : (suspension : Parts) → Fits table suspension (table tables.suspension) → levels (flattened suspension) ≡ 0
+pub flattened_levels : (suspension : Parts) → Fits table suspension (table tables.suspension) → levels
+    (flattened suspension) ≡ 0
 unfolding levels
 flattened_levels suspension fits =
     let l = lists_fit suspension fits in
-    rw (flat_elements _ U32 tt l.completions, flat_elements _ U32 tt l.signals, flat_elements _ Text tt l.named_signals) refl
+    rw (flat_elements _ U32 tt l.completions, flat_elements _ U32 tt l.signals, flat_elements _ Text tt l.named_signals)
+    refl

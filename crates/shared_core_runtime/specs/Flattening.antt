@@ -40,7 +40,8 @@ joined_lists place (future ∷ futures) = elements_in (part_at place future) +++
 
 -- The three lists of some futures: the completions, the signals and the named signals that they wait for.
 abbrev pub awaited_lists : List Parts → Parts
-awaited_lists futures = cons (Elements (joined_lists 0 futures)) (cons (Elements (joined_lists 1 futures)) (cons (Elements (joined_lists 2 futures)) nil))
+awaited_lists futures = cons (Elements (joined_lists 0 futures))
+    (cons (Elements (joined_lists 1 futures)) (cons (Elements (joined_lists 2 futures)) nil))
 
 -- The flattened form of a suspension's value: the three lists over the preorder of what it awaits, which are empty if
 -- it awaits nothing.

@@ -21,12 +21,17 @@ messages_decide a b = (
       let parts = and_parts _ _ is in
       ap (λ header. message header a.payload) (headers_equal a.header b.header parts.0)
       ∙ ap (message b.header) ((bytes_eq-Decides a.payload b.payload).0 parts.1),
-  λ same. and_from _ _ (headers_same a.header b.header (ap (λ m. m.header) same)) ((bytes_eq-Decides a.payload b.payload).1 (ap (λ m. m.payload) same)),
+  λ same. and_from _ _ (headers_same a.header b.header (ap (λ m. m.header) same))
+      ((bytes_eq-Decides a.payload b.payload).1 (ap (λ m. m.payload) same)),
 )
 
 -- items
 pub items_decide : (a b : Item) → Decides (items.eq-value.it a b) (a ≡ b)
-items_decide (Message x) (Message y) = (λ is. ap Message ((messages_decide x y).0 is), λ same. (messages_decide x y).1 (cc))
+items_decide (Message x) (Message y) = (
+  λ is. ap Message ((messages_decide x y).0 is),
+  λ same. (messages_decide x y).1
+      (cc),
+)
 items_decide (Unknown n) (Unknown m) = (λ is. ap Unknown (eqb-true n m is), λ same. eq-eqb n m (cc))
 items_decide (Skipped n x) (Skipped m y) = (
   λ is.

@@ -1,5 +1,7 @@
 -- Which item a stream begins with, and how streams split.
-use Rattle.std.proofs.Common.{◌≡◌, ℕ, ◌+◌, ◌<◌, ◌≤◌, List, [], ◌∷◌, ◌++◌, length, take, drop, Option, Some, None, refl, sym, ap, ◌∙◌, arith, subst, append_assoc, append-nil, length-append, zero, suc, inl, inr, Bool, true, false, leb}
+use Rattle.std.proofs.Common.{◌≡◌, ℕ, ◌+◌, ◌<◌, ◌≤◌, List, [], ◌∷◌, ◌++◌, length, take, drop, Option, Some, None, refl}
+use Rattle.std.proofs.Common.{sym, ap, ◌∙◌, arith, subst, append_assoc, append-nil, length-append, zero, suc, inl, inr}
+use Rattle.std.proofs.Common.{Bool, true, false, leb}
 use Rattle.std.specs.Prelude.{◌⊎◌}
 use Rattle.std.proofs.lemmas.Bool.{leb-true, leb-false}
 use Rattle.std.specs.Int.{w64, from_be_bytes}
@@ -16,7 +18,8 @@ use Rattle.shared_core_stream.specs.declared.encoding.announced.Announced.TheVar
 use Rattle.shared_core_stream.specs.Borrowed.{Announces, announced_length, kind_announced, item_with}
 use Rattle.shared_core_stream.specs.declared.encoding.item.Item.{Item}
 use Rattle.shared_core_stream.specs.declared.encoding.item.Item.TheVariants.{Unknown, Skipped}
-use Rattle.shared_core_stream.specs.Items.{front_word, skips_unknown_messages, body_length, item_of, IsItem, AreItems, TakesItem, NoItemBegins, IsItemsThen, SplitsInto, BeginsWithWritten}
+use Rattle.shared_core_stream.specs.Items.{front_word, skips_unknown_messages, body_length, item_of, IsItem, AreItems}
+use Rattle.shared_core_stream.specs.Items.{TakesItem, NoItemBegins, IsItemsThen, SplitsInto, BeginsWithWritten}
 
 take_exact : (n : ℕ) (front rest : List ℕ) → length front ≡ n → take n (front ++ rest) ≡ front
 take_exact n front rest e = subst (λ k. take k (front ++ rest) ≡ front) e (take-append_seam front rest)
@@ -35,15 +38,23 @@ front_word_more front more fits = ap (from_be_bytes w64) (take-append-le 8 front
 
 module _ (version : Version) where
   -- the item of these bytes, if they are as many as its header says
-  takes_front : (head rest : List ℕ) (word size : ℕ) → length head ≡ 8 → word ≡ from_be_bytes w64 head → size ≡ body_length version word → size ≤ length rest → TakesItem version (head ++ rest) (item_of version word (take size rest)) (drop size rest)
+  takes_front : (head rest : List ℕ) (word size : ℕ) → length head ≡ 8 → word ≡ from_be_bytes w64 head → size ≡
+      body_length version word → size ≤ length rest → TakesItem version (head ++ rest)
+      (item_of version word (take size rest)) (drop size rest)
   takes_front head rest word size eight reads sized fits =
       let body = take size rest in
       let same : front_word (head ++ body) ≡ word = front_word_head head body eight ∙ sym reads in
-      let long : length (head ++ body) ≡ 8 + size = omega (arith, length-append head body, length-take-le size rest fits) in (
+      let long : length (head ++ body) ≡ 8 + size = omega (
+        arith,
+        length-append head body,
+        length-take-le size rest
+            fits,
+      ) in (
         head ++ body,
         record {
           whole = long ∙ ap (λ n. 8 + n) (sized ∙ ap (body_length version) (sym same));
-          means = ap (λ w. item_of version w body) (sym same) ∙ ap (item_of version (front_word (head ++ body))) (sym (drop_exact 8 head body eight));
+          means = ap (λ w. item_of version w body) (sym same) ∙ ap (item_of version (front_word (head ++ body)))
+              (sym (drop_exact 8 head body eight));
         },
         ap (λ l. head ++ l) (sym (take-append-drop size rest)) ∙ sym (append_assoc head body (drop size rest)),
       )
@@ -57,24 +68,32 @@ module _ (version : Version) where
       omega (arith, is.whole, ap (body_length version) same)
 
   -- What a word announces. Only the lemmas right after it unfold how the version decides that.
-  pub announces_message : (word : ℕ) (header : MessageHeader) → header_of word ≡ Some header → Announces version word (announced.Message header)
+  pub announces_message : (word : ℕ) (header : MessageHeader) → header_of word ≡ Some header → Announces version word
+      (announced.Message header)
   unfolding body_length item_of
   announces_message word header typed = record { length_is = rw typed refl; item_is = λ body. rw typed refl }
 
-  pub announces_unknown : (word : ℕ) (unknown : UnknownMessageType) → header_of word ≡ None → unknown.0 ≡ word_code word → skips_unknown_messages version ≡ false → Announces version word (announced.Unknown unknown)
+  pub announces_unknown : (word : ℕ) (unknown : UnknownMessageType) → header_of word ≡ None → unknown.0 ≡ word_code word
+      → skips_unknown_messages version ≡ false → Announces version word (announced.Unknown unknown)
   unfolding body_length item_of
-  announces_unknown word unknown untyped is_code alone = record { length_is = rw (untyped, alone) refl; item_is = λ body. rw (untyped, alone, is_code) refl }
+  announces_unknown word unknown untyped is_code alone = record
+      { length_is = rw (untyped, alone) refl; item_is = λ body. rw (untyped, alone, is_code) refl }
 
-  pub announces_skipped : (word size : ℕ) (unknown : UnknownMessageType) → header_of word ≡ None → unknown.0 ≡ word_code word → skips_unknown_messages version ≡ true → size ≡ word_length word → Announces version word (announced.Skipped unknown size)
+  pub announces_skipped : (word size : ℕ) (unknown : UnknownMessageType) → header_of word ≡ None → unknown.0 ≡ word_code
+      word → skips_unknown_messages version ≡ true → size ≡ word_length word → Announces version word
+      (announced.Skipped unknown size)
   unfolding body_length item_of
-  announces_skipped word size unknown untyped is_code skips sized = record { length_is = rw (untyped, skips) sized; item_is = λ body. rw (untyped, skips, is_code) refl }
+  announces_skipped word size unknown untyped is_code skips sized = record
+      { length_is = rw (untyped, skips) sized; item_is = λ body. rw (untyped, skips, is_code) refl }
 
   -- the version of an item of an untyped code
-  pub unknown_item_version : (bytes : List ℕ) (code : ℕ) → IsItem version bytes (Unknown code) → skips_unknown_messages version ≡ false
+  pub unknown_item_version : (bytes : List ℕ) (code : ℕ) → IsItem version bytes (Unknown code) → skips_unknown_messages
+      version ≡ false
   unfolding item_of
   unknown_item_version bytes code is = by_header (header_of (front_word bytes)) refl
     where
-      by_header : (found : Option MessageHeader) → header_of (front_word bytes) ≡ found → skips_unknown_messages version ≡ false
+      by_header : (found : Option MessageHeader) → header_of (front_word bytes) ≡ found → skips_unknown_messages version
+          ≡ false
       by_header (Some header) typed = let means = rw typed at is.means in cc
       by_header None untyped = by_version (skips_unknown_messages version) refl
         where
@@ -82,11 +101,13 @@ module _ (version : Version) where
           by_version true skips = let means = rw (untyped, skips) at is.means in cc
           by_version false skips = refl
 
-  pub skipped_item_version : (bytes payload : List ℕ) (code : ℕ) → IsItem version bytes (Skipped code payload) → skips_unknown_messages version ≡ true
+  pub skipped_item_version : (bytes payload : List ℕ) (code : ℕ) → IsItem version bytes (Skipped code payload) →
+      skips_unknown_messages version ≡ true
   unfolding item_of
   skipped_item_version bytes payload code is = by_header (header_of (front_word bytes)) refl
     where
-      by_header : (found : Option MessageHeader) → header_of (front_word bytes) ≡ found → skips_unknown_messages version ≡ true
+      by_header : (found : Option MessageHeader) → header_of (front_word bytes) ≡ found → skips_unknown_messages version
+          ≡ true
       by_header (Some header) typed = let means = rw typed at is.means in cc
       by_header None untyped = by_version (skips_unknown_messages version) refl
         where
@@ -108,41 +129,60 @@ module _ (version : Version) where
           by_version false skips = let means = rw (untyped, skips) at is.means in cc
 
   -- the two cases of bytes whose first eight are `head`
-  module _ (bytes head rest : List ℕ) (word : ℕ) (eight : length head ≡ 8) (whole : bytes ≡ head ++ rest) (reads : word ≡ from_be_bytes w64 head) where
-    pub takes_announced : (announced : Announced) (body after : List ℕ) → Announces version word announced → announced_length announced ≤ length rest → body ≡ take (announced_length announced) rest → after ≡ drop (announced_length announced) rest → TakesItem version bytes (item_with (kind_announced announced) body) after
+  module _ (bytes head rest : List ℕ) (word : ℕ) (eight : length head ≡ 8) (whole : bytes ≡ head ++ rest)
+      (reads : word ≡ from_be_bytes w64 head) where
+    pub takes_announced : (announced : Announced) (body after : List ℕ) → Announces version word announced →
+        announced_length announced ≤ length rest → body ≡ take (announced_length announced) rest → after ≡ drop
+        (announced_length announced) rest → TakesItem version bytes (item_with (kind_announced announced) body) after
     takes_announced announced body after says fits is_body is_after =
         let found = takes_front head rest word (announced_length announced) eight reads says.length_is fits in
         rw (whole, says.item_is body, is_body, is_after) found
 
-    pub none_partial : (announced : Announced) → Announces version word announced → length rest < announced_length announced → NoItemBegins version bytes
+    pub none_partial : (announced : Announced) → Announces version word announced → length rest < announced_length
+        announced → NoItemBegins version bytes
     none_partial announced says short =
-        none_short bytes (omega (arith, ap length whole, length-append head rest, ap (body_length version) (ap front_word whole ∙ front_word_head head rest eight ∙ sym reads), says.length_is))
+        none_short bytes (omega (
+          arith,
+          ap length whole,
+          length-append head rest,
+          ap (body_length version)
+              (ap front_word whole ∙ front_word_head head rest eight ∙ sym reads),
+          says.length_is,
+        ))
 
   -- an item takes eight bytes at least
   pub item_is_long : (old new : List ℕ) (item : Item) → TakesItem version old item new → length new + 8 ≤ length old
   item_is_long old new item (first, is, splits) = omega (arith, is.whole, ap length splits, length-append first new)
 
   -- no item's bytes begin another's
-  pub one_item : (a b x y : List ℕ) (i j : Item) → IsItem version a i → IsItem version b j → a ++ x ≡ b ++ y → (a ≡ b) × (i ≡ j) × (x ≡ y)
+  pub one_item : (a b x y : List ℕ) (i j : Item) → IsItem version a i → IsItem version b j → a ++ x ≡ b ++ y → (a ≡ b) ×
+      (i ≡ j) × (x ≡ y)
   one_item a b x y i j is other joined =
       let words : front_word a ≡ front_word b =
-      sym (front_word_more a x (omega (arith, is.whole))) ∙ ap front_word joined ∙ front_word_more b y (omega (arith, other.whole)) in
+      sym (front_word_more a x (omega (arith, is.whole))) ∙ ap front_word joined ∙ front_word_more b y
+      (omega (arith, other.whole)) in
       let sizes : length a ≡ length b = omega (arith, is.whole, other.whole, ap (body_length version) words) in
-      let same : a ≡ b = sym (take_exact (length a) a x refl) ∙ ap (take (length a)) joined ∙ take_exact (length a) b y (sym sizes) in
-      let rests : x ≡ y = sym (drop_exact (length a) a x refl) ∙ ap (drop (length a)) joined ∙ drop_exact (length a) b y (sym sizes) in
+      let same : a ≡ b = sym (take_exact (length a) a x refl) ∙ ap (take (length a)) joined ∙ take_exact (length a) b y
+      (sym sizes) in
+      let rests : x ≡ y = sym (drop_exact (length a) a x refl) ∙ ap (drop (length a)) joined ∙ drop_exact (length a) b y
+      (sym sizes) in
       (same, is.means ∙ ap (λ l. item_of version (front_word l) (drop 8 l)) same ∙ sym other.means, rests)
 
   -- an item at the front stays there if bytes are appended
-  pub takes_more : (old new more : List ℕ) (item : Item) → TakesItem version old item new → TakesItem version (old ++ more) item (new ++ more)
+  pub takes_more : (old new more : List ℕ) (item : Item) → TakesItem version old item new → TakesItem version
+      (old ++ more) item (new ++ more)
   takes_more old new more item taken = (taken.0, taken.1, ap (λ l. l ++ more) taken.2 ∙ append_assoc taken.0 new more)
 
   pub nothing_begins_with_none : NoItemBegins version []
-  nothing_begins_with_none item others (first, is, splits) = omega (arith, is.whole, ap length splits, length-append first others)
+  nothing_begins_with_none item others (first, is, splits) = omega
+      (arith, is.whole, ap length splits, length-append first others)
 
   -- ---- items one after the other
 
-  AreItems_join : (front back : List ℕ) (items others : List Item) → AreItems version front items → AreItems version back others → AreItems version (front ++ back) (items ++ others)
-  AreItems_join front back [] others encoded next = let P : List ℕ → Type 0 = λ l. AreItems version (l ++ back) others in subst P (sym encoded) next
+  AreItems_join : (front back : List ℕ) (items others : List Item) → AreItems version front items → AreItems version
+      back others → AreItems version (front ++ back) (items ++ others)
+  AreItems_join front back [] others encoded next = let P : List ℕ → Type 0 = λ l. AreItems version (l ++ back) others
+      in subst P (sym encoded) next
   AreItems_join front back (i ∷ items) others encoded next = (
     encoded.0,
     encoded.1 ++ back,
@@ -151,7 +191,8 @@ module _ (version : Version) where
     ap (λ l. l ++ back) encoded.4 ∙ append_assoc encoded.0 encoded.1 back,
   )
 
-  pub then_join : (stream mid rest : List ℕ) (items others : List Item) → IsItemsThen version stream items mid → IsItemsThen version mid others rest → IsItemsThen version stream (items ++ others) rest
+  pub then_join : (stream mid rest : List ℕ) (items others : List Item) → IsItemsThen version stream items mid →
+      IsItemsThen version mid others rest → IsItemsThen version stream (items ++ others) rest
   then_join stream mid rest items others first second = record {
     front = first.front ++ second.front;
     encoded = AreItems_join first.front second.front items others first.encoded second.encoded;
@@ -161,13 +202,22 @@ module _ (version : Version) where
   pub then_start : (stream : List ℕ) → IsItemsThen version stream [] stream
   then_start stream = record { front = []; encoded = refl; whole = refl }
 
-  pub then_one : (old new : List ℕ) (item : Item) → TakesItem version old item new → IsItemsThen version old (item ∷ []) new
-  then_one old new item taken = record { front = taken.0; encoded = (taken.0, [], taken.1, refl, sym (append-nil taken.0)); whole = taken.2 }
+  pub then_one : (old new : List ℕ) (item : Item) → TakesItem version old item new → IsItemsThen version old (item ∷ [])
+      new
+  then_one old new item taken = record {
+    front = taken.0;
+    encoded =
+        (taken.0, [], taken.1, refl, sym (append-nil taken.0));
+    whole = taken.2;
+  }
 
-  pub then_takes : (stream old new : List ℕ) (items : List Item) (item : Item) → IsItemsThen version stream items old → TakesItem version old item new → IsItemsThen version stream (items ++ item ∷ []) new
-  then_takes stream old new items item before taken = then_join stream old new items (item ∷ []) before (then_one old new item taken)
+  pub then_takes : (stream old new : List ℕ) (items : List Item) (item : Item) → IsItemsThen version stream items old →
+      TakesItem version old item new → IsItemsThen version stream (items ++ item ∷ []) new
+  then_takes stream old new items item before taken = then_join stream old new items (item ∷ []) before
+      (then_one old new item taken)
 
-  pub then_more : (stream rest chunk : List ℕ) (items : List Item) → IsItemsThen version stream items rest → IsItemsThen version (stream ++ chunk) items (rest ++ chunk)
+  pub then_more : (stream rest chunk : List ℕ) (items : List Item) → IsItemsThen version stream items rest → IsItemsThen
+      version (stream ++ chunk) items (rest ++ chunk)
   then_more stream rest chunk items before = record {
     front = before.front;
     encoded = before.encoded;
@@ -177,54 +227,82 @@ module _ (version : Version) where
   -- ---- how a stream splits
 
   -- whatever items the stream begins with, the items that it splits into begin with them
-  begins : (front rest left right : List ℕ) (items written : List Item) → AreItems version front items → AreItems version left written → NoItemBegins version rest → front ++ rest ≡ left ++ right → (others : List Item) × (items ≡ written ++ others)
+  begins : (front rest left right : List ℕ) (items written : List Item) → AreItems version front items → AreItems
+      version left written → NoItemBegins version rest → front ++ rest ≡ left ++ right → (others : List Item) ×
+      (items ≡ written ++ others)
   begins front rest left right items [] encoded begun no_more joined = (items, refl)
   begins front rest left right [] (w ∷ written) encoded begun no_more joined =
-      absurd (no_more w (begun.1 ++ right)
-      (begun.0, begun.2, ap (λ l. l ++ rest) (sym encoded) ∙ joined ∙ ap (λ l. l ++ right) begun.4 ∙ append_assoc begun.0 begun.1 right))
+      absurd (no_more w (begun.1 ++ right) (
+        begun.0,
+        begun.2,
+        ap (λ l. l ++ rest) (sym encoded) ∙ joined ∙ ap (λ l. l ++ right) begun.4 ∙ append_assoc
+            begun.0 begun.1 right,
+      ))
   begins front rest left right (i ∷ items) (w ∷ written) encoded begun no_more joined =
       let heads = one_item encoded.0 begun.0 (encoded.1 ++ rest) (begun.1 ++ right) i w encoded.2 begun.2
-      (sym (append_assoc encoded.0 encoded.1 rest) ∙ ap (λ l. l ++ rest) (sym encoded.4) ∙ joined ∙ ap (λ l. l ++ right) begun.4 ∙ append_assoc begun.0 begun.1 right) in
+      (sym (append_assoc encoded.0 encoded.1 rest) ∙ ap (λ l. l ++ rest) (sym encoded.4) ∙ joined ∙ ap (λ l. l ++ right)
+      begun.4 ∙ append_assoc begun.0 begun.1 right) in
       let tails = begins encoded.1 rest begun.1 right items written encoded.3 begun.3 no_more heads.2 in
       (tails.0, ap (λ l. i ∷ l) tails.1 ∙ ap (λ k. k ∷ (written ++ tails.0)) heads.1)
 
-  pub split_begins : (stream rest : List ℕ) (items : List Item) → SplitsInto version stream items rest → BeginsWithWritten version stream items
+  pub split_begins : (stream rest : List ℕ) (items : List Item) → SplitsInto version stream items rest →
+      BeginsWithWritten version stream items
   split_begins stream rest items split written right front =
-      begins split.items_then.front rest front.front right items written split.items_then.encoded front.encoded split.no_more (sym split.items_then.whole ∙ front.whole)
+      begins split.items_then.front rest front.front right items written split.items_then.encoded front.encoded
+      split.no_more (sym split.items_then.whole ∙ front.whole)
 
-  same_split : (front rest front' rest' : List ℕ) (items items' : List Item) → AreItems version front items → AreItems version front' items' → NoItemBegins version rest → NoItemBegins version rest' → front ++ rest ≡ front' ++ rest' → (items ≡ items') × (rest ≡ rest')
+  same_split : (front rest front' rest' : List ℕ) (items items' : List Item) → AreItems version front items → AreItems
+      version front' items' → NoItemBegins version rest → NoItemBegins version rest' → front ++ rest ≡ front' ++ rest' →
+      (items ≡ items') × (rest ≡ rest')
   same_split front rest front' rest' [] [] encoded encoded' none none' joined =
       (refl, ap (λ l. l ++ rest) (sym encoded) ∙ joined ∙ ap (λ l. l ++ rest') encoded')
   same_split front rest front' rest' [] (j ∷ items') encoded encoded' none none' joined =
-      absurd (none j (encoded'.1 ++ rest')
-      (encoded'.0, encoded'.2, ap (λ l. l ++ rest) (sym encoded) ∙ joined ∙ ap (λ l. l ++ rest') encoded'.4 ∙ append_assoc encoded'.0 encoded'.1 rest'))
+      absurd (none j (encoded'.1 ++ rest') (
+        encoded'.0,
+        encoded'.2,
+        ap (λ l. l ++ rest) (sym encoded) ∙ joined ∙ ap (λ l. l ++ rest') encoded'.4 ∙
+            append_assoc encoded'.0 encoded'.1 rest',
+      ))
   same_split front rest front' rest' (i ∷ items) [] encoded encoded' none none' joined =
-      absurd (none' i (encoded.1 ++ rest)
-      (encoded.0, encoded.2, ap (λ l. l ++ rest') (sym encoded') ∙ sym joined ∙ ap (λ l. l ++ rest) encoded.4 ∙ append_assoc encoded.0 encoded.1 rest))
+      absurd (none' i (encoded.1 ++ rest) (
+        encoded.0,
+        encoded.2,
+        ap (λ l. l ++ rest') (sym encoded') ∙ sym joined ∙ ap (λ l. l ++ rest) encoded.4 ∙
+            append_assoc encoded.0 encoded.1 rest,
+      ))
   same_split front rest front' rest' (i ∷ items) (j ∷ items') encoded encoded' none none' joined =
       let heads = one_item encoded.0 encoded'.0 (encoded.1 ++ rest) (encoded'.1 ++ rest') i j encoded.2 encoded'.2
-      (sym (append_assoc encoded.0 encoded.1 rest) ∙ ap (λ l. l ++ rest) (sym encoded.4) ∙ joined ∙ ap (λ l. l ++ rest') encoded'.4 ∙ append_assoc encoded'.0 encoded'.1 rest') in
+      (sym (append_assoc encoded.0 encoded.1 rest) ∙ ap (λ l. l ++ rest) (sym encoded.4) ∙ joined ∙ ap (λ l. l ++ rest')
+      encoded'.4 ∙ append_assoc encoded'.0 encoded'.1 rest') in
       let tails = same_split encoded.1 rest encoded'.1 rest' items items' encoded.3 encoded'.3 none none' heads.2 in
       (ap (λ l. i ∷ l) tails.0 ∙ ap (λ k. k ∷ items') heads.1, tails.1)
 
   -- a stream splits in one way
-  pub split_is_unique : (stream : List ℕ) (items others : List Item) (rest left : List ℕ) → SplitsInto version stream items rest → SplitsInto version stream others left → (items ≡ others) × (rest ≡ left)
+  pub split_is_unique : (stream : List ℕ) (items others : List Item) (rest left : List ℕ) → SplitsInto version stream
+      items rest → SplitsInto version stream others left → (items ≡ others) × (rest ≡ left)
   split_is_unique stream items others rest left one other =
-      same_split one.items_then.front rest other.items_then.front left items others one.items_then.encoded other.items_then.encoded one.no_more other.no_more
+      same_split one.items_then.front rest other.items_then.front left items others one.items_then.encoded
+      other.items_then.encoded one.no_more other.no_more
       (sym one.items_then.whole ∙ other.items_then.whole)
 
   -- the bytes begin with an item, or with none
-  front_item : (bytes : List ℕ) → ((item : Item) × (rest : List ℕ) × TakesItem version bytes item rest) ⊎ NoItemBegins version bytes
+  front_item : (bytes : List ℕ) → ((item : Item) × (rest : List ℕ) × TakesItem version bytes item rest) ⊎ NoItemBegins
+      version bytes
   front_item bytes =
-      (elim (leb (8 + body_length version (front_word bytes)) (length bytes)) as (λ b. leb (8 + body_length version (front_word bytes)) (length bytes) ≡ b → ((item : Item) × (rest : List ℕ) × TakesItem version bytes item rest) ⊎ NoItemBegins version bytes) [
+      (elim (leb (8 + body_length version (front_word bytes)) (length bytes)) as
+      (λ b. leb (8 + body_length version (front_word bytes)) (length bytes) ≡ b →
+      ((item : Item) × (rest : List ℕ) × TakesItem version bytes item rest) ⊎ NoItemBegins version bytes) [
         | true ↦ λ is.
             let whole : 8 + body_length version (front_word bytes) ≤ length bytes = leb-true _ _ is in
             let head = take 8 bytes in
             let eight : length head ≡ 8 = length-take-le 8 bytes (omega (arith, whole)) in
             let size = body_length version (from_be_bytes w64 head) in
-            let word : front_word bytes ≡ from_be_bytes w64 head = ap front_word (sym (take-append-drop 8 bytes)) ∙ front_word_head head (drop 8 bytes) eight in
-            let long : length bytes ≡ 8 + length (drop 8 bytes) = ap length (sym (take-append-drop 8 bytes)) ∙ length-append head (drop 8 bytes) ∙ ap (λ n. n + length (drop 8 bytes)) eight in
-            let found = takes_front head (drop 8 bytes) (from_be_bytes w64 head) size eight refl refl (omega (arith, whole, long, ap (body_length version) word)) in
+            let word : front_word bytes ≡ from_be_bytes w64 head = ap front_word (sym (take-append-drop 8 bytes)) ∙
+            front_word_head head (drop 8 bytes) eight in
+            let long : length bytes ≡ 8 + length (drop 8 bytes) = ap length (sym (take-append-drop 8 bytes)) ∙
+            length-append head (drop 8 bytes) ∙ ap (λ n. n + length (drop 8 bytes)) eight in
+            let found = takes_front head (drop 8 bytes) (from_be_bytes w64 head) size eight refl refl
+            (omega (arith, whole, long, ap (body_length version) word)) in
             inl (_, _, rw (take-append-drop 8 bytes) at found)
         | false ↦ λ is. inr (none_short bytes (leb-false _ _ is))
       ]) refl
@@ -258,7 +336,8 @@ module _ (version : Version) where
       ]
   split_within (suc fuel) stream fits =
       elim (front_item stream) as (λ _. Split stream) [
-        | inl found ↦ split_next stream found.1 found.0 found.2 (split_within fuel found.1 (omega (arith, shorter stream found.1 found.0 found.2, fits)))
+        | inl found ↦ split_next stream found.1 found.0 found.2
+            (split_within fuel found.1 (omega (arith, shorter stream found.1 found.0 found.2, fits)))
         | inr none ↦ split_none stream none
       ]
 

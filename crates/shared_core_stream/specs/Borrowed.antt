@@ -1,5 +1,6 @@
 -- Items that are borrowed from the bytes of a slice, and what the first eight bytes of an item announce.
-use Rattle.std.specs.Prelude.{◌≡◌, ℕ, ◌+◌, ◌-◌, ◌<◌, nat_lt, List, ◌++◌, length, take, Option, Some, None, if◌then◌else◌}
+use Rattle.std.specs.Prelude.{◌≡◌, ℕ, ◌+◌, ◌-◌, ◌<◌, nat_lt, List, ◌++◌, length, take, Option, Some, None}
+use Rattle.std.specs.Prelude.{if◌then◌else◌}
 use Rattle.shared_core_base.specs.declared.version.Version.{Version}
 use Rattle.shared_core_stream.specs.Items.{NoItemBegins, TakesItem, body_length, front_word, item_of}
 use Rattle.shared_core_stream.specs.declared.encoding.announced.Announced.{Announced}

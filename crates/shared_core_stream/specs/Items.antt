@@ -21,7 +21,8 @@ front_word bytes = from_be_bytes w64 (take 8 bytes)
 -- length in its word if the version skips such a message, otherwise 0.
 unfoldable pub body_length : Version → ℕ → ℕ
 body_length version word =
-    option_map_or (λ header. header.length) (header_of word) (if skips_unknown_messages version then word_length word else 0)
+    option_map_or (λ header. header.length) (header_of word)
+    (if skips_unknown_messages version then word_length word else 0)
 
 -- The item that a word and the bytes after it are: a message with its payload; or a code that is no type's, with its
 -- payload if the version skips such a message, otherwise alone.
@@ -39,7 +40,8 @@ pub record IsItem (version : Version) (bytes : List ℕ) (item : Item) : Type 0 
 abbrev pub AreItems : Version → List ℕ → List Item → Type 0
 AreItems version bytes [] = bytes ≡ []
 AreItems version bytes (item ∷ items) =
-    (first : List ℕ) × (others : List ℕ) × IsItem version first item × AreItems version others items × (bytes ≡ first ++ others)
+    (first : List ℕ) × (others : List ℕ) × IsItem version first item × AreItems version others items ×
+    (bytes ≡ first ++ others)
 
 -- An item is at the front of the old bytes, and the new bytes are those after it.
 abbrev pub TakesItem : Version → List ℕ → Item → List ℕ → Type 0
@@ -63,7 +65,8 @@ pub record SplitsInto (version : Version) (stream : List ℕ) (items : List Item
 -- Whatever items were written at the front of the stream, and whatever follows them, the list begins with them.
 abbrev pub BeginsWithWritten : Version → List ℕ → List Item → Type 0
 BeginsWithWritten version stream items =
-    (written : List Item) (rest : List ℕ) → IsItemsThen version stream written rest → (others : List Item) × (items ≡ written ++ others)
+    (written : List Item) (rest : List ℕ) → IsItemsThen version stream written rest → (others : List Item) ×
+    (items ≡ written ++ others)
 
 -- The item has a payload, which may be empty.
 abbrev pub HasPayload : Item → Type 0

@@ -30,7 +30,8 @@ values-append (x ∷ xs) ys = ap (λ (ws : List RecordValue). x.value ∷ ws) (v
 
 -- ---- the run at the end
 
-pub all_numbered-append : (k : ℕ) (xs ys : List FieldRecord) → all_numbered k (xs ++ ys) ≡ (all_numbered k xs && all_numbered k ys)
+pub all_numbered-append : (k : ℕ) (xs ys : List FieldRecord) → all_numbered k (xs ++ ys) ≡
+    (all_numbered k xs && all_numbered k ys)
 all_numbered-append k xs ys = list_all-append (λ (r : FieldRecord). eqb r.number k) xs ys
 
 pub and-true_is : (b c : Bool) → c ≡ true → (b && c) ≡ b
@@ -42,11 +43,13 @@ and-false_is true c h = h
 and-false_is false c h = refl
 
 -- the last of records that are all of one number
-pub last_all : (k : ℕ) (y : FieldRecord) (ys : List FieldRecord) → all_numbered k (y ∷ ys) ≡ true → eqb (last y ys).number k ≡ true
+pub last_all : (k : ℕ) (y : FieldRecord) (ys : List FieldRecord) → all_numbered k (y ∷ ys) ≡ true → eqb
+    (last y ys).number k ≡ true
 last_all k y [] h = (and_split _ _ h).0
 last_all k y (z ∷ ys) h = last_all k z ys (and_split _ _ h).1
 
-pub last_not : (k : ℕ) (y : FieldRecord) (ys : List FieldRecord) → eqb (last y ys).number k ≡ false → all_numbered k (y ∷ ys) ≡ false
+pub last_not : (k : ℕ) (y : FieldRecord) (ys : List FieldRecord) → eqb (last y ys).number k ≡ false → all_numbered k
+    (y ∷ ys) ≡ false
 last_not k y [] h = rw h refl
 last_not k y (z ∷ ys) h = and-false_is _ _ (last_not k z ys h)
 
@@ -59,16 +62,30 @@ last_run_whole k [] h = refl
 last_run_whole k (y ∷ ys) h = ap (λ b. cond b (y ∷ ys) (last_run k ys)) h
 
 -- if all later records have the number, the run goes on into the earlier ones
-pub last_run_on : (k : ℕ) (xs ys : List FieldRecord) → all_numbered k ys ≡ true → last_run k (xs ++ ys) ≡ last_run k xs ++ ys
+pub last_run_on : (k : ℕ) (xs ys : List FieldRecord) → all_numbered k ys ≡ true → last_run k (xs ++ ys) ≡ last_run k xs
+    ++ ys
 last_run_on k [] ys h = last_run_whole k ys h
-last_run_on k (x ∷ xs) ys h = rw (last_run_on k xs ys h, all_numbered-append k xs ys, and-true_is (all_numbered k xs) (all_numbered k ys) h) (cond-append (eqb x.number k && all_numbered k xs) (x ∷ xs) (last_run k xs) ys)
+last_run_on k (x ∷ xs) ys h = rw (
+  last_run_on k xs ys h,
+  all_numbered-append k xs ys,
+  and-true_is (all_numbered k xs)
+      (all_numbered k ys) h,
+) (cond-append (eqb x.number k && all_numbered k xs) (x ∷ xs) (last_run k xs) ys)
 
 -- otherwise the run is within the later records
-pub last_run_within : (k : ℕ) (xs ys : List FieldRecord) → all_numbered k ys ≡ false → last_run k (xs ++ ys) ≡ last_run k ys
+pub last_run_within : (k : ℕ) (xs ys : List FieldRecord) → all_numbered k ys ≡ false → last_run k (xs ++ ys) ≡ last_run
+    k ys
 last_run_within k [] ys h = refl
-last_run_within k (x ∷ xs) ys h = rw (last_run_within k xs ys h, all_numbered-append k xs ys, and-false_is (all_numbered k xs) (all_numbered k ys) h, and-false_is (eqb x.number k) false refl) refl
+last_run_within k (x ∷ xs) ys h = rw (
+  last_run_within k xs ys h,
+  all_numbered-append k xs ys,
+  and-false_is
+      (all_numbered k xs) (all_numbered k ys) h,
+  and-false_is (eqb x.number k) false refl,
+) refl
 
 -- there is no run if the last record has another number
-pub last_run_none : (k : ℕ) (x : FieldRecord) (xs : List FieldRecord) → eqb (last x xs).number k ≡ false → last_run k (x ∷ xs) ≡ []
+pub last_run_none : (k : ℕ) (x : FieldRecord) (xs : List FieldRecord) → eqb (last x xs).number k ≡ false → last_run k
+    (x ∷ xs) ≡ []
 last_run_none k x [] h = rw h refl
 last_run_none k x (z ∷ xs) h = rw (last_not k x (z ∷ xs) h) (last_run_none k z xs h)

@@ -1,5 +1,6 @@
 -- The shortest varint.
-use Rattle.std.proofs.Common.{◌≡◌, ℕ, zero, suc, ◌+◌, ◌-◌, ◌*◌, ◌/◌, ◌%◌, ◌^◌, ◌<◌, ◌≤◌, List, [], ◌∷◌, ◌++◌, length, refl, ap, ◌∙◌, arith, lit<, inl, inr}
+use Rattle.std.proofs.Common.{◌≡◌, ℕ, zero, suc, ◌+◌, ◌-◌, ◌*◌, ◌/◌, ◌%◌, ◌^◌, ◌<◌, ◌≤◌, List, [], ◌∷◌, ◌++◌, length}
+use Rattle.std.proofs.Common.{refl, ap, ◌∙◌, arith, lit<, inl, inr}
 use Rattle.std.proofs.Math.Nat.{pow-suc, pow-le-pow_right}
 use Rattle.std.proofs.lemmas.Bool.{lt-ltb, le-ltb, cases_lt}
 use Rattle.shared_core_wire.specs.Grammar.{IsBase128, IsVarint, IsKey}
@@ -14,7 +15,8 @@ enough (suc more) zero n h k = rw (lt-ltb n 128 (omega arith)) refl
 enough (suc more) (suc most) n h k =
     elim (cases_lt n 128) [
       | inl lt ↦ rw (lt-ltb n 128 lt) refl
-      | inr le ↦ rw (le-ltb n 128 le) (ap (λ (w : List ℕ). (n % 128 + 128) ∷ w) (enough more most (n / 128) (omega arith) (omega arith)))
+      | inr le ↦ rw (le-ltb n 128 le) (ap (λ (w : List ℕ). (n % 128 + 128) ∷ w)
+          (enough more most (n / 128) (omega arith) (omega arith)))
     ]
 
 small_within : (more n : ℕ) → n < 128 → shortest_within more n ≡ n ∷ []
@@ -26,10 +28,12 @@ pub shortest_small : (n : ℕ) → n < 128 → shortest_varint n ≡ n ∷ []
 unfolding shortest_varint
 shortest_small n h = small_within n n h
 
-large_within : (more n : ℕ) → n ≤ more → 128 ≤ n → shortest_within more n ≡ (n % 128 + 128) ∷ shortest_within (n / 128) (n / 128)
+large_within : (more n : ℕ) → n ≤ more → 128 ≤ n → shortest_within more n ≡ (n % 128 + 128) ∷ shortest_within (n / 128)
+    (n / 128)
 unfolding shortest_within
 large_within zero n h le = absurd (omega arith)
-large_within (suc more) n h le = rw (le-ltb n 128 le) (ap (λ (w : List ℕ). (n % 128 + 128) ∷ w) (enough more (n / 128) (n / 128) (omega arith) (omega arith)))
+large_within (suc more) n h le = rw (le-ltb n 128 le) (ap (λ (w : List ℕ). (n % 128 + 128) ∷ w)
+    (enough more (n / 128) (n / 128) (omega arith) (omega arith)))
 
 pub shortest_large : (n : ℕ) → 128 ≤ n → shortest_varint n ≡ (n % 128 + 128) ∷ shortest_varint (n / 128)
 unfolding shortest_varint
@@ -37,7 +41,8 @@ shortest_large n le = large_within n n (omega arith) le
 
 -- ---- it is an encoding
 
-encodes_more : (b : ℕ) (text : List ℕ) (n high : ℕ) → 128 ≤ b → n ≡ b % 128 + 128 * high → IsBase128 text high → IsBase128 (b ∷ text) n
+encodes_more : (b : ℕ) (text : List ℕ) (n high : ℕ) → 128 ≤ b → n ≡ b % 128 + 128 * high → IsBase128 text high →
+    IsBase128 (b ∷ text) n
 encodes_more b [] n high le e h = absurd h
 encodes_more b (c ∷ bs) n high le e h = (le, high, e, h)
 
@@ -46,7 +51,8 @@ encodes_within zero n le = rw (shortest_small n (omega arith)) (omega arith, ref
 encodes_within (suc most) n le =
     elim (cases_lt n 128) [
       | inl lt ↦ rw (shortest_small n lt) (lt, refl)
-      | inr big ↦ rw (shortest_large n big) (encodes_more (n % 128 + 128) (shortest_varint (n / 128)) n (n / 128) (omega arith) (omega arith) (encodes_within most (n / 128) (omega arith)))
+      | inr big ↦ rw (shortest_large n big) (encodes_more (n % 128 + 128) (shortest_varint (n / 128)) n (n / 128)
+          (omega arith) (omega arith) (encodes_within most (n / 128) (omega arith)))
     ]
 
 few_within : (k n : ℕ) → n < 128 * 128 ^ k → length (shortest_varint n) ≤ k + 1
@@ -67,7 +73,12 @@ pub shortest_is : (n : ℕ) → n < 2 ^ 64 → IsVarint (shortest_varint n) n
 shortest_is n h = record { encoding = encodes_within n n (omega arith); short = ten_bytes n h; fits = h }
 
 pub key_is : (number wire : ℕ) → 0 < number → number < 2 ^ 29 → wire < 8 → IsKey (key_bytes number wire) number wire
-key_is number wire p n w = record { encoding = shortest_is (8 * number + wire) (omega arith); numbered = p; typed = w; fits = omega arith }
+key_is number wire p n w = record {
+  encoding = shortest_is (8 * number + wire) (omega arith);
+  numbered = p;
+  typed = w;
+  fits = omega arith;
+}
 
 pub fewest : (n : ℕ) (bytes : List ℕ) → IsBase128 bytes n → length (shortest_varint n) ≤ length bytes
 fewest n [] h = absurd h

@@ -4,7 +4,8 @@ use Rattle.std.specs.List.{list_all}
 use Rattle.std.specs.Str.{is_utf8}
 use Rattle.shared_core_wire.specs.Grammar.{RecordValue, Varint, Length, FieldRecord}
 use Rattle.shared_core_wire.specs.Reader.{packed_numbers, record_list}
-use Rattle.shared_core_wire.specs.Schema.{Table, Kind, Row, U32, U64, Boolean, Enumeration, Text, ByteString, Message, Plain, Optional, Repeated, OneOf, numbers, includes, member_kind}
+use Rattle.shared_core_wire.specs.Schema.{Table, Kind, Row, U32, U64, Boolean, Enumeration, Text, ByteString, Message}
+use Rattle.shared_core_wire.specs.Schema.{Plain, Optional, Repeated, OneOf, numbers, includes, member_kind}
 
 -- Whether the bytes of a nested message are well-formed for the schema with this number.
 abbrev pub NestedAcceptance : Type 0
@@ -61,7 +62,8 @@ some_passes test (Some x) = test x
 -- levels of nesting.
 unfoldable pub accepts_message : Table → ℕ → NestedAcceptance
 accepts_message table zero s bytes = false
-accepts_message table (suc left) s bytes = some_passes (list_all (accepts_record (accepts_message table left) (table s))) (record_list left bytes)
+accepts_message table (suc left) s bytes = some_passes (list_all
+    (accepts_record (accepts_message table left) (table s))) (record_list left bytes)
 
 -- Whether a payload of the schema may have each of the records, which allow `left` levels of nesting.
 abbrev pub accepts_records : Table → ℕ → ℕ → List FieldRecord → Bool

@@ -1,8 +1,10 @@
 -- The canonical encoding of a value, its size, and its nesting depth.
-use Rattle.std.specs.Prelude.{ℕ, suc, ◌+◌, ◌-◌, ◌^◌, max, Bool, false, List, [], ◌∷◌, ◌++◌, map, length, nat_lt, ◌==◌, if◌then◌else◌, flat_map}
+use Rattle.std.specs.Prelude.{ℕ, suc, ◌+◌, ◌-◌, ◌^◌, max, Bool, false, List, [], ◌∷◌, ◌++◌, map, length, nat_lt, ◌==◌}
+use Rattle.std.specs.Prelude.{if◌then◌else◌, flat_map}
 use Rattle.shared_core_wire.specs.Grammar.{RecordValue, Varint, Length, FieldRecord}
 use Rattle.shared_core_wire.specs.Encoding.{shortest_varint, record_list_bytes}
-use Rattle.shared_core_wire.specs.Schema.{Table, Kind, Row, U32, Enumeration, Message, Plain, Optional, Repeated, OneOf, member_kind}
+use Rattle.shared_core_wire.specs.Schema.{Table, Kind, Row, U32, Enumeration, Message, Plain, Optional, Repeated, OneOf}
+use Rattle.shared_core_wire.specs.Schema.{member_kind}
 use Rattle.shared_core_wire.specs.Value.{Part, Parts, Absent, Number, Bytes, Nested, Elements, Member, nil, cons}
 
 -- ---- how a row is written
@@ -89,7 +91,8 @@ module _ (table : Table) where
     pub message_records : Parts → List Row → List FieldRecord
     message_records nil rows = []
     message_records (cons p ps) [] = []
-    message_records (cons p ps) (row ∷ rows) = row_records row p (part_values p (kind_of row p)) ++ message_records ps rows
+    message_records (cons p ps) (row ∷ rows) = row_records row p (part_values p (kind_of row p)) ++ message_records ps
+        rows
 
   -- The canonical payload of a value of the schema s.
   abbrev pub canonical_payload : ℕ → Parts → List ℕ

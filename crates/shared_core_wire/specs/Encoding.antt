@@ -1,5 +1,6 @@
 -- The shortest encodings, of which canonical payloads are made.
-use Rattle.std.specs.Prelude.{ℕ, zero, suc, ◌+◌, ◌*◌, ◌/◌, ◌%◌, ◌^◌, Bool, ◌&&◌, List, [], ◌∷◌, ◌++◌, length, nat_lt, if◌then◌else◌, flat_map}
+use Rattle.std.specs.Prelude.{ℕ, zero, suc, ◌+◌, ◌*◌, ◌/◌, ◌%◌, ◌^◌, Bool, ◌&&◌, List, [], ◌∷◌, ◌++◌, length, nat_lt}
+use Rattle.std.specs.Prelude.{if◌then◌else◌, flat_map}
 use Rattle.shared_core_wire.specs.Grammar.{Varint, Fixed64, Length, Group, Fixed32, FieldRecord}
 
 -- A number in groups of seven bits, with at most the given number of bytes before the last.

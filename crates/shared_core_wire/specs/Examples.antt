@@ -1,7 +1,9 @@
 -- A small table of schemas, on which hand-checked payloads test the definitions.
-use Rattle.std.specs.Prelude.{◌≡◌, ℕ, zero, suc, true, false, List, [], ◌∷◌, ◌++◌, length, ◌+◌, ◌-◌, ◌*◌, nat_lt, if◌then◌else◌}
+use Rattle.std.specs.Prelude.{◌≡◌, ℕ, zero, suc, true, false, List, [], ◌∷◌, ◌++◌, length, ◌+◌, ◌-◌, ◌*◌, nat_lt}
+use Rattle.std.specs.Prelude.{if◌then◌else◌}
 use Rattle.shared_core_wire.specs.Encoding.{shortest_varint}
-use Rattle.shared_core_wire.specs.Schema.{Table, table_of, Row, U32, U64, Enumeration, Text, ByteString, Message, Plain, Optional, Repeated, OneOf}
+use Rattle.shared_core_wire.specs.Schema.{Table, table_of, Row, U32, U64, Enumeration, Text, ByteString, Message, Plain}
+use Rattle.shared_core_wire.specs.Schema.{Optional, Repeated, OneOf}
 use Rattle.shared_core_wire.specs.Value.{Part, Parts, Number, Bytes, Elements, nil, cons, one_part}
 use Rattle.shared_core_wire.specs.Acceptance.{accepts_payload}
 use Rattle.shared_core_wire.specs.Overlay.{overlay_payload, meaning}
@@ -96,7 +98,8 @@ schemas =
     ∷ (Optional 4 (Message future) ∷ [])
     ∷ (Repeated 1 U32 ∷ Repeated 2 U32 ∷ Repeated 3 Text ∷ [])
     ∷ (Plain 1 U32 ∷ OneOf ((4, Message void) ∷ (5, Message value) ∷ (6, Message failure) ∷ []) ∷ [])
-    ∷ (OneOf ((2, U32) ∷ (3, Text) ∷ []) ∷ OneOf ((4, Message void) ∷ (5, Message value) ∷ (6, Message failure) ∷ []) ∷ [])
+    ∷ (OneOf ((2, U32) ∷ (3, Text) ∷ []) ∷ OneOf ((4, Message void) ∷ (5, Message value) ∷ (6, Message failure) ∷ []) ∷
+    [])
     ∷ (Plain 12 Text ∷ [])
     ∷ (Plain 1 U64 ∷ Plain 11 U32 ∷ Plain 12 Text ∷ [])
     ∷ (Plain 9 Enumeration ∷ Optional 10 Text ∷ [])
@@ -106,7 +109,8 @@ schemas =
     ∷ (Repeated 1 ByteString ∷ [])
     ∷ (Plain 1 U32 ∷ Optional 17 (Message keys) ∷ [])
     ∷ (Plain 1 U32 ∷ Plain 16 Text ∷ [])
-    ∷ (OneOf ((1, U32) ∷ (2, U32) ∷ (3, Text) ∷ []) ∷ OneOf ((4, Message void) ∷ (5, Message value) ∷ (6, Message failure) ∷ (16, Text) ∷ (17, Message keys) ∷ []) ∷ [])
+    ∷ (OneOf ((1, U32) ∷ (2, U32) ∷ (3, Text) ∷ []) ∷ OneOf ((4, Message void) ∷ (5, Message value) ∷
+    (6, Message failure) ∷ (16, Text) ∷ (17, Message keys) ∷ []) ∷ [])
     ∷ []
 
 -- The table of these schemas.
@@ -130,7 +134,8 @@ numbers_of (n ∷ ns) = cons (Number n) (numbers_of ns)
 
 -- A future with these completions, signals, names and nested futures.
 abbrev pub a_future : List ℕ → List ℕ → Parts → Parts → Parts
-a_future completions signals names nested = cons (Elements (numbers_of completions)) (cons (Elements (numbers_of signals)) (cons (Elements names) (two (Elements nested) (Number 0))))
+a_future completions signals names nested = cons (Elements (numbers_of completions))
+    (cons (Elements (numbers_of signals)) (cons (Elements names) (two (Elements nested) (Number 0))))
 
 -- Lists of completions alone.
 abbrev pub completions_alone : List ℕ → Parts
@@ -179,7 +184,8 @@ repeated_byte (suc n) b = b ∷ repeated_byte n b
 -- n messages, each in field 4 of the one before; the last one has this content.
 abbrev pub nested_messages : ℕ → List ℕ → List ℕ
 nested_messages zero innermost = innermost
-nested_messages (suc n) innermost = 34 ∷ (shortest_varint (length (nested_messages n innermost)) ++ nested_messages n innermost)
+nested_messages (suc n) innermost = 34 ∷ (shortest_varint (length (nested_messages n innermost)) ++ nested_messages n
+    innermost)
 
 -- n groups of number 9, each in the one before.
 abbrev pub nested_groups : ℕ → List ℕ

@@ -1,7 +1,8 @@
 -- Which values fit a schema.
 use Rattle.std.specs.Prelude.{◌≡◌, ◌<◌, ℕ, ◌^◌, Bool, true, false, ◌&&◌, List, [], ◌∷◌}
 use Rattle.std.specs.Str.{is_utf8}
-use Rattle.shared_core_wire.specs.Schema.{Table, Kind, Row, U32, U64, Boolean, Enumeration, Text, ByteString, Message, Plain, Optional, Repeated, OneOf, numbers, includes}
+use Rattle.shared_core_wire.specs.Schema.{Table, Kind, Row, U32, U64, Boolean, Enumeration, Text, ByteString, Message}
+use Rattle.shared_core_wire.specs.Schema.{Plain, Optional, Repeated, OneOf, numbers, includes}
 use Rattle.shared_core_wire.specs.Value.{Part, Parts, Absent, Number, Bytes, Nested, Elements, Member, nil, cons}
 use Rattle.shared_core_wire.specs.Canonical.{kind_of}
 

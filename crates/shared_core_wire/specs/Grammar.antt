@@ -67,7 +67,8 @@ abbrev pub IsRecordBody : (List ℕ → Type 0) → List ℕ → ℕ → RecordV
 IsRecordBody IsContent bytes number (Varint n) = IsVarint bytes n
 IsRecordBody IsContent bytes number (Fixed64 bs) = (bytes ≡ bs) × (length bs ≡ 8)
 IsRecordBody IsContent bytes number (Length bs) = (len : List ℕ) × IsVarint len (length bs) × (bytes ≡ len ++ bs)
-IsRecordBody IsContent bytes number (Group bs) = (end : List ℕ) × IsKey end number 4 × IsContent bs × (bytes ≡ bs ++ end)
+IsRecordBody IsContent bytes number (Group bs) = (end : List ℕ) × IsKey end number 4 × IsContent bs ×
+    (bytes ≡ bs ++ end)
 IsRecordBody IsContent bytes number (Fixed32 bs) = (bytes ≡ bs) × (length bs ≡ 4)
 
 -- The bytes encode this record: its key, and after it its value.

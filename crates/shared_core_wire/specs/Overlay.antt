@@ -1,10 +1,13 @@
 -- What a payload means: a whole record list merged into a value, field by field.
-use Rattle.std.specs.Prelude.{ℕ, zero, suc, ◌%◌, ◌^◌, Bool, List, [], ◌∷◌, map, Option, Some, None, nat_eq, ◌==◌, if◌then◌else◌, filter, flat_map}
+use Rattle.std.specs.Prelude.{ℕ, zero, suc, ◌%◌, ◌^◌, Bool, List, [], ◌∷◌, map, Option, Some, None, nat_eq, ◌==◌}
+use Rattle.std.specs.Prelude.{if◌then◌else◌, filter, flat_map}
 use Rattle.std.specs.List.{list_all}
 use Rattle.shared_core_wire.specs.Grammar.{RecordValue, Varint, Length, FieldRecord, content}
 use Rattle.shared_core_wire.specs.Reader.{packed_numbers, record_list}
-use Rattle.shared_core_wire.specs.Schema.{Table, Kind, Row, U32, U64, Boolean, Enumeration, Message, Plain, Optional, Repeated, OneOf, numbers, includes, member_kind}
-use Rattle.shared_core_wire.specs.Value.{Part, Parts, Absent, Number, Bytes, Nested, Elements, Member, nil, cons, ◌+++◌, one_part, empty_value}
+use Rattle.shared_core_wire.specs.Schema.{Table, Kind, Row, U32, U64, Boolean, Enumeration, Message, Plain, Optional}
+use Rattle.shared_core_wire.specs.Schema.{Repeated, OneOf, numbers, includes, member_kind}
+use Rattle.shared_core_wire.specs.Value.{Part, Parts, Absent, Number, Bytes, Nested, Elements, Member, nil, cons, ◌+++◌}
+use Rattle.shared_core_wire.specs.Value.{one_part, empty_value}
 
 -- ---- record lists
 
@@ -117,7 +120,8 @@ module _ (table : Table) (nested : NestedOverlay) where
   -- otherwise.
   abbrev pub member_over : List (ℕ × Kind) → Part → List FieldRecord → ℕ → Part
   member_over members p rs n =
-      Member n (singular_over (member_kind members n) (if all_numbered n rs then member_at n p else Absent) (values (last_run n rs)))
+      Member n (singular_over (member_kind members n) (if all_numbered n rs then member_at n p else Absent)
+      (values (last_run n rs)))
 
   -- The part of a oneof, with its records merged into it: it holds the member of its last record; without any it is
   -- unchanged.
@@ -152,7 +156,8 @@ payload_records left bytes = or_empty (record_list left bytes)
 -- The nested message v with bytes merged into it, where the record that holds them allows `left` levels of nesting.
 unfoldable pub message_overlay : Table → ℕ → NestedOverlay
 message_overlay table zero s v bytes = v
-message_overlay table (suc left) s v bytes = rows_over table (message_overlay table left) (table s) v (payload_records left bytes)
+message_overlay table (suc left) s v bytes = rows_over table (message_overlay table left) (table s) v
+    (payload_records left bytes)
 
 -- The value v with a whole record list merged into it, whose records allow `left` levels of nesting.
 abbrev pub overlay : Table → ℕ → ℕ → Parts → List FieldRecord → Parts

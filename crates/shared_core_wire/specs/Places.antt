@@ -7,7 +7,8 @@ use Rattle.shared_core_wire.specs.ReadRecords.{PlacedRecord}
 
 -- These are the bytes of the payload right before an offset.
 abbrev pub EndsAt : List ℕ → ℕ → List ℕ → Type 0
-EndsAt payload to bytes = (to ≤ length payload) × (length bytes ≤ to) × (slice_range payload (to - length bytes) to ≡ bytes)
+EndsAt payload to bytes = (to ≤ length payload) × (length bytes ≤ to) ×
+    (slice_range payload (to - length bytes) to ≡ bytes)
 
 -- Length-delimited bytes are the last of the record's bytes.
 abbrev pub LiesBefore : List ℕ → ℕ → RecordValue → Type 0

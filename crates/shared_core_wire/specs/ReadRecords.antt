@@ -1,5 +1,6 @@
 -- The items that reading a payload gives: its records, and at most one error.
-use Rattle.std.specs.Prelude.{◌≡◌, ℕ, zero, suc, ◌+◌, ◌-◌, ◌<◌, ◌≤◌, List, [], ◌∷◌, length, Option, Some, None, Result, Ok, Err}
+use Rattle.std.specs.Prelude.{◌≡◌, ℕ, zero, suc, ◌+◌, ◌-◌, ◌<◌, ◌≤◌, List, [], ◌∷◌, length, Option, Some, None, Result}
+use Rattle.std.specs.Prelude.{Ok, Err}
 use Rattle.std.specs.List.{slice_range}
 use Rattle.shared_core_wire.specs.declared.error.WireError.{WireError}
 use Rattle.shared_core_wire.specs.declared.error.WireError.TheVariants.{Malformed}
@@ -53,12 +54,14 @@ record_count (Err e ∷ items) = record_count items
 
 -- The items of the last bytes of a payload of length `end`, where `one` reads a record and the next `past` bytes are
 -- skipped first.
-unfoldable pub records_past : (List ℕ → Option (FieldRecord × List ℕ)) → ℕ → ℕ → List ℕ → List (Result PlacedRecord WireError)
+unfoldable pub records_past : (List ℕ → Option (FieldRecord × List ℕ)) → ℕ → ℕ → List ℕ → List
+    (Result PlacedRecord WireError)
 records_past one end past [] = []
 records_past one end (suc past) (b ∷ bs) = records_past one end past bs
 records_past one end zero (b ∷ bs) = elim (one (b ∷ bs)) [
   | None ↦ Err Malformed ∷ []
-  | Some r ↦ Ok (record { field_record = r.0; from = end - length (b ∷ bs); to = end - length r.1 }) ∷ records_past one end (length bs - length r.1) bs
+  | Some r ↦ Ok (record { field_record = r.0; from = end - length (b ∷ bs); to = end - length r.1 }) ∷ records_past one
+      end (length bs - length r.1) bs
 ]
 
 -- The items of a payload, whose records allow `left` levels of nesting.

@@ -1,5 +1,6 @@
 -- The grammar as functions: each returns what some bytes begin with, and the bytes after it, or None.
-use Rattle.std.specs.Prelude.{◌≡◌, ℕ, zero, suc, ◌+◌, ◌-◌, ◌*◌, ◌/◌, ◌%◌, ◌^◌, List, [], ◌∷◌, length, take, drop, Option, Some, None, nat_lt, ◌==◌, if◌then◌else◌}
+use Rattle.std.specs.Prelude.{◌≡◌, ℕ, zero, suc, ◌+◌, ◌-◌, ◌*◌, ◌/◌, ◌%◌, ◌^◌, List, [], ◌∷◌, length, take, drop}
+use Rattle.std.specs.Prelude.{Option, Some, None, nat_lt, ◌==◌, if◌then◌else◌}
 use Rattle.shared_core_wire.specs.Grammar.{RecordValue, Varint, Fixed64, Length, Group, Fixed32, FieldRecord}
 
 infixl 10 ◌>>=◌
@@ -19,7 +20,8 @@ Gives view None read = read ≡ None
 unfoldable pub varint_within : ℕ → List ℕ → Option (ℕ × List ℕ)
 varint_within zero bytes = None
 varint_within (suc most) [] = None
-varint_within (suc most) (b ∷ bs) = if nat_lt b 128 then Some (b, bs) else (varint_within most bs >>= λ x. Some (b % 128 + 128 * x.0, x.1))
+varint_within (suc most) (b ∷ bs) = if nat_lt b 128 then Some (b, bs) else
+    (varint_within most bs >>= λ x. Some (b % 128 + 128 * x.0, x.1))
 
 -- A varint: such a number of 64 bits, in at most ten bytes.
 unfoldable pub varint_at : List ℕ → Option (ℕ × List ℕ)
@@ -88,7 +90,8 @@ record_at left = record_with (group_content_at left)
 unfoldable pub sequence_past : {A : Type 0} → (List ℕ → Option (A × List ℕ)) → ℕ → List ℕ → Option (List A)
 sequence_past one past [] = Some []
 sequence_past one (suc past) (b ∷ bs) = sequence_past one past bs
-sequence_past one zero (b ∷ bs) = one (b ∷ bs) >>= λ x. sequence_past one (length bs - length x.1) bs >>= λ xs. Some (x.0 ∷ xs)
+sequence_past one zero (b ∷ bs) = one (b ∷ bs) >>= λ x. sequence_past one (length bs - length x.1) bs >>= λ xs. Some
+    (x.0 ∷ xs)
 
 -- The numbers of a packed run, which are varints that fill the bytes exactly.
 unfoldable pub packed_numbers : List ℕ → Option (List ℕ)

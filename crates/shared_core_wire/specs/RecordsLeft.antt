@@ -9,7 +9,12 @@ use Rattle.shared_core_wire.specs.ReadRecords.{PlacedRecord, records_past}
 
 -- A record of the program, with its offsets.
 abbrev pub placed_of : Record → PlacedRecord
-placed_of r = record { field_record = record { number = r.number; value = value_of r.value }; from = r.span.0; to = r.span.1 }
+placed_of r = record {
+  field_record = record { number = r.number; value = value_of r.value };
+  from = r.span.0;
+  to =
+      r.span.1;
+}
 
 -- What the program returns, with the offsets of a record.
 abbrev pub placed_result : Result Record WireError → Result PlacedRecord WireError

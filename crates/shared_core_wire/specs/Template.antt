@@ -2,7 +2,9 @@
 use Rattle.std.specs.Prelude.{◌≡◌, ℕ, suc, Bool, true, false, not, ◌&&◌, ◌||◌, List, [], ◌∷◌, nat_eq, if◌then◌else◌}
 use Rattle.std.specs.List.{list_all, list_any}
 use Rattle.shared_core_wire.specs.Grammar.{FieldRecord}
-use Rattle.shared_core_wire.specs.Schema.{Table, Kind, Row, U32, U64, Boolean, Enumeration, Text, ByteString, Message, Plain, Optional, Repeated, OneOf, numbers, includes, member_kind, all_numbers, is_schema}
+use Rattle.shared_core_wire.specs.Schema.{Table, Kind, Row, U32, U64, Boolean, Enumeration, Text, ByteString, Message}
+use Rattle.shared_core_wire.specs.Schema.{Plain, Optional, Repeated, OneOf, numbers, includes, member_kind, all_numbers}
+use Rattle.shared_core_wire.specs.Schema.{is_schema}
 use Rattle.shared_core_wire.specs.Value.{Part, Parts, Absent, nil, cons}
 use Rattle.shared_core_wire.specs.Acceptance.{accepts_payload}
 use Rattle.shared_core_wire.specs.Overlay.{member_at, payload_records, meaning}
@@ -52,7 +54,8 @@ agree false b = not b
 
 -- Whether two numbers share a row if and only if they share one of the template's.
 abbrev pub share_alike : List Row → List Row → ℕ → ℕ → Bool
-share_alike template rows n m = agree (nat_eq (row_index rows n) (row_index rows m)) (nat_eq (row_index template n) (row_index template m))
+share_alike template rows n m = agree (nat_eq (row_index rows n) (row_index rows m))
+    (nat_eq (row_index template n) (row_index template m))
 
 -- Whether the schema's rows are rows of the template, whose rows are oneofs: none of the schema's rows is repeated,
 -- each of its numbers is in the template with the same kind, and two numbers share a row if and only if they share one
@@ -61,7 +64,8 @@ abbrev pub is_within_template : List Row → List Row → Bool
 is_within_template template rows =
     list_all is_oneof template
     && list_all (λ row. not (is_repeated row)) rows
-    && list_all (λ n. includes (all_numbers template) n && same_kind (kind_at rows n) (kind_at template n)) (all_numbers rows)
+    && list_all (λ n. includes (all_numbers template) n && same_kind (kind_at rows n) (kind_at template n))
+    (all_numbers rows)
     && list_all (λ n. list_all (λ m. share_alike template rows n m) (all_numbers rows)) (all_numbers rows)
 
 -- What a row's part holds at one of its numbers.
@@ -79,7 +83,8 @@ part_at (row ∷ rows) (cons p ps) n = if includes (numbers row) n then part_in_
 
 -- Whether each record's number is in the schema, or not in the template.
 abbrev pub are_apart : List Row → List Row → List FieldRecord → Bool
-are_apart template rows rs = list_all (λ r. includes (all_numbers rows) r.number || not (includes (all_numbers template) r.number)) rs
+are_apart template rows rs = list_all (λ r. includes (all_numbers rows) r.number || not
+    (includes (all_numbers template) r.number)) rs
 
 -- If the rows of the schema t are rows of the template s, and no record that t skips has a number of s, a payload that
 -- t accepts is accepted by the template, which holds at each of its numbers that occurs in the payload what t's meaning
@@ -89,5 +94,6 @@ ViewLaw table = (left s t : ℕ) (payload : List ℕ)
     → is_schema (table s) ≡ true → is_schema (table t) ≡ true → is_within_template (table s) (table t) ≡ true
     → are_apart (table s) (table t) (payload_records left payload) ≡ true → accepts_payload table left t payload ≡ true
     → (accepts_payload table left s payload ≡ true)
-    × ((n : ℕ) → includes (all_numbers (table s)) n ≡ true → list_any (λ r. nat_eq r.number n) (payload_records left payload) ≡ true
+    × ((n : ℕ) → includes (all_numbers (table s)) n ≡ true → list_any (λ r. nat_eq r.number n)
+    (payload_records left payload) ≡ true
     → part_at (table s) (meaning table left s payload) n ≡ part_at (table t) (meaning table left t payload) n)

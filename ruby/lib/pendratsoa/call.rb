@@ -4,9 +4,6 @@ module Pendratsoa
   # One call by its name in this gem, with its arguments by their names. A method that takes the name of an argument
   # checks it, and returns what the library takes in its place.
   class Call
-    # How many numbers an item has.
-    ITEM_NUMBERS = 6
-
     # What is wrong with a payload, or with the call.
     TEXTS = {
       Malformed => "is not well-formed",
@@ -147,12 +144,13 @@ module Pendratsoa
 
     # The error of a negative number. A later library may have further ones.
     def refused(number)
-      kind = ERRORS[number]
-      return unknown(unknown_argument) if kind == Unknown
+      name, arguments = ERRORS[number]
+      kind = name && Pendratsoa.const_get(name)
+      argument = arguments&.find { |candidate| @arguments.key?(candidate) }
+      return unknown(argument) if kind == Unknown && argument
       return unexpected(number) unless TEXTS.key?(kind)
-      return error(kind, TEXTS.fetch(kind)) if [OutOfMemory, TooLong].include?(kind)
+      return error(kind, TEXTS.fetch(kind)) unless argument
 
-      argument = kind == Malformed ? malformed_argument : :payload
       error(kind, "#{argument} #{Shown.bytes(@arguments.fetch(argument))} #{TEXTS.fetch(kind)}", argument)
     end
 
@@ -161,27 +159,6 @@ module Pendratsoa
       return error(Unknown, "code #{value} is not that of #{@kind}", argument) if argument == :code
 
       error(Unknown, "there is no #{argument == :name ? "type with the name" : argument} #{value}", argument)
-    end
-
-    # Which argument the library does not know.
-    def unknown_argument
-      return :version if @arguments.key?(:version) && !version?(version)
-
-      %i[code schema name version].find { |argument| @arguments.key?(argument) }
-    end
-
-    def version?(number)
-      Library.numbers(ITEM_NUMBERS) do |room|
-        return !Library.call(:journal_next, number, nil, 0, room, ITEM_NUMBERS).negative?
-      end
-    end
-
-    # Which payload is malformed.
-    def malformed_argument
-      return :payload if @arguments.key?(:payload)
-
-      schema = @arguments.key?(:schema) ? self.schema : Library.call(:journal_schema, LAST_VERSION, code(@kind))
-      Library.call(:journal_is_well_formed, schema, *data(:first)).zero? ? :first : :second
     end
   end
   private_constant :Call

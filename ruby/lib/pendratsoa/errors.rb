@@ -49,16 +49,4 @@ module Pendratsoa
       @path = path
     end
   end
-
-  # The error of each negative number that the library returns.
-  ERRORS = {
-    -1 => Malformed,
-    -2 => OutOfMemory,
-    -3 => NoRoom,
-    -4 => TooLong,
-    -5 => Unknown,
-    -6 => NoId,
-    -7 => NoResult
-  }.freeze
-  private_constant :ERRORS
 end

@@ -1,22 +1,8 @@
 # frozen_string_literal: true
 
 module Pendratsoa
-  FIRST_VERSION = 5
-  LAST_VERSION = 9
-
   # How many schemas there are; their numbers begin at 0.
   SCHEMAS = SCHEMA_NAMES.length
-
-  # Why a JSON text is rejected.
-  JSON_REASONS = %i[
-    not_json unknown_member repeated_member several_members wrong_kind out_of_range not_base64 too_deep
-  ].freeze
-
-  ID_KINDS = %i[completion_id signal_id signal_name].freeze
-  RESULT_KINDS = %i[void value failure invocation_id state_keys].freeze
-  VERDICT_KINDS = %i[
-    same recorded_ended replayed_ended type_mismatch header_mismatch bad_recorded bad_replayed
-  ].freeze
 
   # The id and the result of a notification.
   #
@@ -118,8 +104,8 @@ module Pendratsoa
     def payload(schema, json)
       call = Call.new("payload", schema: schema, json: json)
       found = nil
-      kind, offset = Library.numbers(2) do |room|
-        found = call.written(:journal_payload_of_json, call.schema, *call.data(:json), room, 2)
+      kind, offset = Library.numbers(READ_NUMBERS) do |room|
+        found = call.written(:journal_payload_of_json, call.schema, *call.data(:json), room, READ_NUMBERS)
       end
       reason = call.kind([nil, *JSON_REASONS], kind, "a JSON text")
       return found unless reason
@@ -133,8 +119,9 @@ module Pendratsoa
     def notification(code, payload)
       call = Call.new("notification", code: code, payload: payload)
       found = nil
-      id_kind, number, name_length, result_kind = Library.numbers(4) do |room|
-        found = call.written(:journal_notification, call.code("a notification"), *call.data(:payload), room, 4)
+      id_kind, number, name_length, result_kind = Library.numbers(NOTIFICATION_NUMBERS) do |room|
+        parameters = call.code("a notification"), *call.data(:payload)
+        found = call.written(:journal_notification, *parameters, room, NOTIFICATION_NUMBERS)
       end
       id_kind = call.kind(ID_KINDS, id_kind, "an id")
       result_kind = call.kind(RESULT_KINDS, result_kind, "a result")
@@ -169,8 +156,8 @@ module Pendratsoa
       call = Call.new("compare_journals", version: version, recorded: recorded, replayed: replayed)
       journals = call.version, *call.data(:recorded), *call.data(:replayed)
       text = nil
-      kind, index = Library.numbers(2) do |room|
-        text = call.text(:journal_verdict, *journals, ignore_payloads ? 1 : 0, room, 2)
+      kind, index = Library.numbers(VERDICT_NUMBERS) do |room|
+        text = call.text(:journal_verdict, *journals, ignore_payloads ? 1 : 0, room, VERDICT_NUMBERS)
       end
       Verdict.new(call.kind(VERDICT_KINDS, kind, "a verdict"), index, text.freeze)
     end

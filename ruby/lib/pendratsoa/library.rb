@@ -9,29 +9,15 @@ module Pendratsoa
     BUNDLED = File.join(__dir__, "libpendratsoa.so")
     SONAME = "libpendratsoa.so.0"
 
-    U16 = [-Fiddle::TYPE_SHORT].freeze
-    U32 = [-Fiddle::TYPE_INT].freeze
-    SLICE = [Fiddle::TYPE_VOIDP, Fiddle::TYPE_SIZE_T].freeze
+    # What each word of a call's parameters is for Fiddle.
+    TYPES = {
+      u16: [-Fiddle::TYPE_SHORT],
+      u32: [-Fiddle::TYPE_INT],
+      slice: [Fiddle::TYPE_VOIDP, Fiddle::TYPE_SIZE_T]
+    }.freeze
 
     # The functions with their parameters.
-    PARAMETERS = {
-      journal_library_version: SLICE,
-      journal_schema: U32 + U16,
-      journal_type_name: U16 + SLICE,
-      journal_type_code: SLICE,
-      journal_next: U32 + SLICE + SLICE,
-      journal_header: U32 + U16 + U32 + SLICE,
-      journal_frame: U32 + U16 + SLICE + SLICE,
-      journal_is_well_formed: U32 + SLICE,
-      journal_canonical: U32 + SLICE + SLICE,
-      journal_merge: U32 + SLICE + SLICE + SLICE,
-      journal_json: U32 + SLICE + SLICE,
-      journal_payload_of_json: U32 + SLICE + SLICE + SLICE,
-      journal_notification: U16 + SLICE + SLICE + SLICE,
-      journal_header_eq: U16 + SLICE + SLICE + U32,
-      journal_difference: U16 + SLICE + SLICE + SLICE,
-      journal_verdict: U32 + SLICE + SLICE + U32 + SLICE + SLICE
-    }.freeze
+    PARAMETERS = CALLS.transform_values { |words| words.flat_map { |word| TYPES.fetch(word) } }.freeze
 
     # The file that PENDRATSOA_LIBRARY names, or else that of this gem, or else the name that the system knows.
     def self.find

@@ -109,9 +109,9 @@ module Pendratsoa
     def look
       missing = nil
       whole = Fiddle::Pointer[@bytes]
-      numbers = Library.numbers(Call::ITEM_NUMBERS) do |room|
+      numbers = Library.numbers(ITEM_NUMBERS) do |room|
         rest = whole + @begin, whole.size - @begin
-        missing = @call.returned(:journal_next, @version, *rest, room, Call::ITEM_NUMBERS)
+        missing = @call.returned(:journal_next, @version, *rest, room, ITEM_NUMBERS)
       end
       [missing, numbers]
     end
@@ -123,7 +123,7 @@ module Pendratsoa
 
     # Cuts the item of these numbers from the bytes.
     def cut(kind, word, code, ack, size, payload_begin)
-      kind = @call.kind(%i[message unknown_code skipped], kind, "an item")
+      kind = @call.kind(ITEM_KINDS, kind, "an item")
       # a copy; a slice of the String could keep all of it in memory
       payload = Fiddle::Pointer[@bytes][@begin + payload_begin, size - payload_begin]
       @begin += size

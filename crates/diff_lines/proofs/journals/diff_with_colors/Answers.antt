@@ -8,11 +8,16 @@ returns-in-Ok g c =
     let (written, wrote, painted) = c.write_with_colors.ensures in (
       written,
       wrote,
-      reported_text c.args.version c.args.ignore_payloads c.args.is_strict c.args.form _ _ c.in-Ok.findings c.new-text.result.items _ c.as_slice.result.now text c.write_with_colors.result written
+      reported_text c.args.version c.args.ignore_payloads c.args.is_strict c.args.form _ _ c.in-Ok.findings
+          c.new-text.result.items _ c.as_slice.result.now text c.write_with_colors.result written
           c.new-text.ensures.items items_is c.as_slice.ensures.value reports painted,
     )
 
 pub returns : goal.returns
 returns g c =
-    let (written, wrote, reports) = c.diff-compared.ensures in
-    ([], search rules, reported_faulty _ _ _ _ _ _ c.in-Err-Faulty.trouble c.diff-compared.result written (search rules) reports)
+    let (written, wrote, reports) = c.diff-compared.ensures in (
+      [],
+      search rules,
+      reported_faulty _ _ _ _ _ _ c.in-Err-Faulty.trouble c.diff-compared.result written (search rules)
+          reports,
+    )

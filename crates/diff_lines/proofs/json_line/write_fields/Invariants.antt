@@ -7,7 +7,8 @@ use Rattle.diff_lines.proofs.json_line.write_fields.Given as goal
 
 abbrev pub invariant-loop-left : goal.invariant-loop-left
 invariant-loop-left l = record {
-  tokens : l.out.tokens ++ items_tokens (field_items l.left) ≡ l.fn.out.tokens ++ (token.key (codes "fields") ∷ token.begin_array ∷ items_tokens (field_items l.fn.fields));
+  tokens : l.out.tokens ++ items_tokens (field_items l.left) ≡ l.fn.out.tokens ++
+      (token.key (codes "fields") ∷ token.begin_array ∷ items_tokens (field_items l.fn.fields));
   before : l.out.before ≡ l.fn.out.before;
 }
 

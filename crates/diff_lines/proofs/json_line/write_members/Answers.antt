@@ -13,10 +13,14 @@ returns-in-ReplayedEnded-clause-tokens c = rw c.in-ReplayedEnded.is c.write_ende
 pub returns-in-TypeMismatch-clause-tokens : goal.returns-in-TypeMismatch-clause-tokens
 returns-in-TypeMismatch-clause-tokens c =
     rw c.in-TypeMismatch.is
-    (on_ok_weaker c.write_mismatch.result (λ all. all no_members) (rw c.as_str.ensures.value at c.write_mismatch.ensures.tokens))
+    (on_ok_weaker c.write_mismatch.result (λ all. all no_members)
+    (rw c.as_str.ensures.value at c.write_mismatch.ensures.tokens))
 
-pub returns-in_ok-write_mismatch-in-HeaderMismatch-clause-tokens : goal.returns-in_ok-write_mismatch-in-HeaderMismatch-clause-tokens
+pub returns-in_ok-write_mismatch-in-HeaderMismatch-clause-tokens :
+    goal.returns-in_ok-write_mismatch-in-HeaderMismatch-clause-tokens
 returns-in_ok-write_mismatch-in-HeaderMismatch-clause-tokens c =
-    let before = rw c.as_str-in-HeaderMismatch.ensures.value at c.in_ok-write_mismatch-in-HeaderMismatch.ensures.tokens in
+    let before = rw c.as_str-in-HeaderMismatch.ensures.value at c.in_ok-write_mismatch-in-HeaderMismatch.ensures.tokens
+    in
     rw c.in-HeaderMismatch.is
-    (on_ok_weaker c.write_fields.result (λ e. e ∙ before (fields_members c.args.found.now.fields.items)) (rw c.as_slice.ensures.value at c.write_fields.ensures.tokens))
+    (on_ok_weaker c.write_fields.result (λ e. e ∙ before (fields_members c.args.found.now.fields.items))
+    (rw c.as_slice.ensures.value at c.write_fields.ensures.tokens))

@@ -4,4 +4,5 @@ use Rattle.make_lines.specs.Members.{has_key}
 use Rattle.make_lines.proofs.members.has_key.Given as goal
 
 abbrev pub invariant-loop-member : goal.invariant-loop-member
-invariant-loop-member l = has_key l.key (members_view (drop l.member-index l.members)) ≡ has_key l.key (members_view l.members)
+invariant-loop-member l = has_key l.key (members_view (drop l.member-index l.members)) ≡ has_key l.key
+    (members_view l.members)

@@ -11,7 +11,8 @@ returns-in_err-buffer g c =
 pub loop-init : goal.loop-init
 loop-init g c = record {
   empty = c.new-2.ensures.items;
-  so_far = started c.args.version (g.R.Read.remaining c.args.input.now) (g.W.Write.contents c.args.output.now) c.new.result.items c.new.ensures.items;
+  so_far = started c.args.version (g.R.Read.remaining c.args.input.now) (g.W.Write.contents c.args.output.now)
+      c.new.result.items c.new.ensures.items;
 }
 
 pub returns-in_default : goal.returns-in_default
@@ -22,18 +23,21 @@ returns-then-count-eq0 g c =
     let (written, wrote, is) = c.finish.ensures in
     let (came, end) = rw c.if-count-eq0.true at c.in-Ok.ensures.bytes in
     let some : 0 < length c.read.new.buf = search rules in
-    ended_finish c.args.version _ _ _ _ _ _ c.loop.invariant.so_far _ _ written c.loop.lines came (end refl some) wrote refl refl _ is
+    ended_finish c.args.version _ _ _ _ _ _ c.loop.invariant.so_far _ _ written c.loop.lines came (end refl some) wrote
+    refl refl _ is
 
 pub returns-in_err-step : goal.returns-in_err-step
 returns-in_err-step g c =
     let from = err_from_is_err_and c.from_residual-in_err-step.result c.from_residual-in_err-step.ensures.1 in
     let (written, wrote, is) = c.in_err-step.ensures in
-    rw (from.1, from.2) (ended_step c.args.version _ _ _ _ _ _ c.loop.invariant.so_far _ _ _ written c.loop.lines c.step.new.lines c.in-Ok.ensures.bytes.0 wrote refl refl _ is)
+    rw (from.1, from.2) (ended_step c.args.version _ _ _ _ _ _ c.loop.invariant.so_far _ _ _ written c.loop.lines
+    c.step.new.lines c.in-Ok.ensures.bytes.0 wrote refl refl _ is)
 
 pub loop-preserved : goal.loop-preserved
 loop-preserved g c =
     let (written, wrote, is) = c.in_ok-step.ensures in
     record {
       empty = is.3;
-      so_far = goes_on c.args.version _ _ _ _ _ _ c.loop.invariant.so_far _ _ _ written c.loop.lines c.step.new.lines c.in-Ok.ensures.bytes.0 wrote refl refl is;
+      so_far = goes_on c.args.version _ _ _ _ _ _ c.loop.invariant.so_far _ _ _ written c.loop.lines c.step.new.lines
+          c.in-Ok.ensures.bytes.0 wrote refl refl is;
     }

@@ -5,5 +5,6 @@ use Rattle.make_lines.proofs.stream.make.Given as goal
 abbrev pub invariant-loop : goal.invariant-loop
 invariant-loop g l = record {
   empty : l.lines.made.items ≡ [];
-  so_far : GoesOn l.fn.version (g.R.Read.remaining l.fn.input) (g.W.Write.contents l.fn.output) (g.R.Read.remaining l.input) (g.W.Write.contents l.output) l.lines.pending.items l.lines.taken;
+  so_far : GoesOn l.fn.version (g.R.Read.remaining l.fn.input) (g.W.Write.contents l.fn.output)
+      (g.R.Read.remaining l.input) (g.W.Write.contents l.output) l.lines.pending.items l.lines.taken;
 }

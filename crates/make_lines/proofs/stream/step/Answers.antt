@@ -7,8 +7,12 @@ use Rattle.make_lines.proofs.stream.step.Goals as goal
 
 pub returns-in_err-write_whole : goal.returns-in_err-write_whole
 returns-in_err-write_whole g c =
-    let from = err_from_is_err_and c.from_residual-in_err-write_whole.result c.from_residual-in_err-write_whole.ensures.1 in
+    let from = err_from_is_err_and c.from_residual-in_err-write_whole.result
+    c.from_residual-in_err-write_whole.ensures.1 in
     let (written, wrote, (cut, is)) = c.in_err-write_whole.ensures in
-    let (lines, rest, more, begins, meant, made_is) = taken_lines (line_made c.args.version) (IsRejected c.args.version) (c.args.lines.now.pending.items ++ c.args.chunk.now) c.in_ok-rejected.rejected c.args.lines.now c.take_chunk.new.lines c.in_ok-rejected.ensures in
-    let all : c.as_slice.result.now ≡ more = c.as_slice.ensures.value ∙ made_is ∙ ap (λ (xs : List ℕ). xs ++ more) c.requires.written in
+    let (lines, rest, more, begins, meant, made_is) = taken_lines (line_made c.args.version) (IsRejected c.args.version)
+    (c.args.lines.now.pending.items ++ c.args.chunk.now) c.in_ok-rejected.rejected c.args.lines.now
+    c.take_chunk.new.lines c.in_ok-rejected.ensures in
+    let all : c.as_slice.result.now ≡ more = c.as_slice.ensures.value ∙ made_is ∙ ap (λ (xs : List ℕ). xs ++ more)
+    c.requires.written in
     rw (from.1, from.2) (written, wrote, (lines, rest, more, begins, meant, (cut, sym all ∙ is)))

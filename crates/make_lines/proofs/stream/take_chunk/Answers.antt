@@ -1,13 +1,23 @@
-use Rattle.std.proofs.Common.{◌≡◌, ℕ, suc, ◌+◌, ◌^◌, ◌<◌, List, [], ◌∷◌, ◌++◌, length, take, drop, false, refl, sym, ap, subst, ◌∙◌, append_assoc, append-nil, length-append, arith, rules}
+use Rattle.std.proofs.Common.{◌≡◌, ℕ, suc, ◌+◌, ◌^◌, ◌<◌, List, [], ◌∷◌, ◌++◌, length, take, drop, false, refl, sym, ap}
+use Rattle.std.proofs.Common.{subst, ◌∙◌, append_assoc, append-nil, length-append, arith, rules}
 use Rattle.make_lines.specs.Lines.{line_made}
 use Rattle.make_lines.specs.Made.{counted, has_newline, BeginWith}
-use Rattle.make_lines.proofs.Taking.{none_yet, then_lines, line_found, rest_after, none_found, newline_append, made_join, made_one, counted_suc}
+use Rattle.make_lines.proofs.Taking.{none_yet, then_lines, line_found, rest_after, none_found, newline_append}
+use Rattle.make_lines.proofs.Taking.{made_join, made_one, counted_suc}
 use Rattle.make_lines.proofs.stream.take_chunk.Goals as goal
 
 pub loop-at-init : goal.loop-at-init
 loop-at-init c =
-    let fits : c.args.lines.now.taken < 2 ^ 64 = search rules in
-    (c.requires, [], [], none_yet (c.args.lines.now.pending.items ++ c.args.chunk.now), refl, sym (append-nil c.args.lines.now.made.items), omega (arith, fits))
+    let fits : c.args.lines.now.taken < 2 ^ 64 = search rules in (
+      c.requires,
+      [],
+      [],
+      none_yet (c.args.lines.now.pending.items ++ c.args.chunk.now),
+      refl,
+      sym
+          (append-nil c.args.lines.now.made.items),
+      omega (arith, fits),
+    )
 
 pub returns-in-Some-2 : goal.returns-in-Some-2
 returns-in-Some-2 c =
@@ -23,7 +33,8 @@ returns-in-Some-2 c =
       line,
       drop (suc at) rest,
       more,
-      then_lines _ (pending ++ rest) (drop (suc at) rest) ls (line ∷ []) begins (line_found pending rest line at unended none here grown),
+      then_lines _ (pending ++ rest) (drop (suc at) rest) ls (line ∷ []) begins
+          (line_found pending rest line at unended none here grown),
       meant,
       kept ∙ made_is,
       rejected,
@@ -44,10 +55,13 @@ loop-at-preserved c =
       ls ++ line ∷ [],
       more ++ bytes,
       subst (BeginWith _ (ls ++ line ∷ [])) (rest_after c.take_line.new.lines.pending.items rest at empty)
-          (then_lines _ (pending ++ rest) (drop (suc at) rest) ls (line ∷ []) begins (line_found pending rest line at unended none here grown)),
-      made_join (line_made c.args.version) ls (line ∷ []) more bytes meant (made_one (line_made c.args.version) line bytes means),
+          (then_lines _ (pending ++ rest) (drop (suc at) rest) ls (line ∷ []) begins
+          (line_found pending rest line at unended none here grown)),
+      made_join (line_made c.args.version) ls (line ∷ []) more bytes meant
+          (made_one (line_made c.args.version) line bytes means),
       wrote ∙ ap (λ (xs : List ℕ). xs ++ bytes) made_is ∙ append_assoc c.args.lines.now.made.items more bytes,
-      number ∙ ap (λ (n : ℕ). counted (suc n)) count ∙ counted_suc (c.args.lines.now.taken + length ls) ∙ ap counted (omega (arith, length-append ls (line ∷ []))),
+      number ∙ ap (λ (n : ℕ). counted (suc n)) count ∙ counted_suc (c.args.lines.now.taken + length ls) ∙ ap counted
+          (omega (arith, length-append ls (line ∷ []))),
     )
 
 pub returns : goal.returns
@@ -60,7 +74,8 @@ returns c =
       more,
       record {
         begins = subst (BeginWith _ ls) (sym grown) begins;
-        unended = subst (λ (xs : List ℕ). has_newline xs ≡ false) (sym grown) (newline_append pending rest unended (none_found rest c.in_default.ensures));
+        unended = subst (λ (xs : List ℕ). has_newline xs ≡ false) (sym grown)
+            (newline_append pending rest unended (none_found rest c.in_default.ensures));
       },
       meant,
       made_is,

@@ -6,7 +6,8 @@ use Rattle.make_lines.proofs.stream.take_chunk.Given as goal
 abbrev pub invariant-loop-at : goal.invariant-loop-at
 invariant-loop-at l =
     (has_newline l.lines.pending.items ≡ false)
-    × (lines : List (List ℕ)) × (more : List ℕ) × BeginWith (l.fn.lines.pending.items ++ l.chunk) lines (l.lines.pending.items ++ l.rest) × (made (line_made l.version) lines ≡ Some more)
+    × (lines : List (List ℕ)) × (more : List ℕ) × BeginWith (l.fn.lines.pending.items ++ l.chunk) lines
+    (l.lines.pending.items ++ l.rest) × (made (line_made l.version) lines ≡ Some more)
     × (l.lines.made.items ≡ l.fn.lines.made.items ++ more) × (l.lines.taken ≡ counted (l.fn.lines.taken + length lines))
 
 abbrev pub decreases-loop-at : goal.decreases-loop-at

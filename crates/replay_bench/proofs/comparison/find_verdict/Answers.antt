@@ -1,7 +1,8 @@
 use Rattle.std.proofs.Common.{◌∙◌, arith, sym}
 use Rattle.std.proofs.lemmas.Result.{err_from_is_err_and}
 use Rattle.replay_bench.specs.declared.verdicts.Verdict.TheVariants.{Same, RecordedEnded, ReplayedEnded}
-use Rattle.replay_bench.proofs.Endings.{returns_error, returns_verdict, are_alike, ends_first, ends_found, ends_replayed, ends_together, goes_after, is_found}
+use Rattle.replay_bench.proofs.Endings.{returns_error, returns_verdict, are_alike, ends_first, ends_found}
+use Rattle.replay_bench.proofs.Endings.{ends_replayed, ends_together, goes_after, is_found}
 use Rattle.replay_bench.proofs.Lengths.{keeps_on}
 use Rattle.replay_bench.proofs.Places.{after_more, command_is_at, fields_found}
 use Rattle.replay_bench.proofs.Readings.{on_more}
@@ -13,14 +14,16 @@ returns-then-is_some-clause-compared g c =
     let inv = c.loop-recorded_command.invariant in
     let none = rw (c.in_default.is, inv.version) at c.in_ok-recorded_command.ensures.taken in
     let next = rw inv.other_version at c.in_ok-replayed_command.ensures.taken in
-    returns_verdict _ _ _ _ (RecordedEnded _) (ends_first _ _ _ _ _ _ _ _ _ inv.goes_on none (sym c.is_some.ensures ∙ c.if-is_some.true) next)
+    returns_verdict _ _ _ _ (RecordedEnded _) (ends_first _ _ _ _ _ _ _ _ _ inv.goes_on none
+    (sym c.is_some.ensures ∙ c.if-is_some.true) next)
 
 pub returns-in_default-clause-compared : goal.returns-in_default-clause-compared
 returns-in_default-clause-compared g c =
     let inv = c.loop-recorded_command.invariant in
     let none = rw (c.in_default.is, inv.version) at c.in_ok-recorded_command.ensures.taken in
     let next = rw inv.other_version at c.in_ok-replayed_command.ensures.taken in
-    returns_verdict _ _ _ _ (Same _) (ends_together _ _ _ _ _ _ _ _ _ inv.goes_on none (sym c.is_some.ensures ∙ c.if-is_some.false) next)
+    returns_verdict _ _ _ _ (Same _) (ends_together _ _ _ _ _ _ _ _ _ inv.goes_on none
+    (sym c.is_some.ensures ∙ c.if-is_some.false) next)
 
 pub returns-in_default-replayed_command-clause-compared : goal.returns-in_default-replayed_command-clause-compared
 returns-in_default-replayed_command-clause-compared g c =
@@ -48,7 +51,8 @@ returns-in-Some-found-clause-compared g c =
     let one = rw (c.in-Some.is, inv.version) at c.in_ok-recorded_command.ensures.taken in
     let other = rw (c.in-Some-replayed_command.is, inv.other_version) at c.in_ok-replayed_command.ensures.taken in
     let found = is_found c.args.version _ _ _ _ _ _ (rw c.in-Some-found.is at c.in_ok-found.ensures) in
-    returns_verdict _ _ _ _ c.in-Some-found.found.verdict (ends_found _ _ _ _ _ _ _ _ _ _ _ _ inv.goes_on one other found.0)
+    returns_verdict _ _ _ _ c.in-Some-found.found.verdict
+    (ends_found _ _ _ _ _ _ _ _ _ _ _ _ inv.goes_on one other found.0)
 
 pub returns-in-Some-found-clause-fields : goal.returns-in-Some-found-clause-fields
 returns-in-Some-found-clause-fields g c is_listed =
@@ -57,7 +61,8 @@ returns-in-Some-found-clause-fields g c is_listed =
     let other = rw (c.in-Some-replayed_command.is, inv.other_version) at c.in_ok-replayed_command.ensures.taken in
     let found = is_found c.args.version _ _ _ _ _ _ (rw c.in-Some-found.is at c.in_ok-found.ensures) in
     fields_found _ _ _ _ _ _ _ _ c.in-Some-found.found.verdict _
-    (command_is_at _ _ _ _ _ _ inv.after one) (command_is_at _ _ _ _ _ _ inv.other_after other) found.0 found.1 is_listed
+    (command_is_at _ _ _ _ _ _ inv.after one) (command_is_at _ _ _ _ _ _ inv.other_after other)
+    found.0 found.1 is_listed
 
 pub overflow_add-index : goal.overflow_add-index
 overflow_add-index g c =
@@ -198,7 +203,8 @@ returns-in-Some-found-clause-recorded g c =
     let reads = rw (inv.same, c.in-Some.is) at c.in_ok-recorded_command.ensures.read in
     let commands = rw c.in-Some.is at c.in_ok-recorded_command.ensures.commands in
     let found = is_found c.args.version _ _ _ _ _ _ (rw c.in-Some-found.is at c.in_ok-found.ensures) in
-    let seen = found_seen _ _ c.in-Some.recorded_command c.in-Some-replayed_command.replayed_command c.in-Some-found.found.verdict found.0 in
+    let seen = found_seen _ _ c.in-Some.recorded_command c.in-Some-replayed_command.replayed_command
+    c.in-Some-found.found.verdict found.0 in
     rw (seen.recorded_goes, seen.recorded) (record {
       side_is = c.in_ok-recorded_command.ensures.side ∙ inv.side;
       version_is = c.in_ok-recorded_command.ensures.version ∙ inv.version;
@@ -214,7 +220,8 @@ returns-in-Some-found-clause-replayed g c =
     let reads = rw (inv.other_same, c.in-Some-replayed_command.is) at c.in_ok-replayed_command.ensures.read in
     let commands = rw c.in-Some-replayed_command.is at c.in_ok-replayed_command.ensures.commands in
     let found = is_found c.args.version _ _ _ _ _ _ (rw c.in-Some-found.is at c.in_ok-found.ensures) in
-    let seen = found_seen _ _ c.in-Some.recorded_command c.in-Some-replayed_command.replayed_command c.in-Some-found.found.verdict found.0 in
+    let seen = found_seen _ _ c.in-Some.recorded_command c.in-Some-replayed_command.replayed_command
+    c.in-Some-found.found.verdict found.0 in
     rw (seen.replayed_goes, seen.replayed) (record {
       side_is = c.in_ok-replayed_command.ensures.side ∙ inv.other_side;
       version_is = c.in_ok-replayed_command.ensures.version ∙ inv.other_version;
@@ -228,7 +235,8 @@ pub returns-then-is_some-clause-replayed : goal.returns-then-is_some-clause-repl
 returns-then-is_some-clause-replayed g c =
     let inv = c.loop-recorded_command.invariant in
     let some = sym c.is_some.ensures ∙ c.if-is_some.true in
-    let reads = rw (inv.other_same, some_where_not_none c.in_ok-replayed_command.replayed_command some) at c.in_ok-replayed_command.ensures.read in
+    let reads = rw (inv.other_same, some_where_not_none c.in_ok-replayed_command.replayed_command some)
+    at c.in_ok-replayed_command.ensures.read in
     let commands = rw some at c.in_ok-replayed_command.ensures.commands in
     record {
       side_is = c.in_ok-replayed_command.ensures.side ∙ inv.other_side;
@@ -243,7 +251,8 @@ pub returns-in_default-clause-replayed : goal.returns-in_default-clause-replayed
 returns-in_default-clause-replayed g c =
     let inv = c.loop-recorded_command.invariant in
     let some = sym c.is_some.ensures ∙ c.if-is_some.false in
-    let reads = rw (inv.other_same, none_where_not_some c.in_ok-replayed_command.replayed_command some) at c.in_ok-replayed_command.ensures.read in
+    let reads = rw (inv.other_same, none_where_not_some c.in_ok-replayed_command.replayed_command some)
+    at c.in_ok-replayed_command.ensures.read in
     let commands = rw some at c.in_ok-replayed_command.ensures.commands in
     record {
       side_is = c.in_ok-replayed_command.ensures.side ∙ inv.other_side;

@@ -13,8 +13,10 @@ invariant-loop-recorded_command g l = record {
   other_version : l.replayed.decoder.version ≡ l.fn.version;
   same : l.recorded.version ≡ l.fn.version;
   other_same : l.replayed.version ≡ l.fn.version;
-  read : HasRead l.fn.version l.fn.recorded.survey.is_strict (g.A.Source.coming l.fn.recorded.source) (g.A.Source.coming l.recorded.source) l.recorded.decoder.bytes l.recorded.taken l.recorded.survey;
-  other_read : HasRead l.fn.version l.fn.replayed.survey.is_strict (g.B.Source.coming l.fn.replayed.source) (g.B.Source.coming l.replayed.source) l.replayed.decoder.bytes l.replayed.taken l.replayed.survey;
+  read : HasRead l.fn.version l.fn.recorded.survey.is_strict (g.A.Source.coming l.fn.recorded.source)
+      (g.A.Source.coming l.recorded.source) l.recorded.decoder.bytes l.recorded.taken l.recorded.survey;
+  other_read : HasRead l.fn.version l.fn.replayed.survey.is_strict (g.B.Source.coming l.fn.replayed.source)
+      (g.B.Source.coming l.replayed.source) l.replayed.decoder.bytes l.replayed.taken l.replayed.survey;
   commands : l.recorded.survey.commands ≡ l.index;
   other_commands : l.replayed.survey.commands ≡ l.index;
   side : l.recorded.side ≡ Recorded;
@@ -23,11 +25,16 @@ invariant-loop-recorded_command g l = record {
   other_held : length l.replayed.decoder.bytes ≤ l.replayed.taken;
   fits : l.recorded.taken < 2 ^ 64;
   other_fits : l.replayed.taken < 2 ^ 64;
-  counted : KeepsLength (known_length 0 (g.A.Source.coming l.fn.recorded.source)) (known_length l.recorded.taken (g.A.Source.coming l.recorded.source));
-  other_counted : KeepsLength (known_length 0 (g.B.Source.coming l.fn.replayed.source)) (known_length l.replayed.taken (g.B.Source.coming l.replayed.source));
-  after : IsKnownAfter l.fn.version (g.A.Source.coming l.fn.recorded.source) l.index (prepend_known l.recorded.decoder.bytes (g.A.Source.coming l.recorded.source));
-  other_after : IsKnownAfter l.fn.version (g.B.Source.coming l.fn.replayed.source) l.index (prepend_known l.replayed.decoder.bytes (g.B.Source.coming l.replayed.source));
-  goes_on : GoesOn l.fn.version l.ignore_payload_equality (g.A.Source.coming l.fn.recorded.source) (g.B.Source.coming l.fn.replayed.source) l.index
+  counted : KeepsLength (known_length 0 (g.A.Source.coming l.fn.recorded.source))
+      (known_length l.recorded.taken (g.A.Source.coming l.recorded.source));
+  other_counted : KeepsLength (known_length 0 (g.B.Source.coming l.fn.replayed.source))
+      (known_length l.replayed.taken (g.B.Source.coming l.replayed.source));
+  after : IsKnownAfter l.fn.version (g.A.Source.coming l.fn.recorded.source) l.index
+      (prepend_known l.recorded.decoder.bytes (g.A.Source.coming l.recorded.source));
+  other_after : IsKnownAfter l.fn.version (g.B.Source.coming l.fn.replayed.source) l.index
+      (prepend_known l.replayed.decoder.bytes (g.B.Source.coming l.replayed.source));
+  goes_on : GoesOn l.fn.version l.ignore_payload_equality (g.A.Source.coming l.fn.recorded.source)
+      (g.B.Source.coming l.fn.replayed.source) l.index
       (prepend_known l.recorded.decoder.bytes (g.A.Source.coming l.recorded.source))
       (prepend_known l.replayed.decoder.bytes (g.B.Source.coming l.replayed.source));
 }

@@ -15,12 +15,18 @@ returns-clause-compared g c =
     record {
       verdict = rw (c.new-recorded.ensures.source, c.new-replayed.ensures.source) at c.in_ok-found.ensures.compared;
       fields = rw (c.new-recorded.ensures.source, c.new-replayed.ensures.source) at c.in_ok-found.ensures.fields refl;
-      recorded_survey = finished v _ c.args.is_strict _ (g.A.Source.coming c.args.recorded) _ _ (recorded_ended verdict) _ _ _ _ c.in_ok-recorded.recorded
-          recorded.noted_is c.new-recorded.ensures.strict recorded_is c.has_recorded_ended.ensures recorded.read_on c.in_ok-recorded.ensures.survey;
-      replayed_survey = finished v _ c.args.is_strict _ (g.B.Source.coming c.args.replayed) _ _ (replayed_ended verdict) _ _ _ _ c.in_ok-replayed.replayed
-          replayed.noted_is c.new-replayed.ensures.strict replayed_is c.has_replayed_ended.ensures replayed.read_on c.in_ok-replayed.ensures.survey;
-      recorded_last = subst (λ (first : Option (List ℕ)). IsKnownLast v first (recorded_seen verdict) c.last_command-recorded_at.result) recorded_is
+      recorded_survey = finished v _ c.args.is_strict _ (g.A.Source.coming c.args.recorded) _ _ (recorded_ended verdict)
+          _ _ _ _ c.in_ok-recorded.recorded
+          recorded.noted_is c.new-recorded.ensures.strict recorded_is c.has_recorded_ended.ensures recorded.read_on
+          c.in_ok-recorded.ensures.survey;
+      replayed_survey = finished v _ c.args.is_strict _ (g.B.Source.coming c.args.replayed) _ _ (replayed_ended verdict)
+          _ _ _ _ c.in_ok-replayed.replayed
+          replayed.noted_is c.new-replayed.ensures.strict replayed_is c.has_replayed_ended.ensures replayed.read_on
+          c.in_ok-replayed.ensures.survey;
+      recorded_last = subst (λ (first : Option (List ℕ)). IsKnownLast v first (recorded_seen verdict)
+          c.last_command-recorded_at.result) recorded_is
           (on_last v _ _ _ _ _ _ _ _ _ recorded.read_on recorded.counted c.last_command-recorded_at.ensures);
-      replayed_last = subst (λ (first : Option (List ℕ)). IsKnownLast v first (replayed_seen verdict) c.last_command-replayed_at.result) replayed_is
+      replayed_last = subst (λ (first : Option (List ℕ)). IsKnownLast v first (replayed_seen verdict)
+          c.last_command-replayed_at.result) replayed_is
           (on_last v _ _ _ _ _ _ _ _ _ replayed.read_on replayed.counted c.last_command-replayed_at.ensures);
     }

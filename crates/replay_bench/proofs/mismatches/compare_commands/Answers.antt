@@ -19,21 +19,24 @@ visit_command-requires c = record {
 }
 
 -- a property of the result for each schema is a property of the result
-visited_holds : {O : Type 0} (holds : O → Type 0) (schema : Option ℕ) (output : O) → IsVisited (λ s o. holds o) schema (Some output) → holds output
+visited_holds : {O : Type 0} (holds : O → Type 0) (schema : Option ℕ) (output : O) → IsVisited (λ s o. holds o) schema
+    (Some output) → holds output
 visited_holds holds None output is = absurd is
 visited_holds holds (Some s) output is = is
 
 pub returns-then-eq : goal.returns-then-eq
 returns-then-eq c =
     let pair = c.args.pair in
-    visited_holds (ReturnsPair pair.ignore pair.is_listed pair.index pair.recorded.now pair.replayed.now) (command_schema c.ty-recorded.result) c.in-Some.found c.in-Some.ensures.visited
+    visited_holds (ReturnsPair pair.ignore pair.is_listed pair.index pair.recorded.now pair.replayed.now)
+    (command_schema c.ty-recorded.result) c.in-Some.found c.in-Some.ensures.visited
 
 pub returns-then-has_same_bytes : goal.returns-then-has_same_bytes
 returns-then-has_same_bytes c =
     let pair = c.args.pair in
     let typed = sym c.ty-recorded.ensures ∙ types_equal _ _ (sym c.eq.ensures ∙ c.if-eq.true) ∙ c.ty-replayed.ensures in
     pair_same_bytes pair.ignore pair.is_listed pair.index pair.recorded.now pair.replayed.now typed
-    (c.has_same_bytes.ensures.payloads c.if-has_same_bytes.true) (c.has_same_bytes.ensures.accepted c.if-has_same_bytes.true)
+    (c.has_same_bytes.ensures.payloads c.if-has_same_bytes.true)
+    (c.has_same_bytes.ensures.accepted c.if-has_same_bytes.true)
 
 pub returns-in_err-text : goal.returns-in_err-text
 returns-in_err-text c =
@@ -45,12 +48,16 @@ pub returns : goal.returns
 returns c =
     let pair = c.args.pair in
     let index = pair.index in
-    pair_types pair.ignore pair.is_listed index pair.recorded.now pair.replayed.now c.in_ok-text.text c.new-fields.result c.new-fields.ensures.items
-    (λ same. both_ways _ (sym c.eq.ensures ∙ c.if-eq.false) (types_same _ _ (c.ty-recorded.ensures ∙ same ∙ sym c.ty-replayed.ensures)))
+    pair_types pair.ignore pair.is_listed index pair.recorded.now pair.replayed.now c.in_ok-text.text
+    c.new-fields.result c.new-fields.ensures.items
+    (λ same. both_ways _ (sym c.eq.ensures ∙ c.if-eq.false) (types_same _ _
+    (c.ty-recorded.ensures ∙ same ∙ sym c.ty-replayed.ensures)))
     (
     c.in_ok-text.ensures.ok
-    ∙ ap (λ (m : CommandTypeMismatchError). command_type_mismatch_text m.command_index m.actual m.expected) c.new-mismatch.ensures
-    ∙ ap (λ n. command_type_mismatch_text n c.ty-recorded.result c.ty-replayed.result) (to_z_pos w64 index c.requires.index)
+    ∙ ap (λ (m : CommandTypeMismatchError). command_type_mismatch_text m.command_index m.actual m.expected)
+    c.new-mismatch.ensures
+    ∙ ap (λ n. command_type_mismatch_text n c.ty-recorded.result c.ty-replayed.result)
+    (to_z_pos w64 index c.requires.index)
     ∙ ap (λ ty. command_type_mismatch_text (pos index) ty c.ty-replayed.result) c.ty-recorded.ensures
     ∙ ap (λ ty. command_type_mismatch_text (pos index) pair.recorded.now.header.ty ty) c.ty-replayed.ensures
     )

@@ -7,7 +7,8 @@ use Rattle.shared_core_base.specs.declared.version.ContentTypeError.{ContentType
 use Rattle.shared_core_base.proofs.laws.content_types_convert_back.Goals as goal
 
 -- what a version's content type is read as
-read_back : (version : Version) (returned : Result Version ContentTypeError) → ReadsVersion (content_type_of version) returned → returned ≡ Ok version
+read_back : (version : Version) (returned : Result Version ContentTypeError) → ReadsVersion (content_type_of version)
+    returned → returned ≡ Ok version
 read_back version (Ok found) reads = ap Ok (sym (content_types_differ version found reads))
 read_back version (Err error) reads = absurd (reads.0 version refl)
 

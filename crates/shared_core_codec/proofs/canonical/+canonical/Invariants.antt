@@ -18,4 +18,5 @@ decreases-is_written_value l = 4 * l.left
 
 abbrev pub invariant-is_canonical_payload-loop-item : goal.invariant-is_canonical_payload-loop-item
 invariant-is_canonical_payload-loop-item l =
-    all_come_read (is_canonical_message l.left) (map row_view l.rows, l.room) (records_left l.item-iterator) ≡ is_canonical_payload l.left l.schema l.payload
+    all_come_read (is_canonical_message l.left) (map row_view l.rows, l.room) (records_left l.item-iterator) ≡
+    is_canonical_payload l.left l.schema l.payload

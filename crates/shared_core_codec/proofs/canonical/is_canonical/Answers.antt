@@ -6,6 +6,7 @@ use Rattle.shared_core_codec.proofs.canonical.is_canonical.Goals as goal
 pub returns : goal.returns
 returns c =
     let short : length c.args.payload.now < 2 ^ 32 = search rules in (
-      λ e. sound c.args.schema c.args.payload.now (λ i. omega (arith, c.type_inv.payload i)) short (sym c.is_canonical_payload.ensures ∙ e),
+      λ e. sound c.args.schema c.args.payload.now (λ i. omega (arith, c.type_inv.payload i)) short
+          (sym c.is_canonical_payload.ensures ∙ e),
       λ h. c.is_canonical_payload.ensures ∙ complete c.args.schema c.args.payload.now h,
     )

@@ -12,9 +12,11 @@ pub loop-rest-smaller : goal.loop-rest-smaller
 loop-rest-smaller c = (low_turn c.loop-rest.rest.now c.in-Some._number c.in-Some.after.now c.in-Some.ensures).shorter
 
 pub loop-rest-preserved : goal.loop-rest-preserved
-loop-rest-preserved c = sym (low_turn c.loop-rest.rest.now c.in-Some._number c.in-Some.after.now c.in-Some.ensures).same ∙ c.loop-rest.invariant
+loop-rest-preserved c = sym (low_turn c.loop-rest.rest.now c.in-Some._number c.in-Some.after.now c.in-Some.ensures).same
+    ∙ c.loop-rest.invariant
 
 pub returns : goal.returns
 returns c =
     let nil : length c.loop-rest.rest.now ≡ 0 = search rules in
-    some_written c.args.run.now (sym c.is_empty.ensures ∙ c.if-is_empty.false) (sym c.loop-rest.invariant ∙ low_end c.loop-rest.rest.now (nil_from_length c.loop-rest.rest.now nil))
+    some_written c.args.run.now (sym c.is_empty.ensures ∙ c.if-is_empty.false)
+    (sym c.loop-rest.invariant ∙ low_end c.loop-rest.rest.now (nil_from_length c.loop-rest.rest.now nil))

@@ -11,7 +11,8 @@ use Rattle.shared_core_codec.proofs.check.+payload.Goals as goal
 
 pub accepts_payload-loop-item-init : goal.accepts_payload-loop-item-init
 accepts_payload-loop-item-init t c =
-    ap (all_read (accepts_record (accepts_message table c.args.left) (table c.args.schema))) (ap records_left c.into_iter-item-iterator.ensures.into_iter_gives ∙ c.within-item-items.ensures.computed)
+    ap (all_read (accepts_record (accepts_message table c.args.left) (table c.args.schema)))
+    (ap records_left c.into_iter-item-iterator.ensures.into_iter_gives ∙ c.within-item-items.ensures.computed)
     ∙ all_checked c.args.left c.args.schema c.args.payload.now
 
 pub accepts_record-returns-in_default : goal.accepts_record-returns-in_default
@@ -24,7 +25,8 @@ pub accepts_record-returns-then-field : goal.accepts_record-returns-then-field
 accepts_record-returns-then-field t c =
     let r = field_record_of c.args.found.now in
     c.accepts_element.ensures
-    ∙ ap (λ b. accepts_found (accepts_message table c.args.left) (Some (kind_view c.in-Some.field.kind, b)) r.value) (sym c.if-field.true)
+    ∙ ap (λ b. accepts_found (accepts_message table c.args.left) (Some (kind_view c.in-Some.field.kind, b)) r.value)
+    (sym c.if-field.true)
     ∙ ap (λ (o : Option (Kind × Bool)). accepts_found (accepts_message table c.args.left) o r.value) c.in-Some.ensures
     ∙ field_accepts (accepts_message table c.args.left) r (map row_view c.args.rows.now) c.requires
 
@@ -32,13 +34,16 @@ pub accepts_record-returns-else-field : goal.accepts_record-returns-else-field
 accepts_record-returns-else-field t c =
     let r = field_record_of c.args.found.now in
     c.accepts_value.ensures
-    ∙ ap (λ b. accepts_found (accepts_message table c.args.left) (Some (kind_view c.in-Some.field.kind, b)) r.value) (sym c.if-field.false)
+    ∙ ap (λ b. accepts_found (accepts_message table c.args.left) (Some (kind_view c.in-Some.field.kind, b)) r.value)
+    (sym c.if-field.false)
     ∙ ap (λ (o : Option (Kind × Bool)). accepts_found (accepts_message table c.args.left) o r.value) c.in-Some.ensures
     ∙ field_accepts (accepts_message table c.args.left) r (map row_view c.args.rows.now) c.requires
 
 pub accepts_value-returns-then-left-gt0 : goal.accepts_value-returns-then-left-gt0
 accepts_value-returns-then-left-gt0 t c =
-    rw (c.in-Length.is, c.in-Message.is) (c.accepts_payload.ensures ∙ sym (message_below (c.args.left - 1) c.args.left c.in-Message.schema c.in-Length.bytes.now (omega (arith, c.if-left-gt0.true))))
+    rw (c.in-Length.is, c.in-Message.is) (c.accepts_payload.ensures ∙ sym
+    (message_below (c.args.left - 1) c.args.left c.in-Message.schema c.in-Length.bytes.now
+    (omega (arith, c.if-left-gt0.true))))
 
 pub accepts_value-returns-else-left-gt0 : goal.accepts_value-returns-else-left-gt0
 accepts_value-returns-else-left-gt0 t c =

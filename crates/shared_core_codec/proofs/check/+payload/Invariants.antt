@@ -19,4 +19,5 @@ decreases-accepts_value l = 4 * l.left
 
 abbrev pub invariant-accepts_payload-loop-item : goal.invariant-accepts_payload-loop-item
 invariant-accepts_payload-loop-item l =
-    all_read (accepts_record (accepts_message table l.left) (table l.schema)) (records_left l.item-iterator) ≡ accepts_payload table l.left l.schema l.payload
+    all_read (accepts_record (accepts_message table l.left) (table l.schema)) (records_left l.item-iterator) ≡
+    accepts_payload table l.left l.schema l.payload

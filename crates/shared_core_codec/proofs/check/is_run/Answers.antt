@@ -12,7 +12,8 @@ pub loop-rest-smaller : goal.loop-rest-smaller
 loop-rest-smaller c = (run_turn c.loop-rest.rest.now c.in-Some._number c.in-Some.after.now c.in-Some.ensures).shorter
 
 pub loop-rest-preserved : goal.loop-rest-preserved
-loop-rest-preserved c = sym (run_turn c.loop-rest.rest.now c.in-Some._number c.in-Some.after.now c.in-Some.ensures).same ∙ c.loop-rest.invariant
+loop-rest-preserved c = sym (run_turn c.loop-rest.rest.now c.in-Some._number c.in-Some.after.now c.in-Some.ensures).same
+    ∙ c.loop-rest.invariant
 
 pub returns : goal.returns
 returns c =

@@ -4,5 +4,6 @@ use Rattle.shared_core_codec.proofs.packed.measure_run.Goals as goal
 
 pub loop-number-preserved : goal.loop-number-preserved
 loop-number-preserved c =
-    packed_step c.args.numbers.now.items c.loop-number.number-index c.from.result c.args.size.now c.loop-number.size c.add_varint.new.self (omega arith) (rw c.deref-number-items.ensures.value at c.from.ensures) (omega arith)
+    packed_step c.args.numbers.now.items c.loop-number.number-index c.from.result c.args.size.now c.loop-number.size
+    c.add_varint.new.self (omega arith) (rw c.deref-number-items.ensures.value at c.from.ensures) (omega arith)
     c.add_varint.ensures c.loop-number.invariant

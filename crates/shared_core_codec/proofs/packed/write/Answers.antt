@@ -5,4 +5,5 @@ use Rattle.shared_core_codec.proofs.packed.write.Goals as goal
 pub returns-clause-written : goal.returns-clause-written
 returns-clause-written c =
     let h : 0 < length c.args.field.now.items = search rules in
-    packed_before c.args.number c.write_run-start.result c.args.end c.args.field.now.items _ _ _ h c.write_length.ensures.written c.write_run-start.ensures.start c.write_run-start.ensures.written
+    packed_before c.args.number c.write_run-start.result c.args.end c.args.field.now.items _ _ _ h
+    c.write_length.ensures.written c.write_run-start.ensures.start c.write_run-start.ensures.written

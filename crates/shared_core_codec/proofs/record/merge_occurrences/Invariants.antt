@@ -11,7 +11,10 @@ use Rattle.shared_core_codec.proofs.record.merge_occurrences.Given as goal
 abbrev pub invariant-loop-item : goal.invariant-loop-item
 invariant-loop-item g l = record {
   lies : EachLies l.message.bytes.now (records_left l.item-iterator);
-  rest : fold_read (merged_with l.message.left g.M.WireRecord.schema) (g.M.WireRecord.parts l.target) (records_left l.item-iterator) ≡ fold_read (merged_with l.message.left g.M.WireRecord.schema) (g.M.WireRecord.parts l.fn.target) (read_records l.message.left l.message.bytes.now);
+  rest : fold_read (merged_with l.message.left g.M.WireRecord.schema) (g.M.WireRecord.parts l.target)
+      (records_left l.item-iterator) ≡ fold_read (merged_with l.message.left g.M.WireRecord.schema)
+      (g.M.WireRecord.parts l.fn.target) (read_records l.message.left l.message.bytes.now);
   kept : PartsKept (g.M.WireRecord.parts l.fn.target) (g.M.WireRecord.parts l.target);
-  partly : IsMergedSoFar l.message.left g.M.WireRecord.schema (g.M.WireRecord.parts l.fn.target) (read_records l.message.left l.message.bytes.now) (g.M.WireRecord.parts l.target) (records_left l.item-iterator);
+  partly : IsMergedSoFar l.message.left g.M.WireRecord.schema (g.M.WireRecord.parts l.fn.target)
+      (read_records l.message.left l.message.bytes.now) (g.M.WireRecord.parts l.target) (records_left l.item-iterator);
 }

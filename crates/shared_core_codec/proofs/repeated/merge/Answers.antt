@@ -14,8 +14,11 @@ returns-clause-ok g c =
     let merged = c.merge_value.new.self in
     let pushed : IsOk c.push_mut.result = rw c.in_ok-element.was refl in
     let same = (c.push_mut.follows.holds merged pushed).0 in
-    element_appended c.merge_value.result g.V.FieldKind.part c.args.field.now.items (c.push_mut.follows.lender merged).items c.in_ok-element.element.now merged g.V.FieldKind.kind (message_overlay table left)
-    (accepts_message table left) (value_in c.args.found.now) g.met.V.Element.one_by_one (rw c.in_ok-element.ensures.value c.empty_value.ensures) same c.merge_value.ensures.ok
+    element_appended c.merge_value.result g.V.FieldKind.part c.args.field.now.items
+    (c.push_mut.follows.lender merged).items c.in_ok-element.element.now merged g.V.FieldKind.kind
+    (message_overlay table left)
+    (accepts_message table left) (value_in c.args.found.now) g.met.V.Element.one_by_one
+    (rw c.in_ok-element.ensures.value c.empty_value.ensures) same c.merge_value.ensures.ok
 
 pub returns-in_err-element-clause-kept : goal.returns-in_err-element-clause-kept
 returns-in_err-element-clause-kept g c =

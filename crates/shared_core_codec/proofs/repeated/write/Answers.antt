@@ -3,20 +3,26 @@ use Rattle.shared_core_codec.proofs.Backwards.{after_all, after_next, after_room
 use Rattle.shared_core_codec.proofs.repeated.write.Goals as goal
 
 pub loop-i-init : goal.loop-i-init
-loop-i-init g c = after_start g.V.FieldKind.part c.args.number g.V.FieldKind.kind c.args.field.now.items c.len-i.result c.args.end (drop c.args.end c.args.out.now) (omega arith)
+loop-i-init g c = after_start g.V.FieldKind.part c.args.number g.V.FieldKind.kind c.args.field.now.items c.len-i.result
+    c.args.end (drop c.args.end c.args.out.now) (omega arith)
 
 pub write_value-start-requires-clause-room : goal.write_value-start-requires-clause-room
 write_value-start-requires-clause-room g c =
-    after_room g.V.FieldKind.part c.args.number g.V.FieldKind.kind c.args.field.now.items c.loop-i.i c.index.result.now c.args.end c.loop-i.start (omega arith) (omega arith) c.index.ensures
+    after_room g.V.FieldKind.part c.args.number g.V.FieldKind.kind c.args.field.now.items c.loop-i.i c.index.result.now
+    c.args.end c.loop-i.start (omega arith) (omega arith) c.index.ensures
     g.met.V.Element.one_by_one c.loop-i.invariant.0 c.requires.room
 
 pub loop-i-preserved : goal.loop-i-preserved
 loop-i-preserved g c =
-    after_next g.V.FieldKind.part c.args.number g.V.FieldKind.kind c.args.field.now.items c.loop-i.i c.index.result.now c.args.end c.loop-i.start c.write_value-start.result (drop c.args.end c.args.out.now)
-    (drop c.loop-i.start c.loop-i.out) (drop c.write_value-start.result c.write_value-start.new.out) (omega arith) (omega arith) c.index.ensures c.write_value-start.ensures.start c.write_value-start.ensures.written c.loop-i.invariant
+    after_next g.V.FieldKind.part c.args.number g.V.FieldKind.kind c.args.field.now.items c.loop-i.i c.index.result.now
+    c.args.end c.loop-i.start c.write_value-start.result (drop c.args.end c.args.out.now)
+    (drop c.loop-i.start c.loop-i.out) (drop c.write_value-start.result c.write_value-start.new.out) (omega arith)
+    (omega arith) c.index.ensures c.write_value-start.ensures.start c.write_value-start.ensures.written
+    c.loop-i.invariant
 
 pub returns : goal.returns
 returns g c =
-    let b = after_all g.V.FieldKind.part c.args.number g.V.FieldKind.kind c.args.field.now.items c.loop-i.i c.args.end c.loop-i.start (drop c.args.end c.args.out.now) (drop c.loop-i.start c.loop-i.out) (omega arith)
+    let b = after_all g.V.FieldKind.part c.args.number g.V.FieldKind.kind c.args.field.now.items c.loop-i.i c.args.end
+    c.loop-i.start (drop c.args.end c.args.out.now) (drop c.loop-i.start c.loop-i.out) (omega arith)
     g.met.V.Element.one_by_one c.loop-i.invariant in
     record { start = b.0; written = b.1 }

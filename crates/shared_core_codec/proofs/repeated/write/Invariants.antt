@@ -4,4 +4,5 @@ use Rattle.shared_core_codec.proofs.Measuring.{from_index}
 use Rattle.shared_core_codec.proofs.repeated.write.Given as goal
 
 abbrev pub invariant-loop-i : goal.invariant-loop-i
-invariant-loop-i g l = IsAfter (from_index g.V.FieldKind.part l.number g.V.FieldKind.kind l.field.items l.i) l.end l.start (drop l.end l.fn.out) (drop l.start l.out)
+invariant-loop-i g l = IsAfter (from_index g.V.FieldKind.part l.number g.V.FieldKind.kind l.field.items l.i) l.end
+    l.start (drop l.end l.fn.out) (drop l.start l.out)

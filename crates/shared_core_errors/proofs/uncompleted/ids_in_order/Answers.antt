@@ -10,5 +10,6 @@ returns-then-is_empty-clause-ids c = none_in_order _ _ (search rules) (search ru
 
 pub returns-clause-ids : goal.returns-clause-ids
 returns-clause-ids c =
-    let sorted = c.sort_unstable_by.ensures.sorted _ (ranks_by nat_list_cmp_total order_key) (answers_always _ _ _ (λ f a r g called. search rules)) in
+    let sorted = c.sort_unstable_by.ensures.sorted _ (ranks_by nat_list_cmp_total order_key)
+    (answers_always _ _ _ (λ f a r g called. search rules)) in
     in_order c.args.ids.keys _ (search rules) sorted c.into_iter.ensures.into_iter_gives.3

@@ -7,4 +7,5 @@ use Rattle.shared_core_errors.proofs.uncompleted.write_lines.Given as goal
 
 abbrev pub invariant-loop-id : goal.invariant-loop-id
 invariant-loop-id g l =
-    IsPlainFormatter l.initial.f → HasWritten g.W.Write.write_str_gives l.initial.f (lines_text (get ids.eq-value.it l.metadata) (take l.id-index l.ids)) l.f
+    IsPlainFormatter l.initial.f → HasWritten g.W.Write.write_str_gives l.initial.f
+    (lines_text (get ids.eq-value.it l.metadata) (take l.id-index l.ids)) l.f

@@ -23,9 +23,12 @@ decreases-write_value l = 4 * l.left
 
 abbrev pub invariant-write_payload-loop-item : goal.invariant-write_payload-loop-item
 invariant-write_payload-loop-item l = record {
-  canonical : all_come_read (is_canonical_message l.left) (map row_view l.rows, l.room) (records_left l.item-iterator) ≡ is_canonical_payload l.left l.schema l.payload;
+  canonical : all_come_read (is_canonical_message l.left) (map row_view l.rows, l.room) (records_left l.item-iterator) ≡
+      is_canonical_payload l.left l.schema l.payload;
   left : AreLeft (table l.schema) (map row_view l.rows);
-  tokens : l.out.tokens ++ items_tokens l.texts (payload_tokens l.texts l.left) (schema_fields l.schema) l.open_list (records_left l.item-iterator)
-      ≡ l.initial.out.tokens ++ items_tokens l.texts (payload_tokens l.texts l.left) (schema_fields l.schema) 0 (read_records 0 l.payload);
+  tokens : l.out.tokens ++ items_tokens l.texts (payload_tokens l.texts l.left) (schema_fields l.schema) l.open_list
+      (records_left l.item-iterator)
+      ≡ l.initial.out.tokens ++ items_tokens l.texts (payload_tokens l.texts l.left) (schema_fields l.schema) 0
+      (read_records 0 l.payload);
   before : l.out.before ≡ l.fn.out.before;
 }

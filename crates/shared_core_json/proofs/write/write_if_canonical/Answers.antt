@@ -11,7 +11,11 @@ returns-clause-canonical c =
     let payload = c.args.payload.now in
     let short : length payload < 2 ^ 32 = search rules in
     if_both c.write_payload.result
-    (λ w e f. (λ t. sound s payload (λ i. omega (arith, c.type_inv.payload i)) short (sym e ∙ t), λ h. e ∙ complete s payload h))
+    (λ w e f. (
+      λ t. sound s payload (λ i. omega (arith, c.type_inv.payload i)) short (sym e ∙ t),
+      λ h. e ∙ complete s
+          payload h,
+    ))
     c.write_payload.ensures.canonical c.write_payload.ensures.canonical
 
 pub returns-clause-tokens : goal.returns-clause-tokens
@@ -20,5 +24,6 @@ returns-clause-tokens c =
     let payload = c.args.payload.now in
     let short : length payload < 2 ^ 32 = search rules in
     if_both c.write_payload.result
-    (λ w e f t. meaning_written c.args.texts s payload c.args.out.now.tokens c.write_payload.new.out.tokens (sound s payload (λ i. omega (arith, c.type_inv.payload i)) short (sym e ∙ t)) (f t))
+    (λ w e f t. meaning_written c.args.texts s payload c.args.out.now.tokens c.write_payload.new.out.tokens
+    (sound s payload (λ i. omega (arith, c.type_inv.payload i)) short (sym e ∙ t)) (f t))
     c.write_payload.ensures.canonical c.write_payload.ensures.tokens

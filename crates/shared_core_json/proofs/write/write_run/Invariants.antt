@@ -4,7 +4,8 @@ use Rattle.shared_core_json.proofs.write.write_run.Given as goal
 
 abbrev pub invariant-loop-number : goal.invariant-loop-number
 invariant-loop-number l = record {
-  tokens : l.out.tokens ++ map number_token (numbers_past 0 l.rest) ≡ l.initial.out.tokens ++ map number_token (numbers_past 0 l.run);
+  tokens : l.out.tokens ++ map number_token (numbers_past 0 l.rest) ≡ l.initial.out.tokens ++ map number_token
+      (numbers_past 0 l.run);
   before : l.out.before ≡ l.fn.out.before;
 }
 

@@ -7,5 +7,6 @@ use Rattle.shared_core_json_reader.proofs.members.given.Given as goal
 
 abbrev pub invariant-loop-member : goal.invariant-loop-member
 invariant-loop-member l =
-    option_to_list (option_map (λ v. value_view v.now) l.found) ++ values_named (field_view l.field) (members_view (drop l.member-index l.member-items))
+    option_to_list (option_map (λ v. value_view v.now) l.found) ++ values_named (field_view l.field)
+    (members_view (drop l.member-index l.member-items))
     ≡ values_named (field_view l.field) (members_view l.member-items)

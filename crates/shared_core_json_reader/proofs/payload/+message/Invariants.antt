@@ -34,24 +34,35 @@ decreases-append_value l = 7 * l.left + 1
 
 abbrev pub invariant-append_members-loop-row : goal.invariant-append_members-loop-row
 invariant-append_members-loop-row l =
-    (after l.out.items (rows_bytes (message_bytes l.left) (members_view l.members.items) (rows_view l.schema (drop l.row-index l.rows)))
-    ≡ after l.initial.out.items (rows_bytes (message_bytes l.left) (members_view l.members.items) (named_rows l.schema)))
-    × (rows_error (message_error l.left) (members_view l.members.items) (path_view l.initial.walk.path.items) (rows_view l.schema (drop l.row-index l.rows))
-    ≡ rows_error (message_error l.left) (members_view l.members.items) (path_view l.initial.walk.path.items) (named_rows l.schema))
+    (after l.out.items (rows_bytes (message_bytes l.left) (members_view l.members.items)
+    (rows_view l.schema (drop l.row-index l.rows)))
+    ≡ after l.initial.out.items (rows_bytes (message_bytes l.left) (members_view l.members.items)
+    (named_rows l.schema)))
+    × (rows_error (message_error l.left) (members_view l.members.items) (path_view l.initial.walk.path.items)
+    (rows_view l.schema (drop l.row-index l.rows))
+    ≡ rows_error (message_error l.left) (members_view l.members.items) (path_view l.initial.walk.path.items)
+    (named_rows l.schema))
     × (l.walk.path.items ≡ l.initial.walk.path.items)
 
 abbrev pub invariant-append_oneof-loop-member : goal.invariant-append_oneof-loop-member
 invariant-append_oneof-loop-member l =
-    (after l.out.items (oneof_bytes (message_bytes l.left) (members_view l.members.items) l.held (named_members l.schema (drop l.member-index l.fields)))
-    ≡ after l.initial.out.items (oneof_bytes (message_bytes l.left) (members_view l.members.items) false (named_members l.schema l.fields)))
-    × (oneof_error (message_error l.left) (members_view l.members.items) (path_view l.initial.walk.path.items) l.held (named_members l.schema (drop l.member-index l.fields))
-    ≡ oneof_error (message_error l.left) (members_view l.members.items) (path_view l.initial.walk.path.items) false (named_members l.schema l.fields))
+    (after l.out.items (oneof_bytes (message_bytes l.left) (members_view l.members.items) l.held
+    (named_members l.schema (drop l.member-index l.fields)))
+    ≡ after l.initial.out.items (oneof_bytes (message_bytes l.left) (members_view l.members.items) false
+    (named_members l.schema l.fields)))
+    × (oneof_error (message_error l.left) (members_view l.members.items) (path_view l.initial.walk.path.items) l.held
+    (named_members l.schema (drop l.member-index l.fields))
+    ≡ oneof_error (message_error l.left) (members_view l.members.items) (path_view l.initial.walk.path.items) false
+    (named_members l.schema l.fields))
     × (l.walk.path.items ≡ l.initial.walk.path.items)
 
 abbrev pub invariant-append_items-loop-index : goal.invariant-append_items-loop-index
 invariant-append_items-loop-index l =
-    (after l.out.items (items_bytes (message_bytes l.left) (field_view l.field) (items_view (drop l.index l.item-items)))
+    (after l.out.items (items_bytes (message_bytes l.left) (field_view l.field)
+    (items_view (drop l.index l.item-items)))
     ≡ after l.initial.out.items (items_bytes (message_bytes l.left) (field_view l.field) (items_view l.item-items)))
-    × (items_error (message_error l.left) (field_view l.field) (path_view l.initial.walk.path.items) l.index (items_view (drop l.index l.item-items))
-    ≡ items_error (message_error l.left) (field_view l.field) (path_view l.initial.walk.path.items) 0 (items_view l.item-items))
+    × (items_error (message_error l.left) (field_view l.field) (path_view l.initial.walk.path.items) l.index
+    (items_view (drop l.index l.item-items))
+    ≡ items_error (message_error l.left) (field_view l.field) (path_view l.initial.walk.path.items) 0
+    (items_view l.item-items))
     × (l.walk.path.items ≡ l.initial.walk.path.items)

@@ -4,12 +4,15 @@ use Rattle.shared_core_json_reader.proofs.Whole.{appended_payload, no_payload, p
 use Rattle.shared_core_json_reader.proofs.read.payload_of_value.Goals as goal
 
 pub returns-in-Ok-clause-ok : goal.returns-in-Ok-clause-ok
-returns-in-Ok-clause-ok c = appended_payload c.args.schema (json_view c.args.value.now) c.new-payload.result.items c.append_message.new.out.items c.new-payload.ensures.items c.in-Ok.ensures.appended
+returns-in-Ok-clause-ok c = appended_payload c.args.schema (json_view c.args.value.now) c.new-payload.result.items
+    c.append_message.new.out.items c.new-payload.ensures.items c.in-Ok.ensures.appended
 
 pub returns-in-Ok-clause-means : goal.returns-in-Ok-clause-means
 returns-in-Ok-clause-means c =
     let short : length c.append_message.new.out.items < 2 ^ 64 = search rules in
-    payload_means c.args.schema (json_view c.args.value.now) c.append_message.new.out.items (returns-in-Ok-clause-ok c) short
+    payload_means c.args.schema (json_view c.args.value.now) c.append_message.new.out.items (returns-in-Ok-clause-ok c)
+    short
 
 pub returns-clause-rejected : goal.returns-clause-rejected
-returns-clause-rejected c n = no_payload c.args.schema (json_view c.args.value.now) (c.in-Err.ensures.appended (λ e. n ((c.error_on.ensures n).0 ∙ e)))
+returns-clause-rejected c n = no_payload c.args.schema (json_view c.args.value.now)
+    (c.in-Err.ensures.appended (λ e. n ((c.error_on.ensures n).0 ∙ e)))

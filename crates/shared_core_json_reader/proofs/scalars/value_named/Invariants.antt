@@ -4,4 +4,5 @@ use Rattle.shared_core_json_reader.specs.Scalars.{value_named}
 use Rattle.shared_core_json_reader.proofs.scalars.value_named.Given as goal
 
 abbrev pub invariant-loop-value : goal.invariant-loop-value
-invariant-loop-value l = value_named (map value_view (drop l.value-index l.values)) l.name ≡ value_named (map value_view l.values) l.name
+invariant-loop-value l = value_named (map value_view (drop l.value-index l.values)) l.name ≡ value_named
+    (map value_view l.values) l.name

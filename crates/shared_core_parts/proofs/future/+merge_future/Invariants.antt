@@ -22,7 +22,10 @@ decreases-extend_futures l = 3 * l.field.now.left
 abbrev pub invariant-merge_future-loop-item : goal.invariant-merge_future-loop-item
 invariant-merge_future-loop-item l = record {
   lies : EachLies l.message.bytes.now (records_left l.item-iterator);
-  rest : fold_read (merged_with l.message.left future) (future_parts l.future) (records_left l.item-iterator) ≡ fold_read (merged_with l.message.left future) (future_parts l.fn.future) (read_records l.message.left l.message.bytes.now);
+  rest : fold_read (merged_with l.message.left future) (future_parts l.future) (records_left l.item-iterator) ≡
+      fold_read (merged_with l.message.left future) (future_parts l.fn.future)
+      (read_records l.message.left l.message.bytes.now);
   kept : PartsKept (future_parts l.fn.future) (future_parts l.future);
-  partly : IsMergedSoFar l.message.left future (future_parts l.fn.future) (read_records l.message.left l.message.bytes.now) (future_parts l.future) (records_left l.item-iterator);
+  partly : IsMergedSoFar l.message.left future (future_parts l.fn.future)
+      (read_records l.message.left l.message.bytes.now) (future_parts l.future) (records_left l.item-iterator);
 }

@@ -6,4 +6,6 @@ use Rattle.shared_core_runtime.proofs.flat_suspension.+write_future.Given as goa
 abbrev pub invariant-write_futures-loop-i : goal.invariant-write_futures-loop-i
 invariant-write_futures-loop-i l =
     (list : AwaitedList)
-    → IsWritten list l.futures.items l.i (end_in list l.fn.ends) (end_in list l.ends) (drop (end_in list l.fn.ends) (of_list list l.fn.completions l.fn.signals l.fn.names)) (drop (end_in list l.ends) (of_list list l.completions l.signals l.names))
+    → IsWritten list l.futures.items l.i (end_in list l.fn.ends) (end_in list l.ends)
+    (drop (end_in list l.fn.ends) (of_list list l.fn.completions l.fn.signals l.fn.names))
+    (drop (end_in list l.ends) (of_list list l.completions l.signals l.names))

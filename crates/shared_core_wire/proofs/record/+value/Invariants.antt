@@ -11,7 +11,8 @@ decreases-read_value l = 2 * l.left
 abbrev pub invariant-read_group-loop-rest : goal.invariant-read_group-loop-rest
 invariant-read_group-loop-rest l = record {
   short : length l.rest ≤ length l.bytes;
-  end : group_end_at (record_with (group_content_at l.left)) l.number 0 l.rest ≡ group_end_at (record_with (group_content_at l.left)) l.number 0 l.bytes;
+  end : group_end_at (record_with (group_content_at l.left)) l.number 0 l.rest ≡ group_end_at
+      (record_with (group_content_at l.left)) l.number 0 l.bytes;
 }
 
 abbrev pub decreases-read_group-loop-rest : goal.decreases-read_group-loop-rest

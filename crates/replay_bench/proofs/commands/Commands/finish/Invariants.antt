@@ -9,8 +9,10 @@ invariant-loop-has_ended g l = record {
   side : l.self.side ≡ l.fn.self.side;
   fits : l.self.taken < 2 ^ 64;
   read : (is_strict : Bool) (first : Option (List ℕ))
-      → HasReadOn l.fn.self.version is_strict first l.fn.has_ended (g.S.Source.coming l.fn.self.source) l.fn.self.decoder.bytes l.fn.self.taken l.fn.self.survey
-      → HasReadOn l.fn.self.version is_strict first l.has_ended (g.S.Source.coming l.self.source) l.self.decoder.bytes l.self.taken l.self.survey;
+      → HasReadOn l.fn.self.version is_strict first l.fn.has_ended (g.S.Source.coming l.fn.self.source)
+      l.fn.self.decoder.bytes l.fn.self.taken l.fn.self.survey
+      → HasReadOn l.fn.self.version is_strict first l.has_ended (g.S.Source.coming l.self.source) l.self.decoder.bytes
+      l.self.taken l.self.survey;
 }
 
 abbrev pub decreases-loop-has_ended : goal.decreases-loop-has_ended

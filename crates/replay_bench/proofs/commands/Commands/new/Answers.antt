@@ -1,5 +1,5 @@
 use Rattle.std.proofs.Common.{refl, ap}
-use Rattle.stream_survey.specs.declared.totals.Survey.{Survey}
+use Rattle.replay_bench.specs.declared.survey.Survey.{Survey}
 use Rattle.replay_bench.proofs.Readings.{nothing_noted}
 use Rattle.replay_bench.proofs.commands.Commands.new.Goals as goal
 
@@ -10,7 +10,8 @@ returns-clause-new g c = record {
   noted_is = refl;
   nothing_held = ap (λ d. d.bytes) c.new-decoder.ensures;
   nothing_taken = refl;
-  nothing_noted = nothing_noted c.args.version c.args.is_strict c.new-survey.result (c.new-survey.ensures c.args.version);
+  nothing_noted = nothing_noted c.args.version c.args.is_strict c.new-survey.result
+      (c.new-survey.ensures c.args.version);
 }
 
 pub returns-clause-strict : goal.returns-clause-strict

@@ -12,7 +12,8 @@ returns-in-Some-clause-taken g c =
     let inv = c.loop-command.invariant in
     let version = c.args.self.now.decoder.version in
     let leads = rw (c.in-Some.is, inv.version) at c.in_ok-command.ensures.leads in
-    takes_after version _ _ _ _ inv.passed (takes_held version _ _ (g.S.Source.coming c.loop-command.self.source) _ leads)
+    takes_after version _ _ _ _ inv.passed (takes_held version _ _ (g.S.Source.coming c.loop-command.self.source) _
+    leads)
 
 pub returns-in-Ok-None-clause-taken : goal.returns-in-Ok-None-clause-taken
 returns-in-Ok-None-clause-taken g c =
@@ -22,7 +23,8 @@ returns-in-Ok-None-clause-taken g c =
     let leads = rw (c.in_default.is, inv.version) at c.in_ok-command.ensures.leads in
     let none = rw inv.version at (c.in_ok-command.ensures.none c.in_default.is) in
     let end = rw c.in-Ok-None.field-0-is at c.in-Ok-None.ensures.chunk in
-    nothing_after version _ _ (takes_after version _ _ _ _ inv.passed (takes_held version _ _ coming _ leads)) (nothing_left version _ coming end none)
+    nothing_after version _ _ (takes_after version _ _ _ _ inv.passed (takes_held version _ _ coming _ leads))
+    (nothing_left version _ coming end none)
 
 pub loop-command-preserved : goal.loop-command-preserved
 loop-command-preserved g c =
@@ -35,7 +37,8 @@ loop-command-preserved g c =
     let leads = rw (c.in_default.is, inv.version) at c.in_ok-command.ensures.leads in
     let gives = rw c.in-Ok-Some.field-0-is at c.in-Ok-Some.ensures.chunk in
     let bytes : c.push.new.decoder.bytes ≡ before ++ chunk = ap (λ d. d.bytes) c.in_ok-self.ensures.pushed in
-    let long : length c.push.new.decoder.bytes ≡ length before + length chunk = ap length bytes ∙ length-append before chunk in
+    let long : length c.push.new.decoder.bytes ≡ length before + length chunk = ap length bytes ∙ length-append before
+    chunk in
     let short = rw c.in_default.is at c.in_ok-command.ensures.shorter in
     let own = c.args.self.now.version in
     let items = rw inv.same at c.in_ok-command.ensures.read in
@@ -52,7 +55,8 @@ loop-command-preserved g c =
       fits = c.in_ok-self.ensures.fits;
       shorter = omega (arith, inv.shorter, short, c.in_ok-self.ensures.counted, long);
       passed = takes_after version _ _ _ _ (takes_after version _ _ _ _ inv.passed (takes_held version _ _ old _ leads))
-          (subst (λ (held : List ℕ). TakesFirst version (prepend_known before old) None (prepend_known held new)) (sym bytes) (takes_chunk version before chunk old new gives));
+          (subst (λ (held : List ℕ). TakesFirst version (prepend_known before old) None (prepend_known held new))
+          (sym bytes) (takes_chunk version before chunk old new gives));
       counted = keeps_on _ _ _ inv.counted (chunk_counts _ _ chunk old new gives c.in_ok-self.ensures.counted);
     }
 
@@ -110,4 +114,5 @@ returns-in_err-self-clause-rejected g c =
     let gives = rw c.in-Ok-Some.field-0-is at c.in-Ok-Some.ensures.chunk in
     let from = err_from_is_err_and c.from_residual-in_err-self.result c.from_residual-in_err-self.ensures.1 in
     rw (from.1, from.2)
-    (rejects_chunk c.args.self.now.side g.S.Source.may_fail c.in_err-self.field-0.0 _ _ c.in-Ok-Some.chunk old new inv.counted gives c.in_err-self.ensures.rejected)
+    (rejects_chunk c.args.self.now.side g.S.Source.may_fail c.in_err-self.field-0.0 _ _ c.in-Ok-Some.chunk old new
+    inv.counted gives c.in_err-self.ensures.rejected)

@@ -17,10 +17,13 @@ invariant-loop-command g l = record {
       (prepend_known l.self.decoder.bytes (g.S.Source.coming l.self.source));
   same : l.self.version ≡ l.fn.self.version;
   read : (is_strict : Bool) (first : Option (List ℕ))
-      → HasRead l.fn.self.version is_strict first (g.S.Source.coming l.fn.self.source) l.fn.self.decoder.bytes l.fn.self.taken l.fn.self.survey
-      → HasRead l.fn.self.version is_strict first (g.S.Source.coming l.self.source) l.self.decoder.bytes l.self.taken l.self.survey;
+      → HasRead l.fn.self.version is_strict first (g.S.Source.coming l.fn.self.source) l.fn.self.decoder.bytes
+      l.fn.self.taken l.fn.self.survey
+      → HasRead l.fn.self.version is_strict first (g.S.Source.coming l.self.source) l.self.decoder.bytes l.self.taken
+      l.self.survey;
   commands : l.self.survey.commands ≡ l.fn.self.survey.commands;
-  counted : KeepsLength (known_length l.fn.self.taken (g.S.Source.coming l.fn.self.source)) (known_length l.self.taken (g.S.Source.coming l.self.source));
+  counted : KeepsLength (known_length l.fn.self.taken (g.S.Source.coming l.fn.self.source))
+      (known_length l.self.taken (g.S.Source.coming l.self.source));
 }
 
 abbrev pub decreases-loop-command : goal.decreases-loop-command

@@ -3,4 +3,6 @@ use Rattle.shared_core_codec.proofs.message.AnyFieldKind.write_value.Goals as go
 
 pub returns-clause-written : goal.returns-clause-written
 returns-clause-written g c =
-    message_before c.args.number g.M.WireRecord.schema c.encode_back-start.result c.args.end (g.M.WireRecord.parts c.args.self.now) _ _ _ c.write_length.ensures.written c.encode_back-start.ensures.start c.encode_back-start.ensures.written
+    message_before c.args.number g.M.WireRecord.schema c.encode_back-start.result c.args.end
+    (g.M.WireRecord.parts c.args.self.now) _ _ _ c.write_length.ensures.written c.encode_back-start.ensures.start
+    c.encode_back-start.ensures.written

@@ -4,4 +4,5 @@ use Rattle.shared_core_codec.proofs.record.WireRecord.encode_payload_into_bytes.
 
 pub returns-clause-reads_back : goal.returns-clause-reads_back
 returns-clause-reads_back g c =
-    canonical_is_read_back g.Self.WireRecord.schema (g.Self.WireRecord.parts c.args.self.now) c.encoded_len.ensures.fit (omega (arith, c.in-Some.ensures.len))
+    canonical_is_read_back g.Self.WireRecord.schema (g.Self.WireRecord.parts c.args.self.now) c.encoded_len.ensures.fit
+    (omega (arith, c.in-Some.ensures.len))

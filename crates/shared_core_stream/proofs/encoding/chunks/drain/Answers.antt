@@ -7,7 +7,8 @@ loop-item-preserved c = (
   c.in_ok-item.ensures.version ∙ c.loop-item.invariant.0,
   λ stream before.
       let taken = rw (c.in-Some.is, c.loop-item.invariant.0) at c.in_ok-item.ensures.taken in
-      rw c.in_ok-push.ensures.items (then_takes c.args.decoder.now.version stream _ _ _ _ (c.loop-item.invariant.1 stream before) taken),
+      rw c.in_ok-push.ensures.items (then_takes c.args.decoder.now.version stream _ _ _ _
+      (c.loop-item.invariant.1 stream before) taken),
 )
 
 pub returns-clause-no_more : goal.returns-clause-no_more

@@ -5,7 +5,8 @@ use Rattle.shared_core_stream.proofs.encoding.chunks.drain.Given as goal
 abbrev pub invariant-loop-item : goal.invariant-loop-item
 invariant-loop-item l =
     (l.decoder.version ≡ l.fn.decoder.version)
-    × ((stream : List ℕ) → IsItemsThen l.fn.decoder.version stream l.fn.items.items l.fn.decoder.bytes → IsItemsThen l.fn.decoder.version stream l.items.items l.decoder.bytes)
+    × ((stream : List ℕ) → IsItemsThen l.fn.decoder.version stream l.fn.items.items l.fn.decoder.bytes → IsItemsThen
+    l.fn.decoder.version stream l.items.items l.decoder.bytes)
 
 abbrev pub decreases-loop-item : goal.decreases-loop-item
 decreases-loop-item l = length l.decoder.bytes

@@ -3,4 +3,5 @@ use Rattle.std.specs.List.{concat}
 use Rattle.shared_core_stream.proofs.pending_bytes.PendingBytes.copy_to.Given as goal
 
 abbrev pub invariant-loop-i : goal.invariant-loop-i
-invariant-loop-i l = l.bytes.items ≡ l.fn.bytes.items ++ (l.self-inside.front ++ concat (take l.i l.self-inside.after.items))
+invariant-loop-i l = l.bytes.items ≡ l.fn.bytes.items ++ (l.self-inside.front ++ concat
+    (take l.i l.self-inside.after.items))

@@ -8,7 +8,8 @@ invariant_of-self-2 c =
     let some : 0 < length c.self.inside.front = search rules in
     let more : 0 < length c.args.chunk = search rules in
     rw (c.in_ok-push_back.ensures.items, c.len.ensures.value)
-    (segments_push c.self.inside.front c.self.inside.after.items c.self.inside.len c.args.chunk c.self.invariant some more)
+    (segments_push c.self.inside.front c.self.inside.after.items c.self.inside.len c.args.chunk c.self.invariant some
+    more)
 
 pub returns-clause-ok : goal.returns-clause-ok
 returns-clause-ok c =

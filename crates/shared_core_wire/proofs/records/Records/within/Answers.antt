@@ -11,7 +11,8 @@ returns-clause-computed c = refl
 
 pub returns-clause-items : goal.returns-clause-items
 unfolding records_left
-returns-clause-items c = read_are c.args.left (length c.args.payload.now) c.args.payload.now [] c.args.payload.now (omega arith) refl
+returns-clause-items c = read_are c.args.left (length c.args.payload.now) c.args.payload.now [] c.args.payload.now
+    (omega arith) refl
 
 pub returns-clause-complete : goal.returns-clause-complete
 unfolding records_left
@@ -19,12 +20,15 @@ returns-clause-complete c = read_complete c.args.left c.args.payload.now
 
 pub returns-clause-few : goal.returns-clause-few
 unfolding records_left
-returns-clause-few c = read_count c.args.left (length c.args.payload.now) (length c.args.payload.now) c.args.payload.now (omega arith)
+returns-clause-few c = read_count c.args.left (length c.args.payload.now) (length c.args.payload.now) c.args.payload.now
+    (omega arith)
 
 pub returns-clause-bound : goal.returns-clause-bound
 unfolding records_left
-returns-clause-bound c = read_few c.args.left (length c.args.payload.now) (length c.args.payload.now) c.args.payload.now (omega arith)
+returns-clause-bound c = read_few c.args.left (length c.args.payload.now) (length c.args.payload.now) c.args.payload.now
+    (omega arith)
 
 pub returns-clause-lies : goal.returns-clause-lies
 unfolding records_left
-returns-clause-lies c = read_lie c.args.left (length c.args.payload.now) c.args.payload.now [] c.args.payload.now (omega arith) refl
+returns-clause-lies c = read_lie c.args.left (length c.args.payload.now) c.args.payload.now [] c.args.payload.now
+    (omega arith) refl

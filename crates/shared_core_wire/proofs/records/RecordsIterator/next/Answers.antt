@@ -14,7 +14,8 @@ returns-then-is_empty-clause-steps c =
     let s = c.args.self.now in
     let none : length s.rest.now ≡ 0 = search rules in
     let nothing = nil_from_length s.rest.now none in
-    let ends : records_past (record_at s.left) s.end 0 s.rest.now ≡ [] = rw nothing (read_nil (record_at s.left) s.end) in
+    let ends : records_past (record_at s.left) s.end 0 s.rest.now ≡ [] = rw nothing (read_nil (record_at s.left) s.end)
+    in
     (ends, ends)
 
 pub returns-in_default-clause-steps : goal.returns-in_default-clause-steps
@@ -35,8 +36,10 @@ returns-in_default-clause-goes c =
     let empty = ap length after in
     search rules
 
-stepped : (c : In-Some) → Step c.args.self.now.left c.args.self.now.end c.args.self.now.rest.now (record { number = c.in-Some.number; value = value_of c.in-Some.value }) c.in-Some.rest.now
-stepped c = step c.args.self.now.left c.args.self.now.end c.args.self.now.rest.now (record { number = c.in-Some.number; value = value_of c.in-Some.value }) c.in-Some.rest.now c.in-Some.ensures
+stepped : (c : In-Some) → Step c.args.self.now.left c.args.self.now.end c.args.self.now.rest.now
+    (record { number = c.in-Some.number; value = value_of c.in-Some.value }) c.in-Some.rest.now
+stepped c = step c.args.self.now.left c.args.self.now.end c.args.self.now.rest.now
+    (record { number = c.in-Some.number; value = value_of c.in-Some.value }) c.in-Some.rest.now c.in-Some.ensures
 
 pub overflow_sub-span-2 : goal.overflow_sub-span-2
 overflow_sub-span-2 c =

@@ -1,0 +1,35 @@
+//! What subcommands have in common: how one is called, and how it reports.
+
+use clap::Error;
+use command_line::{fail, note, report};
+use std::fmt::Display;
+use std::process::ExitCode;
+
+/// A call of a subcommand.
+#[derive(Clone, Copy, Drop)]
+pub struct Call<'a> {
+    pub rt: &'a HostRuntime,
+    /// How it is called, as `journal dump`: messages begin with it, and the usage shows it.
+    pub name: &'static str,
+    /// Its arguments.
+    pub words: &'a [String],
+    /// The status if an allocation, the input or the output fails.
+    pub failure: u8,
+}
+
+impl<'a> Call<'a> {
+    /// Prints a text in a line on the standard error, after the name.
+    pub fn note<T: Display + Drop>(&self, text: T) {
+        note(self.rt, self.name, text);
+    }
+
+    /// Prints why it fails, as `note` does, and returns the status.
+    pub fn fail<T: Display + Drop>(&self, why: T, status: u8) -> ExitCode {
+        fail(self.rt, self.name, why, status)
+    }
+
+    /// Prints what is wrong with the arguments, or the help or the version that they request, and returns the status.
+    pub fn report(&self, error: &Error) -> ExitCode {
+        report(self.rt, self.name, error, self.failure)
+    }
+}

@@ -1,0 +1,66 @@
+//! Parsing the arguments.
+
+ghost use Rattle.std.specs.Prelude.{◌≤◌, IfOk};
+ghost use Rattle.shared_core_base.specs.Version.{version_number};
+
+use crate::definitions;
+use clap::Error;
+use clap::error::ErrorKind;
+use command_line::{ColorChoice, color_of, protocol_of};
+use shared_core_base::version::Version;
+use std::alloc::Global;
+
+/// The parsed arguments.
+#[derive(Debug, Clone, Copy, Drop)]
+pub struct Arguments<'a> {
+    /// The path of the recorded journal, or `-` for the standard input.
+    pub recorded: &'a str,
+    /// The path of the replayed journal, or `-` for the standard input.
+    pub replayed: &'a str,
+    /// The version of the protocol of both journals.
+    pub version: Version,
+    /// Whether payloads are left out of the comparison.
+    pub ignore_payloads: bool,
+    /// Whether what is passed over may be an error.
+    pub is_strict: bool,
+    /// Whether the verdict is a line of JSON.
+    pub is_json: bool,
+    /// When the verdict has colors.
+    pub color: ColorChoice,
+}
+
+/// Parses the arguments. The error is an invalid argument, or a request for the help or the version.
+pub fn parse_arguments<'a>(
+    alloc: Global,
+    name: &'static str,
+    words: &'a [String],
+) -> Result<Arguments<'a>, Error>
+    ensures { IfOk result (λ parsed. 5 ≤ version_number parsed.version) }
+{
+    let mut command = definitions::diff(alloc, name)?.no_binary_name(true);
+    let matches = command.try_get_matches_from_mut(words)?;
+    let (Some(recorded), Some(replayed)) = (
+        matches.get_str("recorded"),
+        matches.get_str("replayed"),
+    ) else {
+        return Err(command.error(
+            ErrorKind::MissingRequiredArgument,
+            "two journals are compared: RECORDED and REPLAYED",
+        )?);
+    };
+    if recorded == "-" && replayed == "-" {
+        return Err(command.error(
+            ErrorKind::ArgumentConflict,
+            "only one journal can come from the standard input",
+        )?);
+    }
+    Ok(Arguments {
+        recorded,
+        replayed,
+        version: protocol_of(&matches),
+        ignore_payloads: matches.get_flag("ignore-payloads"),
+        is_strict: matches.get_flag("strict"),
+        is_json: matches.get_flag("json"),
+        color: color_of(&matches),
+    })
+}

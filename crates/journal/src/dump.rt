@@ -1,0 +1,108 @@
+//! Prints a stream as JSON, a file or the standard input: one object a line for each of its items.
+
+ghost use Rattle.std.specs.Prelude.{◌≤◌};
+ghost use Rattle.shared_core_base.specs.Version.{version_number};
+
+mod arguments;
+mod canonical;
+mod suggestions;
+
+use crate::call::Call;
+use crate::dump::arguments::{Arguments, parse_arguments};
+use crate::dump::canonical::Records;
+use command_line::{Escapes, Escaping, Input, Pipe, Progress, Watched, input_size, open};
+use dump_lines::{MOST_SHOWN, Options, dump, dump_on_terminal};
+use std::io::IsTerminal;
+use std::process::ExitCode;
+use stream_lines::{PrintError, Report, Trouble};
+
+/// Reports the first trouble of the stream and the bytes that are in no item, and returns the status.
+fn end(call: &Call<'_>, options: &Options<'_>, found: &Report) -> ExitCode {
+    if let Some((offset, trouble)) = found.trouble {
+        report_trouble(call, offset, trouble);
+    }
+    if found.rest > 0 {
+        report_rest(call, options, found);
+    }
+    if options.strict && (found.trouble.is_some() || found.rest > 0) {
+        return ExitCode::from(2);
+    }
+    ExitCode::SUCCESS
+}
+
+/// Reports what is wrong with the item at an offset.
+fn report_trouble(call: &Call<'_>, offset: u128, trouble: Trouble) {
+    match trouble {
+        Trouble::UnknownCode(code) => call.note(format_args!(
+            "offset {offset}: unknown protocol.message code 0x{code:x}"
+        )),
+        Trouble::Malformed(ty) => {
+            let name = ty.debug_name();
+            call.note(format_args!("offset {offset}: the payload of {name} is not well-formed"));
+        }
+    }
+}
+
+/// Reports the bytes that are in no item, and if they are all there is, that the stream may be something else.
+fn report_rest(call: &Call<'_>, options: &Options<'_>, found: &Report) {
+    let (offset, count) = (found.end, found.rest);
+    let bytes = if count == 1 { "byte" } else { "bytes" };
+    let is_cut = options.payloads && count > MOST_SHOWN && call.rt.stdout().is_terminal();
+    let shown = if is_cut {
+        ", not shown on a terminal"
+    } else {
+        ""
+    };
+    call.note(format_args!("offset {offset}: {count} {bytes} after the last whole item{shown}"));
+    if offset == 0 {
+        let version = options.version.number();
+        call.note(format_args!("no message in it; is it a journal of version {version}?"));
+    }
+}
+
+/// Dumps the input, and returns the status.
+fn run_parsed(call: &Call<'_>, parsed: &Arguments<'_>, input: Input) -> ExitCode
+    requires { 5 ≤ version_number parsed.now.version }
+{
+    let options = Options {
+        version: parsed.version,
+        codes: parsed.codes.as_slice(),
+        payloads: parsed.payloads,
+        texts: parsed.texts,
+        pretty: parsed.pretty,
+        strict: parsed.strict,
+    };
+    let progress = Progress::beside_output(call.rt, call.name, input_size(&input));
+    let mut input = Watched::new(input, &progress);
+    let is_terminal = call.rt.stdout().is_terminal();
+    let mut output = Pipe::new(Escaping::new(
+        call.rt.alloc(),
+        call.rt.stdout(),
+        Escapes::Json,
+        is_terminal,
+    ));
+    let dumped = if is_terminal {
+        dump_on_terminal(call.rt.alloc(), &options, &Records, &mut input, &mut output)
+    } else {
+        dump(call.rt.alloc(), &options, &Records, &mut input, &mut output)
+    };
+    progress.clear();
+    match dumped {
+        Ok(found) => end(call, &options, &found),
+        // the reader has closed the output, so nothing is reported
+        Err(PrintError::Output) if output.is_broken() => ExitCode::from(call.failure),
+        Err(error) => call.fail(error, call.failure),
+    }
+}
+
+/// Parses the arguments, dumps the stream, and returns the status.
+pub fn run(call: &Call<'_>) -> ExitCode {
+    let parsed = match parse_arguments(call.rt.alloc(), call.name, call.words) {
+        Ok(parsed) => parsed,
+        Err(error) => return call.report(&error),
+    };
+    match open(call.rt, parsed.path) {
+        Ok(input) => run_parsed(call, &parsed, input),
+        Err(error) => call.fail(error, 2),
+    }
+}

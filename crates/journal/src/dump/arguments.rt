@@ -1,0 +1,95 @@
+//! Parsing the arguments.
+
+ghost use Rattle.std.specs.Prelude.{◌≤◌, IfOk};
+ghost use Rattle.shared_core_base.specs.Version.{version_number};
+
+use crate::definitions;
+use crate::dump::suggestions::unknown_type;
+use clap::Error;
+use clap::error::ErrorKind;
+use command_line::protocol_of;
+use shared_core_base::header::MessageType;
+use shared_core_base::version::Version;
+use std::alloc::{AllocError, Global};
+
+/// The parsed arguments.
+#[derive(Drop)]
+pub struct Arguments<'a> {
+    /// The path of the stream, or `-` for the standard input.
+    pub path: &'a str,
+    /// The version of the protocol.
+    pub version: Version,
+    /// The codes of the selected types; none for all.
+    pub codes: Vec<u16>,
+    /// Whether payloads are printed.
+    pub payloads: bool,
+    /// Whether bytes that are UTF-8 are printed as texts.
+    pub texts: bool,
+    /// Whether an object is printed on several lines.
+    pub pretty: bool,
+    /// Whether an unknown code, a malformed payload or bytes in no item is a failure.
+    pub strict: bool,
+}
+
+/// The code of the type that has this name: a named type's in any case of letters, with or without `Message` at the
+/// end, or that of a custom entry, as `CustomEntry(64513)`.
+fn code_of(alloc: Global, name: &str) -> Result<Option<u16>, AllocError> {
+    let short = name.strip_suffix("Message").unwrap_or(name);
+    for ty in MessageType::named() {
+        if ty.variant_name().eq_ignore_ascii_case(short) {
+            return Ok(Some(u16::from(*ty)));
+        }
+    }
+    custom_code(alloc, name)
+}
+
+/// The code of the custom entry that has this name.
+fn custom_code(alloc: Global, name: &str) -> Result<Option<u16>, AllocError> {
+    let Some(code) = code_within(name) else {
+        return Ok(None);
+    };
+    let Ok(ty) = MessageType::try_from(code) else {
+        return Ok(None);
+    };
+    // a number can be written in several ways, of which a name has one
+    let printed = ty.debug_name().to_string(alloc)?;
+    let is_name = printed.as_str() == name;
+    Ok(is_name.then_some(code))
+}
+
+/// The number in the name of a custom entry.
+fn code_within(name: &str) -> Option<u16> {
+    let digits = name.strip_prefix("CustomEntry(")?.strip_suffix(')')?;
+    digits.parse().ok()
+}
+
+/// Parses the arguments. The error is an invalid argument, or a request for the help or the version.
+pub fn parse_arguments<'a>(
+    alloc: Global,
+    name: &'static str,
+    words: &'a [String],
+) -> Result<Arguments<'a>, Error>
+    ensures { IfOk result (λ parsed. 5 ≤ version_number parsed.version) }
+{
+    let mut command = definitions::dump(alloc, name)?.no_binary_name(true);
+    let matches = command.try_get_matches_from_mut(words)?;
+    let mut codes = Vec::new(alloc);
+    if let Some(names) = matches.get_strs("type") {
+        for name in names.iter().flat_map(|names| names.split(',')) {
+            let Some(code) = code_of(alloc, name)? else {
+                let why = unknown_type(alloc, name)?;
+                return Err(command.error(ErrorKind::InvalidValue, why.as_str())?);
+            };
+            codes.push(code)?;
+        }
+    }
+    Ok(Arguments {
+        path: matches.get_str("file").unwrap_or("-"),
+        version: protocol_of(&matches),
+        codes,
+        payloads: !matches.get_flag("no-payload"),
+        texts: matches.get_flag("text"),
+        pretty: matches.get_flag("pretty"),
+        strict: matches.get_flag("strict"),
+    })
+}

@@ -1,0 +1,88 @@
+//! Prints, makes and compares journals: a program with a subcommand for each, which is that subcommand alone if it is
+//! called by its name, as `journal_dump`.
+#![tactic(auto)]
+
+mod call;
+mod definitions;
+mod diff;
+mod dump;
+mod make;
+mod subcommand;
+
+use crate::call::Call;
+use crate::subcommand::{Asked, Subcommand};
+use clap::Error;
+use clap::error::ErrorKind;
+use command_line::{ArgumentsError, fail, read_arguments, report};
+use std::alloc::Global;
+use std::env::Env;
+use std::process::ExitCode;
+
+const PROGRAM: &str = "journal";
+
+/// The status if the arguments say no subcommand.
+const NO_SUBCOMMAND: u8 = 2;
+
+/// The longest argument that is read without an allocation, in bytes: as long as a path may be.
+const MOST_BYTES: usize = 4096;
+
+/// Runs a subcommand, and returns its status.
+fn run(call: &Call<'_>, subcommand: Subcommand) -> ExitCode {
+    match subcommand {
+        Subcommand::Dump => dump::run(call),
+        Subcommand::Make => make::run(call),
+        Subcommand::Diff => diff::run(call),
+    }
+}
+
+/// Why the arguments, of which the first is the program's path, name no subcommand; or their request for the help or
+/// the version.
+fn why_none(alloc: Global, arguments: &[String]) -> Result<Error, Error> {
+    let mut command = definitions::journal(alloc)?;
+    command.try_get_matches_from_mut(arguments)?;
+    // its definition has the subcommands that are looked for before this
+    Ok(command.error(ErrorKind::MissingSubcommand, "a subcommand comes first")?)
+}
+
+/// An argument by its number; none if it is not there, is not UTF-8 or is longer than the buffer.
+fn argument<'a>(rt: &HostRuntime, number: usize, buffer: &'a mut [u8]) -> Option<&'a str> {
+    let size = rt.arg(number, buffer).ok()?;
+    str::from_utf8(buffer.get(..size)?).ok()
+}
+
+/// Reports why the arguments cannot be read, for the subcommand that the first two of them say, and returns the status.
+fn end_unread(rt: &HostRuntime, error: ArgumentsError) -> ExitCode {
+    let mut path = [0; MOST_BYTES];
+    let mut word = [0; MOST_BYTES];
+    match Asked::of(argument(rt, 0, &mut path), argument(rt, 1, &mut word)) {
+        Some(asked) => fail(
+            rt,
+            asked.name(),
+            error,
+            error.status(asked.subcommand.failure()),
+        ),
+        None => fail(rt, PROGRAM, error, error.status(NO_SUBCOMMAND)),
+    }
+}
+
+fn main(rt: HostRuntime) -> ExitCode {
+    let arguments = match read_arguments(&rt) {
+        Ok(arguments) => arguments,
+        Err(error) => return end_unread(&rt, error),
+    };
+    let path = arguments.first().map(|path| path.as_str());
+    let word = arguments.get(1).map(|word| word.as_str());
+    let Some(asked) = Asked::of(path, word) else {
+        let error = match why_none(rt.alloc(), arguments.as_slice()) {
+            Ok(error) | Err(error) => error,
+        };
+        return report(&rt, PROGRAM, &error, NO_SUBCOMMAND);
+    };
+    let call = Call {
+        rt: &rt,
+        name: asked.name(),
+        words: arguments.get(asked.place()..).unwrap_or(&[]),
+        failure: asked.subcommand.failure(),
+    };
+    run(&call, asked.subcommand)
+}

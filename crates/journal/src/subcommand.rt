@@ -1,0 +1,90 @@
+//! The subcommands, and how each is asked for.
+
+/// What the program does.
+#[derive(Clone, Copy, Debug, PartialEq, Eq, Drop)]
+pub enum Subcommand {
+    /// Prints a stream as JSON.
+    Dump,
+    /// Makes a stream of JSON.
+    Make,
+    /// Compares two journals.
+    Diff,
+}
+
+impl Subcommand {
+    ghost use Rattle.std.specs.Prelude.{◌≡◌, IfSome, IsNone};
+    ghost use Rattle.journal.specs.declared.subcommand.Subcommand.{Subcommand as AnySubcommand};
+    ghost use Rattle.journal.specs.Subcommands.{subcommand_name};
+
+    /// The subcommand of this name, if there is one.
+    fn named(name: &str) -> Option<Subcommand>
+        ensures some { IfSome result (λ found. name.now ≡ subcommand_name found) }
+        ensures none { IsNone result → (other : AnySubcommand) → name.now ≡ subcommand_name other → ⊥ }
+    {
+        match name {
+            "dump" => Some(Subcommand::Dump),
+            "make" => Some(Subcommand::Make),
+            "diff" => Some(Subcommand::Diff),
+            _ => None,
+        }
+    }
+
+    /// The subcommand that the program of this path is: that whose name is after `journal_` in the last component.
+    fn of_program(path: &str) -> Option<Subcommand> {
+        let name = match path.rsplit_once('/') {
+            Some((_, name)) => name,
+            None => path,
+        };
+        Subcommand::named(name.strip_prefix("journal_")?)
+    }
+
+    /// The status if an allocation, the input or the output fails.
+    pub fn failure(self) -> u8 {
+        match self {
+            Subcommand::Dump => 1,
+            Subcommand::Make | Subcommand::Diff => 2,
+        }
+    }
+}
+
+/// A subcommand that is asked for.
+#[derive(Clone, Copy, Debug, PartialEq, Eq, Drop)]
+pub struct Asked {
+    pub subcommand: Subcommand,
+    /// Whether the program is called by its name, and not by an argument.
+    is_program: bool,
+}
+
+impl Asked {
+    /// What the program's path and its first argument ask for. A path that says a subcommand comes before the argument.
+    pub fn of(path: Option<&str>, word: Option<&str>) -> Option<Asked> {
+        if let Some(subcommand) = path.and_then(Subcommand::of_program) {
+            return Some(Asked {
+                subcommand,
+                is_program: true,
+            });
+        }
+        let subcommand = word.and_then(Subcommand::named)?;
+        Some(Asked {
+            subcommand,
+            is_program: false,
+        })
+    }
+
+    /// How it is called, as messages and the usage show it.
+    pub fn name(self) -> &'static str {
+        match (self.subcommand, self.is_program) {
+            (Subcommand::Dump, true) => "journal_dump",
+            (Subcommand::Dump, false) => "journal dump",
+            (Subcommand::Make, true) => "journal_make",
+            (Subcommand::Make, false) => "journal make",
+            (Subcommand::Diff, true) => "journal_diff",
+            (Subcommand::Diff, false) => "journal diff",
+        }
+    }
+
+    /// How many arguments come before its own.
+    pub fn place(self) -> usize {
+        if self.is_program { 1 } else { 2 }
+    }
+}

@@ -1,5 +1,0 @@
-use Rattle.std.proofs.Common.{length}
-use Rattle.shared_core_callers.proofs.loops.payload_lengths.Given as goal
-
-abbrev pub decreases-loop-lengths : goal.decreases-loop-lengths
-decreases-loop-lengths l = length l.decoder.bytes

@@ -1,0 +1,64 @@
+-- Appending the entries of a field, and of the fields within it.
+use Rattle.std.proofs.Common.{◌≡◌, ℕ, zero, suc, ◌+◌, ◌-◌, ◌<◌, Bool, List, [], ◌∷◌, ◌++◌, map, append_assoc, refl, sym, ap, ◌∙◌, arith}
+use Rattle.std.specs.Prelude.{flat_map}
+use Rattle.shared_core_codec.specs.Table.{table}
+use Rattle.shared_core_codec.specs.Payloads.{payload_meaning}
+use Rattle.shared_core_fields.specs.Fields.{FieldPart, message_fields}
+use Rattle.shared_core_fields.specs.Views.{value_kind, value_part}
+use Rattle.shared_core_fields.specs.Entries.{LevelField, entry_view, within_field, field_entries}
+use Rattle.shared_core_fields.specs.declared.fields.FieldValue.{FieldValue}
+use Rattle.shared_core_fields.specs.declared.fields.FieldValue.TheVariants as v
+use Rattle.shared_core_fields.specs.declared.fields.CanonicalPayload.{CanonicalPayload}
+use Rattle.shared_core_fields.specs.declared.table.Entry.{Entry}
+
+mapped : (xs ys : List Entry) → map entry_view (xs ++ ys) ≡ map entry_view xs ++ map entry_view ys
+mapped [] ys = refl
+mapped (x ∷ xs) ys = ap (λ (es : List LevelField). entry_view x ∷ es) (mapped xs ys)
+
+pub pushed : (xs ys : List Entry) (x : Entry) → ys ≡ xs ++ x ∷ [] → map entry_view ys ≡ map entry_view xs ++ entry_view x ∷ []
+pushed xs ys x e = ap (λ (zs : List Entry). map entry_view zs) e ∙ mapped xs (x ∷ [])
+
+pub turn : (left level : ℕ) (old new all front : List LevelField) (f : FieldPart) (fs rest : List FieldPart) → fs ≡ f ∷ rest → field_entries left level f ≡ front → new ≡ old ++ front
+    → old ++ flat_map (field_entries left level) fs ≡ all → new ++ flat_map (field_entries left level) rest ≡ all
+turn left level old new all front f fs rest e g n h =
+    ap (λ (es : List LevelField). es ++ flat_map (field_entries left level) rest) n ∙ append_assoc old front (flat_map (field_entries left level) rest)
+    ∙ ap (λ (es : List LevelField). old ++ (es ++ flat_map (field_entries left level) rest)) (sym g)
+    ∙ ap (λ (gs : List FieldPart). old ++ flat_map (field_entries left level) gs) (sym e) ∙ h
+
+pub joined : (old mid new es : List LevelField) (x : LevelField) → mid ≡ old ++ x ∷ [] → new ≡ mid ++ es → new ≡ old ++ (x ∷ es)
+joined old mid new es x m n = n ∙ ap (λ (ys : List LevelField). ys ++ es) m ∙ append_assoc old (x ∷ []) es
+
+-- ---- the entries of a field, by what it holds
+
+abbrev inner_entries : ℕ → ℕ → CanonicalPayload → List LevelField
+inner_entries left level m = flat_map (field_entries left level) (message_fields (table m.schema) (payload_meaning m.schema m.bytes.now))
+
+below : (left : ℕ) → left ≡ suc left - 1
+below left = omega arith
+
+pub of_message : (left level n : ℕ) (repeated : Bool) (value : FieldValue) (m : CanonicalPayload) → 0 < left → value ≡ v.Message m
+    → field_entries left level (n, (value_kind value, repeated), value_part value)
+    ≡ (level, (n, (value_kind value, repeated), value_part value)) ∷ flat_map (field_entries (left - 1) (level + 1)) (message_fields (table m.schema) (payload_meaning m.schema m.bytes.now))
+unfolding field_entries
+of_message zero level n repeated value m h e = absurd (omega arith)
+of_message (suc left) level n repeated value m h e =
+    ap (λ (x : FieldValue). (level, (n, (value_kind value, repeated), value_part value)) ∷ within_field (λ s v. flat_map (field_entries left (level + 1)) (message_fields (table s) v)) (n, (value_kind x, repeated), value_part x)) e
+    ∙ ap (λ (l : ℕ). (level, (n, (value_kind value, repeated), value_part value)) ∷ inner_entries l (level + 1) m) (below left)
+
+pub of_last : (left level : ℕ) (f : FieldPart) → left ≡ 0 → field_entries left level f ≡ (level, f) ∷ []
+unfolding field_entries
+of_last zero level f e = refl
+of_last (suc left) level f e = absurd (omega (arith, e))
+
+pub of_other : (left level n : ℕ) (repeated : Bool) (value : FieldValue) → ((m : CanonicalPayload) → value ≡ v.Message m → ⊥)
+    → field_entries left level (n, (value_kind value, repeated), value_part value) ≡ (level, (n, (value_kind value, repeated), value_part value)) ∷ []
+unfolding field_entries
+of_other zero level n repeated value h = refl
+of_other (suc left) level n repeated (v.U32 x) h = refl
+of_other (suc left) level n repeated (v.U64 x) h = refl
+of_other (suc left) level n repeated (v.Boolean x) h = refl
+of_other (suc left) level n repeated (v.Enumeration x) h = refl
+of_other (suc left) level n repeated (v.Text x) h = refl
+of_other (suc left) level n repeated (v.ByteString x) h = refl
+of_other (suc left) level n repeated (v.Message m) h = absurd (h m refl)
+of_other (suc left) level n repeated (v.Numbers x) h = refl

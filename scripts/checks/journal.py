@@ -1,0 +1,174 @@
+#!/usr/bin/env python3
+"""The program journal: its subcommands by either name, its help, and what is no subcommand.
+
+It runs the proved program. `journal dump` and `journal_dump` have to do the same, but for the name with which messages
+begin and which the usage shows; so with journal make and journal diff.
+"""
+from __future__ import annotations
+
+import json
+import pathlib
+import re
+import subprocess
+
+import checks
+import crates
+
+STREAMS = checks.ROOT / "examples" / "streams"
+
+# The arguments of each subcommand, the status and the beginning of an error after the name; the input is a replay.
+RUNS = {
+    "dump": (
+        ((), 0, ""),
+        (("--text", "--no-payload", "--type", "Start,end"), 0, ""),
+        (("--pretty", "-"), 0, ""),
+        (("--strict", "cut_short"), 2, ": offset 21: 8 bytes after the last whole item"),
+        (("nothing",), 2, ": nothing: No such file or directory"),
+        (("--protocol", "4"), 2, "invalid value '4' for '--protocol <VERSION>'"),
+        (("--type", "InputComand"), 2, "no type has the name 'InputComand'; did you mean InputCommand"),
+        (("replay", "other"), 2, "unexpected argument 'other'"),
+        (("--texts",), 2, "a similar argument exists: '--text'"),
+        ((b"\xff",), 2, ": an argument is not UTF-8"),
+        (("--help",), 0, ""),
+        (("--version",), 0, ""),
+    ),
+    "make": (
+        ((), 1, ": -:1: "),
+        (("replay.dump",), 0, ""),
+        (("--protocol=9", "--", "replay.dump"), 0, ""),
+        (("nothing",), 2, ": nothing: No such file or directory"),
+        (("--protocol", "10"), 2, "invalid value '10' for '--protocol <VERSION>'"),
+        (("--type",), 2, "unexpected argument '--type'"),
+        (("replay.dump", b"\xff"), 2, ": an argument is not UTF-8"),
+        (("--help",), 0, ""),
+        (("--version",), 0, ""),
+    ),
+    "diff": (
+        (("replay", "--protocol=5", "-"), 0, ""),
+        (("recorded", "replayed_other_payload"), 1, ""),
+        (("--ignore-payloads", "--protocol", "9", "recorded", "replayed_other_payload"), 0, ""),
+        (("--json", "--color", "never", "recorded", "replayed_other_handler"), 1, ""),
+        (("--strict", "cut_short", "recorded"), 2, ": the recorded journal, offset 21: 8 bytes after the last whole item"),
+        (("cut_short", "recorded"), 1, ": the recorded journal has 8 bytes after its last whole item"),
+        (("-", "-"), 2, "only one journal can come from the standard input"),
+        (("recorded",), 2, "the following required arguments were not provided:\n  <REPLAYED>"),
+        (("--protocol", "10", "recorded", "recorded"), 2, "invalid value '10' for '--protocol <VERSION>'"),
+        (("--payloads", "recorded", "recorded"), 2, "unexpected argument '--payloads'"),
+        ((b"\xff", "recorded"), 2, ": an argument is not UTF-8"),
+        (("--help",), 0, ""),
+        (("--version",), 0, ""),
+    ),
+}
+
+# What is no subcommand, and what the error says of it.
+NO_SUBCOMMAND = (
+    (("list",), "unrecognized subcommand 'list'"),
+    (("view",), "unrecognized subcommand 'view'"),
+    (("dmup",), "a similar subcommand exists: 'dump'"),
+    (("journal_dump",), "unrecognized subcommand 'journal_dump'"),
+    (("",), "unrecognized subcommand ''"),
+    (("--type", "dump"), "unexpected argument '--type'"),
+    (("--", "dump"), "dump"),
+)
+
+# By which names the program is which subcommand; by others it is none.
+PATHS = {
+    "journal_diff": "journal_diff",
+    "./journal_diff": "journal_diff",
+    "/a b/journal_diff": "journal_diff",
+    "journal_diff/": None,
+    "journal_": None,
+    "other_journal_diff": None,
+    "journal_list": None,
+    "": None,
+}
+
+
+class Journal:
+    """The program, and the links to it."""
+
+    def __init__(self, check: checks.Check):
+        self.check = check
+        self.path = check.program("journal")
+        self.links = {name.removeprefix("journal_"): check.program(name) for name in crates.LINKS}
+        self.given = (STREAMS / "replay").read_bytes()
+
+    def run(self, *words: str | bytes | pathlib.Path) -> checks.Run:
+        return checks.run(words, self.given, cwd=STREAMS)
+
+    def both_names(self, name: str) -> None:
+        """A subcommand does the same by both names, and ends as it has to."""
+        for words, status, error in RUNS[name]:
+            by_word = self.run(self.path, name, *words)
+            by_link = self.run(self.links[name], *words)
+            renamed = checks.Run(
+                by_link.status,
+                by_link.out.replace(f"journal_{name} ".encode(), f"journal {name} ".encode()),
+                by_link.err.replace(f"journal_{name}".encode(), f"journal {name}".encode()),
+            )
+            shown = f"{by_word}, and by the other name {by_link}"
+            self.check.case(f"journal {name} and journal_{name} {words}", by_word == renamed, shown)
+            start = f"journal {name}{error}" if error.startswith(":") else error
+            is_right = by_word.status == status and start.encode() in by_word.err and (bool(error) == bool(by_word.err))
+            self.check.case(f"journal {name} {words}", is_right, by_word)
+
+    def helps(self) -> None:
+        """The help names the subcommands and says where the rest is; a subcommand's help is that of --help."""
+        ended = self.run(self.path, "--help")
+        parts = ("Usage: journal <COMMAND>", *(f"\n  {name}  " for name in RUNS), "journal_list", "scripts/run.sh journal view")
+        is_right = ended.status == 0 and not ended.err and all(part.encode() in ended.out for part in parts)
+        self.check.case("journal --help", is_right, ended)
+        named = re.findall(r"^  (\w+)  ", ended.out.decode(), re.M)
+        linked = [name.removeprefix("journal_") for name in crates.LINKS]
+        self.check.same("the subcommands and the links to them", [*linked, "help"], named)
+        installed = checks.run(["sh", "-c", ". scripts/up_to_date.sh && echo $links"], cwd=checks.ROOT)
+        self.check.same("the links that are installed", list(crates.LINKS), installed.out.decode().split())
+        nothing = self.run(self.path)
+        self.check.case("journal without arguments", nothing == checks.Run(2, b"", ended.out), nothing)
+        version = f"journal {checks.library_version()}\n".encode()
+        ended = self.run(self.path, "--version")
+        self.check.case("journal --version", ended == checks.Run(0, version, b""), ended)
+        for name in RUNS:
+            asked, own = self.run(self.path, "help", name), self.run(self.path, name, "--help")
+            self.check.case(f"journal help {name}", asked == own and f"Usage: journal {name} ".encode() in own.out, asked)
+            ended = self.run(self.path, name, "--version")
+            version = f"journal {name} {checks.library_version()}\n".encode()
+            self.check.case(f"journal {name} --version", ended == checks.Run(0, version, b""), ended)
+
+    def no_subcommand(self) -> None:
+        """What is no subcommand is rejected, with the status 2 and nothing on the output."""
+        for words, error in NO_SUBCOMMAND:
+            ended = self.run(self.path, *words)
+            is_right = ended.status == 2 and not ended.out and error.encode() in ended.err
+            self.check.case(f"journal {words}", is_right, ended)
+        ended = self.run(self.path, b"\xff", "dump")
+        expected = checks.Run(2, b"", b"journal: an argument is not UTF-8\n")
+        self.check.case("journal, and no UTF-8", ended == expected, ended)
+
+    def paths(self) -> None:
+        """The last component of the path by which the program is called says the subcommand."""
+        for path, name in PATHS.items():
+            ended = subprocess.run([path, "--version"], executable=self.path, capture_output=True)
+            expected = f"{name or 'journal'} {checks.library_version()}\n".encode()
+            self.check.case(f"the program called as '{path}'", ended.stdout == expected, ended)
+
+    def verdict(self) -> None:
+        """A subcommand's output is whole by the first name too."""
+        ended = self.run(self.path, "diff", "--json", "recorded", "recorded")
+        self.check.case("journal diff --json", json.loads(ended.out) == {"verdict": "same", "commands": 4}, ended)
+        made = checks.run([self.path, "make"], self.run(self.path, "dump").out)
+        self.check.case("journal dump | journal make", made == checks.Run(0, self.given, b""), made)
+
+
+def main(check: checks.Check) -> None:
+    journal = Journal(check)
+    for name in RUNS:
+        journal.both_names(name)
+    journal.helps()
+    journal.no_subcommand()
+    journal.paths()
+    journal.verdict()
+
+
+if __name__ == "__main__":
+    checks.perform(main)

@@ -1,0 +1,672 @@
+"""All that repeats the calls for C, from proto/calls.json: the header, the functions of journal_ffi, what each binding
+declares of the library, and the list of calls for tests/c/hostile_calls.c. Each language has a function here.
+"""
+import pathlib
+import re
+import textwrap
+
+from . import ROOT, laid_out, missing  # noqa: F401
+from .calls_data import BITS, PATH, calls, camel, comment, described, entries, errors, kinds, library_version
+from .calls_data import paragraphs, returned_errors, structs
+from .bindings import snake
+from .proto import schemas, typed
+
+ABOUT = "The calls for C, in each language that has them."
+SOURCE = PATH
+
+WIDTH = 120
+
+
+def filled(text, first, other=None, width=WIDTH):
+    """A paragraph in lines that begin so."""
+    return textwrap.fill(text, width, initial_indent=first, subsequent_indent=first if other is None else other,
+                         break_long_words=False, break_on_hyphens=False)
+
+
+def commented(texts, prefix):
+    """Paragraphs as a comment of lines that begin so."""
+    return f"\n{prefix.rstrip()}\n".join(filled(text, prefix) for text in texts) + "\n"
+
+
+# The header for C.
+
+def block(texts):
+    """A comment of C, on one line if it fits."""
+    if len(texts) == 1 and len(texts[0]) <= WIDTH - 6:
+        return f"/* {texts[0]} */\n"
+    return "/*\n" + commented(texts, " * ") + " */\n"
+
+
+def c_parameters(call):
+    """The parameters of a call in C, as a type and a name each."""
+    found = [f"uint{BITS[name]}_t {name}" for name in call.takes]
+    for name in call.reads:
+        found += [f"const uint8_t *{name}", f"size_t {'length' if name == 'bytes' else name + '_length'}"]
+    if call.flag:
+        found.append(f"uint32_t {call.flag}")
+    if call.numbers:
+        found += [f"struct journal_{call.numbers} *{call.numbers}", f"size_t {call.numbers}_room"]
+    if call.writes:
+        found += ["uint8_t *out", "size_t room"]
+    return found
+
+
+def c_declaration(call):
+    start = f"int64_t {call.symbol()}("
+    # a type and its name stay on one line
+    taken = ", ".join(parameter.replace(" ", "\u00a0") for parameter in c_parameters(call))
+    return filled(taken, start, " " * len(start), WIDTH - 2).replace("\u00a0", " ") + ");\n"
+
+
+def c_definition(name, value, said, width):
+    line = f"#define JOURNAL_{name} {value}"
+    return f"{line:{width}} /* {said} */\n" if said else f"{line}\n"
+
+
+def c_kinds(entry):
+    values = entry["values"]
+    width = max(len(f"#define JOURNAL_{name} {number}") for number, (name, _) in enumerate(values))
+    return block(paragraphs(entry["comment"])) + "".join(
+        c_definition(name, number, said, width) for number, (name, said) in enumerate(values)
+    )
+
+
+def c_struct(entry):
+    name = entry["struct"]
+    width = max(len(field) for field, _ in entry["fields"]) + 1
+    fields = "".join(f"    uint64_t {field + ';':{width}} /* {said} */\n" for field, said in entry["fields"])
+    count = f"#define JOURNAL_{entry['constant']} {len(entry['fields'])}\n"
+    return block(paragraphs(entry["comment"])) + f"struct journal_{name} {{\n{fields}}};\n\n" + block(
+        [f"How many numbers that are: a struct journal_{name} is as an array of them, and the room for one is their count."]
+    ) + count
+
+
+def c_versions(said):
+    first, last = described()["versions"]
+    return f"/* {said} */\n#define JOURNAL_FIRST_VERSION {first}\n#define JOURNAL_LAST_VERSION {last}\n"
+
+
+def c_entry(entry):
+    if "call" in entry:
+        call = next(call for call in calls() if call.call == entry["call"])
+        return block(comment(call)) + c_declaration(call)
+    if "kinds" in entry:
+        return c_kinds(entry)
+    if "struct" in entry:
+        return c_struct(entry)
+    if "versions" in entry:
+        return c_versions(entry["versions"])
+    if "schemas" in entry:
+        return f"/* {entry['schemas']} */\n#define JOURNAL_SCHEMAS {len(schemas())}\n"
+    return f"/* {entry['library_version']} */\n#define JOURNAL_LIBRARY_VERSION \"{library_version()}\"\n"
+
+
+PREAMBLE = """\
+/*
+ * pendratsoa: the journal protocol of the Restate SDKs, for C99 and C++.
+ *
+ * Memory. The caller owns all of it, before, during and after a call. A call reads the `const` slices, writes the
+ * others, and keeps no pointer; nothing that it allocates outlives it, and nothing has to be freed. Every pointer comes
+ * with a count of elements, that to a struct with the count of its numbers; if the count is 0 it may be null. What a
+ * call writes overlaps nothing else of that call.
+ *
+ * Results. A call returns a number that is not negative, or one of the errors below. One that writes bytes returns how
+ * many they are, and writes them if `room` is at least as much; if it is less, the slice is unchanged, and the call can
+ * be repeated with enough room. After an error all that a call could write is unchanged. Texts are UTF-8 and have no
+ * zero byte at the end.
+ *
+ * Threads. Calls share nothing: any number of threads may make them at once.
+ */
+#ifndef PENDRATSOA_H
+#define PENDRATSOA_H
+
+#include <stddef.h>
+#include <stdint.h>
+
+#ifdef __cplusplus
+extern "C" {
+#endif
+
+"""
+
+KIND_OF_ERROR = """\
+/*
+ * The kind of an error, by the result of a call: JOURNAL_UNKNOWN of JOURNAL_UNKNOWN_TYPE. The errors of a kind are its
+ * number and multiples of -16 below it; a later library may tell further ones apart. Of a result that is no error it is
+ * not negative.
+ */
+#define JOURNAL_KIND_OF_ERROR(result) ((result) % 16)
+"""
+
+END = "\n#ifdef __cplusplus\n}\n#endif\n\n#endif\n"
+
+
+def header():
+    text = PREAMBLE
+    for error in errors():
+        text += f"/* {error['comment']} */\n#define JOURNAL_{error['name']} ({error['number']})\n"
+    text += f"\n{KIND_OF_ERROR}"
+    for section in described()["sections"]:
+        said = [" ".join([section["title"], *section.get("comment", [])])]
+        text += "\n/*\n" + commented(said, " * ") + " */\n"
+        text += "".join(f"\n{c_entry(entry)}" for entry in section["has"])
+        if any("schemas" in entry for entry in section["has"]):
+            text += "\n" + c_protocol()
+    return text + END
+
+
+def c_protocol():
+    """The codes of the types and the numbers of the schemas by name, which the header has with the other numbers."""
+    codes = {f"JOURNAL_{snake(message.type_name())}": f"0x{message.code:04X}" for message in typed()}
+    numbers = {f"JOURNAL_SCHEMA_{snake(schema_name(message))}": message.schema for message in schemas()}
+    assert len(set(codes) | set(numbers)) == len(typed()) + len(schemas()), "two constants of one name"
+    return "/* The codes of the types. */\n" + defined(codes) + "\n/* The numbers of the schemas. */\n" + defined(numbers)
+
+
+def schema_name(message):
+    """The name of a record without the word that those of messages have."""
+    return message.name.replace("Message", "")
+
+
+def defined(values):
+    return "".join(f"#define {name} {value}\n" for name, value in values.items())
+
+
+# The functions of journal_ffi, in Rattle.
+
+FFI = "crates/journal_ffi/src"
+
+FFI_MODULES = {
+    "commands": "The calls that compare two commands of a type, given by their payloads.",
+    "frames": "The calls that make headers and frames.",
+    "items": "The call that reads streams.",
+    "journals": "The call that compares two journals.",
+    "names": "The calls on names and numbers.",
+    "notifications": "The call that reads notifications.",
+    "payloads": "The calls on payloads, given by the numbers of their schemas.",
+}
+
+FFI_ROOT = """\
+//! The protocol for callers in C, over slices of bytes and numbers: `include/pendratsoa.h` documents the calls in C's
+//! terms.
+//!
+//! Each call returns a number that is not negative, or an error's number, which is negative. One that writes bytes
+//! returns how many they are, and writes them if and only if the slice has room for all of them; an error leaves each
+//! slice unchanged. No call keeps its arguments, or leaves anything to free. A struct of C is a slice of its numbers.
+#![tactic(auto)]
+
+"""
+
+# What contracts cite of std: the name, and the word or the sign by which it is found.
+PRELUDE = (("◌≡◌", "≡"), ("[]", "[]"), ("◌∷◌", "∷"), ("Ok", "Ok"), ("codes", "codes"), ("nat_lt", "nat_lt"), ("length", "length"))
+
+
+def definitions():
+    """The module of each public definition of journal_c_api, by its name."""
+    found = {}
+    for file in sorted((ROOT / "crates/journal_c_api/specs").glob("*.antt")):
+        for name in re.findall(r"^(?:abbrev )?pub (\w+) :", file.read_text(encoding="utf-8"), re.M):
+            found[name] = file.stem
+    return found
+
+
+def ffi_parameters(call):
+    found = ["alloc: Global"] if call.allocates else []
+    found += [f"{name}: u{BITS[name]}" for name in call.takes]
+    found += [f"{name}: &[u8]" for name in call.reads]
+    found += [f"{call.flag}: u32"] if call.flag else []
+    found += [f"{call.numbers}: &mut [u64]"] if call.numbers else []
+    return found + (["out: &mut [u8]"] if call.writes else [])
+
+
+def ffi_function(call):
+    arguments = [parameter.partition(":")[0] for parameter in ffi_parameters(call)]
+    arguments = [f"{name} != 0" if name == call.flag else name for name in arguments]
+    contract = call.contract.replace("VERSION", library_version())
+    plain = contract if re.fullmatch(r"\S+", contract) else f"({contract})"
+    return (
+        commented(comment(call), "/// ")
+        + f'#[unsafe(no_mangle)]\npub extern "C" fn {call.symbol()}({", ".join(ffi_parameters(call))}) -> i64\n'
+        + f"    ensures {{ Returns result {plain} }}\n{{\n    outcome_of({call.does}({', '.join(arguments)}))\n}}\n"
+    )
+
+
+def ffi_module(module, found):
+    text = "".join("\n" + ffi_function(call) for call in found)
+    contracts = " ".join(call.contract for call in found)
+    words = set(re.findall(r"\w+", contracts))
+    prelude = [name for name, sign in PRELUDE if sign in (words if sign.isalpha() or "_" in sign else contracts)]
+    cited = {"Outcomes": ["Returns"]}
+    for name, place in definitions().items():
+        if name in words:
+            cited.setdefault(place, []).append(name)
+    imports = [f"ghost use Rattle.std.specs.Prelude.{{{', '.join(prelude)}}};"] if prelude else []
+    imports += [
+        f"ghost use Rattle.journal_c_api.specs.{place}.{{{', '.join(names)}}};" for place, names in sorted(cited.items())
+    ]
+    does = sorted({call.does.partition("::")[0] for call in found})
+    uses = f"use journal_c_api::{does[0]};" if len(does) == 1 else f"use journal_c_api::{{{', '.join(does)}}};"
+    used = [uses, "use journal_c_api::outcome::outcome_of;"]
+    used += ["use std::alloc::Global;"] if any(call.allocates for call in found) else []
+    return f"//! {FFI_MODULES[module]}\n\n" + "\n".join(imports) + "\n\n" + "\n".join(sorted(used)) + "\n" + text
+
+
+def ffi():
+    texts = {f"{FFI}/lib.rt": FFI_ROOT + "".join(f"pub mod {module};\n" for module in FFI_MODULES)}
+    for module in FFI_MODULES:
+        texts[f"{FFI}/{module}.rt"] = ffi_module(module, [call for call in calls() if call.module == module])
+    return laid_out(texts)
+
+
+# Python.
+
+def class_name(error):
+    """The class of an error's kind, as Malformed."""
+    kind = next(kind for kind in errors() if kind["number"] == -(-error["number"] % 16))
+    return camel(kind["name"], True, with_capitals=False)
+
+
+def python_tuple(values):
+    return f'({", ".join(values)}{"," if len(values) == 1 else ""})'
+
+
+def python():
+    text = '"""What the library for C declares: its calls, the numbers that they write, and their errors."""\n\n'
+    text += "from enum import IntEnum\nfrom typing import Dict, Tuple\n\n"
+    first, last = described()["versions"]
+    text += f"FIRST_VERSION = {first}\nLAST_VERSION = {last}\n\n"
+    text += "# the parameters of each call: the bits of a number, a slice, or the struct that is written\n"
+    text += "CALLS: Dict[str, Tuple[str, ...]] = {\n"
+    for call in calls():
+        text += f'    "{call.symbol()}": {python_tuple([quoted(word) for word in shapes(call)])},\n'
+    text += "}\n\n# how many numbers each struct has\n"
+    for entry in structs().values():
+        text += f"{entry['constant']} = {len(entry['fields'])}\n"
+    text += "\n# the class of each error, and the names of the arguments one of which it is about\n"
+    text += "ERRORS: Dict[int, Tuple[str, Tuple[str, ...]]] = {\n"
+    for error in returned_errors():
+        text += f'    {error["number"]}: ("{class_name(error)}", {python_tuple([quoted(name) for name in error["about"]])}),\n'
+    text += "}\n"
+    for entry in kinds():
+        if entry["python"]:
+            said = entry.get("what", " ".join(entry["comment"]))
+            text += f'\n\nclass {entry["python"]}(IntEnum):\n    """{said}"""\n\n'
+            text += "".join(f"    {name} = {number}\n" for number, name in numbered(entry))
+    return text
+
+
+def quoted(word):
+    return f'"{word}"'
+
+
+def numbered(entry):
+    """The kinds that a binding shows, with their numbers."""
+    return [(number, name) for number, (name, _) in enumerate(entry["values"]) if number >= entry.get("from", 0)]
+
+
+def shapes(call):
+    """What a call takes, in a word for each parameter or slice."""
+    found = [f"u{BITS[name]}" for name in call.takes] + ["slice" for _ in call.reads]
+    found += ["u32"] if call.flag else []
+    return found + (["slice"] if call.numbers else []) + (["slice"] if call.writes else [])
+
+
+# Ruby.
+
+def ruby():
+    text = "# frozen_string_literal: true\n\n# What the library for C declares: its calls, the numbers that they write, and their errors.\nmodule Pendratsoa\n"
+    first, last = described()["versions"]
+    text += f"  FIRST_VERSION = {first}\n  LAST_VERSION = {last}\n"
+    for entry in kinds():
+        said = entry.get("what", " ".join(entry["comment"]))
+        text += "\n" + commented([said], "  # ")
+        names = " ".join(name.lower() for _, name in numbered(entry))
+        text += filled(f"{entry['ruby']} = %i[{names}].freeze", "  ", "    ") + "\n"
+    hidden = [entry["ruby"] for entry in kinds() if not entry["python"]]
+    text += "".join(f"  private_constant :{name}\n" for name in hidden)
+    text += "\n  # How many numbers each struct has, and of which words each call has a parameter: the bits of a number, or a slice.\n"
+    for entry in structs().values():
+        text += f"  {entry['constant']} = {len(entry['fields'])}\n"
+    text += "  CALLS = {\n" + ",\n".join(f"    {call.symbol()}: %i[{' '.join(shapes(call))}]" for call in calls())
+    text += "\n  }.freeze\n"
+    text += "\n  # The class of each error, and the arguments one of which it is about.\n  ERRORS = {\n"
+    rows = [f"    {error['number']} => [:{class_name(error)}, %i[{' '.join(error['about'])}]]" for error in returned_errors()]
+    text += ",\n".join(rows) + "\n  }.freeze\n"
+    hidden = [entry["constant"] for entry in structs().values()] + ["CALLS", "ERRORS"]
+    return text + "  private_constant " + ", ".join(f":{name}" for name in hidden) + "\nend\n"
+
+
+# Node.
+
+def node():
+    text = "// What the library for C declares: the kinds that calls write, how many numbers each struct has, and the errors.\n"
+    for entry in kinds():
+        names = "".join(f"  '{camel(name, False, with_capitals=False)}',\n" for name, _ in entry["values"])
+        text += f"\n/** {' '.join(entry['comment'])} */\nexport const {entry['node']} = [\n{names}];\n"
+    for entry in structs().values():
+        text += f"\n/** The indices of the numbers of a {entry['struct']}, and how many there are. */\n"
+        fields = ", ".join(f"{camel(field, False)}: {index}" for index, (field, _) in enumerate(entry["fields"]))
+        text += f"export const {entry['struct'].upper()} = {{ {fields} }};\n"
+        text += f"export const {entry['constant']} = {len(entry['fields'])};\n"
+    text += "\n/** The class of each error by its number, and the names of the arguments one of which it is about. */\n"
+    text += "export const ERRORS = new Map([\n"
+    for error in returned_errors():
+        names = ", ".join(f"'{camel(name, False)}'" for name in error["about"])
+        text += f"  [{error['number']}, ['{class_name(error)}', [{names}]]],\n"
+    return text + "]);\n"
+
+
+# What a parameter of JavaScript is read into, by its name.
+SECONDS = ("second", "replayed")
+
+
+def node_calls():
+    """The functions of the addon and their table, for its C."""
+    text = "/* The calls of pendratsoa.h as functions of JavaScript, with the same parameters in the same order. */\n"
+    rows = ""
+    for call in calls():
+        given = [f"arguments->{name}" for name in call.takes]
+        parameters = [name.upper() for name in call.takes]
+        for name in call.reads:
+            place = "second" if name in SECONDS else "first"
+            given += [f"arguments->{place}.bytes", f"arguments->{place}.length"]
+            parameters.append("CHUNK" if name == "bytes" else name.upper())
+        if call.flag:
+            given.append("arguments->ignore_payloads")
+            parameters.append(call.flag.upper())
+        if call.numbers:
+            given += ["(void *)arguments->numbers", "arguments->numbers_room"]
+            parameters.append("NUMBERS")
+        if call.writes:
+            given += ["arguments->out.bytes", "arguments->out.length"]
+            parameters.append("OUT")
+        start = f"    return {call.symbol()}("
+        made = filled(", ".join(given).replace("(void *)", "(void\u00a0*)"), start, " " * len(start), WIDTH)
+        text += f"\nstatic int64_t {call.call}(const struct arguments *arguments) {{\n{made});\n}}\n"
+        rows += f'    {{"{camel(call.call, False, with_capitals=False)}", {call.call}, {{{", ".join(parameters)}}}}},\n'
+    return text.replace("\u00a0", " ") + f"\n/* All of them, as rows of the table of functions. */\n#define CALLS \\\n" + rows.replace(
+        ",\n", ", \\\n"
+    ).rstrip(" \\\n") + "\n"
+
+
+# Go.
+
+def go_name(entry, name):
+    """The name of a kind."""
+    _, prefix, is_public = entry["go"]
+    return prefix + camel(name, True) if is_public else prefix + camel(name, True)
+
+
+GO_HEAD = '''// Code generated by tools/generate.py. DO NOT EDIT.
+
+package pendratsoa
+
+/*
+#cgo pkg-config: pendratsoa
+#include <pendratsoa.h>
+*/
+import "C"
+
+// The protocol versions.
+const (
+	FirstVersion = C.JOURNAL_FIRST_VERSION
+	LastVersion  = C.JOURNAL_LAST_VERSION
+)
+
+// Schemas is the number of schemas, whose numbers begin at 0.
+const Schemas = C.JOURNAL_SCHEMAS
+
+'''
+
+GO_REST = '''// What follows are the calls for C in the types of Go, a slice for a pointer and its count. The library keeps no
+// pointer, and what the pointers lead to holds none, as the rules of cgo want it.
+
+func pointer(slice []byte) *C.uint8_t {
+	if len(slice) == 0 {
+		return nil
+	}
+	return (*C.uint8_t)(&slice[0])
+}
+
+func count[Element any](slice []Element) C.size_t {
+	return C.size_t(len(slice))
+}
+
+func flag(isSet bool) C.uint32_t {
+	if isSet {
+		return 1
+	}
+	return 0
+}
+'''
+
+
+def go_constants(values):
+    """A block of constants, the equals signs below each other."""
+    width = max(len(name) for name, _ in values)
+    return "const (\n" + "".join(f"\t{name:{width}} = {value}\n" for name, value in values) + ")\n"
+
+
+def go_kinds(entry):
+    kind, _, is_public = entry["go"]
+    names = [(go_name(entry, name), name, said) for name, said in entry["values"]]
+    shown = names[entry.get("from", 0) :]
+    hidden = names[: entry.get("from", 0)]
+    said = entry.get("what", " ".join(entry["comment"]))
+    if not is_public:
+        return f"// {said}\n".replace(said, filled(said, "", "// ", WIDTH - 3)) + go_constants(
+            [(name, f"C.JOURNAL_{constant}") for name, constant, _ in names]
+        ) + "\n"
+    text = "".join(f"const {camel(constant, False)} = C.JOURNAL_{constant}\n\n" for _, constant, _ in hidden)
+    text += f"// {said}\nconst (\n"
+    if any(about for _, _, about in shown):
+        for name, constant, about in shown:
+            text += filled(f"{name}: {about}.", "\t// ", width=WIDTH - 3) + f"\n\t{name} {kind} = C.JOURNAL_{constant}\n"
+    else:
+        width = max(len(name) for name, _, _ in shown)
+        text += "".join(f"\t{name:{width}} {kind} = C.JOURNAL_{constant}\n" for name, constant, _ in shown)
+    listed = "".join(f'\t"{name}",\n' for name, _, _ in shown)
+    variable = f"namesOf{kind}"
+    return text + f")\n\n// The names of the kinds, from the first on.\nvar {variable} = []string{{\n{listed}}}\n\n"
+
+
+def go_call(call):
+    parameters = [(camel(name, False), f"uint{BITS[name]}") for name in call.takes]
+    given = [f"C.uint{BITS[name]}_t({camel(name, False)})" for name in call.takes]
+    for name in call.reads:
+        parameters.append((name, "[]byte"))
+        given += [f"pointer({name})", f"count({name})"]
+    if call.flag:
+        parameters.append((camel(call.flag, False), "bool"))
+        given.append(f"flag({camel(call.flag, False)})")
+    if call.numbers:
+        parameters.append((call.numbers, f"*[{structs()[call.numbers]['constant'].lower()}]uint64".replace(
+            structs()[call.numbers]["constant"].lower(), camel(structs()[call.numbers]["constant"], False))))
+        given += [f"(*C.struct_journal_{call.numbers})(unsafe.Pointer({call.numbers}))", f"C.size_t(len({call.numbers}))"]
+    if call.writes:
+        parameters.append(("out", "[]byte"))
+        given += ["pointer(out)", "count(out)"]
+    taken = ", ".join(f"{name} {kind}" for name, kind in parameters)
+    made = ", ".join(given)
+    line = f"\treturn int64(C.{call.symbol()}({made}))\n"
+    if len(line) > WIDTH - 3:
+        wrapped = filled(made, "\t\t", width=WIDTH - 6)
+        line = f"\treturn int64(C.{call.symbol()}(\n{wrapped},\n\t))\n"
+    start = f"func {camel(call.symbol(), False)}({taken}) int64 {{\n"
+    if len(start) > WIDTH - 1:
+        start = f"func {camel(call.symbol(), False)}(\n\t{taken},\n) int64 {{\n"
+    return f"\n{start}{line}}}\n"
+
+
+def go():
+    text = GO_HEAD.replace('import "C"\n', 'import "C"\n\nimport "unsafe"\n')
+    text += "// The errors of the calls for C.\n"
+    text += go_constants([(camel(error["name"], False), f"C.JOURNAL_{error['name']}") for error in returned_errors()]) + "\n"
+    text += "// The indices of the numbers that the calls for C write, and how many there are.\n"
+    for entry in structs().values():
+        name, constant = entry["struct"], camel(entry["constant"], False)
+        values = [(camel(f"{name}_{field}", False), str(index)) for index, (field, _) in enumerate(entry["fields"])]
+        text += go_constants([*values, (constant, f"C.JOURNAL_{entry['constant']}")]) + "\n"
+    for entry in kinds():
+        text += go_kinds(entry)
+    return text + GO_REST + "".join(go_call(call) for call in calls())
+
+
+# Rust.
+
+# The kinds that are public enums of Rust, which are hand-written.
+RUST_ENUMS = ("reading", "verdict")
+
+RUST_HEAD = """\
+//! What the header declares: its calls, each with a safe function over slices, the numbers that they write, and their
+//! errors.
+//!
+//! Each safe function here gives its call the pointer and the length of every slice. So what the header requires of its
+//! callers holds: a slice that is written is exclusively borrowed, and overlaps no other.
+
+use super::{count, written, About, Refusal, Result};
+
+"""
+
+
+def rust():
+    text = RUST_HEAD
+    for entry in kinds():
+        is_enum = entry["kinds"] in RUST_ENUMS
+        shown = [name for name, _ in entry["values"]][: entry.get("from", 0) if is_enum else None]
+        text += "".join(f"pub(crate) const {name}: u64 = {number};\n" for number, name in enumerate(shown))
+    text += "\n"
+    text += "/// The calls as the header declares them.\nmod c {\n    extern \"C\" {\n"
+    for call in calls():
+        text += f"        pub fn {call.symbol()}({', '.join(rust_raw(call))}) -> i64;\n"
+    text += "    }\n}\n\nimpl From<i64> for Refusal {\n    fn from(returned: i64) -> Refusal {\n        match returned {\n"
+    for error in returned_errors():
+        kind, about = class_name(error), rust_about(error)
+        text += f"            {error['number']} => Refusal::{kind}{f'(About::{about})' if kind in WITH_ABOUT else ''},\n"
+    text += "            unlisted => Refusal::Unlisted(unlisted),\n        }\n    }\n}\n"
+    return text + "".join(rust_call(call) for call in calls())
+
+
+# The kinds of errors of which several arguments can be the reason, and how an argument is named in Rust.
+WITH_ABOUT = ("Malformed", "Unknown")
+ABOUTS = {"version": "Version", "schema": "Schema", "code": "Type", "payload": "Payload", "second": "Second"}
+
+
+def rust_about(error):
+    return ABOUTS[error["about"][0]] if error["about"] else None
+
+
+def rust_raw(call):
+    found = [f"{name}: u{BITS[name]}" for name in call.takes]
+    for name in call.reads:
+        found += [f"{name}: *const u8", f"{'length' if name == 'bytes' else name + '_length'}: usize"]
+    found += [f"{call.flag}: u32"] if call.flag else []
+    found += [f"{call.numbers}: *mut u64", f"{call.numbers}_room: usize"] if call.numbers else []
+    return found + (["out: *mut u8", "room: usize"] if call.writes else [])
+
+
+def rust_call(call):
+    parameters = [f"{name}: u{BITS[name]}" for name in call.takes] + [f"{name}: &[u8]" for name in call.reads]
+    given = list(call.takes)
+    for name in call.reads:
+        given += [f"{name}.as_ptr()", f"{name}.len()"]
+    if call.flag:
+        parameters.append(f"{call.flag}: bool")
+        given.append(f"u32::from({call.flag})")
+    if call.numbers:
+        parameters.append(f"{call.numbers}: &mut [u64; {len(structs()[call.numbers]['fields'])}]")
+        given += [f"{call.numbers}.as_mut_ptr()", f"{call.numbers}.len()"]
+    is_fixed = call.writes and call.writes is not True
+    if is_fixed:
+        parameters.append(f"out: &mut [u8; {call.writes}]")
+        given += ["out.as_mut_ptr()", "out.len()"]
+    safety = "// SAFETY: each pointer comes with the length of its slice; those that are written are borrowed for it\n"
+    if call.writes and not is_fixed:
+        times, more = call.room
+        lengths = [f"{name}.len()" if times == 1 else f"{times} * {name}.len()" for name in call.reads] if times else []
+        guess = " + ".join([*lengths, *([str(more)] if more or not lengths else [])])
+        made = f"c::{call.symbol()}({', '.join([*given, 'out', 'room'])})"
+        body = (
+            "    // SAFETY: each pointer comes with the length of its slice, and the call writes at most `room` bytes and\n"
+            f"    // returns how many they are\n    unsafe {{ written({guess}, |out, room| {made}) }}\n"
+        )
+        result = "Vec<u8>"
+    else:
+        body = f"    {safety}    count(unsafe {{ c::{call.symbol()}({', '.join(given)}) }})\n"
+        result = "usize"
+    return f"\npub(crate) fn {call.call}({', '.join(parameters)}) -> Result<{result}> {{\n{body}}}\n"
+
+
+# The list of calls for tests/c/hostile_calls.c.
+
+def listed():
+    names = [error["name"] for error in returned_errors()]
+    text = "/* The calls, what the header says of each, and how each is made: for hostile_calls.c. */\n\n"
+    text += filled(", ".join([*(call.call.upper() for call in calls()), "CALLS"]), "enum call {\n    ", "    ") + "\n};\n\n"
+    text += filled(", ".join(["NO_ERROR", *names, "ERRORS"]), "enum error {\n    ", "    ") + "\n};\n\n"
+    text += "static const int64_t error_numbers[ERRORS] = {\n    0,\n" + "".join(f"    JOURNAL_{name},\n" for name in names) + "};\n\n"
+    text += (
+        "static const struct {\n    const char *name;\n    int inputs;\n    size_t numbers;\n    int writes;\n"
+        "    unsigned errors;\n    int kinds;\n} listed[CALLS] = {\n"
+    )
+    for call in calls():
+        bits = " | ".join(f"1u << {name}" for name in call.error_names()) or "0"
+        numbers = f"JOURNAL_{structs()[call.numbers]['constant']}" if call.numbers else 0
+        row = f"[{call.call.upper()}] = {{\"{call.symbol()}\", {len(call.reads)}, {numbers}, {int(bool(call.writes))}, {bits}, {kinds_of(call)}}},"
+        text += filled(row, "    ", "        ") + "\n"
+    text += "};\n\nstatic int64_t make(const struct request *r, const struct slice *slices) {\n"
+    text += "    const struct slice *first = &slices[FIRST], *second = &slices[SECOND], *out = &slices[OUT];\n"
+    text += "    void *numbers = slices[NUMBERS].at;\n    size_t count = slices[NUMBERS].length / 8;\n\n    switch (r->call) {\n"
+    for call in calls():
+        given = [f"r->{name}" for name in call.takes]
+        for place, _ in zip(("first", "second"), call.reads):
+            given += [f"{place}->at", f"{place}->length"]
+        given += [f"r->{call.flag}"] if call.flag else []
+        given += ["numbers", "count"] if call.numbers else []
+        given += ["out->at", "out->length"] if call.writes else []
+        start = f"        return {call.symbol()}("
+        text += f"    case {call.call.upper()}:\n" + filled(", ".join(given), start, " " * len(start)) + ");\n"
+    return text + "    default: abort();\n    }\n}\n"
+
+
+# How many results are told apart of the calls that write a struct, where that is not the number of its kinds.
+KINDS_OF = {"item": 1, "notification": 0}
+
+
+def kinds_of(call):
+    """How many kinds of results it has that are no errors."""
+    if call.numbers is None:
+        return call.kinds_of_results
+    lengths = {entry["kinds"]: len(entry["values"]) for entry in kinds()}
+    if call.numbers == "notification":
+        return lengths["id"] * lengths["result"]
+    # of an item that bytes are missing, too
+    return lengths[call.numbers] + KINDS_OF.get(call.numbers, 0)
+
+
+def files():
+    return {
+        "include/pendratsoa.h": header(),
+        **ffi(),
+        "python/pendratsoa/_declared.py": python(),
+        "ruby/lib/pendratsoa/declared.rb": ruby(),
+        "node/lib/declared.js": node(),
+        "node/src/calls.h": node_calls(),
+        "go/library.go": go(),
+        "rust/src/ffi/declared.rs": rust(),
+        "tests/c/calls.h": listed(),
+    }
+
+
+def paths():
+    return [
+        "go/library.go",
+        "include/pendratsoa.h",
+        "node/lib/declared.js",
+        "node/src/calls.h",
+        "python/pendratsoa/_declared.py",
+        "ruby/lib/pendratsoa/declared.rb",
+        "rust/src/ffi/declared.rs",
+        "tests/c/calls.h",
+        *(f"{FFI}/{module}.rt" for module in ("lib", *FFI_MODULES)),
+    ]

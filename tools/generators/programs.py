@@ -1,0 +1,218 @@
+"""The definitions of the programs' command lines for clap, and what completions, man pages and pages take of the
+description of the programs."""
+import functools
+import pathlib
+import re
+import tomllib
+
+from . import ROOT, laid_out, missing  # noqa: F401
+from .proto import typed
+from .record_vectors import LAST_VERSION
+
+ABOUT = "The definitions of the programs' command lines."
+SOURCE = "proto/programs.toml"
+
+# The crates of programs, and the program that has subcommands.
+CRATES = ("journal", "journal_list")
+JOURNAL = "journal"
+
+# The versions of the protocol that a program takes.
+VERSIONS = [str(number) for number in range(5, LAST_VERSION + 1)]
+
+KEYS = {"help", "page", "value", "values", "completed", "default", "repeated", "required"}
+
+HEADER = "include/pendratsoa.h"
+
+
+class Argument:
+    """An option, which has a long name, or an operand."""
+
+    def __init__(self, name, entry, is_option):
+        if unknown := entry.keys() - KEYS:
+            raise ValueError(f"{SOURCE}: {name} has {', '.join(sorted(unknown))}")
+        self.name = name
+        self.is_option = is_option
+        self.help = entry["help"]
+        self.page = entry["page"]
+        self.value = entry.get("value")
+        self.has_versions = entry.get("values") == "versions"
+        self.values = VERSIONS if self.has_versions else entry.get("values", [])
+        self.default = entry.get("default")
+        self.is_repeated = entry.get("repeated", False)
+        self.is_required = entry.get("required", False)
+        completed = entry.get("completed", self.values)
+        # what completion offers; nothing for the name of a file
+        self.completed = [message.type_name() for message in typed()] if completed == "types" else completed
+        self.is_file = not is_option and "completed" not in entry and not self.values
+
+    def definition(self):
+        """The call that defines it for clap."""
+        if not self.is_option:
+            code = call("operand", "alloc", self.name, self.value, self.help)
+        elif self.value is None:
+            code = call("flag", "alloc", self.name, self.help)
+        else:
+            code = call("option", "alloc", self.name, self.value, self.help)
+        if self.has_versions:
+            code += ".value_parser(Version::supported_numbers())"
+        elif self.values:
+            code += f".value_parser(&[{', '.join(map(quoted, self.values))}][..])"
+        if self.is_repeated:
+            code += ".action(ArgAction::Append)"
+        if self.default is not None:
+            code += f".default_value({quoted(self.default)})"
+        if self.is_required:
+            code += ".required(true)"
+        return code
+
+    def shown_value(self, is_whole):
+        """Its value as a page shows it; where it is said whole, by all that it may be."""
+        if self.has_versions:
+            return f"{self.values[0]}..{self.values[-1]}"
+        return "|".join(self.values) if is_whole and self.values else self.value
+
+    def synopsis(self):
+        """It in the line of a program's usage."""
+        text = self.value if not self.is_option else f"--{self.name}"
+        if self.is_option and self.value:
+            text += f" {self.shown_value(False)}"
+        text = text if self.is_required else f"[{text}]"
+        return f"{text}.." if self.is_repeated else text
+
+    def tag(self):
+        """It at the head of what a page says of it."""
+        if not self.is_option:
+            return f"`{self.value}`"
+        return f"`--{self.name}{f' {self.shown_value(True)}' if self.value else ''}`"
+
+
+class Program:
+    """A program, or a subcommand of journal, by the name under which it is installed."""
+
+    def __init__(self, name, entry):
+        self.name = name
+        self.crate = entry["crate"]
+        self.about = entry["about"]
+        self.more = entry.get("more")
+        self.options = [Argument(long, each, True) for long, each in entry.get("options", {}).items()]
+        self.operands = [Argument(id, each, False) for id, each in entry.get("operands", {}).items()]
+
+    @property
+    def arguments(self):
+        return [*self.options, *self.operands]
+
+    @property
+    def is_subcommand(self):
+        return self.crate == JOURNAL and self.name != JOURNAL
+
+    @property
+    def command(self):
+        """The subcommand's name; what a program without subcommands does, in one word."""
+        return self.name.removeprefix(f"{JOURNAL}_")
+
+    @property
+    def called(self):
+        """How it is called: a subcommand after the program's name."""
+        return f"{JOURNAL} {self.command}" if self.is_subcommand else self.name
+
+    def synopses(self):
+        """How it is used, in a line for each way to call it."""
+        if self.name == JOURNAL:
+            return [f"{JOURNAL} COMMAND [ARGUMENT].."]
+        words = [argument.synopsis() for argument in self.arguments]
+        return [" ".join([name, *words]) for name in dict.fromkeys([self.called, self.name])]
+
+    def items(self):
+        """What a page says of each argument, or of each subcommand: its tag, and a text."""
+        if self.name == JOURNAL:
+            return [(f"`{each.command}`", each.about) for each in subcommands()]
+        return [*((argument.tag(), argument.page) for argument in self.arguments), ("`--help`, `--version`", common()["page"])]
+
+    def definition(self):
+        """The function that defines it for clap."""
+        if self.name == JOURNAL:
+            return self.definition_of_subcommands()
+        arguments = "?".join(f".arg({argument.definition()})" for argument in self.arguments)
+        return (
+            f"/// The definition of `{self.called}`, which help and errors show by this name.\n"
+            f"pub fn {self.command}<'a>(alloc: Global, name: &'a str) -> Result<Command<'a>, AllocError> {{\n"
+            f"Command::new(alloc, name).version(VERSION).about({quoted(self.about)}){arguments}\n}}\n"
+        )
+
+    def definition_of_subcommands(self):
+        """The function that defines the program with its subcommands."""
+        added = "?".join(f".subcommand({each.command}(alloc, {quoted(each.command)})?)" for each in subcommands())
+        return (
+            f"/// The definition of `{JOURNAL}`, with its subcommands.\n"
+            f"pub fn {JOURNAL}<'a>(alloc: Global) -> Result<Command<'a>, AllocError> {{\n"
+            f"Command::new(alloc, {quoted(JOURNAL)}).version(VERSION).about({quoted(self.about)})"
+            f".after_help({quoted(self.more)}).subcommand_required(true).arg_required_else_help(true){added}\n}}\n"
+        )
+
+
+def quoted(text):
+    """A literal of Rattle."""
+    return '"' + text.replace("\\", "\\\\").replace('"', '\\"') + '"'
+
+
+def call(function, first, *texts):
+    return f"{function}({first}, {', '.join(map(quoted, texts))})"
+
+
+def heading(program):
+    """The heading above its arguments in the man page."""
+    return "COMMANDS" if program.name == JOURNAL else "OPTIONS"
+
+
+@functools.cache
+def described():
+    """What the file says."""
+    with (ROOT / SOURCE).open("rb") as file:
+        return tomllib.load(file)
+
+
+def common():
+    """What every program has: the help and the version."""
+    return described()["common"]
+
+
+@functools.cache
+def programs():
+    """The programs and the subcommands, in their order."""
+    return [Program(name, entry) for name, entry in described().items() if name != "common"]
+
+
+def subcommands():
+    return [program for program in programs() if program.is_subcommand]
+
+
+def program(name):
+    return next(each for each in programs() if each.name == name)
+
+
+def version():
+    """The version of the library and of the programs."""
+    return re.search(r'^#define JOURNAL_LIBRARY_VERSION "(.*)"$', (ROOT / HEADER).read_text(encoding="utf-8"), re.M)[1]
+
+
+def definitions(crate):
+    """The file with the definitions of a crate's command lines."""
+    own = [each for each in programs() if each.crate == crate]
+    # that with subcommands comes after them
+    code = "\n".join(each.definition() for each in sorted(own, key=lambda each: each.name == JOURNAL))
+    clap = ["ArgAction", "Command"] if "ArgAction" in code else ["Command"]
+    helpers = [name for name in ("flag", "operand", "option") if f"{name}(alloc, " in code]
+    return (
+        "//! The definitions of the command lines.\n\n"
+        f"use clap::{{{', '.join(clap)}}};\nuse command_line::{{{', '.join(helpers)}}};\n"
+        "use shared_core_base::version::Version;\nuse std::alloc::{AllocError, Global};\n\n"
+        f"const VERSION: &str = {quoted(version())};\n\n{code}"
+    ).replace("use clap::{Command};", "use clap::Command;")
+
+
+def paths():
+    return [f"crates/{crate}/src/definitions.rt" for crate in CRATES]
+
+
+def files():
+    return laid_out({path: definitions(pathlib.PurePath(path).parts[1]) for path in paths()})
