@@ -17,11 +17,8 @@ from generators import rattle
 
 WIDTH = 120
 
-# What `rt fmt` keeps on one line: a path, an attribute, a text.
-IS_KEPT = re.compile(r' *(ghost use|#\[)|.*"')
-
-# Files of definitions and proofs that still have longer lines, sorted. The list may only become shorter.
-STILL_LONG = pathlib.Path("scripts/checks/long_lines.txt")
+# What stays on one line: an import of one path, an attribute, a text.
+IS_KEPT = re.compile(r' *(ghost use|#\[)|use \S+(\{[^,]*\})?( as \w+)?$|.*"')
 
 
 def files(*folders: str, endings: tuple[str, ...]) -> list[pathlib.Path]:
@@ -56,24 +53,14 @@ def too_long(file: pathlib.Path) -> list[str]:
 
 
 def long_lines(check: checks.Check) -> None:
-    """Lines of code have at most 120 characters, but for what `rt fmt` keeps on one line."""
+    """Lines of code, definitions and proofs have at most 120 characters, but for what stays on one line."""
     found = [
-        place for file in files("crates", "tests", "examples", endings=(".rt", ".rt.in")) for place in too_long(file)
+        place
+        for file in files("crates", "tests", "examples", endings=(".rt", ".rt.in", ".antt"))
+        for place in too_long(file)
         if not IS_KEPT.match(place.split(":", 2)[2])
     ]
     check.case(f"lines of at most {WIDTH} characters", not found, "".join(found[:checks.LINES]))
-
-
-def long_definitions(check: checks.Check) -> None:
-    """Lines of definitions and proofs too, but for the files that are listed."""
-    listed = STILL_LONG.read_text(encoding="utf-8").splitlines()
-    check.case(f"{STILL_LONG} is sorted", listed == sorted(set(listed)))
-    long = {str(file): places for file in files("crates", endings=(".antt",)) if (places := too_long(file))}
-    for file in sorted({*listed, *long}):
-        if file not in listed:
-            check.case(f"lines of at most {WIDTH} characters", False, "".join(long[file][:checks.LINES]))
-        else:
-            check.case(f"{file} has no longer line: take it off {STILL_LONG}", file in long)
 
 
 def complaint(edit: pathlib.Path) -> str | None:
@@ -125,7 +112,6 @@ def tried_mutants(check: checks.Check) -> None:
 def main(check: checks.Check) -> None:
     layout(check)
     long_lines(check)
-    long_definitions(check)
     mutants(check)
     tried_mutants(check)
 

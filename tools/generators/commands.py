@@ -252,7 +252,7 @@ def chained_fields(command):
         steps += f"    let w{at} = c.{call if last else f'in_ok-{call}'}.ensures {'ok' if last else '(refl {a = true})'} in\n"
     chain = "nothing_written writes _"
     for at in range(len(rows), 0, -1):
-        chain = f"append _ _ _ _ _ w{at} ({chain})"
+        chain = f"append _ _ _ _ _ w{at}\n        ({chain})"
     return (
         ("use Rattle.std.proofs.Common.{refl, true}\n" if len(rows) > 1 else "")
         + f"use Rattle.{CRATE}.proofs.Fields.{{fields_append, nothing_written}}\n"

@@ -18,4 +18,15 @@ returns g c ok =
     let w10 = c.in_ok-write_number.ensures (refl {a = true}) in
     let w11 = c.write_number-2.ensures ok in
     let append = fields_append writes in
-    append _ _ _ _ _ w1 (append _ _ _ _ _ w2 (append _ _ _ _ _ w3 (append _ _ _ _ _ w4 (append _ _ _ _ _ w5 (append _ _ _ _ _ w6 (append _ _ _ _ _ w7 (append _ _ _ _ _ w8 (append _ _ _ _ _ w9 (append _ _ _ _ _ w10 (append _ _ _ _ _ w11 (nothing_written writes _)))))))))))
+    append _ _ _ _ _ w1
+    (append _ _ _ _ _ w2
+    (append _ _ _ _ _ w3
+    (append _ _ _ _ _ w4
+    (append _ _ _ _ _ w5
+    (append _ _ _ _ _ w6
+    (append _ _ _ _ _ w7
+    (append _ _ _ _ _ w8
+    (append _ _ _ _ _ w9
+    (append _ _ _ _ _ w10
+    (append _ _ _ _ _ w11
+    (nothing_written writes _)))))))))))

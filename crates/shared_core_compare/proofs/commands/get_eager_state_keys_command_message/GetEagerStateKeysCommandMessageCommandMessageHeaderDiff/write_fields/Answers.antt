@@ -7,4 +7,5 @@ returns g c ok =
     let writes = g.F.DifferenceForm.writes c.args.form.now in
     let w1 = c.write_message.ensures ok in
     let append = fields_append writes in
-    append _ _ _ _ _ w1 (nothing_written writes _)
+    append _ _ _ _ _ w1
+    (nothing_written writes _)

@@ -17,4 +17,14 @@ returns g c ok =
     let w9 = c.in_ok-write_optional_text-3.ensures (refl {a = true}) in
     let w10 = c.write_number.ensures ok in
     let append = fields_append writes in
-    append _ _ _ _ _ w1 (append _ _ _ _ _ w2 (append _ _ _ _ _ w3 (append _ _ _ _ _ w4 (append _ _ _ _ _ w5 (append _ _ _ _ _ w6 (append _ _ _ _ _ w7 (append _ _ _ _ _ w8 (append _ _ _ _ _ w9 (append _ _ _ _ _ w10 (nothing_written writes _))))))))))
+    append _ _ _ _ _ w1
+    (append _ _ _ _ _ w2
+    (append _ _ _ _ _ w3
+    (append _ _ _ _ _ w4
+    (append _ _ _ _ _ w5
+    (append _ _ _ _ _ w6
+    (append _ _ _ _ _ w7
+    (append _ _ _ _ _ w8
+    (append _ _ _ _ _ w9
+    (append _ _ _ _ _ w10
+    (nothing_written writes _))))))))))

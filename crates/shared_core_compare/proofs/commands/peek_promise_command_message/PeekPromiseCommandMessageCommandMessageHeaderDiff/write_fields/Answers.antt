@@ -9,4 +9,6 @@ returns g c ok =
     let w1 = c.in_ok-write_text.ensures (refl {a = true}) in
     let w2 = c.write_number.ensures ok in
     let append = fields_append writes in
-    append _ _ _ _ _ w1 (append _ _ _ _ _ w2 (nothing_written writes _))
+    append _ _ _ _ _ w1
+    (append _ _ _ _ _ w2
+    (nothing_written writes _))

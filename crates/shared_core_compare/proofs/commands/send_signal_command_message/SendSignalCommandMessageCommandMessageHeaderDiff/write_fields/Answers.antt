@@ -10,4 +10,7 @@ returns g c ok =
     let w2 = c.in_ok-write_oneof.ensures (refl {a = true}) in
     let w3 = c.write_oneof-2.ensures ok in
     let append = fields_append writes in
-    append _ _ _ _ _ w1 (append _ _ _ _ _ w2 (append _ _ _ _ _ w3 (nothing_written writes _)))
+    append _ _ _ _ _ w1
+    (append _ _ _ _ _ w2
+    (append _ _ _ _ _ w3
+    (nothing_written writes _)))
