@@ -1,6 +1,6 @@
 //! Payloads of any schema, decoded and written again.
 
-ghost use Rattle.std.specs.Prelude.{[], ◌∷◌, ℕ, List};
+ghost use Rattle.std.specs.Prelude.{[], ◌∷◌};
 ghost use Rattle.journal_c_api.specs.Outcomes.{Writes, bytes_of};
 ghost use Rattle.journal_c_api.specs.Payloads.{ReturnsCanonical, ReturnsMerged, ReturnsJson, ReturnsMeaning};
 ghost use Rattle.journal_c_api.specs.Payloads.{ReturnsWellFormed, MeansRecord, EncodesPayload, TellsParts};
@@ -112,21 +112,21 @@ fn merged(alloc: Global, schema: u32, first: &[u8], second: &[u8]) -> Result<Vec
         first,
         second,
     };
-    tell_parts(
-        schema,
-        first,
-        visit_record(schema, merging).ok_or(CallError::UnknownSchema)?,
-    )
+    match visit_record(schema, merging) {
+        Some(merged) => tell_parts(schema, first, second, merged),
+        None => Err(CallError::UnknownSchema),
+    }
 }
 
 /// The error of two payloads of which one is malformed: which it is. Other results are returned as they are.
 fn tell_parts(
     schema: u32,
     first: &[u8],
+    _second: &[u8],
     merged: Result<Vec<u8>, CallError>,
 ) -> Result<Vec<u8>, CallError>
-    ensures { (rest : List (List ℕ)) → ReturnsMeaning schema first.now rest (bytes_of merged)
-        → TellsParts schema first.now rest (bytes_of result) }
+    requires { ReturnsMeaning schema first.now (_second.now ∷ []) (bytes_of merged) }
+    ensures { TellsParts schema first.now (_second.now ∷ []) (bytes_of result) }
 {
     match merged {
         Err(CallError::Malformed) if check::is_well_formed(schema, first) => {
