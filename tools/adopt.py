@@ -10,7 +10,7 @@ protoc, git and, from generating on, the Rattle toolchain. Nothing here is chang
     --table               only says that, and writes nothing
     --all                 shows the fields that are the same, too
     --no-build            ends before the programs are built
-    --programs NAMES      builds these, of dump,list,diff,make
+    --programs NAMES      builds these, of journal,journal_list
     --stream FILE         dumps this stream of theirs, too
     --rename THEIRS=OURS  messages, or fields as Message.field, that are called otherwise there; may be repeated
 
@@ -34,7 +34,7 @@ sys.dont_write_bytecode = True
 from generators import ROOT, Refused, descriptors, forms, proto, renumbered  # noqa: E402
 from generators.model import COMMANDS, NOTIFICATIONS, json_name, snake  # noqa: E402
 
-PROGRAMS = ("dump", "list", "diff", "make")
+PROGRAMS = ("journal", "journal_list")
 
 # How a comment says the code of a type, in one number or as a sum.
 NUMBER = r"(0x[0-9A-Fa-f]+|\d+)"
@@ -864,7 +864,7 @@ def compared(dump, expected):
 
 def built(out, name):
     """The process that builds a program without proofs."""
-    words = ["sh", out / "scripts" / "program.sh", "--unproved", f"journal_{name}"]
+    words = ["sh", out / "scripts" / "program.sh", "--unproved", name]
     return subprocess.Popen(words, stdout=subprocess.PIPE, stderr=subprocess.PIPE, text=True)
 
 
@@ -878,15 +878,15 @@ def build(out, names):
         name, process = running.pop(0)
         _, err = process.communicate()
         if process.returncode == 0:
-            print(f"built journal_{name}, without proofs", flush=True)
+            print(f"built {name}, without proofs", flush=True)
         else:
             failed.append(name)
-            print(f"adopt: journal_{name} is not built:\n{err.strip()[-4000:]}", file=sys.stderr, flush=True)
+            print(f"adopt: {name} is not built:\n{err.strip()[-4000:]}", file=sys.stderr, flush=True)
     return failed
 
 
 def dumped(out, file):
-    ended = subprocess.run(["sh", out / "scripts" / "run.sh", "dump", file], capture_output=True, text=True)
+    ended = subprocess.run(["sh", out / "scripts" / "run.sh", "journal", "dump", file], capture_output=True, text=True)
     return ended.stdout, ended.stderr
 
 
@@ -972,7 +972,7 @@ def main():
 def tried(asked, expected):
     """Builds the programs, and dumps the stream; the status."""
     failed = build(asked.out, asked.programs.split(","))
-    if "dump" not in asked.programs.split(",") or "dump" in failed:
+    if "journal" not in asked.programs.split(",") or "journal" in failed:
         return 1 if failed else 0
     shown, told = dumped(asked.out, asked.out / "theirs.stream")
     print("\n".join(shown.splitlines()[:3]))
@@ -994,7 +994,7 @@ def tried(asked, expected):
 NEXT = """
 Next, in {out}:
   git diff proto/                               what the description is now
-  sh scripts/run.sh dump STREAM                 a stream of theirs; without proofs it is slow
+  sh scripts/run.sh journal dump STREAM         a stream of theirs; without proofs it is slow
   sh scripts/check.sh table                     what hand-written tables do not say yet (new fields of commands)
   sh scripts/test.sh --quick                    what tests quote of the numbers here
   rt all check                                  proves the library for these numbers, or says where not, in hours
