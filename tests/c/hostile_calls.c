@@ -743,7 +743,9 @@ static void make_wanted(struct work *work, struct request *request, int kind, en
         request->schema = JOURNAL_SCHEMAS + below(work, 300);
     }
     if (error == UNKNOWN_TYPE || (error == UNKNOWN_VERSION && one_of(work, 2))) {
-        request->code = call == NOTIFICATION ? CALL_COMMAND : call == TYPE_NAME ? 0x0004 : 0x8002;
+        request->code = call == NOTIFICATION ? CALL_COMMAND
+                      : call == HEADER_EQ || call == DIFFERENCE ? JOURNAL_SIGNAL_NOTIFICATION
+                                                                : 0x0004;
         if (call == TYPE_CODE) {
             PUT(first, "callCommand");
         }
