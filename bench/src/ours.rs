@@ -32,13 +32,14 @@ impl From<Error> for Refusal {
 
 impl From<i64> for Refusal {
     fn from(result: i64) -> Refusal {
-        match result {
+        // the kind of the error, which also the errors that name their argument have
+        match result % 16 {
             -1 => Refusal::Malformed,
             -2 => Refusal::OutOfMemory,
             -3 => Refusal::NoRoom,
             -4 => Refusal::TooLong,
             -5 => Refusal::Unknown,
-            other => Refusal::Unlisted(other.to_string()),
+            _ => Refusal::Unlisted(result.to_string()),
         }
     }
 }

@@ -1,20 +1,14 @@
 //! Benchmark work: comparing commands with their second decodings.
 
-ghost use Rattle.std.specs.Prelude.{◌≡◌, ◌≤◌, Some};
-ghost use Rattle.shared_core_base.specs.Version.{version_number};
-ghost use Rattle.shared_core_compare.specs.Erasure.{AreSame};
-ghost use Rattle.shared_core.specs.Visiting.{command_schema};
-ghost use Rattle.bench_ffi.specs.Comparisons.{ReturnsComparisons, ComparesAll};
-ghost use Rattle.bench_ffi.specs.Comparisons.{ComparesItem, ComparesPayload, HoldsInRounds};
+ghost use Rattle.std.specs.Prelude.{◌≡◌};
 
-use crate::chunked_stream::ChunkedStream;
+use crate::streams::push;
 use bytes::Bytes;
 use journal_c_api::outcome::{CallError, version_of};
-use shared_core::encoding::{DecodeMessage, Item, RawMessage};
+use shared_core::encoding::{DecodeMessage, Decoder, Item, RawMessage};
 use shared_core::messages::{
     CommandMessage, CommandMessageHeaderEq, CommandVisitor, visit_command,
 };
-use shared_core::version::Version;
 use std::alloc::Global;
 
 /// Decodes each command of a stream twice, compares the two this many times, and returns the number of equal
@@ -25,50 +19,18 @@ pub fn compare(
     stream: &[u8],
     ignore_payloads: bool,
     rounds: usize,
-) -> Result<usize, CallError>
-    ensures { ReturnsComparisons version stream.now rounds result }
-{
-    let version = version_of(version)?;
-    let stream = Bytes::copy_from_slice(alloc, stream)?;
-    compare_all(alloc, version, stream, ignore_payloads, rounds)
-}
-
-/// Compares each command of a stream.
-fn compare_all(
-    alloc: Global,
-    version: Version,
-    stream: Bytes,
-    ignore_payloads: bool,
-    rounds: usize,
-) -> Result<usize, CallError>
-    requires { 5 ≤ version_number version }
-    ensures { ComparesAll rounds version stream result }
-{
-    let mut chunked = ChunkedStream::new(alloc, version, stream, 0);
+) -> Result<usize, CallError> {
+    let mut decoder = Decoder::new(alloc, version_of(version)?);
+    push(&mut decoder, Bytes::copy_from_slice(alloc, stream)?)?;
     let mut count: usize = 0;
-    while let Some(item) = chunked.next_item()? {
-        let equal = compare_item(alloc, item, ignore_payloads, rounds)?;
-        let Some(sum) = count.checked_add(equal) else {
-            return Err(CallError::TooLong);
+    for item in decoder.items() {
+        let Item::Message(message) = item? else {
+            continue;
         };
-        count = sum;
+        let equal = compare_message(alloc, &message, ignore_payloads, rounds)?;
+        count = count.checked_add(equal).ok_or(CallError::TooLong)?;
     }
     Ok(count)
-}
-
-/// Compares an item that is a command.
-fn compare_item(
-    alloc: Global,
-    item: Item,
-    ignore_payloads: bool,
-    rounds: usize,
-) -> Result<usize, CallError>
-    ensures { ComparesItem rounds item result }
-{
-    match item {
-        Item::Message(message) => compare_message(alloc, &message, ignore_payloads, rounds),
-        Item::Unknown(_) | Item::Skipped(_, _) => Ok(0),
-    }
 }
 
 /// Compares a message that is a command, by the record of its type.
@@ -77,9 +39,7 @@ fn compare_message(
     message: &RawMessage,
     ignore_payloads: bool,
     rounds: usize,
-) -> Result<usize, CallError>
-    ensures { ComparesPayload rounds (command_schema message.now.header.ty) message.now.payload result }
-{
+) -> Result<usize, CallError> {
     let comparing = Comparing {
         alloc,
         message,
@@ -106,9 +66,6 @@ impl<'a> CommandVisitor for Comparing<'a> {
 
     ghost may_visit = { λ self ty. self.message.now.header.ty ≡ ty };
 
-    ghost results = { λ self ty schema output. ComparesPayload self.rounds
-        (Some schema) self.message.now.payload output };
-
     fn visit<M: CommandMessage>(self) -> Result<usize, CallError> {
         let first = self.message.decode_as::<M>(self.alloc)?;
         let second = self.message.decode_as::<M>(self.alloc)?;
@@ -122,15 +79,14 @@ fn count_same<M: CommandMessageHeaderEq>(
     second: &M,
     ignore_payloads: bool,
     rounds: usize,
-) -> usize
-    ensures { HoldsInRounds (AreSame M.schema ignore_payloads (M.parts first.now) (M.parts second.now)) rounds result }
-{
+) -> usize {
     // they take turns, so that no round repeats the one before it
     let (mut current, mut other) = (first, second);
-    let mut count = 0;
+    let mut count: usize = 0;
     for _round in 0..rounds {
         if current.header_eq(other, ignore_payloads) {
-            count += 1;
+            // at most `rounds`
+            count = count.wrapping_add(1);
         }
         (current, other) = (other, current);
     }

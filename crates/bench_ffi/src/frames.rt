@@ -1,15 +1,7 @@
 //! Benchmark work: encoding messages to frames.
 
-ghost use Rattle.std.specs.Prelude.{◌≡◌, ◌≤◌};
-ghost use Rattle.shared_core_base.specs.Version.{version_number};
-ghost use Rattle.shared_core_message.specs.Messages.{message_schema};
-ghost use Rattle.journal_c_api.specs.Outcomes.{Writes};
-ghost use Rattle.journal_c_api.specs.Payloads.{ReturnsFrame, ReturnsFrameOf, EncodesForm, EncodesFrame};
-
-use crate::rounds::repeated;
 use bytes::{Bytes, BytesMut};
 use journal_c_api::outcome::{CallError, version_of, write_over};
-use journal_c_api::payloads::decoded;
 use shared_core::encoding::Encoder;
 use shared_core::header::MessageType;
 use shared_core::messages::{MessageVisitor, RestateEncodableMessage, visit_message};
@@ -45,7 +37,6 @@ const BLOCK: usize = 65_536;
 const HELD: usize = 1024;
 
 /// Writes the frame, at a version, of the message of a named type that a payload encodes.
-#[tactic(auto, using(journal_c_api::proofs::Writing::writes_outcome))]
 pub fn write_frame(
     alloc: Global,
     version: u32,
@@ -53,9 +44,7 @@ pub fn write_frame(
     payload: &[u8],
     rounds: Rounds,
     out: &mut [u8],
-) -> Result<usize, CallError>
-    ensures { Writes (ReturnsFrame version code payload.now) out.old out.new result }
-{
+) -> Result<usize, CallError> {
     let frame = frame(alloc, version, code, payload, rounds)?;
     write_over(&frame, out);
     Ok(frame.len())
@@ -68,9 +57,7 @@ fn frame(
     code: u16,
     payload: &[u8],
     rounds: Rounds,
-) -> Result<Bytes, CallError>
-    ensures { ReturnsFrame version code payload.now result }
-{
+) -> Result<Bytes, CallError> {
     let encoder = Encoder::new(version_of(version)?);
     let ty = MessageType::try_from(code)?;
     frame_of(alloc, encoder, ty, payload, rounds)
@@ -83,9 +70,7 @@ fn frame_of(
     ty: MessageType,
     payload: &[u8],
     rounds: Rounds,
-) -> Result<Bytes, CallError>
-    ensures { ReturnsFrameOf ty (message_schema ty) encoder.version payload.now result }
-{
+) -> Result<Bytes, CallError> {
     let framing = Framing {
         alloc,
         encoder,
@@ -107,10 +92,9 @@ struct Framing<'a> {
 impl<'a> MessageVisitor for Framing<'a> {
     type Output = Result<Bytes, CallError>;
 
-    ghost results = { λ self ty schema output. EncodesFrame ty schema self.encoder.version self.payload.now output };
-
     fn visit<M: RestateEncodableMessage + Debug>(self) -> Result<Bytes, CallError> {
-        let message = decoded::<M>(self.alloc, self.payload)?;
+        let payload = Bytes::copy_from_slice(self.alloc, self.payload)?;
+        let message = M::decode(self.alloc, payload)?;
         match self.rounds.buffer {
             Buffer::New => encode_new(self.alloc, self.encoder, &message, self.rounds.count),
             Buffer::Reused => encode_reused(self.alloc, self.encoder, &message, self.rounds.count),
@@ -126,14 +110,11 @@ fn encode_new<M: RestateEncodableMessage>(
     encoder: Encoder,
     message: &M,
     rounds: usize,
-) -> Result<Bytes, CallError>
-    ensures { EncodesForm M.message_type (M.wire_form message.now encoder.version) result }
-{
-    repeated(
-        rounds,
-        &mut [],
-        |_words| Ok(encoder.encode(alloc, message)?),
-    )
+) -> Result<Bytes, CallError> {
+    for _round in 1..rounds {
+        encoder.encode(alloc, message)?;
+    }
+    Ok(encoder.encode(alloc, message)?)
 }
 
 /// The same, but all rounds have one buffer, which is cleared before each.
@@ -142,9 +123,7 @@ fn encode_reused<M: RestateEncodableMessage>(
     encoder: Encoder,
     message: &M,
     rounds: usize,
-) -> Result<Bytes, CallError>
-    ensures { EncodesForm M.message_type (M.wire_form message.now encoder.version) result }
-{
+) -> Result<Bytes, CallError> {
     let mut frame = Vec::new(alloc);
     for _round in 1..rounds {
         frame.clear();
@@ -164,9 +143,7 @@ fn encode_spare<M: RestateEncodableMessage>(
     encoder: Encoder,
     message: &M,
     rounds: usize,
-) -> Result<Bytes, CallError>
-    ensures { EncodesForm M.message_type (M.wire_form message.now encoder.version) result }
-{
+) -> Result<Bytes, CallError> {
     let mut frame = BytesMut::new(alloc);
     for _round in 1..rounds {
         frame.clear();
@@ -186,9 +163,7 @@ fn encode_shared<M: RestateEncodableMessage>(
     encoder: Encoder,
     message: &M,
     rounds: usize,
-) -> Result<Bytes, CallError>
-    ensures { EncodesForm M.message_type (M.wire_form message.now encoder.version) result }
-{
+) -> Result<Bytes, CallError> {
     let mut block = BytesMut::with_capacity(alloc, BLOCK)?;
     let mut held = Vec::with_capacity(alloc, HELD)?;
     for round in 1..rounds {
@@ -209,9 +184,7 @@ fn shared_frame<M: RestateEncodableMessage>(
     encoder: &Encoder,
     message: &M,
     block: &mut BytesMut,
-) -> Result<Bytes, CallError>
-    ensures { EncodesForm M.message_type (M.wire_form message.now encoder.now.version) result }
-{
+) -> Result<Bytes, CallError> {
     block.clear();
     encoder.encode_into_bytes(message, block)?;
     Ok(block.freeze_to(block.len())?)

@@ -2,18 +2,11 @@
 //! library of their own, so that the library for C holds none of them.
 #![tactic(auto)]
 
-ghost use Rattle.journal_c_api.specs.Outcomes.{Returns, Writes};
-ghost use Rattle.journal_c_api.specs.Payloads.{ReturnsFrame, ReturnsWellFormed};
-ghost use Rattle.bench_ffi.specs.Comparisons.{ReturnsComparisons};
-ghost use Rattle.bench_ffi.specs.Streams.{ReturnsItems, ReturnsMessages};
-
-mod chunked_stream;
 mod commands;
 mod frames;
 mod item_refs;
 mod messages;
 mod payloads;
-mod rounds;
 mod streams;
 
 use crate::frames::{Buffer, Rounds};
@@ -35,9 +28,7 @@ pub extern "C" fn measure_items(
     chunk_size: usize,
     rounds: usize,
     words: &mut [u64],
-) -> i64
-    ensures { Returns result (ReturnsItems version stream.now words.new) }
-{
+) -> i64 {
     outcome_of(streams::items(alloc, version, stream, chunk_size, rounds, words))
 }
 
@@ -48,9 +39,7 @@ pub extern "C" fn measure_item_refs(
     stream: &[u8],
     rounds: usize,
     words: &mut [u64],
-) -> i64
-    ensures { Returns result (ReturnsItems version stream.now words.new) }
-{
+) -> i64 {
     outcome_of(item_refs::items(version, stream, rounds, words))
 }
 
@@ -63,9 +52,7 @@ pub extern "C" fn measure_messages(
     stream: &[u8],
     chunk_size: usize,
     rounds: usize,
-) -> i64
-    ensures { Returns result (ReturnsMessages version stream.now) }
-{
+) -> i64 {
     outcome_of(streams::messages(alloc, version, stream, chunk_size, rounds))
 }
 
@@ -80,9 +67,7 @@ pub extern "C" fn measure_compare(
     stream: &[u8],
     ignore_payloads: u32,
     rounds: usize,
-) -> i64
-    ensures { Returns result (ReturnsComparisons version stream.now rounds) }
-{
+) -> i64 {
     outcome_of(commands::compare(alloc, version, stream, ignore_payloads != 0, rounds))
 }
 
@@ -97,9 +82,7 @@ pub extern "C" fn measure_frame(
     payload: &[u8],
     rounds: usize,
     out: &mut [u8],
-) -> i64
-    ensures { Returns result (Writes (ReturnsFrame version code payload.now) out.old out.new) }
-{
+) -> i64 {
     let rounds = Rounds {
         count: rounds,
         buffer: Buffer::New,
@@ -117,9 +100,7 @@ pub extern "C" fn measure_frame_into(
     payload: &[u8],
     rounds: usize,
     out: &mut [u8],
-) -> i64
-    ensures { Returns result (Writes (ReturnsFrame version code payload.now) out.old out.new) }
-{
+) -> i64 {
     let rounds = Rounds {
         count: rounds,
         buffer: Buffer::Reused,
@@ -136,9 +117,7 @@ pub extern "C" fn measure_frame_spare(
     payload: &[u8],
     rounds: usize,
     out: &mut [u8],
-) -> i64
-    ensures { Returns result (Writes (ReturnsFrame version code payload.now) out.old out.new) }
-{
+) -> i64 {
     let rounds = Rounds {
         count: rounds,
         buffer: Buffer::Spare,
@@ -155,9 +134,7 @@ pub extern "C" fn measure_frame_shared(
     payload: &[u8],
     rounds: usize,
     out: &mut [u8],
-) -> i64
-    ensures { Returns result (Writes (ReturnsFrame version code payload.now) out.old out.new) }
-{
+) -> i64 {
     let rounds = Rounds {
         count: rounds,
         buffer: Buffer::Shared,
@@ -167,8 +144,6 @@ pub extern "C" fn measure_frame_shared(
 
 /// As `journal_is_well_formed`, but repeated `rounds` times (0 counts as 1).
 #[unsafe(no_mangle)]
-pub extern "C" fn measure_well_formed(schema: u32, payload: &[u8], rounds: usize) -> i64
-    ensures { Returns result (ReturnsWellFormed schema payload.now) }
-{
+pub extern "C" fn measure_well_formed(schema: u32, payload: &[u8], rounds: usize) -> i64 {
     outcome_of(payloads::is_well_formed(schema, payload, rounds))
 }

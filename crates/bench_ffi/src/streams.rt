@@ -1,20 +1,12 @@
 //! Benchmark work: reading streams of frames in chunks.
 
-ghost use Rattle.std.specs.Prelude.{◌≡◌, ◌≤◌};
-ghost use Rattle.shared_core_base.specs.Version.{version_number};
-ghost use Rattle.bench_ffi.specs.Streams.{ReturnsItems, ReturnsMessages, WritesWords};
-ghost use Rattle.bench_ffi.specs.Streams.{DecodesAll, DecodesItem, HasWord, item_word};
-
-use crate::chunked_stream::ChunkedStream;
 use crate::messages::decode;
-use crate::rounds::repeated;
 use bytes::Bytes;
 use journal_c_api::outcome::{CallError, version_of};
-use shared_core::encoding::Item;
-use shared_core::version::Version;
+use shared_core::encoding::{Decoder, Item, PushError};
 use std::alloc::Global;
 
-/// The numbers of the items of a stream, which is read this many times.
+/// The numbers of the items of a stream, which is read this many times (0 counts as 1).
 pub fn items(
     alloc: Global,
     version: u32,
@@ -22,61 +14,55 @@ pub fn items(
     chunk_size: usize,
     rounds: usize,
     words: &mut [u64],
-) -> Result<usize, CallError>
-    ensures { ReturnsItems version stream.now words.new result }
-{
-    let version = version_of(version)?;
+) -> Result<usize, CallError> {
     let stream = Bytes::copy_from_slice(alloc, stream)?;
-    repeated(rounds, words, |words| {
-        write_words(alloc, version, &stream, chunk_size, words)
-    })
+    for _round in 1..rounds {
+        write_words(alloc, version, &stream, chunk_size, words)?;
+    }
+    write_words(alloc, version, &stream, chunk_size, words)
 }
 
-/// The messages of named types of a stream, which is read this many times, each decoded to its record.
+/// The messages of named types of a stream, which is read this many times (0 counts as 1), each decoded to its record.
 pub fn messages(
     alloc: Global,
     version: u32,
     stream: &[u8],
     chunk_size: usize,
     rounds: usize,
-) -> Result<usize, CallError>
-    ensures { ReturnsMessages version stream.now result }
-{
-    let version = version_of(version)?;
+) -> Result<usize, CallError> {
     let stream = Bytes::copy_from_slice(alloc, stream)?;
-    repeated(rounds, &mut [], |_words| {
-        decode_all(alloc, version, &stream, chunk_size)
-    })
+    for _round in 1..rounds {
+        decode_all(alloc, version, &stream, chunk_size)?;
+    }
+    decode_all(alloc, version, &stream, chunk_size)
 }
 
 /// Writes the number of each item, and returns how many items there are.
 fn write_words(
     alloc: Global,
-    version: Version,
+    version: u32,
     stream: &Bytes,
     chunk_size: usize,
     words: &mut [u64],
-) -> Result<usize, CallError>
-    requires { 5 ≤ version_number version }
-    ensures { WritesWords version stream.now words.new result }
-{
-    let mut chunked = ChunkedStream::new(alloc, version, stream.clone()?, chunk_size);
+) -> Result<usize, CallError> {
+    let mut decoder = Decoder::new(alloc, version_of(version)?);
+    let mut unpushed = stream.clone()?;
     let mut count = 0;
-    while let Some(item) = chunked.next_item()? {
-        if count == words.len() {
-            return Err(CallError::NoRoom);
+    for _chunk in 0..chunks_of(stream, chunk_size) {
+        push_chunk(&mut decoder, &mut unpushed, chunk_size)?;
+        for item in decoder.items() {
+            let Some(word) = words.get_mut(count) else {
+                return Err(CallError::NoRoom);
+            };
+            *word = word_of(item?);
+            count += 1;
         }
-        words[count] = word_of(item);
-        count += 1;
     }
     Ok(count)
 }
 
 /// The number of an item.
-fn word_of(item: Item) -> u64
-    requires { HasWord item }
-    ensures { result ≡ item_word item }
-{
+fn word_of(item: Item) -> u64 {
     match item {
         Item::Message(message) => u64::from(message.header()),
         Item::Unknown(code) => u64::from(code) << 48,
@@ -87,27 +73,54 @@ fn word_of(item: Item) -> u64
 /// Decodes each message of a named type, and returns how many there are.
 fn decode_all(
     alloc: Global,
-    version: Version,
+    version: u32,
     stream: &Bytes,
     chunk_size: usize,
-) -> Result<usize, CallError>
-    requires { 5 ≤ version_number version }
-    ensures { DecodesAll version stream.now result }
-{
-    let mut chunked = ChunkedStream::new(alloc, version, stream.clone()?, chunk_size);
-    let mut count = 0;
-    while let Some(item) = chunked.next_item()? {
-        count += decode_item(alloc, item)?;
+) -> Result<usize, CallError> {
+    let mut decoder = Decoder::new(alloc, version_of(version)?);
+    let mut unpushed = stream.clone()?;
+    let mut count: usize = 0;
+    for _chunk in 0..chunks_of(stream, chunk_size) {
+        push_chunk(&mut decoder, &mut unpushed, chunk_size)?;
+        for item in decoder.items() {
+            let Item::Message(message) = item? else {
+                continue;
+            };
+            let records = decode(alloc, &message)?;
+            count = count.checked_add(records).ok_or(CallError::TooLong)?;
+        }
     }
     Ok(count)
 }
 
-/// Decodes an item that is a message, and returns how many records that are.
-fn decode_item(alloc: Global, item: Item) -> Result<usize, CallError>
-    ensures { DecodesItem item result }
-{
-    match item {
-        Item::Message(message) => decode(alloc, &message),
-        Item::Unknown(_) | Item::Skipped(_, _) => Ok(0),
+/// How many chunks of this many bytes a stream has (0: one).
+fn chunks_of(stream: &Bytes, chunk_size: usize) -> usize {
+    if chunk_size == 0 {
+        1
+    } else {
+        stream.len().div_ceil(chunk_size)
+    }
+}
+
+/// Pushes the next chunk: this many bytes (0: all), or all if fewer are left.
+fn push_chunk(
+    decoder: &mut Decoder,
+    unpushed: &mut Bytes,
+    chunk_size: usize,
+) -> Result<(), CallError> {
+    let count = if chunk_size == 0 {
+        unpushed.len()
+    } else {
+        chunk_size.min(unpushed.len())
+    };
+    push(decoder, unpushed.split_to(count)?)
+}
+
+/// Pushes bytes to a decoder.
+pub fn push(decoder: &mut Decoder, bytes: Bytes) -> Result<(), CallError> {
+    match decoder.push(bytes) {
+        Ok(()) => Ok(()),
+        Err(PushError::OutOfMemory(_)) => Err(CallError::OutOfMemory),
+        Err(PushError::TooLong(_)) => Err(CallError::TooLong),
     }
 }

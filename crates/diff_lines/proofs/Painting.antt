@@ -4,10 +4,6 @@ use Rattle.command_line.specs.declared.colors.Style.{Style}
 use Rattle.command_line.specs.Painting.{IsPainted, Span, painted_part}
 use Rattle.diff_lines.specs.Colors.{PaintsMore}
 
--- nothing is painted as nothing
-pub nothing_painted : IsPainted [] []
-nothing_painted = ([], refl, refl)
-
 -- a part in its style is painted
 pub one_painted : (style : Style) (part : List ℕ) → IsPainted part (painted_part style part)
 one_painted style part =

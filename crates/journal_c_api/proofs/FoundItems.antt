@@ -13,12 +13,6 @@ use Rattle.shared_core_stream.proofs.Items.{front_word_more}
 use Rattle.journal_c_api.specs.Outcomes.{written_over}
 use Rattle.journal_c_api.specs.Items.{item_kind, item_code, item_ack, item_payload, item_numbers, FindsItem}
 
--- a flag as a number
-pub ack_bit_is : (flag : Option Bool) → ack_bit flag ≡ from_bool (unwrap_or flag false)
-ack_bit_is None = refl
-ack_bit_is (Some true) = refl
-ack_bit_is (Some false) = refl
-
 -- if bytes are missing, nothing is written
 pub item_missing : (version : Version) (bytes old : List ℕ) (missing : ℕ) → IsMissing version bytes missing → FindsItem
     version bytes old old missing

@@ -200,7 +200,7 @@ impl<'a> RecordVisitor for CanonicalPayload<'a> {
 }
 
 /// The record that a payload means.
-pub fn decoded<M: WireRecord>(alloc: Global, payload: &[u8]) -> Result<M, CallError>
+pub(crate) fn decoded<M: WireRecord>(alloc: Global, payload: &[u8]) -> Result<M, CallError>
     ensures { MeansRecord M.schema M.parts payload.now result }
 {
     let payload = Bytes::copy_from_slice(alloc, payload)?;

@@ -74,7 +74,3 @@ module _ (bytes : List ℕ) (word : ℕ) (headed : Headed bytes word) where
 
   pub four_of_word : take 4 (to_be_bytes w64 word) ≡ take 4 bytes
   four_of_word = ap (take 4) word_bytes ∙ take_four bytes
-
-  pub whole_head : drop 8 bytes ≡ [] → take 8 bytes ≡ bytes
-  whole_head e = sym (append-nil (take 8 bytes)) ∙ ap (λ (xs : List ℕ). take 8 bytes ++ xs) (sym e) ∙ take-append-drop 8
-      bytes

@@ -1,4 +1,0 @@
-pub mod Chunks
-pub mod Comparisons
-pub mod Rounds
-pub mod Streams
