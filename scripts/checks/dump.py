@@ -148,7 +148,7 @@ FAILURES: tuple[tuple[str, str, *tuple[str, ...]], ...] = (
 )
 
 # The stored run, and what it says.
-STORED = checks.ROOT / "crates" / "journal_dump"
+STORED = checks.ROOT / "crates" / "journal"
 STORED_REST = "offset 2851: 11 bytes after the last whole item"
 
 
