@@ -214,7 +214,8 @@ def dump_random(kinds, seed, count, command):
             stream.message(name, payload_of(r, getattr(kinds, name + "Message")), flag)
     rest, end = r.randbytes(r.randrange(2, 8)), len(stream.bytes)
     given, wanted = stream.end(rest)
-    told = f"journal dump: offset {end}: {len(rest)} bytes after the last whole item\n"
+    name = " ".join([pathlib.PurePath(command[0]).name, *command[1:]])
+    told = f"{name}: offset {end}: {len(rest)} bytes after the last whole item\n"
     run = subprocess.run(command, input=given, capture_output=True, check=False)
     lines = run.stdout.decode().split("\n")[:-1]
     passed = failed = 0
