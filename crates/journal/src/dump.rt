@@ -10,7 +10,7 @@ mod suggestions;
 use crate::call::Call;
 use crate::dump::arguments::{Arguments, parse_arguments};
 use crate::dump::canonical::Records;
-use command_line::{Escapes, Escaping, Input, Pipe, Progress, Watched, input_size, open};
+use command_line::{Escapes, Escaping, Input, Pipe, Progress, Watched, input_size, note, open};
 use dump_lines::{MOST_SHOWN, Options, dump, dump_on_terminal};
 use std::io::IsTerminal;
 use std::process::ExitCode;
@@ -33,12 +33,18 @@ fn end(call: &Call<'_>, options: &Options<'_>, found: &Report) -> ExitCode {
 /// Reports what is wrong with the item at an offset.
 fn report_trouble(call: &Call<'_>, offset: u128, trouble: Trouble) {
     match trouble {
-        Trouble::UnknownCode(code) => call.note(format_args!(
-            "offset {offset}: unknown protocol.message code 0x{code:x}"
-        )),
+        Trouble::UnknownCode(code) => note(
+            call.rt,
+            call.name,
+            format_args!("offset {offset}: unknown protocol.message code 0x{code:x}"),
+        ),
         Trouble::Malformed(ty) => {
             let name = ty.debug_name();
-            call.note(format_args!("offset {offset}: the payload of {name} is not well-formed"));
+            note(
+                call.rt,
+                call.name,
+                format_args!("offset {offset}: the payload of {name} is not well-formed"),
+            );
         }
     }
 }
@@ -53,10 +59,18 @@ fn report_rest(call: &Call<'_>, options: &Options<'_>, found: &Report) {
     } else {
         ""
     };
-    call.note(format_args!("offset {offset}: {count} {bytes} after the last whole item{shown}"));
+    note(
+        call.rt,
+        call.name,
+        format_args!("offset {offset}: {count} {bytes} after the last whole item{shown}"),
+    );
     if offset == 0 {
         let version = options.version.number();
-        call.note(format_args!("no message in it; is it a journal of version {version}?"));
+        note(
+            call.rt,
+            call.name,
+            format_args!("no message in it; is it a journal of version {version}?"),
+        );
     }
 }
 

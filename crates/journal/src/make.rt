@@ -3,7 +3,7 @@
 use crate::call::Call;
 use crate::definitions;
 use clap::Error;
-use command_line::{Input, Pipe, Progress, Watched, input_size, open, protocol_of};
+use command_line::{Input, Pipe, Progress, Watched, fail, input_size, open, protocol_of};
 use make_lines::{MakeError, make};
 use shared_core_base::version::Version;
 use std::alloc::Global;
@@ -44,7 +44,12 @@ fn end(
         Ok(()) => ExitCode::SUCCESS,
         Err(_) if output.is_broken() => ExitCode::from(call.failure),
         Err(MakeError::Line(number, error)) => {
-            call.fail(format_args!("{path}:{number}: {error}"), 1)
+            fail(
+                call.rt,
+                call.name,
+                format_args!("{path}:{number}: {error}"),
+                1,
+            )
         }
         Err(error) => call.fail(error, call.failure),
     }
