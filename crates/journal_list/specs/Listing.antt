@@ -44,8 +44,8 @@ IsPrintedAs (Err OutOfMemory) printed = printed ≡ Err print_error.OutOfMemory
 abbrev pub IsListed : Version → Result (Unit {0}) ListError → List ℕ → List ℕ → Option (List ℕ) → Type 0
 IsListed version result read written left =
     (printed : Result Report PrintError) × IsPrintedAs result printed
-    × ArePrinted (λ at word. line_of) (λ at rest. rest_line (length rest)) (λ item. ⊥) (λ item. None) version printed
-    read written left
+    × ArePrinted (λ at word. line_of) (λ at rest. rest_line (length rest)) (λ item. ⊥) (λ item. None) version
+    4294967295 printed read written left
 
 -- The text of an error.
 abbrev pub error_text : ListError → List ℕ

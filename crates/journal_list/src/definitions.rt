@@ -6,7 +6,7 @@ use command_line::{operand, option};
 use shared_core_base::version::Version;
 use std::alloc::{AllocError, Global};
 
-const VERSION: &str = "0.1.0";
+const VERSION: &str = "0.2.0";
 
 /// The definition of `journal_list`, which help and errors show by this name.
 pub fn list<'a>(alloc: Global, name: &'a str) -> Result<Command<'a>, AllocError> {

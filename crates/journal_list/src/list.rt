@@ -54,13 +54,23 @@ pub fn list_at<R: Read, W: Write>(
         × Appends (W.contents output.old) (W.contents output.new) written
         × IsListed version result read written (R.remaining input.new) }
 {
-    match print_lines(alloc, version, &Listing, input, output, chunk_size) {
+    // a listing has no limit, so that no message is too long
+    match print_lines(
+        alloc,
+        version,
+        u32::MAX,
+        &Listing,
+        input,
+        output,
+        chunk_size,
+    ) {
         Ok(_) => Ok(()),
         Err(PrintError::Input) => Err(ListError::Input),
         Err(PrintError::Output) => Err(ListError::Output),
         Err(PrintError::OutOfMemory) => Err(ListError::OutOfMemory),
         // no item is too long for its line
         Err(PrintError::TooLong) => unreachable!(),
+        Err(PrintError::MessageTooLong(_)) => unreachable!(),
     }
 }
 

@@ -2,6 +2,7 @@ pub mod Items
 pub mod Errors
 pub mod Typed
 pub mod Written
+pub mod Sent
 pub mod TemplateParts
 pub mod View
 pub mod Decoded

@@ -22,9 +22,9 @@ ghost use Rattle.shared_core_base.specs.Version.{has_flat_suspensions, requests_
 ghost use Rattle.shared_core_runtime.specs.Versions.{proposal_form, suspension_form};
 
 pub use shared_core_stream::laws::{
-    equal_items, equal_messages, items_are_prefix_free, next_item_is_stable, split_exists,
-    split_is_unique, stream_without_items_is_rest, taken_item_is_the_first,
-    version_decides_untyped_items,
+    equal_items, equal_messages, greatest_limit_is_none, items_are_prefix_free,
+    limited_split_is_unique, next_item_is_stable, split_exists, split_is_unique,
+    stream_without_items_is_rest, taken_item_is_the_first, version_decides_untyped_items,
 };
 
 /// Frames written one after the other are items in this order, whatever follows them: each is a message of its type

@@ -1,7 +1,7 @@
 -- Which item a stream begins with, and how streams split.
 use Rattle.std.proofs.Common.{◌≡◌, ℕ, ◌+◌, ◌<◌, ◌≤◌, List, [], ◌∷◌, ◌++◌, length, take, drop, Option, Some, None, refl}
 use Rattle.std.proofs.Common.{sym, ap, ◌∙◌, arith, subst, append_assoc, append-nil, length-append, zero, suc, inl, inr}
-use Rattle.std.proofs.Common.{Bool, true, false, leb}
+use Rattle.std.proofs.Common.{Bool, true, false, leb, All}
 use Rattle.std.specs.Prelude.{◌⊎◌}
 use Rattle.std.proofs.lemmas.Bool.{leb-true, leb-false}
 use Rattle.std.specs.Int.{w64, from_be_bytes}
@@ -60,7 +60,8 @@ module _ (version : Version) where
       )
 
   -- bytes that are fewer than the header at their front says begin with no item
-  none_short : (bytes : List ℕ) → length bytes < 8 + body_length version (front_word bytes) → NoItemBegins version bytes
+  pub none_short : (bytes : List ℕ) → length bytes < 8 + body_length version (front_word bytes) →
+      NoItemBegins version bytes
   none_short bytes short item others (first, is, splits) =
       let fits : 8 ≤ length first = omega (arith, is.whole) in
       let same : front_word bytes ≡ front_word first = ap front_word splits ∙ front_word_more first others fits in
@@ -251,39 +252,61 @@ module _ (version : Version) where
       begins split.items_then.front rest front.front right items written split.items_then.encoded front.encoded
       split.no_more (sym split.items_then.whole ∙ front.whole)
 
-  same_split : (front rest front' rest' : List ℕ) (items items' : List Item) → AreItems version front items → AreItems
-      version front' items' → NoItemBegins version rest → NoItemBegins version rest' → front ++ rest ≡ front' ++ rest' →
-      (items ≡ items') × (rest ≡ rest')
-  same_split front rest front' rest' [] [] encoded encoded' none none' joined =
+  -- both lists are the items up to the first one that has not the property, or to the end
+  pub same_split : (P : Item → Type 0) (front rest front' rest' : List ℕ) (items items' : List Item) → AreItems version
+      front items → AreItems version front' items' → All P items → All P items' →
+      ((item : Item) (others : List ℕ) → TakesItem version rest item others → P item → ⊥) →
+      ((item : Item) (others : List ℕ) → TakesItem version rest' item others → P item → ⊥) → front ++ rest ≡ front' ++
+      rest' → (items ≡ items') × (rest ≡ rest')
+  same_split P front rest front' rest' [] [] encoded encoded' all all' none none' joined =
       (refl, ap (λ l. l ++ rest) (sym encoded) ∙ joined ∙ ap (λ l. l ++ rest') encoded')
-  same_split front rest front' rest' [] (j ∷ items') encoded encoded' none none' joined =
+  same_split P front rest front' rest' [] (j ∷ items') encoded encoded' all all' none none' joined =
       absurd (none j (encoded'.1 ++ rest') (
         encoded'.0,
         encoded'.2,
         ap (λ l. l ++ rest) (sym encoded) ∙ joined ∙ ap (λ l. l ++ rest') encoded'.4 ∙
             append_assoc encoded'.0 encoded'.1 rest',
-      ))
-  same_split front rest front' rest' (i ∷ items) [] encoded encoded' none none' joined =
+      ) (all' 0 j (omega arith)))
+  same_split P front rest front' rest' (i ∷ items) [] encoded encoded' all all' none none' joined =
       absurd (none' i (encoded.1 ++ rest) (
         encoded.0,
         encoded.2,
         ap (λ l. l ++ rest') (sym encoded') ∙ sym joined ∙ ap (λ l. l ++ rest) encoded.4 ∙
             append_assoc encoded.0 encoded.1 rest,
-      ))
-  same_split front rest front' rest' (i ∷ items) (j ∷ items') encoded encoded' none none' joined =
+      ) (all 0 i (omega arith)))
+  same_split P front rest front' rest' (i ∷ items) (j ∷ items') encoded encoded' all all' none none' joined =
       let heads = one_item encoded.0 encoded'.0 (encoded.1 ++ rest) (encoded'.1 ++ rest') i j encoded.2 encoded'.2
       (sym (append_assoc encoded.0 encoded.1 rest) ∙ ap (λ l. l ++ rest) (sym encoded.4) ∙ joined ∙ ap (λ l. l ++ rest')
       encoded'.4 ∙ append_assoc encoded'.0 encoded'.1 rest') in
-      let tails = same_split encoded.1 rest encoded'.1 rest' items items' encoded.3 encoded'.3 none none' heads.2 in
+      let tails = same_split P encoded.1 rest encoded'.1 rest' items items' encoded.3 encoded'.3
+      (λ k d below. all (suc k) d (omega (arith, below))) (λ k d below. all' (suc k) d (omega (arith, below)))
+      none none'
+      heads.2 in
       (ap (λ l. i ∷ l) tails.0 ∙ ap (λ k. k ∷ items') heads.1, tails.1)
 
   -- a stream splits in one way
   pub split_is_unique : (stream : List ℕ) (items others : List Item) (rest left : List ℕ) → SplitsInto version stream
       items rest → SplitsInto version stream others left → (items ≡ others) × (rest ≡ left)
   split_is_unique stream items others rest left one other =
-      same_split one.items_then.front rest other.items_then.front left items others one.items_then.encoded
-      other.items_then.encoded one.no_more other.no_more
+      same_split (λ _. Unit {0}) one.items_then.front rest other.items_then.front left items others
+      one.items_then.encoded other.items_then.encoded (λ k d below. tt) (λ k d below. tt)
+      (λ i r taken _. one.no_more i r taken) (λ i r taken _. other.no_more i r taken)
       (sym one.items_then.whole ∙ other.items_then.whole)
+
+  -- bytes that are as many as the header at their front says begin with an item
+  pub front_item_of : (bytes : List ℕ) → 8 + body_length version (front_word bytes) ≤ length bytes → (item : Item) ×
+      (rest : List ℕ) × TakesItem version bytes item rest
+  front_item_of bytes whole =
+      let head = take 8 bytes in
+      let eight : length head ≡ 8 = length-take-le 8 bytes (omega (arith, whole)) in
+      let size = body_length version (from_be_bytes w64 head) in
+      let word : front_word bytes ≡ from_be_bytes w64 head = ap front_word (sym (take-append-drop 8 bytes)) ∙
+      front_word_head head (drop 8 bytes) eight in
+      let long : length bytes ≡ 8 + length (drop 8 bytes) = ap length (sym (take-append-drop 8 bytes)) ∙
+      length-append head (drop 8 bytes) ∙ ap (λ n. n + length (drop 8 bytes)) eight in
+      let found = takes_front head (drop 8 bytes) (from_be_bytes w64 head) size eight refl refl
+      (omega (arith, whole, long, ap (body_length version) word)) in
+      (_, _, rw (take-append-drop 8 bytes) at found)
 
   -- the bytes begin with an item, or with none
   front_item : (bytes : List ℕ) → ((item : Item) × (rest : List ℕ) × TakesItem version bytes item rest) ⊎ NoItemBegins
@@ -292,18 +315,7 @@ module _ (version : Version) where
       (elim (leb (8 + body_length version (front_word bytes)) (length bytes)) as
       (λ b. leb (8 + body_length version (front_word bytes)) (length bytes) ≡ b →
       ((item : Item) × (rest : List ℕ) × TakesItem version bytes item rest) ⊎ NoItemBegins version bytes) [
-        | true ↦ λ is.
-            let whole : 8 + body_length version (front_word bytes) ≤ length bytes = leb-true _ _ is in
-            let head = take 8 bytes in
-            let eight : length head ≡ 8 = length-take-le 8 bytes (omega (arith, whole)) in
-            let size = body_length version (from_be_bytes w64 head) in
-            let word : front_word bytes ≡ from_be_bytes w64 head = ap front_word (sym (take-append-drop 8 bytes)) ∙
-            front_word_head head (drop 8 bytes) eight in
-            let long : length bytes ≡ 8 + length (drop 8 bytes) = ap length (sym (take-append-drop 8 bytes)) ∙
-            length-append head (drop 8 bytes) ∙ ap (λ n. n + length (drop 8 bytes)) eight in
-            let found = takes_front head (drop 8 bytes) (from_be_bytes w64 head) size eight refl refl
-            (omega (arith, whole, long, ap (body_length version) word)) in
-            inl (_, _, rw (take-append-drop 8 bytes) at found)
+        | true ↦ λ is. inl (front_item_of bytes (leb-true _ _ is))
         | false ↦ λ is. inr (none_short bytes (leb-false _ _ is))
       ]) refl
 

@@ -1,10 +1,18 @@
 -- The texts of errors.
-use Rattle.std.specs.Prelude.{ℕ, ◌++◌, List, codes, decimal}
+use Rattle.std.specs.Prelude.{ℕ, ◌++◌, List, codes, decimal, Some, None}
+use Rattle.shared_core_base.specs.MessageType.{debug_name_of, type_of, unknown_type_text}
 use Rattle.shared_core_stream.specs.declared.encoding.error.PiecesError.{PiecesError}
 use Rattle.shared_core_stream.specs.declared.encoding.error.PiecesError.TheVariants as chunks
 use Rattle.shared_core_stream.specs.declared.encoding.error.PushError.{PushError}
 use Rattle.shared_core_stream.specs.declared.encoding.error.PushError.TheVariants as push
 use Rattle.shared_core_stream.specs.declared.encoding.item_ref.MissingBytes.{MissingBytes}
+use Rattle.shared_core_stream.specs.declared.encoding.limit_error.MessageTooLong.{MessageTooLong}
+use Rattle.shared_core_stream.specs.declared.encoding.limit_error.ItemRefError.{ItemRefError}
+use Rattle.shared_core_stream.specs.declared.encoding.limit_error.ItemRefError.TheVariants as first
+use Rattle.shared_core_stream.specs.declared.encoding.limit_error.LimitedError.{LimitedError}
+use Rattle.shared_core_stream.specs.declared.encoding.limit_error.LimitedError.TheVariants as limited
+use Rattle.shared_core_stream.specs.declared.encoding.limit_error.LimitedPushError.{LimitedPushError}
+use Rattle.shared_core_stream.specs.declared.encoding.limit_error.LimitedPushError.TheVariants as limited_push
 
 -- The text of the error of a rejected chunk.
 abbrev pub push_error_text : PushError → List ℕ
@@ -20,3 +28,28 @@ pieces_error_text chunks.OutOfMemory = codes "out of memory"
 abbrev pub missing_bytes_text : MissingBytes → List ℕ
 missing_bytes_text missing =
     codes "at least " ++ (decimal missing.count ++ codes " bytes are missing of an item")
+
+-- The text of a code: the name of the type that it denotes, otherwise the text of an unknown code.
+abbrev pub code_text : ℕ → List ℕ
+code_text code = elim (type_of code) [ Some ty ↦ debug_name_of ty | None ↦ unknown_type_text code ]
+
+-- The text of the error of a message that is longer than the limit.
+abbrev pub message_too_long_text : MessageTooLong → List ℕ
+message_too_long_text message =
+    code_text message.code ++ (codes " at offset " ++ (decimal message.offset ++ (codes ": " ++ (decimal message.length
+    ++ (codes " bytes of payload, more than the limit of " ++ decimal message.limit)))))
+
+-- The text of the error of a decoder with a limit that returns no item.
+abbrev pub limited_error_text : LimitedError → List ℕ
+limited_error_text limited.OutOfMemory = codes "out of memory"
+limited_error_text (limited.MessageTooLong message) = message_too_long_text message
+
+-- The text of the error of a chunk that a decoder with a limit rejected.
+abbrev pub limited_push_error_text : LimitedPushError → List ℕ
+limited_push_error_text (limited_push.Rejected error) = push_error_text error
+limited_push_error_text (limited_push.MessageTooLong message back) = message_too_long_text message
+
+-- The text of the error of a slice that begins with no item within a limit.
+abbrev pub item_ref_error_text : ItemRefError → List ℕ
+item_ref_error_text (first.Missing missing) = missing_bytes_text missing
+item_ref_error_text (first.TooLong message) = message_too_long_text message

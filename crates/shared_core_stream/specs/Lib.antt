@@ -4,3 +4,6 @@ pub mod Borrowed
 pub mod Iteration
 pub mod Segments
 pub mod Errors
+pub mod Limits
+pub mod LimitedIteration
+pub mod LimitedStreams

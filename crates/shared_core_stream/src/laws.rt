@@ -2,10 +2,11 @@
 //! or that only compares its arguments.
 
 ghost use Rattle.std.specs.Prelude.{◌≡◌, ◌↔◌, ℕ, []};
-ghost use Rattle.std.specs.Prelude.{◌∷◌, ◌++◌, IsTrue, List, false, true};
+ghost use Rattle.std.specs.Prelude.{◌∷◌, ◌++◌, IsTrue, List, None, Some, false, true};
 ghost use Rattle.shared_core_base.specs.declared.version.Version.{Version};
 ghost use Rattle.shared_core_stream.specs.Items.{IsItem, TakesItem};
 ghost use Rattle.shared_core_stream.specs.Items.{NoItemBegins, SplitsInto, skips_unknown_messages};
+ghost use Rattle.shared_core_stream.specs.Limits.{SplitsWithin, too_long_at};
 ghost use Rattle.shared_core_stream.specs.declared.encoding.item.Item.{Item as AnyItem};
 ghost use Rattle.shared_core_stream.specs.declared.encoding.item.Item.TheVariants.{Skipped, Unknown};
 
@@ -61,6 +62,21 @@ pub fn taken_item_is_the_first()
 pub fn stream_without_items_is_rest()
     ensures { (version : Version) (stream : List ℕ) → NoItemBegins version stream
         → SplitsInto version stream [] stream }
+{}
+
+/// Under a limit a stream splits in one way.
+pub fn limited_split_is_unique()
+    ensures { (version : Version) (limit : ℕ) (stream : List ℕ) (items others : List AnyItem) (rest left : List ℕ)
+        → SplitsWithin version limit stream items rest → SplitsWithin version limit stream others left
+        → (items ≡ others) × (rest ≡ left) }
+{}
+
+/// A limit of 2^32 - 1 is none: no message is too long, and a stream splits as without a limit.
+pub fn greatest_limit_is_none()
+    ensures accepts { (version : Version) (offset : ℕ) (bytes : List ℕ)
+        → too_long_at version 4294967295 offset bytes ≡ None }
+    ensures splits { (version : Version) (stream : List ℕ) (items : List AnyItem) (rest : List ℕ)
+        → SplitsWithin version 4294967295 stream items rest ↔ SplitsInto version stream items rest }
 {}
 
 /// `==` of messages compares the whole header and the whole payload.

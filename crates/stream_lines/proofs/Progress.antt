@@ -1,7 +1,8 @@
 -- How the printing of a stream continues, and what is written when it ends.
 use Rattle.std.proofs.Common.{ℕ, ◌+◌, ◌-◌, ◌<◌, ◌≤◌, drop, Some, None, Bool, true, false, cond, length-append}
 use Rattle.std.proofs.Common.{length-drop, ◌≡◌, List, [], ◌∷◌, ◌++◌, length, ap, sym, subst, ◌∙◌, append_assoc}
-use Rattle.std.proofs.Common.{append-nil, arith, Result, Ok, Err, Option, inl, inr, refl}
+use Rattle.std.proofs.Common.{append-nil, arith, Result, Ok, Err, Option, inl, inr, refl, All}
+use Rattle.std.proofs.lemmas.List.Elements.{All-append}
 use Rattle.std.specs.Io.KnownBytes.{Appends, Consumes, IsAtEnd}
 use Rattle.std.proofs.KnownBytes.{Appends-nil, Appends-trans, Consumes-nil, Consumes-trans, Consumes-kept}
 use Rattle.shared_core_base.specs.declared.version.Version.{Version}
@@ -20,8 +21,11 @@ use Rattle.stream_lines.specs.declared.report.Report.{Report}
 use Rattle.stream_lines.specs.declared.report.Trouble.{Trouble}
 use Rattle.stream_lines.specs.declared.error.PrintError.{PrintError}
 use Rattle.stream_lines.specs.declared.error.PrintError.TheVariants.{Input, Output, OutOfMemory, TooLong}
+use Rattle.stream_lines.specs.declared.error.PrintError.TheVariants.{MessageTooLong}
+use Rattle.shared_core_stream.specs.declared.encoding.limit_error.MessageTooLong.{MessageTooLong as Longer}
+use Rattle.shared_core_stream.specs.Limits.{offset_after, payload_length, too_long_at}
 use Rattle.stream_lines.specs.Printing.{item_size, items_size, lines, trouble_at, first_trouble, ArePrinted, IsReport}
-use Rattle.stream_lines.specs.Printing.{Begins, IsLack, IsLongIn, IsRead, IsWrittenFor}
+use Rattle.stream_lines.specs.Printing.{AreWithin, Begins, IsLack, IsLongIn, IsRead, IsWrittenFor, too_long_after}
 
 pub lines_join : (line : ℕ → ℕ → Item → List ℕ) (at : ℕ) (bytes : List ℕ) (items others : List Item)
     → lines line at bytes items ++ lines line (at + items_size items) (drop (items_size items) bytes) others ≡ lines
@@ -202,10 +206,11 @@ lack_in is_long version bytes rest front item Input is lack = absurd lack
 lack_in is_long version bytes rest front item Output is lack = absurd lack
 lack_in is_long version bytes rest front item OutOfMemory is lack = tt
 lack_in is_long version bytes rest front item TooLong is lack = (front, item, rest, is, lack)
+lack_in is_long version bytes rest front item (MessageTooLong longer) is lack = absurd lack
 
 -- A printing that is not at its end: the items of what was read have their lines, and these bytes are pending, which
 -- begin with no item.
-pub record GoesOn (line : ℕ → ℕ → Item → List ℕ) (trouble : Item → Option Trouble) (version : Version)
+pub record GoesOn (line : ℕ → ℕ → Item → List ℕ) (trouble : Item → Option Trouble) (version : Version) (limit : ℕ)
     (first start left out : Option (List ℕ)) (total : ℕ) (pending : List ℕ) (found : Option (ℕ × Trouble)) : Type 0
   where
     pub read : List ℕ
@@ -215,19 +220,22 @@ pub record GoesOn (line : ℕ → ℕ → Item → List ℕ) (trouble : Item →
     pub came : Consumes first left read
     pub wrote : Appends start out (lines line 0 read items)
     pub noted : found ≡ first_trouble trouble 0 items
+    pub within : AreWithin version limit items pending
 
 -- A printing that has ended, as its contract says it.
 abbrev pub HasEnded : (ℕ → ℕ → Item → List ℕ) → (ℕ → List ℕ → List ℕ) → (Item → Type 0) → (Item → Option Trouble) →
-    Version → Option (List ℕ) → Option (List ℕ) → Option (List ℕ) → Option (List ℕ) → Result Report PrintError → Type 0
-HasEnded line last is_long trouble version first start left out result =
+    Version → ℕ → Option (List ℕ) → Option (List ℕ) → Option (List ℕ) → Option (List ℕ) → Result Report PrintError →
+    Type 0
+HasEnded line last is_long trouble version limit first start left out result =
     (read : List ℕ) × (written : List ℕ) × Consumes first left read × Appends start out written × ArePrinted line last
-    is_long trouble version result read written left
+    is_long trouble version limit result read written left
 
 module _ (line : ℕ → ℕ → Item → List ℕ) (last : ℕ → List ℕ → List ℕ) (is_long : Item → Type 0)
-    (trouble : Item → Option Trouble) (version : Version) (first start : Option (List ℕ)) where
+    (trouble : Item → Option Trouble) (version : Version) (limit : ℕ) (first start : Option (List ℕ)) where
   -- the first items of a stream, whatever follows them, are the first that it splits into
   printed_output : (stream rest written : List ℕ) (items : List Item) (left : Option (List ℕ)) → IsItemsThen version
       stream items rest → Begins written (lines line 0 stream items) → ArePrinted line last is_long trouble version
+      limit
       (Err Output) stream written left
   printed_output stream rest written items left front begun =
       let (all, after, split) = split_of version stream in
@@ -244,8 +252,9 @@ module _ (line : ℕ → ℕ → Item → List ℕ) (last : ℕ → List ℕ →
 
   printed_lack : (error : PrintError) (stream rest : List ℕ) (items : List Item) (left : Option (List ℕ)) → IsLack
       (IsLongIn is_long version rest) error → IsItemsThen version stream items rest → ArePrinted line last is_long
-      trouble version (Err error) stream (lines line 0 stream items) left
+      trouble version limit (Err error) stream (lines line 0 stream items) left
   printed_lack Input stream rest items left lack front = absurd lack
+  printed_lack (MessageTooLong longer) stream rest items left lack front = absurd lack
   printed_lack Output stream rest items left lack front = absurd lack
   printed_lack OutOfMemory stream rest items left lack front =
       let (all, after, split) = split_of version stream in
@@ -268,7 +277,7 @@ module _ (line : ℕ → ℕ → Item → List ℕ) (last : ℕ → List ℕ →
             (items, more, item, split_begins version stream after all split until others then_long_one, long, refl);
       }
 
-  pub starts : GoesOn line trouble version first start first start 0 [] None
+  pub starts : GoesOn line trouble version limit first start first start 0 [] None
   starts = record {
     read = [];
     items = [];
@@ -277,10 +286,25 @@ module _ (line : ℕ → ℕ → Item → List ℕ) (last : ℕ → List ℕ →
     came = Consumes-nil first;
     wrote = Appends-nil start;
     noted = refl;
+    within = (λ k item below. absurd (omega (arith, below)), refl);
   }
 
+  -- the message after these items is longer than the limit
+  printed_long : (stream rest : List ℕ) (items : List Item) (left : Option (List ℕ)) (longer : Longer) → IsItemsThen
+      version stream items rest → All (λ item. payload_length item ≤ limit) items → too_long_after version limit items
+      rest ≡ Some longer → ArePrinted line last is_long trouble version limit (Err (MessageTooLong longer)) stream
+      (lines line 0 stream items) left
+  printed_long stream rest items left longer front within after =
+      let (all, beyond, split) = split_of version stream in
+      record {
+        items = all;
+        rest = beyond;
+        split = split;
+        written_for = (items, (rest, front, within, after), refl);
+      }
+
   module _ (left out : Option (List ℕ)) (total : ℕ) (pending : List ℕ) (found : Option (ℕ × Trouble))
-      (so_far : GoesOn line trouble version first start left out total pending found) where
+      (so_far : GoesOn line trouble version limit first start left out total pending found) where
     -- where the pending bytes begin
     pub place : total ≡ items_size so_far.items + length pending
     place = so_far.long ∙ then_long version so_far.read pending so_far.items so_far.split.items_then
@@ -289,13 +313,13 @@ module _ (line : ℕ → ℕ → Item → List ℕ) (last : ℕ → List ℕ →
     abbrev written_so_far : List ℕ
     written_so_far = lines line 0 so_far.read so_far.items
 
-    pub ended_input : HasEnded line last is_long trouble version first start left out (Err Input)
+    pub ended_input : HasEnded line last is_long trouble version limit first start left out (Err Input)
     ended_input = (
       so_far.read,
       written_so_far,
       so_far.came,
       so_far.wrote,
-      record { items = so_far.items; rest = pending; split = so_far.split; written_for = refl },
+      record { items = so_far.items; rest = pending; split = so_far.split; written_for = (refl, so_far.within) },
     )
 
     module _ (now : Option (List ℕ)) (chunk : List ℕ) (taken : Consumes left now chunk) where
@@ -315,7 +339,7 @@ module _ (line : ℕ → ℕ → Item → List ℕ) (last : ℕ → List ℕ →
 
       -- an error on a chunk
       pub ended_lack : (error : PrintError) → IsLack (IsLongIn is_long version (pending ++ chunk)) error → HasEnded line
-          last is_long trouble version first start now out (Err error)
+          last is_long trouble version limit first start now out (Err error)
       ended_lack error lack = (
         so_far.read ++ chunk,
         with_more,
@@ -325,10 +349,10 @@ module _ (line : ℕ → ℕ → Item → List ℕ) (last : ℕ → List ℕ →
             (so_far.read ++ chunk) (pending ++ chunk) so_far.items now lack then_chunk,
       )
 
-      module _ (rest : List ℕ) (more : List Item) (split : SplitsInto version (pending ++ chunk) more rest) where
+      module _ (rest : List ℕ) (more : List Item) (next : IsItemsThen version (pending ++ chunk) more rest) where
         then_items : IsItemsThen version (so_far.read ++ chunk) (so_far.items ++ more) rest
         then_items = then_join version (so_far.read ++ chunk) (pending ++ chunk) rest so_far.items more then_chunk
-            split.items_then
+            next
 
         -- the lines of the items of a chunk are those after the others
         joined : with_more ++ lines line (items_size so_far.items) (pending ++ chunk) more ≡ lines line 0
@@ -339,29 +363,68 @@ module _ (line : ℕ → ℕ → Item → List ℕ) (last : ℕ → List ℕ →
             (sym (rest_after version (so_far.read ++ chunk) (pending ++ chunk) so_far.items then_chunk))
             ∙ lines_join line 0 (so_far.read ++ chunk) so_far.items more
 
-        pub goes_on : (grown : Option (List ℕ)) (count : ℕ) (now_found : Option (ℕ × Trouble)) → count ≡ length chunk →
-            Appends out grown (lines line (items_size so_far.items) (pending ++ chunk) more)
-            → now_found ≡ option_or found (first_trouble trouble (items_size so_far.items) more) → GoesOn line trouble
-            version first start now grown (total + count) rest now_found
-        goes_on grown count now_found counted wrote noted = record {
-          read = so_far.read ++ chunk;
-          items = so_far.items ++ more;
-          split = record { items_then = then_items; no_more = split.no_more };
-          long = omega (arith, so_far.long, counted, length-append so_far.read chunk);
-          came = with_chunk;
-          wrote = subst (Appends start grown) joined (Appends-trans start out grown with_more
-              (lines line (items_size so_far.items) (pending ++ chunk) more) wrote_more wrote);
-          noted =
-              noted ∙ ap (λ (o : Option (ℕ × Trouble)). option_or o
-              (first_trouble trouble (items_size so_far.items) more)) so_far.noted
-              ∙ ap (λ (n : ℕ). option_or (first_trouble trouble 0 so_far.items) (first_trouble trouble n more))
-              (zero_more (items_size so_far.items))
-              ∙ first_join trouble 0 so_far.items more;
-        }
+        -- the offset of the bytes that are left
+        offset_next : (count : ℕ) → count ≡ length chunk → (total + count) - length rest ≡ items_size
+            (so_far.items ++ more)
+        offset_next count counted = omega (
+          arith,
+          so_far.long,
+          counted,
+          length-append so_far.read chunk,
+          then_long version (so_far.read ++ chunk) rest (so_far.items ++ more) then_items,
+        )
+
+        after_next : (count : ℕ) (found : Option Longer) → count ≡ length chunk → too_long_at version limit
+            (offset_after 0 ((total + count) - length rest)) rest ≡ found → too_long_after version limit
+            (so_far.items ++ more) rest ≡ found
+        after_next count longer counted is =
+            ap (λ n. too_long_at version limit (offset_after 0 n) rest) (sym (offset_next count counted)) ∙ is
+
+        module _ (fits : All (λ item. payload_length item ≤ limit) more) where
+          within_next : All (λ item. payload_length item ≤ limit) (so_far.items ++ more)
+          within_next = All-append (λ item. payload_length item ≤ limit) so_far.items more so_far.within.0 fits
+
+          pub goes_on : (grown : Option (List ℕ)) (count : ℕ) (now_found : Option (ℕ × Trouble)) → count ≡ length chunk
+              → Appends out grown (lines line (items_size so_far.items) (pending ++ chunk) more)
+              → NoItemBegins version rest → too_long_at version limit (offset_after 0 ((total + count) - length rest))
+              rest ≡ None → now_found ≡ option_or found (first_trouble trouble (items_size so_far.items) more) → GoesOn
+              line trouble version limit first start now grown (total + count) rest now_found
+          goes_on grown count now_found counted wrote none after noted = record {
+            read = so_far.read ++ chunk;
+            items = so_far.items ++ more;
+            split = record { items_then = then_items; no_more = none };
+            long = omega (arith, so_far.long, counted, length-append so_far.read chunk);
+            came = with_chunk;
+            wrote = subst (Appends start grown) joined (Appends-trans start out grown with_more
+                (lines line (items_size so_far.items) (pending ++ chunk) more) wrote_more wrote);
+            noted =
+                noted ∙ ap (λ (o : Option (ℕ × Trouble)). option_or o
+                (first_trouble trouble (items_size so_far.items) more)) so_far.noted
+                ∙ ap (λ (n : ℕ). option_or (first_trouble trouble 0 so_far.items) (first_trouble trouble n more))
+                (zero_more (items_size so_far.items))
+                ∙ first_join trouble 0 so_far.items more;
+            within = (within_next, after_next count None counted after);
+          }
+
+          -- after them comes a message that is longer than the limit
+          pub ended_long : (grown : Option (List ℕ)) (count : ℕ) (longer : Longer) → count ≡ length chunk → Appends out
+              grown (lines line (items_size so_far.items) (pending ++ chunk) more) → too_long_at version limit
+              (offset_after 0 ((total + count) - length rest)) rest ≡ Some longer → HasEnded line last is_long trouble
+              version limit first start now grown (Err (MessageTooLong longer))
+          ended_long grown count longer counted wrote after = (
+            so_far.read ++ chunk,
+            lines line 0 (so_far.read ++ chunk) (so_far.items ++ more),
+            with_chunk,
+            subst (Appends start grown) joined (Appends-trans start out grown with_more
+                (lines line (items_size so_far.items) (pending ++ chunk) more) wrote_more wrote),
+            printed_long (so_far.read ++ chunk) rest (so_far.items ++ more) now longer then_items within_next
+                (after_next count (Some longer) counted after),
+          )
 
         -- the lines of a chunk are not written whole
         pub ended_output : (grown : Option (List ℕ)) (written : List ℕ) → Appends out grown written → Begins written
-            (lines line (items_size so_far.items) (pending ++ chunk) more) → HasEnded line last is_long trouble version
+            (lines line (items_size so_far.items) (pending ++ chunk) more) → HasEnded line last is_long trouble
+            version limit
             first start now grown (Err Output)
         ended_output grown written wrote is = (
           so_far.read ++ chunk,
@@ -376,8 +439,10 @@ module _ (line : ℕ → ℕ → Item → List ℕ) (last : ℕ → List ℕ →
       -- the input has ended, and the last line is written, or cut short
       module _ (grown : Option (List ℕ)) (written : List ℕ) (none : length chunk ≡ 0) (end : IsAtEnd now)
           (wrote : Appends out grown written) where
-        then_last : (result : Result Report PrintError) → IsWrittenFor line last is_long trouble result so_far.read
-            so_far.items pending (written_so_far ++ written) now → HasEnded line last is_long trouble version first
+        then_last : (result : Result Report PrintError) → IsWrittenFor version limit line last is_long trouble
+            result so_far.read
+            so_far.items pending (written_so_far ++ written) now → HasEnded line last is_long trouble version limit
+            first
             start now grown result
         then_last result written_for = (
           so_far.read,
@@ -388,13 +453,13 @@ module _ (line : ℕ → ℕ → Item → List ℕ) (last : ℕ → List ℕ →
         )
 
         pub ended_whole : (report : Report) → IsReport trouble so_far.items pending report → written ≡ last
-            (items_size so_far.items) pending → HasEnded line last is_long trouble version first start now grown
+            (items_size so_far.items) pending → HasEnded line last is_long trouble version limit first start now grown
             (Ok report)
         ended_whole report reported is = then_last (Ok report)
-            (end, ap (λ (l : List ℕ). written_so_far ++ l) is, reported)
+            (end, ap (λ (l : List ℕ). written_so_far ++ l) is, reported, so_far.within)
 
         pub ended_cut : Begins written (last (items_size so_far.items) pending) → HasEnded line last is_long trouble
-            version first start now grown (Err Output)
+            version limit first start now grown (Err Output)
         ended_cut is = then_last (Err Output) (inr (
           end,
           begins_after written_so_far written
@@ -403,17 +468,18 @@ module _ (line : ℕ → ℕ → Item → List ℕ) (last : ℕ → List ℕ →
 
     -- a read failed
     pub ended_read : (now : Option (List ℕ)) (error : PrintError) → IsRead (Err error) left now → HasEnded line last
-        is_long trouble version first start now out (Err error)
+        is_long trouble version limit first start now out (Err error)
     ended_read now Input kept = (
       so_far.read,
       written_so_far,
       Consumes-kept first left now so_far.read so_far.came kept,
       so_far.wrote,
-      record { items = so_far.items; rest = pending; split = so_far.split; written_for = refl },
+      record { items = so_far.items; rest = pending; split = so_far.split; written_for = (refl, so_far.within) },
     )
     ended_read now Output is = absurd is
     ended_read now OutOfMemory (lost, taken) = ended_lack now lost taken OutOfMemory tt
     ended_read now TooLong is = absurd is
+    ended_read now (MessageTooLong longer) is = absurd is
 
 -- the offset of the pending bytes stays if a chunk is appended to them
 pub still_there : (size total : ℕ) (pending chunk : List ℕ) → total ≡ size + length pending → (total + length chunk) -

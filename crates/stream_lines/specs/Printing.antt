@@ -1,16 +1,21 @@
 -- What is written when the printing of a stream ends: a line for each of its items, and last one for the bytes that are
 -- in none.
-use Rattle.std.specs.Prelude.{◌≡◌, ◌⊎◌, ℕ, ◌+◌, List, [], ◌∷◌, ◌++◌, length, drop, codes, Result, Ok, Err, Option, None}
+use Rattle.std.specs.Prelude.{◌≡◌, ◌⊎◌, ◌≤◌, ℕ, ◌+◌, All, Some, List, [], ◌∷◌, ◌++◌, length, drop, codes}
+use Rattle.std.specs.Prelude.{Result, Ok, Err, Option, None}
 use Rattle.std.specs.Option.{option_map, option_or}
 use Rattle.std.specs.Io.KnownBytes.{Consumes, Keeps, IsAtEnd}
 use Rattle.shared_core_base.specs.declared.version.Version.{Version}
 use Rattle.shared_core_stream.specs.declared.encoding.item.Item.{Item}
 use Rattle.shared_core_stream.specs.declared.encoding.item.Item.TheVariants.{Message, Unknown, Skipped}
+use Rattle.shared_core_stream.specs.declared.encoding.limit_error.MessageTooLong.{MessageTooLong as Longer}
+use Rattle.shared_core_stream.specs.Errors.{message_too_long_text}
 use Rattle.shared_core_stream.specs.Items.{front_word, IsItemsThen, SplitsInto}
+use Rattle.shared_core_stream.specs.Limits.{offset_after, payload_length, too_long_at}
 use Rattle.stream_lines.specs.declared.report.Report.{Report}
 use Rattle.stream_lines.specs.declared.report.Trouble.{Trouble}
 use Rattle.stream_lines.specs.declared.error.PrintError.{PrintError}
 use Rattle.stream_lines.specs.declared.error.PrintError.TheVariants.{Input, Output, OutOfMemory, TooLong}
+use Rattle.stream_lines.specs.declared.error.PrintError.TheVariants.{MessageTooLong}
 
 -- The number of bytes of an item.
 abbrev pub item_size : Item → ℕ
@@ -70,31 +75,52 @@ IsLack is_long OutOfMemory = Unit {0}
 IsLack is_long TooLong = is_long
 IsLack is_long error = ⊥
 
+-- The message that the bytes after some items begin with, if it is longer than the limit.
+abbrev pub too_long_after : Version → ℕ → List Item → List ℕ → Option Longer
+too_long_after version limit items rest = too_long_at version limit (offset_after 0 (items_size items)) rest
+
+-- Each of the items is within the limit, and no longer message is after them.
+abbrev pub AreWithin : Version → ℕ → List Item → List ℕ → Type 0
+AreWithin version limit items rest =
+    All (λ item. payload_length item ≤ limit) items × (too_long_after version limit items rest ≡ None)
+
+-- These items, each within the limit, are at the front of the stream, and after them is a message that is longer.
+abbrev pub EndsTooLong : Version → ℕ → List ℕ → List Item → Longer → Type 0
+EndsTooLong version limit stream items error =
+    (rest : List ℕ) × IsItemsThen version stream items rest × All (λ item. payload_length item ≤ limit) items
+    × (too_long_after version limit items rest ≡ Some error)
+
 -- What is written for each result, for a stream of these items and these remaining bytes, and what the reader has left:
 -- all lines and the report, at the input's end; the lines of all items; a prefix of these or, at the input's end, of
--- all lines; the lines of the first items; or those of the items before one that is too long.
-abbrev pub IsWrittenFor : (ℕ → ℕ → Item → List ℕ) → (ℕ → List ℕ → List ℕ) → (Item → Type 0) → (Item → Option Trouble) →
-    Result Report PrintError → List ℕ → List Item → List ℕ → List ℕ → Option (List ℕ) → Type 0
-IsWrittenFor line last is_long trouble (Ok report) stream items rest written left =
+-- all lines; the lines of the first items; those of the items before one that is too long; or those of the items before
+-- the first message that is longer than the limit. In the first two cases there is no longer one.
+abbrev pub IsWrittenFor : Version → ℕ → (ℕ → ℕ → Item → List ℕ) → (ℕ → List ℕ → List ℕ) → (Item → Type 0) →
+    (Item → Option Trouble) → Result Report PrintError → List ℕ → List Item → List ℕ → List ℕ → Option (List ℕ) →
+    Type 0
+IsWrittenFor version limit line last is_long trouble (Ok report) stream items rest written left =
     IsAtEnd left × (written ≡ all_lines line last stream items rest) × IsReport trouble items rest report
-IsWrittenFor line last is_long trouble (Err Input) stream items rest written left = written ≡ lines line 0 stream items
-IsWrittenFor line last is_long trouble (Err Output) stream items rest written left =
+    × AreWithin version limit items rest
+IsWrittenFor version limit line last is_long trouble (Err Input) stream items rest written left =
+    (written ≡ lines line 0 stream items) × AreWithin version limit items rest
+IsWrittenFor version limit line last is_long trouble (Err Output) stream items rest written left =
     Begins written (lines line 0 stream items) ⊎ (IsAtEnd left × Begins written (all_lines line last stream items rest))
-IsWrittenFor line last is_long trouble (Err OutOfMemory) stream items rest written left =
+IsWrittenFor version limit line last is_long trouble (Err OutOfMemory) stream items rest written left =
     (done : List Item) × Begins done items × (written ≡ lines line 0 stream done)
-IsWrittenFor line last is_long trouble (Err TooLong) stream items rest written left =
+IsWrittenFor version limit line last is_long trouble (Err TooLong) stream items rest written left =
     (done : List Item) × (front : List Item) × (item : Item) × Begins (done ++ (front ++ item ∷ [])) items × is_long
     item × (written ≡ lines line 0 stream done)
+IsWrittenFor version limit line last is_long trouble (Err (MessageTooLong error)) stream items rest written left =
+    (done : List Item) × EndsTooLong version limit stream done error × (written ≡ lines line 0 stream done)
 
 -- The bytes that were read split into these items and these remaining bytes, as every stream does in one way, and what
 -- is written is as the result says.
 pub record ArePrinted (line : ℕ → ℕ → Item → List ℕ) (last : ℕ → List ℕ → List ℕ) (is_long : Item → Type 0)
-    (trouble : Item → Option Trouble) (version : Version) (result : Result Report PrintError) (read written : List ℕ)
-    (left : Option (List ℕ)) : Type 0 where
+    (trouble : Item → Option Trouble) (version : Version) (limit : ℕ) (result : Result Report PrintError)
+    (read written : List ℕ) (left : Option (List ℕ)) : Type 0 where
   pub items : List Item
   pub rest : List ℕ
   pub split : SplitsInto version read items rest
-  pub written_for : IsWrittenFor line last is_long trouble result read items rest written left
+  pub written_for : IsWrittenFor version limit line last is_long trouble result read items rest written left
 
 -- What one read took of the reader's bytes, by its result: a chunk, which is empty only at the end; nothing if it
 -- failed; or bytes that could not be stored.
@@ -110,3 +136,4 @@ error_text Input = codes "input failed"
 error_text Output = codes "output failed"
 error_text OutOfMemory = codes "out of memory"
 error_text TooLong = codes "an item is too long for a line"
+error_text (MessageTooLong message) = message_too_long_text message

@@ -1,6 +1,7 @@
 //! The error of `print_lines`.
 
 use crate::output::OutputFailed;
+use shared_core_stream::encoding::MessageTooLong;
 use std::alloc::AllocError;
 use std::error::Error;
 use std::fmt;
@@ -16,6 +17,8 @@ pub enum PrintError {
     OutOfMemory,
     /// An item is too long for a line.
     TooLong,
+    /// A message is longer than the limit.
+    MessageTooLong(MessageTooLong),
 }
 
 impl fmt::Display for PrintError {
@@ -25,12 +28,13 @@ impl fmt::Display for PrintError {
     ghost output = { λ error. Some (error_text error) };
 
     fn fmt<W: fmt::Write>(&self, f: &mut fmt::Formatter<W>) -> fmt::Result {
-        f.write_str(match self {
-            PrintError::Input => "input failed",
-            PrintError::Output => "output failed",
-            PrintError::OutOfMemory => "out of memory",
-            PrintError::TooLong => "an item is too long for a line",
-        })
+        match self {
+            PrintError::Input => f.write_str("input failed"),
+            PrintError::Output => f.write_str("output failed"),
+            PrintError::OutOfMemory => f.write_str("out of memory"),
+            PrintError::TooLong => f.write_str("an item is too long for a line"),
+            PrintError::MessageTooLong(message) => write!(f, "{message}"),
+        }
     }
 }
 

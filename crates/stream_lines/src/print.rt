@@ -8,10 +8,11 @@
 //! writer. `ArePrinted` takes the four definitions of a printer one by one, since those below it take one or two.
 
 ghost use Rattle.std.specs.Prelude.{◌≡◌, ◌+◌, ◌<◌, ◌≤◌, ◌-◌, ◌++◌, ℕ, List, length, IfOk, IfErr, IfSome, OnOk};
-ghost use Rattle.std.specs.Prelude.{MatchOption};
+ghost use Rattle.std.specs.Prelude.{MatchOption, All, None};
 ghost use Rattle.std.specs.Io.KnownBytes.{Appends, Consumes};
 ghost use Rattle.shared_core_base.specs.Version.{version_number};
-ghost use Rattle.shared_core_stream.specs.Items.{front_word, NoItemBegins, SplitsInto, TakesItem};
+ghost use Rattle.shared_core_stream.specs.Items.{front_word, IsItemsThen, NoItemBegins};
+ghost use Rattle.shared_core_stream.specs.Limits.{offset_after, payload_length, too_long_at, TakesWithin};
 ghost use Rattle.shared_core_stream.specs.declared.encoding.item.Item.{Item as AnyItem};
 ghost use Rattle.std.specs.Option.{option_or};
 ghost use Rattle.stream_lines.specs.Printing.{lines, most_pending, ArePrinted, IsLack, IsLongIn, IsRead};
@@ -23,7 +24,7 @@ use crate::output::write_whole;
 use crate::report::{Report, Trouble};
 use bytes::Bytes;
 use shared_core_base::version::Version;
-use shared_core_stream::encoding::{Decoder, Item, PushError};
+use shared_core_stream::encoding::{Decoder, Item, MessageTooLong, PushError};
 use std::alloc::{AllocError, Global};
 use std::io::{Read, Write};
 
@@ -35,10 +36,12 @@ use std::io::{Read, Write};
 /// the first trouble that the printer finds in an item, and the bytes that are in no item. After `Input` the lines of
 /// all items of what was read are written; after `Output` a prefix of these lines, or of all if the input had ended;
 /// after `OutOfMemory` and `TooLong` the lines of the first items. `TooLong` comes only if one of the items after them
-/// is too long for a line.
+/// is too long for a line. `MessageTooLong` comes after the lines of the items before the first message whose payload
+/// is longer than the limit, as soon as its header has come; a limit of `u32::MAX` is none.
 pub fn print_lines<P: LinePrinter, R: Read, W: Write>(
     alloc: Global,
     version: Version,
+    limit: u32,
     printer: &P,
     input: &mut R,
     output: &mut W,
@@ -51,7 +54,7 @@ pub fn print_lines<P: LinePrinter, R: Read, W: Write>(
         × Consumes (R.remaining input.old) (R.remaining input.new) read
         × Appends (W.contents output.old) (W.contents output.new) written
         × ArePrinted (P.item_line printer.now) (P.rest_line printer.now)
-        (P.is_long printer.now) (P.item_trouble printer.now) version result read written (R.remaining input.new) }
+        (P.is_long printer.now) (P.item_trouble printer.now) version limit result read written (R.remaining input.new) }
 {
     let mut decoder = Decoder::new(alloc, version);
     let mut scratch = printer.scratch(alloc);
@@ -73,16 +76,21 @@ pub fn print_lines<P: LinePrinter, R: Read, W: Write>(
         }
         total += bytes.len() as u128;
         feed(&mut decoder, bytes)?;
-        print_items(
+        let too_long = print_items(
             alloc,
             printer,
             &mut decoder,
+            version,
+            limit,
             total,
             &mut scratch,
             &mut trouble,
             &mut text,
         )?;
         write_whole(output, text.as_slice())?;
+        if let Some(message) = too_long {
+            return Err(PrintError::MessageTooLong(message));
+        }
     }
     Err(PrintError::Input)
 }
@@ -112,14 +120,20 @@ fn feed(decoder: &mut Decoder, chunk: Bytes) -> Result<(), AllocError>
     }
 }
 
-/// The next item, with the word of its header, of which an item holds only a part; `None` if no whole item is left.
-#[tactic(auto, using(crate::proofs::Progress::none_without_header))]
-fn next_item(decoder: &mut Decoder) -> Result<Option<(u64, Item)>, AllocError>
+/// The next item, with the word of its header, of which an item holds only a part; `None` if no whole item is left, or
+/// the next message is longer than the limit.
+fn next_item(
+    decoder: &mut Decoder,
+    version: Version,
+    limit: u32,
+    offset: u64,
+) -> Result<Option<(u64, Item)>, AllocError>
+    requires { decoder.old.version ≡ version }
     ensures taken { IfOk result (λ found. MatchOption found
-        (NoItemBegins decoder.old.version decoder.old.bytes × (decoder.new.bytes ≡ decoder.old.bytes)
-        × (length decoder.new.bytes ≤ most_pending))
+        ((decoder.new.bytes ≡ decoder.old.bytes) × (too_long_at version limit offset decoder.old.bytes ≡ None
+        → NoItemBegins version decoder.old.bytes × (length decoder.new.bytes ≤ most_pending)))
         (λ next. (next.0 ≡ front_word decoder.old.bytes)
-        × TakesItem decoder.old.version decoder.old.bytes next.1 decoder.new.bytes)) }
+        × TakesWithin version limit decoder.old.bytes next.1 decoder.new.bytes)) }
     ensures shorter { IfOk result (λ found.
         IfSome found (λ next. length decoder.new.bytes + 8 ≤ length decoder.old.bytes)) }
     ensures version { decoder.new.version ≡ decoder.old.version }
@@ -127,10 +141,34 @@ fn next_item(decoder: &mut Decoder) -> Result<Option<(u64, Item)>, AllocError>
     let Some(word) = decoder.next_word() else {
         return Ok(None);
     };
+    if MessageTooLong::by(version, limit, offset, word).is_some() {
+        return Ok(None);
+    }
     let Some(item) = decoder.next_item()? else {
         return Ok(None);
     };
     Ok(Some((word, item)))
+}
+
+/// The message that the pending bytes begin with at an offset, if it is longer than the limit.
+fn too_long(
+    decoder: &mut Decoder,
+    version: Version,
+    limit: u32,
+    offset: u64,
+) -> Option<MessageTooLong>
+    ensures found { result ≡ too_long_at version limit offset decoder.old.bytes }
+    ensures kept { decoder.new ≡ decoder.old }
+{
+    let word = decoder.next_word()?;
+    MessageTooLong::by(version, limit, offset, word)
+}
+
+/// The offset in 64 bits, or 2^64 - 1 from there on.
+fn in_64_bits(offset: u128) -> u64
+    ensures { result ≡ offset_after 0 offset }
+{
+    offset.min(u64::MAX as u128) as u64
 }
 
 /// The first trouble: the one that was found before, otherwise that of this item.
@@ -149,32 +187,37 @@ fn first<P: LinePrinter>(
 }
 
 /// Overwrites the text with the lines of the decoder's whole items, after `total` bytes of the stream have come, and
-/// records the first trouble.
+/// records the first trouble. Returns the message after them, if it is longer than the limit.
 fn print_items<P: LinePrinter>(
     alloc: Global,
     printer: &P,
     decoder: &mut Decoder,
+    version: Version,
+    limit: u32,
     total: u128,
     scratch: &mut P::Scratch,
     trouble: &mut Option<(u128, Trouble)>,
     text: &mut Vec<u8>,
-) -> Result<(), PrintError>
+) -> Result<Option<MessageTooLong>, PrintError>
     requires came { length decoder.old.bytes ≤ total }
-    ensures printed { OnOk result ((items : List AnyItem)
-        × SplitsInto decoder.old.version decoder.old.bytes items decoder.new.bytes
+    requires spoken { decoder.old.version ≡ version }
+    ensures printed { IfOk result (λ found. (items : List AnyItem)
+        × IsItemsThen version decoder.old.bytes items decoder.new.bytes
+        × All (λ item. payload_length item ≤ limit) items
+        × (found ≡ too_long_at version limit (offset_after 0 (total - length decoder.new.bytes)) decoder.new.bytes)
+        × (found ≡ None → NoItemBegins version decoder.new.bytes × (length decoder.new.bytes ≤ most_pending))
         × (text.new.items ≡ lines (P.item_line printer.now) (total - length decoder.old.bytes) decoder.old.bytes items)
         × (trouble.new ≡ option_or trouble.old (first_trouble (P.item_trouble printer.now)
         (total - length decoder.old.bytes) items))) }
     ensures version { decoder.new.version ≡ decoder.old.version }
-    ensures short { OnOk result (length decoder.new.bytes ≤ most_pending) }
-    ensures lack { IfErr result (IsLack (IsLongIn (P.is_long printer.now) decoder.old.version decoder.old.bytes)) }
+    ensures lack { IfErr result (IsLack (IsLongIn (P.is_long printer.now) version decoder.old.bytes)) }
 {
     text.clear();
     let mut offset = total - decoder.pending() as u128;
-    while let Some((word, item)) = next_item(decoder)? {
+    while let Some((word, item)) = next_item(decoder, version, limit, in_64_bits(offset))? {
         *trouble = first(printer, offset, &item, *trouble);
         printer.print_item(alloc, offset, word, item, scratch, text)?;
         offset = total - decoder.pending() as u128;
     }
-    Ok(())
+    Ok(too_long(decoder, version, limit, in_64_bits(offset)))
 }

@@ -53,6 +53,27 @@ impl Encoder {
         message.encode(alloc, self.version)
     }
 
+    /// Returns the frame of a message, as `encode` does, in a buffer of its own: one allocation, of the frame's size.
+    ///
+    /// The errors are those of `encode`.
+    #[tactic(auto, using(crate::proofs::DecodedFrames::appended_is_frame_of))]
+    pub fn encode_to_vec<M: RestateEncodableMessage>(
+        &self,
+        alloc: Global,
+        message: &M,
+    ) -> Result<Vec<u8>, EncodingError>
+        ensures frame { IfOk result (λ frame.
+            IsFrameOf self.now.version M.message_type (M.wire_form message.now self.now.version) frame.items) }
+        ensures too_long { IsErrOf result PayloadTooLong
+            → 2 ^ 32 ≤ wire_size (M.wire_form message.now self.now.version) }
+        ensures rejected { 2 ^ 32 ≤ wire_size (M.wire_form message.now self.now.version)
+            → result ≡ Err PayloadTooLong }
+    {
+        let mut frame = Vec::new(alloc);
+        self.encode_into(message, &mut frame)?;
+        Ok(frame)
+    }
+
     /// Appends the frame of a message, as `encode` returns it, to a buffer.
     ///
     /// The errors are those of `encode`, and after one the buffer is unchanged. Its capacity never shrinks. It

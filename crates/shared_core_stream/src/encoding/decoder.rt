@@ -98,6 +98,21 @@ impl Decoder {
         }
     }
 
+    /// The version.
+    pub(crate) fn version(&self) -> Version
+        ensures { result ≡ self.now.version }
+    {
+        self.version
+    }
+
+    /// Drops the pending bytes.
+    pub(crate) fn discard(&mut self)
+        ensures { self.new ≡ record self.old { bytes = [] } }
+    {
+        self.head = None;
+        self.pending = PendingBytes::new(self.pending.alloc());
+    }
+
     /// Returns the number of bytes that no call has taken yet.
     pub fn pending(&self) -> u64
         ensures { result ≡ length self.now.bytes }

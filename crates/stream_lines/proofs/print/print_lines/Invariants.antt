@@ -9,6 +9,7 @@ invariant-loop g l = record {
   short : length l.decoder.bytes ≤ most_pending;
   counted : l.total ≤ 65536 * l.counter;
   so_far : GoesOn (g.P.LinePrinter.item_line l.fn.printer) (g.P.LinePrinter.item_trouble l.fn.printer) l.fn.version
+      l.fn.limit
       (g.R.Read.remaining l.fn.input) (g.W.Write.contents l.fn.output) (g.R.Read.remaining l.input)
       (g.W.Write.contents l.output) l.total l.decoder.bytes l.trouble;
 }

@@ -1,0 +1,168 @@
+-- Reading items from a reader.
+use Rattle.std.proofs.Common.{◌≡◌, ◌∙◌, ℕ, ◌-◌, ◌<◌, ◌≤◌, List, [], ◌∷◌, ◌++◌, length, ap, sym, refl}
+use Rattle.std.proofs.Common.{Option, Some, None, Ok, Err}
+use Rattle.std.proofs.Common.{append_assoc, append-nil, length-append, arith, subst}
+use Rattle.std.proofs.lemmas.Bool.{le-ltb}
+use Rattle.std.specs.Io.KnownBytes.{IsAtEnd}
+use Rattle.shared_core_base.specs.declared.version.Version.{Version}
+use Rattle.shared_core_stream.specs.Items.{NoItemBegins, TakesItem}
+use Rattle.shared_core_stream.specs.Limits.{Limited, ReturnsWithin, rejection}
+use Rattle.shared_core_stream.specs.Limits.{offset_after}
+use Rattle.shared_core_stream.specs.declared.encoding.item.Item.{Item}
+use Rattle.shared_core_stream.specs.declared.encoding.limit_error.MessageTooLong.{MessageTooLong}
+use Rattle.shared_core_stream.specs.declared.encoding.limit_error.LimitedError.TheVariants as limited
+use Rattle.shared_core_stream.proofs.Items.{front_word_more, item_is_long, takes_more}
+use Rattle.shared_core_stream.proofs.Limits.{accepted, front_more}
+use Rattle.shared_core_io.specs.declared.error.ReadError.{ReadError}
+use Rattle.shared_core_io.specs.declared.error.ReadError.TheVariants.{Failed, TooLong, Truncated, OutOfMemory}
+use Rattle.shared_core_io.specs.Reading.{IsRead, IsTaken, TakesNothing, result_at_end, with_more}
+
+-- bytes that were read before, and then more
+pub joined : (first loop next new : Limited) (read more : List ℕ) → loop ≡ with_more first read → next ≡ loop → new ≡
+    with_more next more → new ≡ with_more first (read ++ more)
+joined first loop next new read more before same after =
+    let bytes = first.unread.bytes in
+    after ∙ ap (λ (state : Limited). with_more state more) (same ∙ before)
+    ∙ ap (λ (all : List ℕ). record first { unread = record first.unread { bytes = all } })
+    (append_assoc bytes read more)
+
+-- an error that takes nothing
+pub failed : (old new : Limited) (left : Option (List ℕ)) (error : ReadError) → TakesNothing error → new ≡ old → IsRead
+    old left (Err error) new
+failed old new left (Failed reason) nothing same = same
+failed old new left (TooLong message) nothing same = absurd nothing
+failed old new left (Truncated count) nothing same = absurd nothing
+failed old new left OutOfMemory nothing same = same
+
+-- at the end, what is left is nothing or a part of an item
+pub ended : (old new : Limited) (left : Option (List ℕ)) (pending : List ℕ) → IsAtEnd left → rejection old ≡ None →
+    NoItemBegins old.unread.version old.unread.bytes → old.unread.bytes ≡ pending → new ≡ old → IsRead old left
+    (result_at_end pending) new
+ended old new left [] end accepts none same kept = (end, accepts, same, kept)
+ended old new left (byte ∷ pending) end accepts none same kept =
+    (end, accepts, none, sym (ap (λ (all : List ℕ). length all) same), omega arith, kept)
+
+-- nothing was read if the old bytes begin with an item: what is pending is all there is only if they do not
+pub idle : {R : Type 0} (version : Version) (old read pending rest : List ℕ) (first loop new : R) → pending ++ rest ≡
+    old ++ read → NoItemBegins version pending → (0 < length rest → new ≡ loop) → (item : Item) (after : List ℕ) →
+    TakesItem version old item after → loop ≡ first → new ≡ first
+idle version old read pending [] first loop new all none kept item after taken same =
+    absurd (none item (after ++ read) (rw (sym (append-nil pending) ∙ all)
+    (takes_more version old after read item taken)))
+idle version old read pending (byte ∷ rest) first loop new all none kept item after taken same =
+    kept (omega arith) ∙ same
+
+-- what a whole header says stays, whatever comes after
+accepts_more : (state : Limited) (more : List ℕ) → rejection state ≡ None → 8 ≤ length state.unread.bytes → rejection
+    (with_more state more) ≡ None
+accepts_more state more none whole =
+    let bytes = state.unread.bytes in
+    let (before, now) = accepted state none in
+    let longer : 8 ≤ length (bytes ++ more) = omega (arith, whole, length-append bytes more) in
+    rw (before, le-ltb (length (bytes ++ more)) 8 longer, front_word_more bytes more whole)
+    (rw (le-ltb (length bytes) 8 whole) at now)
+
+rejects_more : (state : Limited) (more : List ℕ) (message : MessageTooLong) → rejection state ≡ Some message →
+    rejection (with_more state more) ≡ Some message
+rejects_more state more message some = by_rejected state.rejected refl
+  where
+    by_rejected : (rejected : Option MessageTooLong) → state.rejected ≡ rejected → rejection (with_more state more) ≡
+        Some message
+    by_rejected (Some error) is = rw is (rw is at some)
+    by_rejected None is = rw is (front_more state.unread.version state.limit state.offset state.unread.bytes more
+        message (rw is at some))
+
+-- what the decoder returned
+pub taken : (old new : Limited) (outside : List ℕ) (found : Option Item) → ReturnsWithin old (Ok found) new → IsTaken
+    old outside (Ok found) new outside
+taken old new outside (Some item) (accepts, within, after) = (accepts, within, after, refl)
+taken old new outside None (accepts, none, same, short) = (accepts, none, short, same, refl)
+
+pub taken_not : (old new : Limited) (outside : List ℕ) → ReturnsWithin old (Err limited.OutOfMemory) new → IsTaken old
+    outside (Err OutOfMemory) new outside
+taken_not old new outside (accepts, next, same) = (same, refl)
+
+pub taken_long : (old new : Limited) (outside kept : List ℕ) (message : MessageTooLong) → ReturnsWithin old
+    (Err (limited.MessageTooLong message)) new → kept ≡ [] → IsTaken old outside (Err (TooLong message)) new kept
+taken_long old new outside kept message (some, after) gone = (some, after, gone)
+
+-- what was taken of the decoder was taken of all that was there, if it is not that no whole item is there
+took : (old new : Limited) (outside kept : List ℕ) (left : Option (List ℕ)) (item : Item) → IsTaken old outside
+    (Ok (Some item)) new kept → IsRead (with_more old outside) left (Ok (Some item)) (with_more new kept)
+took old new outside kept left item (accepts, (taken, fits), after, same) =
+    let long = item_is_long old.unread.version old.unread.bytes new.unread.bytes item taken in
+    let count : (length (old.unread.bytes ++ outside)) - (length (new.unread.bytes ++ outside)) ≡ length
+    old.unread.bytes - length new.unread.bytes =
+    omega (arith, length-append old.unread.bytes outside, length-append new.unread.bytes outside) in
+    rw same (
+      accepts_more old outside accepts (omega (arith, long)),
+      (takes_more old.unread.version old.unread.bytes new.unread.bytes outside item taken, fits),
+      ap (λ (state : Limited). with_more state outside) after
+          ∙ ap (λ (n : ℕ). record {
+            unread = record { version = old.unread.version; bytes = new.unread.bytes ++ outside };
+            limit = old.limit;
+            offset = offset_after old.offset n;
+            rejected = old.rejected;
+          }) (sym count),
+    )
+
+took_nothing : (old new : Limited) (outside kept : List ℕ) (left : Option (List ℕ)) (error : ReadError) → IsTaken
+    old outside (Err error) new kept → IsRead (with_more old outside) left (Err error) (with_more new kept)
+took_nothing old new outside kept left (Failed reason) taken = absurd taken
+took_nothing old new outside kept left (TooLong message) (some, after, gone) =
+    rw (gone, after) (rejects_more old outside message some, refl)
+took_nothing old new outside kept left (Truncated count) taken = absurd taken
+took_nothing old new outside kept left OutOfMemory (same, kept_same) = rw (same, kept_same) refl
+
+-- the same where what was there is what was held first and what was read since
+module _ (first : Limited) (read : List ℕ) (old new : Limited) (outside kept : List ℕ)
+    (before : with_more old outside ≡ with_more first read) (left : Option (List ℕ)) where
+  pub item_read : (item : Item) → IsTaken old outside (Ok (Some item)) new kept → IsRead (with_more first read) left
+      (Ok (Some item)) (with_more new kept)
+  item_read item taken = subst (λ (all : Limited). IsRead all left (Ok (Some item)) (with_more new kept)) before
+      (took old new outside kept left item taken)
+
+  pub error_read : (error : ReadError) → IsTaken old outside (Err error) new kept → IsRead (with_more first read) left
+      (Err error) (with_more new kept)
+  error_read error taken = subst (λ (all : Limited). IsRead all left (Err error) (with_more new kept)) before
+      (took_nothing old new outside kept left error taken)
+
+-- and where nothing was taken, and more was read
+module _ (first : Limited) (read more : List ℕ) (old next new : Limited) (outside kept : List ℕ)
+    (before : with_more old outside ≡ with_more first read) (taken : IsTaken old outside (Ok None) next kept)
+    (after : new ≡ with_more (with_more next kept) more) where
+  pub read_more : new ≡ with_more first (read ++ more)
+  read_more =
+      let (accepts, none, short, same, kept_same) = taken in
+      joined first (with_more old outside) (with_more next kept) new read more before
+      (rw (same, kept_same) refl) after
+
+  pub not_filled : (left : Option (List ℕ)) (error : ReadError) → TakesNothing error → IsRead
+      (with_more first (read ++ more)) left (Err error) new
+  not_filled left error nothing = failed (with_more first (read ++ more)) new left error nothing read_more
+
+  pub stream_ended : (last : Limited) (others : List ℕ) (left : Option (List ℕ)) → new ≡ with_more last others →
+      others ≡ [] → last ≡ next → IsAtEnd left → IsRead (with_more first (read ++ more)) left
+      (result_at_end last.unread.bytes)
+      new
+  stream_ended last others left is gone still end =
+      let (accepts, none, short, same, kept_same) = taken in
+      let alone : with_more last [] ≡ last =
+      ap (λ (bytes : List ℕ). record last { unread = record last.unread { bytes = bytes } })
+      (append-nil last.unread.bytes) in
+      let all : new ≡ last = is ∙ ap (λ (bytes : List ℕ). with_more last bytes) gone ∙ alone in
+      let there : old ≡ with_more first (read ++ more) = sym same ∙ sym still ∙ sym all ∙ read_more in
+      ended (with_more first (read ++ more)) new left last.unread.bytes end
+      (subst (λ (state : Limited). rejection state ≡ None) there accepts)
+      (subst (λ (state : Limited). NoItemBegins state.unread.version state.unread.bytes) there none)
+      (ap (λ (state : Limited). state.unread.bytes) (sym there ∙ sym same ∙ sym still)) read_more
+
+  pub not_idle : {R : Type 0} (was is now : R) → (0 < length kept → now ≡ is) → (item : Item) (rest : List ℕ) →
+      TakesItem first.unread.version first.unread.bytes item rest → is ≡ was → now ≡ was
+  not_idle was is now kept_idle item rest begins same_reader =
+      let (accepts, none, short, same, kept_same) = taken in
+      idle first.unread.version first.unread.bytes read old.unread.bytes outside was is now
+      (ap (λ (state : Limited). state.unread.bytes) before)
+      (subst (λ (version : Version). NoItemBegins version old.unread.bytes)
+      (ap (λ (state : Limited). state.unread.version) before) none)
+      (λ some. kept_idle (rw kept_same some)) item rest begins same_reader

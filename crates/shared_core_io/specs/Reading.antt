@@ -1,0 +1,58 @@
+-- What reading items from a reader does.
+use Rattle.std.specs.Prelude.{◌≡◌, ℕ, ◌+◌, ◌<◌, ◌≤◌, List, [], ◌∷◌, ◌++◌, length}
+use Rattle.std.specs.Prelude.{Result, Ok, Err, Option, Some, None}
+use Rattle.std.specs.Io.KnownBytes.{IsAtEnd}
+use Rattle.bytes.specs.Filled.{Filled}
+use Rattle.shared_core_stream.specs.Items.{NoItemBegins}
+use Rattle.shared_core_stream.specs.Limits.{Limited, TakesWithin, rejection, after_item, after_rejection}
+use Rattle.shared_core_stream.specs.declared.encoding.item.Item.{Item}
+use Rattle.shared_core_io.specs.declared.error.ReadError.{ReadError}
+use Rattle.shared_core_io.specs.declared.error.ReadError.TheVariants.{TooLong, Truncated, OutOfMemory}
+
+-- A decoder to which more bytes have come.
+abbrev pub with_more : Limited → List ℕ → Limited
+with_more state more = record state { unread = record state.unread { bytes = state.unread.bytes ++ more } }
+
+-- What is held: a decoder to which also those bytes have come that were read and are in a chunk or a buffer yet.
+abbrev pub held : Limited → List ℕ → Filled → Limited
+held decoder chunk buffer = with_more decoder (chunk ++ buffer.items)
+
+-- What the next item is, by what was held or read, what the reader has left, and what is held afterwards: the item at
+-- the front, if it is within the limit; none, if there are no bytes at the end; an error that the message at the front
+-- is too long, after which nothing is held; an error with the number of bytes, if they are those of a part of an item
+-- and the stream has ended; and an error that takes nothing.
+abbrev pub IsRead : Limited → Option (List ℕ) → Result (Option Item) ReadError → Limited → Type 0
+IsRead old left (Ok (Some item)) new =
+    (rejection old ≡ None) × TakesWithin old.unread.version old.limit old.unread.bytes item new.unread.bytes
+    × (new ≡ after_item old new.unread.bytes)
+IsRead old left (Ok None) new = IsAtEnd left × (rejection old ≡ None) × (old.unread.bytes ≡ []) × (new ≡ old)
+IsRead old left (Err (TooLong message)) new = (rejection old ≡ Some message) × (new ≡ after_rejection old message)
+IsRead old left (Err (Truncated count)) new =
+    IsAtEnd left × (rejection old ≡ None) × NoItemBegins old.unread.version old.unread.bytes
+    × (count ≡ length old.unread.bytes) × (0 < count) × (new ≡ old)
+IsRead old left (Err error) new = new ≡ old
+
+-- What was taken of a decoder, and of the bytes outside it, which are dropped with a message that is too long: the item
+-- at the front; nothing, since no whole item is there or an allocation failed.
+abbrev pub IsTaken : Limited → List ℕ → Result (Option Item) ReadError → Limited → List ℕ → Type 0
+IsTaken old outside (Ok (Some item)) new kept =
+    (rejection old ≡ None) × TakesWithin old.unread.version old.limit old.unread.bytes item new.unread.bytes
+    × (new ≡ after_item old new.unread.bytes) × (kept ≡ outside)
+IsTaken old outside (Ok None) new kept =
+    (rejection old ≡ None) × NoItemBegins old.unread.version old.unread.bytes
+    × (length old.unread.bytes ≤ old.limit + 7) × (new ≡ old) × (kept ≡ outside)
+IsTaken old outside (Err (TooLong message)) new kept =
+    (rejection old ≡ Some message) × (new ≡ after_rejection old message) × (kept ≡ [])
+IsTaken old outside (Err OutOfMemory) new kept = (new ≡ old) × (kept ≡ outside)
+IsTaken old outside (Err error) new kept = ⊥
+
+-- The result at the end of a stream, if these are the bytes that are left: an error, if there are any.
+abbrev pub result_at_end : List ℕ → Result (Option Item) ReadError
+result_at_end [] = Ok None
+result_at_end (byte ∷ bytes) = Err (Truncated (length (byte ∷ bytes)))
+
+-- The error takes nothing, whatever there is.
+abbrev pub TakesNothing : ReadError → Type 0
+TakesNothing (TooLong message) = ⊥
+TakesNothing (Truncated count) = ⊥
+TakesNothing error = Unit {0}
