@@ -7,8 +7,10 @@ use Rattle.shared_core_stream.specs.declared.encoding.item.Item.{Item}
 use Rattle.shared_core_stream.specs.declared.encoding.item.Item.TheVariants.{Message, Unknown as UnknownCode, Skipped}
 use Rattle.shared_core_stream.specs.Items.{front_word, IsItem, NoItemBegins}
 use Rattle.shared_core_stream.specs.Borrowed.{missing_bytes}
+use Rattle.shared_core_stream.specs.Limits.{too_long_at}
+use Rattle.shared_core_stream.specs.declared.encoding.limit_error.MessageTooLong.{MessageTooLong}
 use Rattle.journal_c_api.specs.declared.outcome.CallError.{CallError}
-use Rattle.journal_c_api.specs.declared.outcome.CallError.TheVariants.{NoRoom, UnknownVersion}
+use Rattle.journal_c_api.specs.declared.outcome.CallError.TheVariants.{NoRoom, TooLong, UnknownVersion}
 use Rattle.journal_c_api.specs.Outcomes.{supported_version, written_over}
 
 -- Which of the three kinds an item is.
@@ -63,3 +65,14 @@ WritesNext number bytes old new (Err UnknownVersion) = (supported_version number
 WritesNext number bytes old new (Err NoRoom) =
     (version : Version) × (supported_version number ≡ Some version) × (length old < 6) × (new ≡ old)
 WritesNext number bytes old new (Err error) = ⊥
+
+-- The result of journal_next_within, and what it writes: as journal_next, unless the message that the bytes begin with
+-- is longer than the limit; then TooLong, and the slice is unchanged.
+abbrev pub WritesNextWithin : ℕ → ℕ → List ℕ → List ℕ → List ℕ → Result ℕ CallError → Type 0
+WritesNextWithin number limit bytes old new (Ok missing) =
+    (version : Version) × (supported_version number ≡ Some version) × (6 ≤ length old)
+    × (too_long_at version limit 0 bytes ≡ None) × FindsItem version bytes old new missing
+WritesNextWithin number limit bytes old new (Err TooLong) =
+    (version : Version) × (error : MessageTooLong) × (supported_version number ≡ Some version) × (6 ≤ length old)
+    × (too_long_at version limit 0 bytes ≡ Some error) × (new ≡ old)
+WritesNextWithin number limit bytes old new (Err error) = WritesNext number bytes old new (Err error)

@@ -1,4 +1,6 @@
 pub mod Commands
+pub mod FieldPayloads
+pub mod Fields
 pub mod Headers
 pub mod Items
 pub mod Journals

@@ -13,7 +13,7 @@ use Rattle.journal_c_api.specs.declared.outcome.CallError.{CallError}
 use Rattle.journal_c_api.specs.declared.outcome.CallError.TheVariants.{Malformed, MalformedSecond}
 use Rattle.journal_c_api.specs.declared.outcome.CallError.TheVariants.{OutOfMemory as NoMemory, NoRoom, TooLong}
 use Rattle.journal_c_api.specs.declared.outcome.CallError.TheVariants.{UnknownVersion, UnknownSchema, UnknownType, NoId}
-use Rattle.journal_c_api.specs.declared.outcome.CallError.TheVariants.{NoResult}
+use Rattle.journal_c_api.specs.declared.outcome.CallError.TheVariants.{NoResult, NotCanonical}
 
 -- The number that denotes an error. Its remainder by 16 is that of its kind, which those of several arguments share.
 abbrev pub error_number : CallError → ℤ
@@ -23,6 +23,7 @@ error_number NoRoom = negsuc 2
 error_number TooLong = negsuc 3
 error_number NoId = negsuc 5
 error_number NoResult = negsuc 6
+error_number NotCanonical = negsuc 7
 error_number MalformedSecond = negsuc 16
 error_number UnknownVersion = negsuc 20
 error_number UnknownSchema = negsuc 36

@@ -2,10 +2,10 @@
 
 ghost use Rattle.std.specs.Prelude.{◌≡◌, ◌+◌, ◌∷◌, [], length};
 ghost use Rattle.shared_core_stream.specs.Borrowed.{item_borrowed};
-ghost use Rattle.journal_c_api.specs.Items.{FindsItem, WritesNext, item_ack, item_code, item_kind};
+ghost use Rattle.journal_c_api.specs.Items.{FindsItem, WritesNext, WritesNextWithin, item_ack, item_code, item_kind};
 
 use crate::outcome::{CallError, version_of, write_over};
-use shared_core::encoding::{ItemKind, ItemRef};
+use shared_core::encoding::{ItemKind, ItemRef, ItemRefError};
 use shared_core::header::MessageHeader;
 use shared_core::version::Version;
 
@@ -36,6 +36,28 @@ pub fn write_next(version: u32, bytes: &[u8], item: &mut [u64]) -> Result<usize,
         return Err(CallError::NoRoom);
     }
     Ok(write_item(version, bytes, item))
+}
+
+/// As `write_next`, if the payload of the item that the bytes begin with is not longer than the limit.
+///
+/// Otherwise `TooLong`, as soon as the eight bytes of its header are there: nothing is written. A limit of `u32::MAX`
+/// is none.
+pub fn write_next_within(
+    version: u32,
+    limit: u32,
+    bytes: &[u8],
+    item: &mut [u64],
+) -> Result<usize, CallError>
+    ensures { WritesNextWithin version limit bytes.now item.old item.new result }
+{
+    let version = version_of(version)?;
+    if item.len() < ITEM_NUMBERS {
+        return Err(CallError::NoRoom);
+    }
+    match ItemRef::first_within(version, limit, 0, bytes) {
+        Err(ItemRefError::TooLong(_)) => Err(CallError::TooLong),
+        Ok(_) | Err(ItemRefError::Missing(_)) => Ok(write_item(version, bytes, item)),
+    }
 }
 
 /// Writes the numbers of the item that the bytes begin with, or returns the number of missing bytes.

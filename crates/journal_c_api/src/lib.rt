@@ -2,6 +2,8 @@
 #![tactic(auto)]
 
 pub mod commands;
+pub mod field_payloads;
+pub mod fields;
 pub mod frames;
 pub mod headers;
 pub mod items;

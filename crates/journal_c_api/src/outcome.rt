@@ -21,6 +21,8 @@ pub enum CallError {
     Malformed,
     /// The second payload is not well-formed for its schema, and the first one is.
     MalformedSecond,
+    /// The payload is well-formed for its schema, and not canonical.
+    NotCanonical,
     /// An allocation failed.
     OutOfMemory,
     /// The slice for numbers is too short.
@@ -123,6 +125,7 @@ pub fn outcome_of(outcome: Result<usize, CallError>) -> i64
         CallError::TooLong => -4,
         CallError::NoId => -6,
         CallError::NoResult => -7,
+        CallError::NotCanonical => -8,
         CallError::MalformedSecond => -17,
         CallError::UnknownVersion => -21,
         CallError::UnknownSchema => -37,

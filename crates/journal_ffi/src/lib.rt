@@ -4,10 +4,12 @@
 //!
 //! Each call returns a number that is not negative, or an error's number, which is negative. One that writes bytes
 //! returns how many they are, and writes them if and only if the slice has room for all of them; an error leaves each
-//! slice unchanged. No call keeps its arguments, or leaves anything to free. A struct of C is a slice of its numbers.
+//! slice unchanged. No call keeps its arguments, or leaves anything to free. A struct of C is a slice of its numbers; a
+//! table is a slice of entries, of which a call writes the first ones, as many as there is room for.
 #![tactic(auto)]
 
 pub mod commands;
+pub mod fields;
 pub mod frames;
 pub mod items;
 pub mod journals;

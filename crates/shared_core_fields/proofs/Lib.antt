@@ -4,3 +4,5 @@ pub mod Reading
 pub mod Back
 pub mod Depths
 pub mod Appending
+pub mod Written
+pub mod FewRows

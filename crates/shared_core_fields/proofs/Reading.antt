@@ -1,11 +1,11 @@
 -- The records of a canonical payload: each is one that may come next, with a typed value.
 use Rattle.std.proofs.Common.{◌≡◌, ℕ, ◌-◌, ◌^◌, ◌<◌, List, [], ◌∷◌, length, map, Bool, true, false, cond, ◌&&◌, Option}
-use Rattle.std.proofs.Common.{Some, None, Result, Ok, Err, refl, sym, ap, ◌∙◌, arith, ltb}
+use Rattle.std.proofs.Common.{Some, None, Result, Ok, Err, refl, sym, ap, ◌∙◌, arith, ltb, take, drop}
 use Rattle.std.proofs.lemmas.Bool.{lt-ltb}
 use Rattle.std.specs.Str.{is_utf8}
-use Rattle.shared_core_wire.specs.Grammar.{RecordValue, Length, FieldRecord}
+use Rattle.shared_core_wire.specs.Grammar.{RecordValue, Varint, Fixed64, Length, Group, Fixed32, FieldRecord, content}
 use Rattle.shared_core_wire.specs.ReadRecords.{PlacedRecord, read_records, without_place}
-use Rattle.shared_core_wire.specs.Places.{EachLies}
+use Rattle.shared_core_wire.specs.Places.{LiesBefore, EachLies}
 use Rattle.shared_core_wire.specs.Encoding.{record_list_bytes}
 use Rattle.shared_core_wire.specs.Schema.{Kind, Row, U32, Text}
 use Rattle.shared_core_wire.specs.Canonical.{message_records, canonical_payload}
@@ -25,7 +25,7 @@ use Rattle.shared_core_codec.proofs.NextFields.{AreLeft, all_left, next_left}
 use Rattle.shared_core_codec.proofs.Tables.{are_schemas}
 use Rattle.shared_core_fields.specs.Coming.{is_nested, is_typed, is_short, are_coming}
 use Rattle.shared_core_fields.specs.Fields.{FieldPart, record_part, message_fields}
-use Rattle.shared_core_fields.specs.Views.{item_fields}
+use Rattle.shared_core_fields.specs.Views.{IsAt, EachIsAt, content_offset, placed_record, unplaced, item_fields}
 use Rattle.shared_core_fields.proofs.ByValue.{found_field, record_field, fields_by_value}
 
 -- ---- typed values
@@ -91,7 +91,7 @@ turn rows left room r next a i =
 record Comes (rows left : List Row) (items : List (Result PlacedRecord WireError)) (rs : List FieldRecord) : Type 0
   where
     coming : are_coming left items ≡ true
-    fields : item_fields left items ≡ map (record_field rows) rs
+    fields : map unplaced (item_fields left items) ≡ map (record_field rows) rs
 
 items_come : (rows left : List Row) (room : ℕ) (payload : List ℕ) (items : List (Result PlacedRecord WireError))
     (rs : List FieldRecord) → length payload < 4294967296
@@ -130,11 +130,11 @@ items_come rows left room payload (Ok p ∷ items) (r ∷ rs) z a h e l =
               ]) t.is
               ∙ and_join _ _ (and_join _ _ short t.typed) later.coming;
           fields =
-              ap (λ (o : Option Next). elim o [
+              ap (λ (o : Option Next). map unplaced (elim o [
                 | None ↦ []
-                | Some n ↦ (p.field_record.number, n.field, record_part n.field p.field_record.value) ∷ item_fields
-                    n.rows items
-              ]) t.is
+                | Some n ↦ placed_record (p.field_record.number, n.field, record_part n.field p.field_record.value) p
+                    ∷ item_fields n.rows items
+              ])) t.is
               ∙ ap (λ (fs : List FieldPart). (
                 p.field_record.number,
                 t.next.field,
@@ -146,11 +146,40 @@ items_come rows left room payload (Ok p ∷ items) (r ∷ rs) z a h e l =
               ∙ ap (λ (x : FieldRecord). record_field rows x ∷ rest) head;
         }
 
+-- ---- where the bytes are
+
+content_at : (payload : List ℕ) (to : ℕ) (w : RecordValue) → LiesBefore payload to w → IsAt payload
+    (content_offset w to) (content w)
+content_at payload to (Length bytes) l =
+    let as_many : length bytes ≡ to - (to - length bytes) = omega (arith, l.1) in
+    (omega (arith, l.0, l.1), ap (λ (n : ℕ). take n (drop (to - length bytes) payload)) as_many ∙ l.2)
+content_at payload to (Varint n) l = (omega arith, refl)
+content_at payload to (Fixed64 bytes) l = (omega arith, refl)
+content_at payload to (Group bytes) l = (omega arith, refl)
+content_at payload to (Fixed32 bytes) l = (omega arith, refl)
+
+pub each_at : (payload : List ℕ) (rows : List Row) (items : List (Result PlacedRecord WireError)) → EachLies payload
+    items → EachIsAt payload (item_fields rows items)
+each_at payload rows [] l = tt
+each_at payload rows (Err e ∷ items) l = tt
+each_at payload rows (Ok r ∷ items) l = by_next (λ rest. each_at payload rest items l.1) (next_field rows
+    r.field_record.number)
+  where
+    by_next : ((rest : List Row) → EachIsAt payload (item_fields rest items)) → (o : Option Next) → EachIsAt payload
+        (elim o [
+          | None ↦ []
+          | Some next ↦ placed_record (r.field_record.number, next.field, record_part next.field r.field_record.value) r
+              ∷ item_fields next.rows items
+        ])
+    by_next more None = tt
+    by_next more (Some next) = (content_at payload r.to r.field_record.value l.0, more next.rows)
+
 -- ---- a canonical payload
 
 pub record Reads (s : ℕ) (bytes : List ℕ) : Type 0 where
   pub coming : are_coming (table s) (read_records 0 bytes) ≡ true
-  pub fields : item_fields (table s) (read_records 0 bytes) ≡ message_fields (table s) (payload_meaning s bytes)
+  pub fields : map unplaced (item_fields (table s) (read_records 0 bytes)) ≡ message_fields (table s)
+      (payload_meaning s bytes)
 
 pub reads : (s : ℕ) (bytes : List ℕ) → IsCanonical s bytes → EachLies bytes (read_records 0 bytes) → Reads s bytes
 unfolding read_records

@@ -3,3 +3,4 @@ pub mod Fields
 pub mod Coming
 pub mod Views
 pub mod Entries
+pub mod Rows

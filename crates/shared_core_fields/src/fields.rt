@@ -7,7 +7,7 @@ ghost use Rattle.shared_core_wire.specs.RecordsLeft.{records_left};
 ghost use Rattle.shared_core_fields.specs.Coming.{are_coming};
 
 use crate::runs::Run;
-use crate::typed::typed_value;
+use crate::typed::{content_offset, typed_value};
 use shared_core_codec::canonical::{is_canonical, next_field};
 use shared_core_codec::rows::{Row, rows_of};
 use shared_core_wire::records::Records;
@@ -47,6 +47,8 @@ pub struct Field<'a> {
     pub is_repeated: bool,
     /// What it holds.
     pub value: FieldValue<'a>,
+    /// Where the bytes of a text, bytes, a message or a run begin in the payload; 0 of other fields.
+    pub offset: usize,
 }
 
 /// Iterates over the fields of a canonical payload, in order. It does not allocate, and makes one pass over the bytes;
@@ -64,7 +66,7 @@ impl<'a> CanonicalPayload<'a> {
     ghost use Rattle.shared_core_codec.specs.Canonicity.{IsCanonical};
     ghost use Rattle.shared_core_codec.specs.Table.{table};
     ghost use Rattle.shared_core_codec.specs.Payloads.{payload_meaning};
-    ghost use Rattle.shared_core_fields.specs.Views.{fields_left};
+    ghost use Rattle.shared_core_fields.specs.Views.{EachIsAt, fields_left, places_left};
     ghost use Rattle.shared_core_fields.specs.Fields.{message_fields};
 
     /// Checks a payload for the schema at an index of the table. Returns `None` if it is not canonical. Does not
@@ -86,8 +88,10 @@ impl<'a> CanonicalPayload<'a> {
     /// Returns an iterator over its fields: those of what it means, row by row in the order of the schema, without the
     /// fields within nested messages.
     pub fn fields(self) -> Fields<'a>
-        ensures { fields_left result
+        ensures fields { fields_left result
             ≡ message_fields (table self.entry.schema) (payload_meaning self.entry.schema self.entry.bytes.now) }
+        // the bytes of each are those of the payload at its offset
+        ensures places { EachIsAt self.entry.bytes.now (places_left result) }
     {
         Fields::new(self.schema, self.bytes)
     }
@@ -96,14 +100,15 @@ impl<'a> CanonicalPayload<'a> {
 impl<'a> Fields<'a> {
     ghost use Rattle.shared_core_codec.specs.Table.{table};
     ghost use Rattle.shared_core_codec.specs.Payloads.{payload_meaning};
-    ghost use Rattle.shared_core_fields.specs.Views.{fields_left};
+    ghost use Rattle.shared_core_fields.specs.Views.{EachIsAt, fields_left, places_left};
     ghost use Rattle.shared_core_fields.specs.Fields.{message_fields};
 
     /// Returns an iterator over the fields of the bytes of a canonical payload.
     fn new(schema: u32, bytes: &'a [u8]) -> Fields<'a>
         requires short { length bytes.now < 4294967296 }
         requires canonical { is_canonical_payload 100 schema bytes.now ≡ true }
-        ensures { fields_left result ≡ message_fields (table schema) (payload_meaning schema bytes.now) }
+        ensures fields { fields_left result ≡ message_fields (table schema) (payload_meaning schema bytes.now) }
+        ensures places { EachIsAt bytes.now (places_left result) }
     {
         Fields {
             records: Records::within(bytes, 0),
@@ -114,13 +119,13 @@ impl<'a> Fields<'a> {
 
 impl<'a> Iterator for Fields<'a> {
     ghost use Rattle.std.specs.Iterator.{YieldsFirstBy, item_count};
-    ghost use Rattle.shared_core_fields.specs.Views.{fields_left, field_part};
+    ghost use Rattle.shared_core_fields.specs.Views.{places_left, placed_field};
 
     type Item = Field<'a>;
 
-    ghost next_gives = { YieldsFirstBy field_part fields_left };
+    ghost next_gives = { YieldsFirstBy placed_field places_left };
 
-    ghost remaining = { item_count fields_left };
+    ghost remaining = { item_count places_left };
 
     fn next(&mut self) -> Option<Field<'a>> {
         let Some(item) = self.records.next() else {
@@ -137,6 +142,7 @@ impl<'a> Iterator for Fields<'a> {
             number: record.number,
             is_repeated: next.field.is_repeated,
             value: typed_value(next.field, record.value),
+            offset: content_offset(record.value, record.span.1),
         })
     }
 }

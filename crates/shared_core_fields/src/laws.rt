@@ -1,12 +1,13 @@
 //! Laws of fields.
 
-ghost use Rattle.std.specs.Prelude.{ℕ, ◌≡◌, ◌+◌, ◌∷◌, flat_map};
+ghost use Rattle.std.specs.Prelude.{ℕ, ◌≡◌, ◌≤◌, ◌+◌, ◌∷◌, flat_map, length};
 ghost use Rattle.shared_core_wire.specs.Value.{Parts};
 ghost use Rattle.shared_core_wire.specs.Canonical.{canonical_payload};
 ghost use Rattle.shared_core_wire.specs.Fitting.{Fits};
 ghost use Rattle.shared_core_codec.specs.Table.{table};
 ghost use Rattle.shared_core_fields.specs.Fields.{message_fields, fields_payload};
 ghost use Rattle.shared_core_fields.specs.Entries.{message_entries, within_field};
+ghost use Rattle.shared_core_fields.specs.Rows.{table_rows};
 
 /// The bytes of the fields of a value are its canonical payload.
 #[tactic(auto, using(crate::proofs::Back::payload_back))]
@@ -21,4 +22,11 @@ pub fn fields_have_the_payload()
 pub fn entries_are_nested_fields()
     ensures { (level s : ℕ) (v : Parts) → message_entries level s v
         ≡ flat_map (λ f. (level, f) ∷ within_field (message_entries (level + 1)) f) (message_fields (table s) v) }
+{}
+
+/// The table of a value has at most as many rows as its canonical payload has bytes.
+#[tactic(auto, using(crate::proofs::FewRows::few_rows))]
+pub fn rows_are_few()
+    ensures { (s : ℕ) (v : Parts) → Fits table v (table s) → length (table_rows s v)
+        ≤ length (canonical_payload table s v) }
 {}

@@ -1,11 +1,12 @@
 //! The value of a record, typed.
 
 ghost use Rattle.std.specs.Prelude.{◌≡◌, true};
+ghost use Rattle.shared_core_wire.specs.Grammar.{content};
 ghost use Rattle.shared_core_wire.specs.View.{value_of};
 ghost use Rattle.shared_core_codec.specs.ProgramRows.{kind_view, found_view};
 ghost use Rattle.shared_core_fields.specs.Coming.{is_short, is_typed};
 ghost use Rattle.shared_core_fields.specs.Fields.{record_part};
-ghost use Rattle.shared_core_fields.specs.Views.{value_kind, value_part};
+ghost use Rattle.shared_core_fields.specs.Views.{value_kind, value_part, value_bytes, content_offset};
 
 use crate::fields::{CanonicalPayload, FieldValue};
 use crate::runs::Run;
@@ -20,6 +21,7 @@ pub(crate) fn typed_value<'a>(found: Found, value: WireValue<'a>) -> FieldValue<
     requires typed { is_typed (found_view found) (value_of value) ≡ true }
     ensures kind { value_kind result ≡ kind_view found.kind }
     ensures part { value_part result ≡ record_part (found_view found) (value_of value.entry) }
+    ensures bytes { value_bytes result ≡ content (value_of value.entry) }
 {
     match value {
         WireValue::Varint(number) => match found.kind {
@@ -38,5 +40,16 @@ pub(crate) fn typed_value<'a>(found: Found, value: WireValue<'a>) -> FieldValue<
             _ => unreachable!(),
         },
         _ => unreachable!(),
+    }
+}
+
+/// Where the content of a record begins that ends at an offset; 0 of a record that is not length-delimited.
+#[inline(always)]
+pub(crate) fn content_offset(value: WireValue<'_>, end: usize) -> usize
+    ensures { result ≡ content_offset (value_of value.entry) end }
+{
+    match value {
+        WireValue::Length(bytes) => end.saturating_sub(bytes.len()),
+        _ => 0,
     }
 }

@@ -1,0 +1,5 @@
+mod Varints
+mod Walking
+mod Stepping
+mod Whole
+mod Canonical

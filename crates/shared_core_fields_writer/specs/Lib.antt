@@ -1,0 +1,3 @@
+pub mod Errors
+pub mod Given
+pub mod Walk

@@ -1,0 +1,165 @@
+//! What an entry gives to a field.
+
+ghost use Rattle.std.specs.Prelude.{◌≡◌, map, IfOk};
+ghost use Rattle.std.specs.Str.{is_utf8};
+ghost use Rattle.shared_core_codec.specs.Table.{table};
+ghost use Rattle.shared_core_codec.specs.ProgramRows.{kind_view, row_view, rows_view};
+ghost use Rattle.shared_core_codec.specs.Canonicity.{next_view};
+ghost use Rattle.shared_core_fields.specs.Rows.{kind_number};
+ghost use Rattle.shared_core_fields_writer.specs.Given.{Content, given_view, content, given, text_given, absence};
+ghost use Rattle.shared_core_fields_writer.specs.Given.{share_oneof, has_both, field_next, ok_view};
+
+use crate::error::Reason;
+use shared_core_codec::canonical::{NextField, is_written_number, next_field};
+use shared_core_codec::rows::{Kind, Row, find_field, find_in_row, rows_of};
+use shared_core_fields::table::FieldEntry;
+
+/// What an entry gives to a field of its kind.
+#[derive(Clone, Copy)]
+pub(crate) enum Given<'a> {
+    /// A number, as a varint has it.
+    Number(u64),
+    /// A text or bytes.
+    Content(&'a [u8]),
+    /// A message of the schema at this index of the table, whose fields come next.
+    Message(u32),
+}
+
+/// The number of a kind in entries.
+fn kind_number(kind: Kind) -> u64
+    ensures { result ≡ kind_number (kind_view kind) }
+{
+    match kind {
+        Kind::U32 => FieldEntry::U32,
+        Kind::U64 => FieldEntry::U64,
+        Kind::Boolean => FieldEntry::BOOLEAN,
+        Kind::Enumeration => FieldEntry::ENUMERATION,
+        Kind::Text => FieldEntry::TEXT,
+        Kind::ByteString => FieldEntry::BYTE_STRING,
+        Kind::Message(_) => FieldEntry::MESSAGE,
+    }
+}
+
+/// The bytes of an entry.
+fn content_of<'a>(entry: &FieldEntry, bytes: &'a [u8]) -> Result<&'a [u8], Reason>
+    ensures { ok_view (λ b. b.now) result ≡ content bytes.now entry.now }
+{
+    let len = bytes.len() as u64;
+    if entry.offset > len || entry.length > len - entry.offset {
+        return Err(Reason::OutOfBounds);
+    }
+    let start = entry.offset as usize;
+    Ok(&bytes[start..start + entry.length as usize])
+}
+
+/// The text of an entry.
+fn text_of<'a>(entry: &FieldEntry, bytes: &'a [u8]) -> Result<&'a [u8], Reason>
+    ensures { ok_view (λ b. Content b.now) result ≡ text_given (content bytes.now entry.now) }
+{
+    let content = content_of(entry, bytes)?;
+    if is_text(content) {
+        Ok(content)
+    } else {
+        Err(Reason::NotUtf8)
+    }
+}
+
+/// Whether bytes are UTF-8.
+fn is_text(bytes: &[u8]) -> bool
+    ensures { result ≡ is_utf8 bytes.now }
+{
+    match std::str::from_utf8(bytes) {
+        Ok(_text) => true,
+        Err(_) => false,
+    }
+}
+
+/// What an entry gives to a field of a kind.
+pub(crate) fn given_value<'a>(
+    kind: Kind,
+    entry: &FieldEntry,
+    bytes: &'a [u8],
+) -> Result<Given<'a>, Reason>
+    ensures { ok_view given_view result ≡ given bytes.now (kind_view kind) entry.now }
+{
+    if entry.kind != kind_number(kind) {
+        return Err(Reason::WrongKind);
+    }
+    match kind {
+        Kind::Text => Ok(Given::Content(text_of(entry, bytes)?)),
+        Kind::ByteString => Ok(Given::Content(content_of(entry, bytes)?)),
+        Kind::Message(schema) => {
+            if entry.value == u64::from(schema) {
+                Ok(Given::Message(schema))
+            } else {
+                Err(Reason::WrongKind)
+            }
+        }
+        _ => {
+            if is_written_number(kind, entry.value) {
+                Ok(Given::Number(entry.value))
+            } else {
+                Err(Reason::OutOfRange)
+            }
+        }
+    }
+}
+
+/// The number of an entry's field, and that field, which may come next in a message of the schema where these rows are
+/// left, after the last field.
+pub(crate) fn next_of(
+    schema: u32,
+    rows: &'static [Row],
+    last: Option<u32>,
+    number: u64,
+) -> Result<(u32, NextField<'static>), Reason>
+    ensures next { ok_view (λ x. next_view x.1) result ≡ field_next (table schema) (rows_view rows.entry) last number }
+    ensures same { IfOk result (λ x. x.0 ≡ number) }
+{
+    let Ok(number) = u32::try_from(number) else {
+        return Err(Reason::UnknownField);
+    };
+    match next_field(rows, number) {
+        Some(next) => Ok((number, next)),
+        None => Err(absence(rows_of(schema), last, number)),
+    }
+}
+
+/// Why no field of a number may come after the last one.
+fn absence(rows: &[Row], last: Option<u32>, number: u32) -> Reason
+    ensures { result ≡ absence (map row_view rows.now) last number }
+{
+    if find_field(rows, number).is_none() {
+        return Reason::UnknownField;
+    }
+    let Some(last) = last else {
+        return Reason::OutOfOrder;
+    };
+    if share_oneof(rows, last, number) {
+        Reason::SeveralMembers
+    } else {
+        Reason::OutOfOrder
+    }
+}
+
+/// Whether two fields are members of one oneof.
+fn share_oneof(rows: &[Row], last: u32, number: u32) -> bool
+    ensures { result ≡ share_oneof (map row_view rows.now) last number }
+{
+    for row in rows {
+        if has_both(row, last, number) {
+            return true;
+        }
+    }
+    false
+}
+
+/// Whether a row is a oneof that has both of these members.
+fn has_both(row: &Row, last: u32, number: u32) -> bool
+    ensures { result ≡ has_both (row_view row.now) last number }
+{
+    match row {
+        Row::OneOf(_) => find_in_row(row, last).is_some() && find_in_row(row, number).is_some(),
+        _ => false,
+    }
+}
