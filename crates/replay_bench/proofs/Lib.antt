@@ -1,3 +1,4 @@
+pub mod Alignments
 pub mod Surveys
 pub mod Fronts
 pub mod Lengths

@@ -7,3 +7,4 @@ pub mod Taking
 pub mod Fields
 pub mod Verdicts
 pub mod Texts
+pub mod Alignments

@@ -2,6 +2,7 @@
 //! `shared_core`, over its public calls and their contracts alone.
 #![tactic(auto)]
 
+mod alignment;
 mod commands;
 mod comparison;
 mod faults;
@@ -13,6 +14,7 @@ mod sources;
 mod survey;
 mod verdicts;
 
+pub use crate::alignment::align_commands;
 pub use crate::comparison::{
     compare_journals, compare_readers, compare_sources, survey_readers, survey_sources,
 };
@@ -22,3 +24,4 @@ pub use crate::reader_chunks::ReaderChunks;
 pub use crate::sources::{SliceChunks, Source, SourceError};
 pub use crate::survey::Survey;
 pub use crate::verdicts::{BenchError, Comparison, ReaderError, Side, Verdict};
+pub use edit_script::{Alignment, Change, Difference};

@@ -47,7 +47,7 @@ pub(crate) fn compare_commands(pair: Pair<'_>) -> Result<Option<Found>, BenchErr
     let replayed = pair.replayed.ty();
     if recorded == replayed {
         // most commands of a replay have the same bytes: then neither is decoded
-        if has_same_bytes(&pair) {
+        if has_same_bytes(pair.recorded, pair.replayed) {
             return Ok(None);
         }
         return match visit_command(recorded, pair) {
@@ -67,12 +67,12 @@ pub(crate) fn compare_commands(pair: Pair<'_>) -> Result<Option<Found>, BenchErr
 }
 
 /// Whether the payloads of two commands are the same bytes, which are well-formed for the type of the recorded one.
-fn has_same_bytes(pair: &Pair<'_>) -> bool
-    ensures payloads { IsTrue result → pair.now.recorded.now.payload ≡ pair.now.replayed.now.payload }
-    ensures accepted { IsTrue result → IsSomeAnd (message_schema pair.now.recorded.now.header.ty)
-        (λ s. IsAccepted s pair.now.recorded.now.payload) }
+pub(crate) fn has_same_bytes(recorded: &RawMessage, replayed: &RawMessage) -> bool
+    ensures payloads { IsTrue result → recorded.now.payload ≡ replayed.now.payload }
+    ensures accepted { IsTrue result → IsSomeAnd (message_schema recorded.now.header.ty)
+        (λ s. IsAccepted s recorded.now.payload) }
 {
-    pair.recorded.payload() == pair.replayed.payload() && is_well_formed_command(pair.recorded)
+    recorded.payload() == replayed.payload() && is_well_formed_command(recorded)
 }
 
 /// Whether the payload of a command is well-formed for its type.
