@@ -113,8 +113,8 @@ class Browser:
             self.messages.append(f"a dialog: {event['message']}")
 
     def evaluate(self, expression):
-        """The value of an expression in the page."""
-        result = self.call("Runtime.evaluate", expression=expression, returnByValue=True)
+        """The value of an expression in the page, or of what it promises."""
+        result = self.call("Runtime.evaluate", expression=expression, returnByValue=True, awaitPromise=True)
         if "exceptionDetails" in result:
             raise RuntimeError(f"{expression}: {result['exceptionDetails']['exception'].get('description')}")
         return result["result"].get("value")
@@ -124,7 +124,7 @@ class Browser:
         until = time.monotonic() + SECONDS
         while not self.evaluate(condition):
             if time.monotonic() > until:
-                raise RuntimeError(f"it does not become true: {condition}")
+                raise RuntimeError(f"it does not become true: {condition}; errors of the console: {self.messages}")
             time.sleep(0.02)
 
     def open(self, path, place=""):
@@ -133,7 +133,9 @@ class Browser:
         self.messages, self.requests = [], []
         start = time.monotonic()
         self.call("Page.navigate", url=pathlib.Path(path).resolve().as_uri() + place)
-        self.wait("document.readyState === 'complete' && document.body.dataset.ready === 'true'")
+        self.wait("location.protocol === 'file:' && document.readyState === 'complete'")
+        if not self.evaluate("document.body.dataset.ready === 'true'"):
+            raise RuntimeError(f"the page does not start: {self.messages}")
         return time.monotonic() - start
 
     def press(self, *keys):
@@ -145,6 +147,32 @@ class Browser:
                 event.update(code=key, windowsVirtualKeyCode=KEY_CODES[key])
             self.call("Input.dispatchKeyEvent", type="keyDown" if text else "rawKeyDown", **event)
             self.call("Input.dispatchKeyEvent", type="keyUp", key=key)
+
+    def mouse(self, kind, x, y, **more):
+        self.call("Input.dispatchMouseEvent", type=kind, x=x, y=y, **more)
+
+    def click(self, x, y):
+        """Clicks at a place of the window."""
+        self.mouse("mouseMoved", x, y)
+        for kind in ("mousePressed", "mouseReleased"):
+            self.mouse(kind, x, y, button="left", clickCount=1)
+
+    def drag(self, x, y, to):
+        """Drags from a place to another one beside it."""
+        self.mouse("mousePressed", x, y, button="left", clickCount=1)
+        for place in (x + (to - x) / 2, to):
+            self.mouse("mouseMoved", place, y, button="left")
+        self.mouse("mouseReleased", to, y, button="left", clickCount=1)
+
+    def wheel(self, x, y, by):
+        """Turns the wheel at a place: down by so many pixels, up where they are negative."""
+        self.mouse("mouseWheel", x, y, deltaX=0, deltaY=by)
+
+    def click_on(self, expression):
+        """Scrolls an element into sight, and clicks in its middle."""
+        box = f"(() => {{ const node = {expression}; node.scrollIntoView({{ block: 'nearest' }}); return node.getBoundingClientRect().toJSON(); }})()"
+        place = self.evaluate(box)
+        self.click(place["left"] + place["width"] / 2, place["top"] + place["height"] / 2)
 
     def type(self, text):
         self.press(*text)

@@ -1,8 +1,9 @@
 #!/usr/bin/env python3
 """Writes a page that shows one journal, or two side by side: view/make_page.py [OPTION].. STREAM [OTHER]
 
-The items are the lines of journal dump, and with two journals the difference is what journal diff prints: nothing of a
-stream is decoded here. The page is one file with its data, style and script inside, and requests nothing.
+The items are the lines of journal dump, of a stream or of a file that has them already, and of two streams the
+difference is what journal diff prints: nothing of a stream is decoded here. The page is one file with its data, style
+and script inside, and requests nothing.
 """
 import argparse
 import base64
@@ -13,24 +14,27 @@ import json
 import os
 import pathlib
 import re
+import secrets
 import shutil
+import stat
 import string
 import subprocess
 import sys
 import tempfile
 
+import dumps
+
 HERE = pathlib.Path(__file__).resolve().parent
 ROOT = HERE.parent
 
 # The files of the script, in the order in which they take from each other.
-SCRIPTS = ("text", "bytes", "items", "rows", "summary", "list", "lanes", "values", "detail", "filter", "top", "keys")
+SCRIPTS = (
+    "text", "bytes", "items", "compare", "align", "rows", "summary", "copy", "list", "lanes", "tree", "values", "state",
+    "detail", "words", "filter", "strip", "address", "top", "keys",
+)  # fmt: skip
 
 # How many items a page shows, of all its journals, by default.
 ITEMS = 200_000
-
-# The most characters of a line whose payload is in the page, and of all lines of a journal.
-LINE_CHARACTERS = 4 << 20
-JOURNAL_CHARACTERS = 64 << 20
 
 # What the first line of journal diff says: the kind of the verdict, by a pattern that has the index of the command.
 VERDICTS = (
@@ -54,7 +58,9 @@ class Failure(Exception):
 def parse_arguments(words):
     """The parsed command line."""
     parser = argparse.ArgumentParser(
-        prog="run.sh journal view", description="Writes a page that shows one journal, or two side by side."
+        prog="run.sh journal view",
+        description="Writes a page that shows one journal, or two side by side. A journal is a stream, or its dump.",
+        formatter_class=lambda prog: argparse.HelpFormatter(prog, width=min(79, shutil.get_terminal_size().columns - 1)),
     )
     parser.add_argument("stream", metavar="STREAM", help="a journal; with OTHER the recorded one; - is the input")
     parser.add_argument("other", metavar="OTHER", nargs="?", help="the replayed journal")
@@ -116,20 +122,12 @@ def program(unproved):
     return path
 
 
-def shortened(line):
-    """An item's line without its payload, which is too long for a page."""
-    item = json.loads(line)
-    for name in ("message", "malformed", "bytes"):
-        item.pop(name, None)
-    item["leftOut"] = True
-    return json.dumps(item, separators=(",", ":"))
-
-
-def read_journal(words, path, source, most):
+def read_stream(words, path, source, most):
     """A journal for the page, of `path` and read at `source`: its lines as journal dump prints them, the last of them
     that of the rest. `most` items are kept; the others are counted."""
-    lines, last, items, characters, is_full = [], None, 0, 0, False
+    kept, last = dumps.Lines(most), None
     words = [*words, "--", source]
+    progress = dumps.Progress(shown(path), os.stat(source).st_size)
     with (
         tempfile.TemporaryFile("w+", encoding="utf-8", errors="replace") as notes,
         subprocess.Popen(
@@ -138,30 +136,41 @@ def read_journal(words, path, source, most):
     ):
         for line in dump.stdout:
             if last is not None:
-                items += 1
-                kept = last if len(last) <= LINE_CHARACTERS else shortened(last)
-                is_full = is_full or len(lines) == most or characters + len(kept) > JOURNAL_CHARACTERS
-                if not is_full:
-                    lines.append(kept)
-                    characters += len(kept)
+                kept.add(last)
+                progress.count(offset_of(last))
             last = line.rstrip("\n")
         dump.wait()
         notes.seek(0)
         said = notes.read()
+    progress.end()
     rest = json.loads(last) if dump.returncode == 0 and last is not None else None
-    if rest is not None and items == 0 and rest["rest"] > 0:
+    if rest is not None and kept.items == 0 and rest["rest"] > 0:
         # what journal dump says of these bytes would say the same once more
         raise Failure(f"view: {path}: no message in it; is it a journal of version {words[3]}?")
     sys.stderr.write(said)
     if rest is None:
         raise Failure(f"view: {path}: journal dump ended with the status {dump.returncode}", dump.returncode or 1)
-    return {
-        "name": shown(path),
-        "items": items,
-        "shown": len(lines),
-        "bytes": rest["offset"] + rest["rest"],
-        "lines": [*lines, last if len(last) <= LINE_CHARACTERS else shortened(last)],
-    }
+    return kept.journal(shown(path), rest)
+
+
+def offset_of(line):
+    """The offset of a line of journal dump, which is its first member."""
+    return int(line[len('{"offset":') :].partition(",")[0])
+
+
+def is_dump(source):
+    """Whether a file has the lines of a dump, and no stream."""
+    with open(source, "rb") as file:
+        return dumps.DUMP.match(file.read(4096)) is not None
+
+
+def read_dump(reader, path, source, most):
+    """A journal for the page, of the lines of a dump."""
+    try:
+        with open(source, "rb") as file:
+            return dumps.read_dump(file, shown(path), reader, most, os.fstat(file.fileno()).st_size)
+    except dumps.Wrong as wrong:
+        raise Failure(f"view: {path}:{wrong}") from None
 
 
 def verdict_of(text):
@@ -212,14 +221,17 @@ def policy(script, style):
     )
 
 
-def page(journals, verdict, version, ignores_payloads):
+def page(journals, verdict, version, ignores_payloads, script=None):
     """The page's text."""
-    script = "\n".join((HERE / "script" / f"{name}.js").read_text(encoding="utf-8") for name in SCRIPTS)
+    code = "\n".join((HERE / "script" / f"{name}.js").read_text(encoding="utf-8") for name in SCRIPTS)
     style = (HERE / "page.css").read_text(encoding="utf-8")
     about = {
         "version": version,
         "ignoresPayloads": ignores_payloads,
         "verdict": verdict,
+        # the proved alignment, where journal diff gives one: each difference in order, as an object with `change`, which
+        # is inserted, removed or changed, and how many commands of the `recorded` and the `replayed` come before it
+        "script": script,
         "journals": [{name: value for name, value in journal.items() if name != "lines"} for journal in journals],
         **messages_of(version),
     }
@@ -228,10 +240,10 @@ def page(journals, verdict, version, ignores_payloads):
         for side, journal in enumerate(journals)
     ]
     return string.Template((HERE / "page.html").read_text(encoding="utf-8")).substitute(
-        policy=policy(script, style),
+        policy=policy(code, style),
         title=html.escape(" and ".join(journal["name"] for journal in journals)),
         style=style,
-        script=script,
+        script=code,
         about=embedded(json.dumps(about, separators=(",", ":"))),
         journals="\n".join(parts),
     )
@@ -251,9 +263,23 @@ def put(text):
 
 
 def write_file(path, text):
-    """Writes a page to a file."""
+    """Writes a page to a file, whole or not at all: beside it first, and then in its place. What is there and is no
+    plain file, as a pipe, is written as it is."""
+    # a path may lead to the file, and a page stays what it was to others
+    real = pathlib.Path(os.path.realpath(path))
     try:
-        pathlib.Path(path).write_text(text, encoding="utf-8", newline="\n")
+        if real.exists() and not real.is_file():
+            real.write_text(text, encoding="utf-8", newline="\n")
+            return
+        beside = real.with_name(f".{secrets.token_hex(8)}.part")
+        try:
+            with open(beside, "x", encoding="utf-8", newline="\n") as file:
+                file.write(text)
+            if real.exists():
+                beside.chmod(stat.S_IMODE(real.stat().st_mode))
+            beside.replace(real)
+        finally:
+            beside.unlink(missing_ok=True)
     except OSError as error:
         raise Failure(f"view: {path}: {error.strerror}") from error
 
@@ -264,12 +290,19 @@ def run(arguments):
     protocol = ["--protocol", str(arguments.protocol)]
     with contextlib.ExitStack() as files:
         sources = [files.enter_context(opened(path)) for path in paths]
-        journal = program(arguments.unproved)
-        dump = [journal, "dump", *protocol]
+        of_dumps = [is_dump(source) for source in sources]
+        # a page of dumps takes no program
+        journal = None if all(of_dumps) else program(arguments.unproved)
+        reader = dumps.Reader(messages_of(arguments.protocol))
         most = max(1, arguments.items // len(paths))
-        journals = [read_journal(dump, path, source, most) for path, source in zip(paths, sources)]
+        journals = [
+            read_dump(reader, path, source, most)
+            if is_lines
+            else read_stream([journal, "dump", *protocol], path, source, most)
+            for path, source, is_lines in zip(paths, sources, of_dumps)
+        ]
         verdict = None
-        if len(paths) == 2:
+        if len(paths) == 2 and not any(of_dumps):
             options = [*protocol, *(["--ignore-payloads"] if arguments.ignore_payloads else [])]
             verdict = compare([journal, "diff", *options], sources)
     text = page(journals, verdict, arguments.protocol, arguments.ignore_payloads)

@@ -59,8 +59,9 @@ def as_json(value):
     return json.dumps(value, ensure_ascii=False).encode()
 
 
-def order(charge, parameter):
-    """The journal of an order, which charges a card by this handler, and is suspended after it."""
+def order(charge, parameter, more=b""):
+    """The journal of an order, which charges a card by this handler, and is suspended after it; with more frames before
+    its state is set."""
     return b"".join([
         frame("Start", id=bytes.fromhex("01937fa2c4"), debug_id="inv_1gdJBtdVEcM9", known_entries=11, key="order-1042",
               state_map=[{"key": b"status", "value": b'"pending"'}], random_seed=88172645463325252),
@@ -71,6 +72,7 @@ def order(charge, parameter):
         frame("ProposeRunCompletion", result_completion_id=1, value=as_json({"reserved": True})),
         frame("ProposeRunCompletionAck", completion_id=1),
         frame("RunCompletionNotification", completion_id=1, value={"content": as_json({"reserved": True})}),
+        more,
         frame("SetStateCommand", key=b"status", value={"content": b'"reserved"'}),
         frame("CallCommand", service_name="payments", handler_name=charge, parameter=as_json(parameter),
               idempotency_key="order-1042", invocation_id_notification_idx=2, result_completion_id=3, name="charge"),
@@ -97,10 +99,24 @@ def settled():
 
 
 def orders():
-    """Two journals of one order, that part at the call."""
+    """Two journals of one order: the replay sets one state more, and its call is another one."""
     recorded = order("charge", {"amount": 18.5, "currency": "EUR", "card": "4242"})
-    replayed = order("chargeCard", {"amount": 18.5, "currency": "EUR", "card": "4242", "retries": 3})
+    more = frame("SetStateCommand", key=b"checked", value={"content": b"true"})
+    replayed = order("chargeCard", {"amount": 18.5, "currency": "EUR", "card": "4242", "retries": 3}, more)
     return recorded + settled(), replayed
+
+
+def steps(number, first=1):
+    """So many commands of an order's steps, each a state of its own, numbered from `first` on."""
+    keys = [b"step %d" % count for count in range(first, first + number)]
+    return [frame("SetStateCommand", key=key, value={"content": b"done"}) for key in keys]
+
+
+def audited():
+    """Two journals of 98 steps, of which the replay sets another state before the fiftieth."""
+    same = steps(98)
+    other = frame("SetStateCommand", key=b"other", value={"content": b"audit"})
+    return b"".join(same), b"".join([*same[:49], other, *same[49:]])
 
 
 def write_orders(folder):

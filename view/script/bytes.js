@@ -57,9 +57,10 @@ function isJson(text) {
   }
 }
 
-/** A few characters of bytes, for a row. */
+/** A few characters of bytes, for a row; JSON without its line breaks. */
 function preview(base64) {
   const bytes = bytesOf(base64.slice(0, 160));
   const text = textOf(bytes, base64.length > 160);
-  return text === null ? `0x${hexOf(bytes.subarray(0, 24)).replaceAll(" ", "")}` : text.replace(/[ \t\r\n]+/g, " ");
+  if (text === null) return `0x${hexOf(bytes.subarray(0, 24)).replaceAll(" ", "")}`;
+  return /^\s*[[{]/.test(text) ? text.replace(/[ \t\r\n]+/g, " ") : text;
 }

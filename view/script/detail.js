@@ -40,9 +40,22 @@ function joinedNode(item) {
 }
 
 const AWAITED = 1000; // what is shown of a tree of futures at most
+const LEVELS = 8; // of a tree that are indented; further ones say which they are
+
+/** A future, or those that are each the one thing that the one above awaits: the last, their number, their forms. */
+function innermost(future) {
+  const forms = new Set();
+  for (let amount = 1; ; amount++) {
+    if (future.combinatorType !== undefined) forms.add(future.combinatorType);
+    const [inner, ...others] = future.nestedFutures ?? [];
+    if (!inner || others.length > 0 || awaitedBy(future).length > 0) return { last: future, amount, forms: [...forms] };
+    future = inner;
+  }
+}
 
 /** The tree of what a future awaits, as far as there is room. */
-function futureNode(future, item, room = { left: AWAITED }) {
+function futureNode(outer, item, room = { left: AWAITED }, level = 1) {
+  const { last: future, amount, forms } = innermost(outer);
   let more = 0;
   const nodes = (list, nodeOf) => list.flatMap((one) => {
     if (room.left-- > 0) return [nodeOf(one)];
@@ -57,10 +70,13 @@ function futureNode(future, item, room = { left: AWAITED }) {
       command ? [" of ", linkTo(command)] : null,
       completion ? [", completed by ", linkTo(completion)] : ", open");
   });
-  const nested = nodes(future.nestedFutures ?? [], (inner) => element("li", "", futureNode(inner, item, room)));
-  const combinator = future.combinatorType === undefined ? "" : `, combinator ${future.combinatorType}`;
-  return element("div", "future", element("span", "form", `future${combinator}`), element("ul", "", leaves, nested,
-    more > 0 ? element("li", "form", `and ${number(more)} more`) : null));
+  const nested = nodes(future.nestedFutures ?? [], (inner) =>
+    element("li", "", futureNode(inner, item, room, level + amount)));
+  const combinator = forms.length === 0 ? "" : `, combinator ${forms.join(", ")}`;
+  const depth = amount > 1 ? `, of levels ${level} to ${level + amount - 1}` : level > LEVELS ? `, level ${level}` : "";
+  const list = element("ul", level > LEVELS ? "flat" : "", leaves, nested,
+    more > 0 ? element("li", "form", `and ${number(more)} more`) : null);
+  return element("div", "future", element("span", "form", `future${amount > 1 ? "s" : ""}${combinator}${depth}`), list);
 }
 
 /** What is known of an item from its header. */
@@ -80,7 +96,7 @@ function factsOf(item) {
 const valuesByPath = (item) => new Map(item ? itemValues(item).map((value) => [value.path, value]) : []);
 
 function tableRow(label, cells, className = "", note = "") {
-  const head = element("th", "", breakable(label), note ? element("small", "", note) : null);
+  const head = element("th", "", label, note ? element("small", "", note) : null);
   head.scope = "row";
   return element("tr", className, head, cells.map((cell) => element("td", "", cell ?? element("span", "form", "—"))));
 }
@@ -91,29 +107,58 @@ const hasTwoTypes = (row) => row.every(Boolean) && new Set(row.map(typeOf)).size
 function layoutsOf(pair, differs) {
   const layouts = pair.map((value) => value && layoutOf(value));
   if (!differs || !layouts.every(Boolean)) return layouts;
-  // JSON that differs only in its blanks is shown as it is
-  const isAlike = layouts[0].text === layouts[1].text;
-  const [one, other] = isAlike ? pair.map((value) => layoutOf(value, true)) : layouts;
+  const trees = layouts.map(({ tree }) => tree);
+  const marks = trees.every(Boolean) ? treeMarks(trees) : null;
+  if (marks?.size > 0) return layouts.map((layout) => ({ ...layout, marks }));
+  // JSON that differs only in its blanks, or in the order of members, is shown as it is
+  const [one, other] = trees.some(Boolean) ? pair.map((value) => layoutOf(value, true)) : layouts;
   const parts = differingParts(one.text, other.text);
   return [{ ...one, part: parts[0] }, { ...other, part: parts[1] }];
 }
 
-/** The rows of what is in the messages: those that differ between two of one type, which are marked, and the others. */
-function valueRows(row) {
-  const isComparable = isPair && row.every(Boolean) && !hasTwoTypes(row);
+const FIELDS = 300; // of a message that are shown at first, and further ones at a time
+
+/** The fields of the messages of a row: those that differ between two of one type first. */
+function fieldsOfRow(row) {
+  const isComparable = isPair && row.every((item) => item && !lacksPayload(item)) && !hasTwoTypes(row);
   const values = row.map(valuesByPath);
-  const paths = new Set(values.flatMap((one) => [...one.keys()]));
-  const found = [...paths].map((path) => {
+  const paths = [...new Set(values.flatMap((one) => [...one.keys()]))];
+  const textOf = (value) => value && JSON.stringify([value.value, value.cut?.sha256]);
+  const fields = paths.map((path) => {
     const pair = values.map((one) => one.get(path));
-    const differs = isComparable && JSON.stringify(pair[0]?.value) !== JSON.stringify(pair[1]?.value);
     const isCompared = pair.every((value) => value?.compared !== false);
-    const note = differs ? (isCompared ? "differs" : "differs, not compared") : "";
-    const layouts = layoutsOf(pair, differs);
-    const nodes = pair.map((value, side) => value && valueNode(value, row[side], layouts[side]));
-    const className = differs && isCompared ? "differs" : "";
-    return { differs, node: tableRow(path.replace(/\.content$/, ""), nodes, className, note) };
+    return { path, pair, isCompared, differs: isComparable && textOf(pair[0]) !== textOf(pair[1]) };
   });
-  return [true, false].map((differs) => found.filter((one) => one.differs === differs).map(({ node }) => node));
+  return [true, false].map((differs) => fields.filter((field) => field.differs === differs));
+}
+
+/** The row of a field; a field that differs is marked. */
+function fieldRow({ path, pair, isCompared, differs }, row) {
+  const note = differs ? (isCompared ? "differs" : "differs, not compared") : "";
+  const layouts = layoutsOf(pair, differs);
+  const nodes = pair.map((value, side) => value && valueNode(value, row[side], layouts[side]));
+  return tableRow(breakable(path.replace(/\.content$/, "")), nodes, differs && isCompared ? "differs" : "", note);
+}
+
+/** The rows of fields as a part of the table; those that are too many come when they are wanted. */
+function fieldRows(fields, row) {
+  const body = element("tbody", "", fields.slice(0, FIELDS).map((field) => fieldRow(field, row)));
+  let made = FIELDS;
+  if (fields.length <= made) return body;
+  const button = buttonNode("more", () => {
+    const next = fields.slice(made, made + FIELDS);
+    made += next.length;
+    last.before(...next.map((field) => fieldRow(field, row)));
+    label();
+  });
+  const last = element("tr", "", Object.assign(element("td", "", button), { colSpan: 3 }));
+  const label = () => {
+    button.textContent = `Show more: of ${counted(fields.length, "field")} ${number(fields.length - made)} are not shown`;
+    last.hidden = made >= fields.length;
+  };
+  label();
+  body.append(last);
+  return body;
 }
 
 function factRows(row) {
@@ -126,12 +171,15 @@ function factRows(row) {
 }
 
 /** What is wrong with a payload, where something is. */
-function noteOf({ dump }) {
+function noteOf(item) {
+  const { dump } = item;
   if (dump.malformed) return element("p", "failure", "The payload is not well-formed: these are its bytes.");
+  if (lacksPayload(item)) return element("p", "", "The dump has no payloads.");
   return dump.leftOut ? element("p", "", "The payload is too long for this page.") : null;
 }
 
 const columnHead = (name) => Object.assign(element("th", "", name), { scope: "col" });
+const sidesHead = () => element("thead", "", element("tr", "", element("td"), SIDES.map(columnHead)));
 
 /** What is shown of a row: its items side by side. */
 function detailOf(place) {
@@ -139,23 +187,53 @@ function detailOf(place) {
   const failures = row.map((item) => item?.failure && element("p", "failure", visible(failureText(item.failure))));
   const joins = row.map((item) => item && joinedNode(item));
   const notes = row.map((item) => item && noteOf(item));
-  const [differing, others] = valueRows(row);
+  const [differing, others] = fieldsOfRow(row);
   const table = element("table", isPair ? "pair" : "single",
-    isPair ? element("thead", "", element("tr", "", element("td", ""), SIDES.map(columnHead))) : null,
+    isPair ? sidesHead() : null,
+    fieldRows(differing, row),
     element("tbody", "",
-      differing,
       factRows(row),
       failures.some(Boolean) ? tableRow("failure", failures) : null,
       notes.some(Boolean) ? tableRow("note", notes) : null,
-      joins.some(Boolean) ? tableRow("joined", joins) : null,
-      others));
-  const lines = row.filter(Boolean).map((item) => foldedNode(indented(item.line), "json"));
-  const raw = element("details", "", element("summary", "", "The line of journal dump"), lines);
-  const title = element("h2", "", isPair ? rowTitle(row) : typeOf(row[0]));
-  return element("div", "", title, table, raw);
+      joins.some(Boolean) ? tableRow("joined", joins) : null),
+    fieldRows(others, row));
+  return element("div", "", titleNode(row), table, stateNode(place), linesNode(row));
 }
 
-function rowTitle(row) {
+/** The lines of journal dump of a row, each with a button that copies it. */
+function linesNode(row) {
+  const summary = element("summary", "", "The line of journal dump");
+  const details = element("details", "", summary);
+  details.addEventListener("toggle", () => {
+    if (details.childElementCount > 1) return;
+    const lines = row.filter(Boolean).map((item) =>
+      element("div", "payload", copyButton("line", () => item.line), foldedNode(indented(item.line), "json")));
+    for (const line of lines) details.append(line);
+  });
+  return details;
+}
+
+function titleNode(row) {
   const [item] = row.filter(Boolean);
-  return item.command === null ? typeOf(item) : `Command ${number(item.command)}`;
+  const isCommand = isPair && item.command !== null;
+  const text = !isPair || !isCommand ? typeOf(item) : `Command ${commandNumbers(row)}`;
+  const copies = row.filter(Boolean).map((one) => {
+    const whole = one.dump.cut || one.dump.leftOut ? "shortened line" : "line";
+    return copyButton(`copy the ${isPair ? `${SIDES[one.side]} ` : ""}${whole}`, () => one.line);
+  });
+  return element("h2", "", text, " ", copies);
+}
+
+/** The indices of the commands of a row, once where they are one. */
+function commandNumbers(row) {
+  const [one, other] = row.map((item) => item && number(item.command));
+  if (!one || !other) return `${one ?? other} ${one ? "of the recorded journal" : "of the replayed journal"}`;
+  return one === other ? one : `${one} of the recorded journal, ${other} of the replayed one`;
+}
+
+/** What is shown of a row that cannot be laid out: why, and its lines as they are. */
+function failedDetail(place, error) {
+  const lines = itemsOf(place).map((item) => foldedNode(item.line, "text"));
+  return element("div", "", element("h2", "", itemsOf(place).map(typeOf).join(", ")),
+    element("p", "failure", `This item cannot be laid out (${error}). It is, as journal dump prints it:`), lines);
 }

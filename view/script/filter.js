@@ -1,42 +1,5 @@
 // The filter, and the counts that are its boxes.
 
-const haystacks = new Map();
-
-/** What is searched of an item: its type, its names, and all its texts, in lower case. */
-function haystackOf(item) {
-  if (!haystacks.has(item)) {
-    const type = typeOf(item).toLowerCase();
-    const texts = itemValues(item).map(({ path, kind, value }) => {
-      if (kind === "Future") return [path, allAwaitedBy(value).map(keyText).join(" ")];
-      if (kind !== "bytes") return [path, typeof value === "object" ? "" : String(value)];
-      const bytes = bytesOf(value);
-      return [path, textOf(bytes) ?? hexOf(bytes).replaceAll(" ", "")];
-    });
-    const lower = texts.map(([path, text]) => [path, text.toLowerCase()]);
-    haystacks.set(item, {
-      type,
-      names: lower.filter(([path]) => NAME_PATH.test(path)).map(([, text]) => text).join("\n"),
-      all: [type, ...lower.map(([, text]) => text)].join("\n"),
-    });
-  }
-  return haystacks.get(item);
-}
-
-const STATES = {
-  failure: (item) => item.failure !== null,
-  malformed: (item) => item.dump.malformed === true,
-  open: isOpen,
-};
-
-/** Whether an item has a word of the filter. */
-function hasWord(item, word) {
-  const [, field, rest] = word.match(/^(type|name|is):(.*)$/) ?? [null, null, word];
-  if (field === "is") return Object.hasOwn(STATES, rest) ? STATES[rest](item) : item.direction === rest;
-  const haystack = haystackOf(item);
-  if (field === "type") return haystack.type.includes(rest);
-  return (field === "name" ? haystack.names : haystack.all).includes(rest);
-}
-
 /** The values of the boxes of this name that are checked. */
 function checkedValues(name) {
   const boxes = document.querySelectorAll(`input[name=${name}]:checked`);
@@ -45,23 +8,29 @@ function checkedValues(name) {
 
 /** Shows the rows of which an item has every word and is of a checked direction and type, where some are checked. */
 function filter() {
-  const words = byId("text").value.toLowerCase().split(/\s+/).filter(Boolean);
+  const words = wordsOf(byId("text").value);
+  const wrong = words.find((word) => word.wrong)?.wrong;
   const [directions, states, types] = ["direction", "state", "type"].map(checkedValues);
   const isShown = (item) =>
     (directions.size === 0 || directions.has(item.direction)) &&
     (types.size === 0 || types.has(groupOf(item))) &&
     [...states].every((state) => STATES[state](item)) &&
-    words.every((word) => hasWord(item, word));
+    words.every(({ test, isWithout }) => !test || test(item) !== isWithout);
   const isFiltered = words.length + directions.size + states.size + types.size > 0;
-  shown = rows.map((_, place) => place).filter((place) => !isFiltered || itemsOf(place).some(isShown));
-  positions = new Map(shown.map((place, position) => [place, position]));
-  byId("matches").textContent = (isFiltered ? `${number(shown.length)} of ` : "") + counted(rows.length, "row");
+  shown = [...rows.keys()];
+  if (isFiltered) shown = shown.filter((place) => itemsOf(place).some(isShown));
+  positions = new Int32Array(rows.length).fill(-1);
+  shown.forEach((place, position) => { positions[place] = position; });
+  byId("matches").textContent = wrong ?? (isFiltered ? `${number(shown.length)} of ` : "") + counted(rows.length, "row");
+  byId("matches").classList.toggle("failure", wrong !== undefined);
   list.classList.toggle("empty", shown.length === 0);
+  drawStrip();
+  keepPlace();
   if (shown.length === 0) {
     paint();
     return;
   }
-  const nearest = positions.has(selected) ? selected : (shown.find((place) => place > selected) ?? shown.at(-1));
+  const nearest = isIn(selected) ? selected : (shown.find((place) => place > selected) ?? shown.at(-1));
   select(nearest);
 }
 

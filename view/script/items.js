@@ -18,6 +18,9 @@ function directionOf(dump) {
   return dump.skipped ? "skipped" : (about.types[dump.type]?.direction ?? "custom");
 }
 
+/** Whether journal diff compares a field of a command, by what the page knows of it. */
+const isCompared = (field) => field?.compared !== false && !(field?.payload && about.ignoresPayloads);
+
 /**
  * The values in a message, each with its path, its kind, and whether journal diff compares it. A future is one value,
  * and so is a message without fields.
@@ -25,26 +28,32 @@ function directionOf(dump) {
 function* valuesOf(message, schema, path = "", compared = true) {
   for (const [name, value] of Object.entries(message)) {
     const field = fieldsOf(schema)[name] ?? { kind: "text" };
-    const isCompared = compared && field.compared !== false && !(field.payload && about.ignoresPayloads);
+    const isHere = compared && isCompared(field);
     const list = Array.isArray(value);
     for (const [place, one] of (list ? value : [value]).entries()) {
       const at = path + name + (list ? `[${place}]` : "");
       const isNested = field.kind in about.messages && field.kind !== "Future" && Object.keys(one).length > 0;
-      if (isNested) yield* valuesOf(one, field.kind, `${at}.`, isCompared);
-      else yield { path: at, kind: field.kind, value: one, compared: isCompared };
+      if (isNested) yield* valuesOf(one, field.kind, `${at}.`, isHere);
+      else yield { path: at, kind: field.kind, value: one, compared: isHere };
     }
   }
 }
 
-/** The values of an item: of its message, or the bytes that are none. */
+/** The values of an item: of its message, or the bytes that are none; `cut` is what is known of one that is cut. */
 function itemValues(item) {
-  const { message, bytes } = item.dump;
+  const { message, bytes, cut = {} } = item.dump;
   if (message === undefined) {
-    return bytes === undefined ? [] : [{ path: "bytes", kind: "bytes", value: bytes, compared: false }];
+    return bytes === undefined ? [] : [{ path: "bytes", kind: "bytes", value: bytes, compared: false, cut: cut.bytes }];
   }
   if (awaitsInLists(item)) return [{ path: "waiting", kind: "Future", value: message, compared: false }];
-  return [...valuesOf(message, schemaOf(item), "", item.direction === "command")];
+  const values = Array.from(valuesOf(message, schemaOf(item), "", item.direction === "command"));
+  for (const value of values) value.cut = cut[value.path];
+  return values;
 }
+
+/** Whether nothing is known of an item's payload, since a dump leaves it out. */
+const lacksPayload = ({ dump, direction }) =>
+  dump.message === undefined && dump.bytes === undefined && !dump.leftOut && !["rest", "unknown"].includes(direction);
 
 /** The keys of what a future awaits by itself: c3 is completion 3, s17 is signal 17, n and a name is a named signal. */
 function awaitedBy(future) {

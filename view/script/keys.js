@@ -15,8 +15,11 @@ const KEYS = {
   p: () => moveToProblem(-1),
   Enter: () => {
     const next = rows[selected]?.filter(Boolean).map(followed).find(Boolean);
-    if (next) location.hash = placeOf(next);
+    if (next) follow(placeOf(next));
   },
+  "+": () => zoomAtSelected(0.5),
+  "-": () => zoomAtSelected(2),
+  0: () => showRows(0, rows.length),
   "/": () => {
     byId("filters").open = true;
     byId("text").select();
@@ -42,12 +45,6 @@ function press(event) {
   if (isText || !Object.hasOwn(KEYS, event.key) || (isElsewhere && OF_THE_LIST.has(event.key))) return;
   event.preventDefault();
   KEYS[event.key]();
-}
-
-function goToHash() {
-  const item = itemAt(location.hash.slice(1));
-  if (item) go(rowOf.get(item));
-  return item !== undefined;
 }
 
 const COLUMNS = {
@@ -78,6 +75,7 @@ function start() {
     byId("columns").append(element("span", name, text));
   }
   setWidths();
+  drawLegend();
   measure();
   filter();
   let timer = 0;
@@ -100,15 +98,25 @@ function start() {
   list.addEventListener("click", ({ target }) => {
     const link = target.closest("[data-place]");
     const row = target.closest("[data-row]");
-    if (link) location.hash = link.dataset.place;
+    if (link) follow(link.dataset.place);
     else if (row) select(Number(row.dataset.row));
   });
+  byId("detail").addEventListener("click", (event) => {
+    const link = event.target.closest("a");
+    if (!link || event.ctrlKey || event.metaKey || event.shiftKey) return;
+    event.preventDefault();
+    follow(link.hash.slice(1));
+  });
+  listenToStrip();
   addEventListener("keydown", press);
-  addEventListener("hashchange", goToHash);
-  addEventListener("resize", measure);
+  addEventListener("hashchange", goToAddress);
+  addEventListener("resize", () => {
+    measure();
+    drawStrip();
+  });
   addEventListener("beforeprint", () => paint(true));
   addEventListener("afterprint", () => paint());
-  if (!goToHash()) go(Math.max(0, difference));
+  if (!goToAddress()) go(Math.max(0, difference));
   list.focus({ preventScroll: true });
   document.body.dataset.ready = "true";
 }

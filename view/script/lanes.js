@@ -34,13 +34,13 @@ function firstSpanTo(spans, row) {
 
 /** The line of a span, or null where the filter hides an end of it. */
 function spanNode({ from, to }, lane) {
-  if (!positions.has(from) || !positions.has(to)) return null;
+  if (!isIn(from) || !isIn(to)) return null;
   const node = element("div", "span");
   node.classList.toggle("selected", from === selected || to === selected);
   node.style.left = `${(lanes.length - 1 - lane) * LANE_WIDTH + 4}px`;
   node.style.width = `${(lane + 1) * LANE_WIDTH}px`;
-  node.style.top = `${(positions.get(from) + 0.5) * rowHeight}px`;
-  node.style.height = `${(positions.get(to) - positions.get(from)) * rowHeight}px`;
+  node.style.top = `${(positions[from] + 0.5) * rowHeight - shift}px`;
+  node.style.height = `${(positions[to] - positions[from]) * rowHeight}px`;
   return node;
 }
 

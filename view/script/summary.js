@@ -35,6 +35,7 @@ function piecesOf(item) {
   if (direction === "rest") return [{ text: `${counted(dump.rest, "byte")} at the end that are in no item` }];
   if (direction === "unknown") return [{ text: "the code is of no type" }];
   if (dump.leftOut) return [{ text: "the payload is too long for this page" }];
+  if (lacksPayload(item)) return [{ text: "the dump has no payloads" }];
   const pieces = dump.malformed ? [{ failure: "the payload is not well-formed" }] : [];
   if (dump.bytes) pieces.push({ label: "bytes", text: preview(dump.bytes) });
   if (dump.message === undefined) return pieces;
@@ -48,11 +49,13 @@ function piecesOf(item) {
   return [...pieces, ...further.filter(Boolean)];
 }
 
+const inRow = (text) => visible(text.slice(0, 200), HIDDEN_IN_ROW);
+
 function pieceNodes(item) {
   return piecesOf(item).map(({ label, text, failure }) =>
     failure === undefined
-      ? element("span", "piece", label ? element("span", "label", label, " ") : null, visible(text.slice(0, 200)))
-      : element("span", "piece failure", visible(failure.slice(0, 200))));
+      ? element("span", "piece", label ? element("span", "label", label, " ") : null, inRow(text))
+      : element("span", "piece failure", inRow(failure)));
 }
 
 const pieceText = ({ label, text, failure }) => failure ?? (label ? `${label} ${text}` : text);

@@ -2,16 +2,26 @@
 
 const CONTEXT = 200; // characters beside what is marked
 
+/** How many bytes, or characters of a text, a value has; of one that is cut also how many are here. */
+function sizeText({ kind, cut }, length) {
+  const noun = kind === "bytes" ? "byte" : "character";
+  if (!cut) return counted(length, noun);
+  const whole = kind === "bytes" ? (cut.characters / 4) * 3 - cut.padding : cut.characters;
+  return `the first ${number(length)} of ${counted(whole, noun)}`;
+}
+
 /** A text, or bytes, as they are laid out; `isRaw` leaves JSON as it is. Null for any other value. */
-function layoutOf({ kind, value }, isRaw = false) {
-  if (kind === "text") return { text: value, className: "string" };
-  if (kind !== "bytes") return null;
-  const bytes = bytesOf(value);
-  const text = textOf(bytes);
-  const length = counted(bytes.length, "byte");
-  if (text === null) return { text: hexDump(bytes), className: "hex", form: `hex, ${length}` };
-  if (!isRaw && isJson(text)) return { text: indented(text), className: "json", form: `JSON, ${length}` };
-  return { text, className: "text", form: bytes.length === 0 ? length : `text, ${length}` };
+function layoutOf(value, isRaw = false) {
+  if (value.kind === "text") {
+    return { text: value.value, className: "string", form: value.cut ? sizeText(value, value.value.length) : undefined };
+  }
+  if (value.kind !== "bytes") return null;
+  const bytes = bytesOf(value.value);
+  const text = textOf(bytes, value.cut !== undefined);
+  const size = sizeText(value, bytes.length);
+  if (text === null) return { text: hexDump(bytes), className: "hex", form: `hex, ${size}` };
+  if (!isRaw && !value.cut && isJson(text)) return { text, className: "json", form: `JSON, ${size}`, tree: treeOf(text) };
+  return { text, className: "text", form: bytes.length === 0 ? size : `text, ${size}` };
 }
 
 const isSecondUnit = (unit) => /[\udc00-\udfff]/.test(unit ?? "");
@@ -56,39 +66,66 @@ function markedNodes(text, { start, end }, part) {
 }
 
 /** A text of which a long one is folded: a button shows more. A part of it may be marked. */
-function foldedNode(text, className, part = { start: 0, end: 0 }) {
+function foldedNode(text, className, part = { start: 0, end: 0 }, name = "pre") {
   let { start, end } = foldedPart(text, part);
-  const block = element("pre", className);
-  const button = Object.assign(element("button", "more"), { type: "button" });
+  const block = element(name, className);
+  const button = buttonNode("more", () => {
+    start = Math.max(0, start - UNFOLDED);
+    end = Math.min(text.length, end + UNFOLDED);
+    draw();
+  });
   const draw = () => {
-    const before = start > 0 ? [element("span", "form", `(${number(start)} characters before)\n`)] : [];
-    block.replaceChildren(...before, ...markedNodes(text, { start, end }, part));
+    const before = start > 0 ? element("span", "form", `(${number(start)} characters before)\n`) : null;
+    fill(block, before, markedNodes(text, { start, end }, part));
     const folded = start + text.length - end;
     button.textContent = `Show more: ${number(folded)} characters are folded`;
     button.hidden = folded === 0;
   };
   draw();
-  if (button.hidden) return block;
-  button.addEventListener("click", () => {
-    start = Math.max(0, start - UNFOLDED);
-    end = Math.min(text.length, end + UNFOLDED);
-    draw();
-  });
-  return element("div", "folded", block, button);
+  return button.hidden ? block : element(name === "pre" ? "div" : "span", "folded", block, button);
 }
 
-/** A value as it is shown, by its layout where it has one. */
-function valueNode({ path, kind, value }, item, layout) {
-  if (layout) {
-    if (layout.text === "") return element("span", "form", layout.form ?? "an empty text");
-    const block = foldedNode(layout.text, layout.className, layout.part);
-    return layout.form ? element("div", "payload", element("span", "form", layout.form), block) : block;
-  }
-  if (kind === "Future") return futureNode(value, item);
-  if (typeof value === "object") return element("span", "form", kind === "Void" ? "void" : "present, without a field");
+/** Bytes as they are laid out, with what they are, and JSON as a tree or as it is written. */
+function payloadNode({ text, className, form, tree, part, marks }, path) {
+  const head = element("span", "form", form);
+  if (!tree) return element("div", "payload", head, text === "" ? null : foldedNode(text, className, part));
+  // of a message jq has the bytes in base64
+  const asTree = () => treeNode(tree, `${path} | @base64d | fromjson`, marks);
+  const body = element("div", "", attempt(asTree, () => foldedNode(text, className)));
+  const button = buttonNode("copy", () => {
+    const isTree = button.textContent === "as text";
+    fill(body, isTree ? foldedNode(text, className) : asTree());
+    button.textContent = isTree ? "as a tree" : "as text";
+  }, "as text");
+  return element("div", "payload", head, " ", button, body);
+}
+
+/** The path of a value in the line of its item, as jq takes it. */
+const lineOf = ({ path }, item) => `.${item.dump.message === undefined || awaitsInLists(item) ? "" : "message."}${path}`;
+
+/** What is copied of a value: its text, or bytes that are none in hex. */
+function copyText({ kind, value }) {
+  if (kind === "bytes") return textOf(bytesOf(value)) ?? hexOf(bytesOf(value)).replaceAll(" ", "");
+  return typeof value === "object" ? JSON.stringify(value) : String(value);
+}
+
+/** A value as it is shown, by its layout where it has one, with buttons that copy it and its path. */
+function valueNode(value, item, layout) {
+  const path = copyButton("path", () => lineOf(value, item));
+  const copy = copyButton(value.cut ? "beginning" : "value", () => copyText(value));
+  return [path, copy, shownValue(value, item, layout)];
+}
+
+function shownValue(value, item, layout) {
+  const { path, kind, value: own } = value;
+  if (layout?.form) return payloadNode(layout, lineOf(value, item));
+  if (layout?.text === "") return element("span", "form", "an empty text");
+  if (layout) return foldedNode(layout.text, layout.className, layout.part);
+  if (kind === "Future") return futureNode(own, item);
+  if (typeof own === "object") return element("span", "form", kind === "Void" ? "void" : "present, without a field");
   if (path === "relatedCommandIndex" && relatedCommand(item)) {
-    return element("span", "", `${value}: `, linkTo(relatedCommand(item)));
+    return element("span", "", `${own}: `, linkTo(relatedCommand(item)));
   }
-  if (TIMES.test(path)) return element("span", "", value, element("span", "form", ` ${timeText(Number(value))}`));
-  return element("span", "", String(value));
+  if (TIMES.test(path)) return element("span", "", own, element("span", "form", ` ${timeText(Number(own))}`));
+  return element("span", "", String(own));
 }

@@ -2,9 +2,11 @@
 import contextlib
 import functools
 import io
+import json
 import pathlib
 import sys
 import tempfile
+import unittest
 
 sys.dont_write_bytecode = True
 VIEW = pathlib.Path(__file__).resolve().parent.parent
@@ -12,6 +14,7 @@ STREAMS = VIEW.parent / "examples" / "streams"
 sys.path[:0] = [str(VIEW), str(VIEW.parent / "scripts" / "checks")]
 
 import make_page  # noqa: E402
+from browser import Browser  # noqa: E402
 
 # to look whether a program is up to date takes longer than to run it
 make_page.program = functools.cache(make_page.program)
@@ -45,3 +48,41 @@ def page_of(*words):
     if status != 0:
         raise AssertionError(f"status {status}: {error}")
     return path
+
+
+@functools.cache
+def the_browser():
+    """The one browser of a module's tests."""
+    browser = Browser()
+    unittest.addModuleCleanup(browser.__exit__)
+    return browser
+
+
+class PageTest(unittest.TestCase):
+    def tearDown(self):
+        self.assertEqual(the_browser().messages, [], "the console has errors")
+        self.assertEqual([url for url in the_browser().requests if not url.startswith(("file:", "about:"))], [])
+
+    def open(self, *words, place=""):
+        the_browser().open(page_of(*words), place)
+
+    def value(self, expression):
+        return the_browser().evaluate(expression)
+
+    def text(self, selector):
+        """The text of an element, with single spaces."""
+        text = self.value(f"document.querySelector({json.dumps(selector)})?.textContent ?? null")
+        return text if text is None else " ".join(text.split())
+
+    def selected(self):
+        """The text of the selected row."""
+        return self.text(".row[aria-selected=true]")
+
+    def rows(self):
+        return self.value("shown.length")
+
+    def search(self, text):
+        """Filters by keys."""
+        the_browser().press("/")
+        the_browser().type(text)
+        the_browser().press("Enter")

@@ -1,8 +1,10 @@
 #!/usr/bin/env python3
 """The maker of the page without a browser: what it embeds, its policy, and how it ends."""
 import base64
+import contextlib
 import hashlib
 import html.parser
+import io
 import json
 import os
 import pathlib
@@ -15,6 +17,7 @@ import unittest
 from support import STREAMS, WORK, page_of, run, written
 from tally import tell
 
+import dumps
 import make_page
 import samples
 
@@ -100,13 +103,26 @@ class Limits(unittest.TestCase):
         lines, about = self.embedded(written("three", samples.frame("End") * 3), "--items", "3")
         self.assertEqual((len(lines), about["items"], about["shown"]), (4, 3, 3))
 
-    def test_the_payload_of_a_long_line_is_left_out(self):
-        content = b"x" * make_page.LINE_CHARACTERS
+    def test_of_a_long_text_the_first_64_kilobytes_are_kept(self):
+        content = b"x" * dumps.LINE_CHARACTERS
         stream = samples.frame("InputCommand", value={"content": content}) + samples.frame("End")
         lines, about = self.embedded(written("long", stream))
-        self.assertTrue(lines[0]["leftOut"])
-        self.assertNotIn("message", lines[0])
+        kept = base64.b64decode(lines[0]["message"]["value"]["content"])
+        self.assertEqual(kept, b"x" * 65_532)
+        whole = base64.b64encode(content)
+        padding = len(whole) - len(whole.rstrip(b"="))
+        digest = hashlib.sha256(whole).hexdigest()
+        self.assertEqual(
+            lines[0]["cut"], {"value.content": {"characters": len(whole), "padding": padding, "sha256": digest}}
+        )
         self.assertEqual((lines[0]["type"], lines[1]["type"], about["shown"]), ("InputCommand", "End", 2))
+
+    def test_the_payload_of_a_long_line_of_short_texts_is_left_out(self):
+        headers = [{"key": "k" * 1000, "value": "v"}] * (dumps.LINE_CHARACTERS // 1000)
+        lines, about = self.embedded(written("headers", samples.frame("InputCommand", headers=headers)))
+        self.assertRegex(lines[0]["leftOut"], "^[0-9a-f]{64}$")
+        self.assertNotIn("message", lines[0])
+        self.assertEqual((lines[0]["type"], about["shown"]), ("InputCommand", 1))
 
 
 class Verdicts(unittest.TestCase):
@@ -175,7 +191,7 @@ class Files(unittest.TestCase):
         words = [sys.executable, make_page.__file__, "--unproved", *words]
         made = subprocess.run(words, stderr=subprocess.PIPE, **how)
         # of programs that are built without the proofs there is a line more
-        lines = [line for line in made.stderr.decode().splitlines() if not line.startswith("view: journal_")]
+        lines = [line for line in made.stderr.decode().splitlines() if not line.startswith("view: journal is built")]
         return made.returncode, made.stdout, lines
 
     def wanted(self, *paths):
@@ -242,6 +258,138 @@ class Files(unittest.TestCase):
             self.assertEqual(Scripts(file.read().decode()).title, "not\\xff\\u001butf-8")
         status, _, lines = self.make(name + b"other", "-o", "-")
         self.assertEqual((status, len(lines)), (2, 1))
+
+
+    def test_a_page_that_cannot_be_written_leaves_the_one_before(self):
+        folder = WORK / "kept"
+        folder.mkdir()
+        page = folder / "page.html"
+        page.write_text("before")
+        # a limit of what a file may hold, as a disk that is full
+        words = ["sh", "-c", 'trap "" XFSZ; ulimit -f 8; exec "$@"', "sh", sys.executable, make_page.__file__, "--unproved"]
+        made = subprocess.run([*words, STREAMS / "replay.dump", "-o", page], capture_output=True)
+        self.assertEqual((made.returncode, made.stdout, page.read_text()), (2, b"", "before"))
+        self.assertEqual(list(folder.iterdir()), [page])
+
+    def test_a_page_keeps_its_mode_and_its_link(self):
+        page, link = WORK / "mode.html", WORK / "link.html"
+        page.write_text("before")
+        page.chmod(0o640)
+        link.symlink_to(page)
+        self.assertEqual(run(STREAMS / "replay.dump", "-o", link)[0], 0)
+        self.assertTrue(link.is_symlink())
+        self.assertEqual(page.stat().st_mode & 0o777, 0o640)
+        self.assertTrue(page.read_text().startswith("<!doctype html>"))
+
+    def test_help_is_within_80_columns(self):
+        for columns in ("60", "80", "200"):
+            words = [sys.executable, make_page.__file__, "--help"]
+            said = subprocess.run(words, capture_output=True, text=True, env={**os.environ, "COLUMNS": columns})
+            self.assertLessEqual(max(map(len, said.stdout.splitlines())), min(79, int(columns)))
+
+
+def line(**members):
+    """A line of a dump."""
+    return json.dumps({"offset": 0, "type": "RunCommand", "code": 0x0411, "length": 3, **members})
+
+
+class Dumps(unittest.TestCase):
+    """Dumps from a file in the place of streams."""
+
+    def lines(self, *words):
+        page = Scripts(page_of(*words).read_text())
+        (lines,) = [text for _, attributes, text in page.found if attributes.get("id") == "journal-0"]
+        (about,) = [text for _, attributes, text in page.found if attributes.get("id") == "about"]
+        return lines.strip().split("\n"), json.loads(about)["journals"][0]
+
+    def test_a_dump_has_the_page_of_its_stream(self):
+        for name in ("replay", "cut_short", "unknown_type", "recorded"):
+            with self.subTest(name=name):
+                of_stream, _ = self.lines(STREAMS / name)
+                dump = subprocess.run(
+                    [make_page.program(True), "dump", STREAMS / name], stdout=subprocess.PIPE, stderr=subprocess.DEVNULL
+                )
+                of_dump, about = self.lines(written(f"{name}.jsonl", dump.stdout))
+                self.assertEqual(of_dump, of_stream)
+                self.assertEqual(about["dump"], {"isWhole": True, "gaps": 0})
+
+    def test_no_program_is_taken(self):
+        taken = make_page.program
+        self.addCleanup(setattr, make_page, "program", taken)
+        make_page.program = None
+        dump = STREAMS / "replay.dump"
+        self.assertEqual(run(dump, dump, "-o", WORK / "dumps.html")[0], 0)
+
+    def test_bytes_as_texts_are_bytes(self):
+        dump = line(type="InputCommand", message={"value": {"content": {"text": "Zo\u00eb"}}})
+        lines, _ = self.lines(written("text.jsonl", dump.encode()))
+        self.assertEqual(json.loads(lines[0])["message"], {"value": {"content": "Wm/Dqw=="}})
+
+    def test_what_is_missing_is_known(self):
+        lines, about = self.lines(written("part.jsonl", f"\ufeff\n  {line(offset=40)}\r\n\n".encode()))
+        self.assertEqual(json.loads(lines[-1]), {"offset": 51, "rest": 0})
+        self.assertEqual(about["dump"], {"isWhole": False, "gaps": 1})
+
+    def test_lines_that_are_no_items(self):
+        futures = {}
+        for _ in range(120):
+            futures = {"nestedFutures": [futures]}
+        for text, why in (
+            (line() + "\n{", "2: no JSON"),
+            (line() + "\n[]", "2: no JSON object"),
+            (line(offset=None), "1: no offset"),
+            (line(offset=-1), "1: offset: wrong kind of value"),
+            (line(offset=True), "1: offset: wrong kind of value"),
+            (line(code=65536), "1: code: wrong kind of value"),
+            (line(code=None), "1: no code"),
+            (line(bytes="?"), "1: bytes: no bytes in base64"),
+            (line(message=5), "1: message: wrong kind of value"),
+            (line(message={"name": 5}), "1: message.name: wrong kind of value"),
+            (line(message={"name": ["a"]}), "1: message.name: wrong kind of value"),
+            (line(message={"constructor": 1}), "1: message.constructor: no such field"),
+            (line(message={"resultCompletionId": 2**32}), "1: message.resultCompletionId: no such number"),
+            (line(message={"resultCompletionId": 1.5}), "1: message.resultCompletionId: no such number"),
+            (line(type="constructor", message={}), "1: message: its type is not known"),
+            (line(type=[], message={}), "1: type: wrong kind of value"),
+            ('{"message":{},"type":[]}', "1: message: its type is not known"),
+            (line(type="InputCommand", message={"headers": {}}), "1: message.headers: wrong kind of value"),
+            (line(type="InputCommand", message={"value": {"content": "a"}}), "1: message.value.content: no bytes in base64"),
+            (line(type="Suspension", message={"awaitingOn": futures}), "more than 100 levels"),
+            ('{"' + "[" * 100_000, "1: no JSON"),
+            ('{"a":' + "[" * 100_000, "1: more levels than an item has"),
+            ('{"offset":0,"rest":0}\n' + line(), "2: a line after that of the rest"),
+        ):
+            with self.subTest(why=why):
+                path = written("wrong.jsonl", text.encode())
+                status, output, error = run(path, "-o", WORK / "wrong.html")
+                self.assertEqual((status, output), (2, ""))
+                self.assertTrue(error.startswith(f"view: {path}:"), error)
+                self.assertIn(why, error)
+                self.assertEqual(len(error.splitlines()), 1)
+                self.assertFalse((WORK / "wrong.html").exists())
+
+    def test_a_dump_that_is_no_utf_8(self):
+        path = written("latin.jsonl", line().encode() + b'\n{"type":"\xff"}')
+        self.assertEqual(run(path, "-o", WORK / "wrong.html"), (2, "", f"view: {path}:2: no UTF-8\n"))
+
+    def test_half_a_character_stays_one(self):
+        lines, _ = self.lines(written("half.jsonl", b'{"offset":0,"type":"RunCommand","code":1041,"message":{"name":"\\ud800"}}'))
+        self.assertEqual(json.loads(lines[0])["message"], {"name": "\ud800"})
+
+
+class Said(unittest.TestCase):
+    def test_progress_comes_after_a_while(self):
+        error = io.StringIO()
+        with contextlib.redirect_stderr(error):
+            progress = dumps.Progress("a journal", 200)
+            for read in range(128):
+                progress.count(read)
+            self.assertEqual(error.getvalue(), "")
+            progress.next = 0
+            for read in range(64):
+                progress.count(128 + read)
+            progress.end()
+        self.assertEqual(error.getvalue(), "view: a journal: 192 items, 95 %\n")
 
 
 class Protocol(unittest.TestCase):

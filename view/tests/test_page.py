@@ -1,15 +1,15 @@
 #!/usr/bin/env python3
 """The page in a headless Chromium: what it shows, by its keys, and what no payload can do to it."""
 import json
+import re
 import sys
 import unittest
 
-from support import FOLDER, STREAMS, WORK, page_of, written
+from support import FOLDER, STREAMS, WORK, PageTest, the_browser, written
 from tally import tell
 
 import samples
-from browser import Browser
-from samples import frame, raw_frame
+from samples import as_json, frame, raw_frame
 
 HOSTILE = (
     "</script><img src=x onerror=hacked=1>",
@@ -27,8 +27,7 @@ browser = None
 
 def setUpModule():
     global browser
-    browser = Browser()
-    unittest.addModuleCleanup(browser.__exit__)
+    browser = the_browser()
 
 
 def hostile_stream():
@@ -50,36 +49,6 @@ def hostile_stream():
             raw_frame(0x0403, b"\xff" + data),
         ]
     return b"".join(frames)
-
-
-class PageTest(unittest.TestCase):
-    def tearDown(self):
-        self.assertEqual(browser.messages, [], "the console has errors")
-        self.assertEqual([url for url in browser.requests if not url.startswith(("file:", "about:"))], [])
-
-    def open(self, *words, place=""):
-        browser.open(page_of(*words), place)
-
-    def value(self, expression):
-        return browser.evaluate(expression)
-
-    def text(self, selector):
-        """The text of an element, with single spaces."""
-        text = self.value(f"document.querySelector({json.dumps(selector)})?.textContent ?? null")
-        return text if text is None else " ".join(text.split())
-
-    def selected(self):
-        """The text of the selected row."""
-        return self.text(".row[aria-selected=true]")
-
-    def rows(self):
-        return self.value("shown.length")
-
-    def search(self, text):
-        """Filters by keys."""
-        browser.press("/")
-        browser.type(text)
-        browser.press("Enter")
 
 
 class Examples(PageTest):
@@ -141,9 +110,10 @@ class Pairs(PageTest):
         self.assertIn("≠", self.selected())
         self.assertEqual(self.value("document.querySelectorAll('.row.difference').length"), 1)
         marks = "[...document.querySelectorAll('.mark b')].map((mark) => mark.textContent)"
-        self.assertEqual(self.value(marks), ["=", "=", "≠", "·"])
+        self.assertEqual(self.value(marks), ["=", "=", "≠", "="])
+        self.assertIn("; the one after it is the same.", self.text("#sentence"))
         self.assertIn("handlerName", self.text("tr.differs"))
-        self.assertEqual(self.text("tr.differs td"), "greet")
+        self.assertEqual(self.text("tr.differs td pre"), "greet")
 
     def test_the_sentence_says_the_first_thing_that_differs(self):
         self.open(STREAMS / "recorded", STREAMS / "replayed_other_payload")
@@ -154,6 +124,7 @@ class Pairs(PageTest):
         recorded = same + frame("SleepCommand", wake_up_time=1, result_completion_id=1) + same
         self.open(written("far", recorded), written("other", same + frame("RunCommand", result_completion_id=1)))
         self.assertIn("part at command 5,000: recorded is SleepCommand", self.text("#sentence"))
+        self.assertIn("; after it the replayed journal ends before command 5,001.", self.text("#sentence"))
         self.assertIn("SleepCommand", self.selected())
         centred = """(() => { const row = document.querySelector('.row.difference').getBoundingClientRect();
             const list = document.getElementById('list').getBoundingClientRect();
@@ -339,20 +310,29 @@ class Payloads(PageTest):
         return self.value("document.querySelector('.payload .form').textContent"), self.value(
             "document.querySelector('.payload pre').textContent")
 
+    def tree(self, content):
+        """What a payload is, and the text of its tree without blanks."""
+        self.open(written("payload", frame("InputCommand", value={"content": content})))
+        tree = self.value("document.querySelector('.payload .tree').textContent")
+        return self.value("document.querySelector('.payload .form').textContent"), re.sub(r"[▾▸\s]", "", tree)
+
     def test_text_json_and_hex(self):
         self.assertEqual(self.shown("Grüße\n".encode()), ("text, 8 bytes", "Grüße\n"))
         self.assertEqual(self.shown(b"\xff\x00AB"), ("hex, 4 bytes", f"000000  {'ff 00 41 42':23}  ..AB"))
-        self.assertEqual(self.shown(b'{"a":[1,{}],"b":"x, {y}"}'),
-                         ("JSON, 25 bytes", '{\n  "a": [\n    1,\n    {}\n  ],\n  "b": "x, {y}"\n}'))
+        self.assertEqual(self.tree(b'{"a":[1,{}],"b":"x, {y}"}'), ("JSON, 25 bytes", '{"a":[0:11:{}]"b":"x,{y}"}'))
 
     def test_numbers_and_doubled_keys_of_json_stay_as_they_are(self):
-        _, text = self.shown(b'{"a":12345678901234567890,"a":1.0e-7,"\\u0041":"\\""}')
-        self.assertEqual(text, '{\n  "a": 12345678901234567890,\n  "a": 1.0e-7,\n  "\\u0041": "\\""\n}')
+        _, text = self.tree(b'{"a":12345678901234567890,"a":1.0e-7,"\\u0041":"\\""}')
+        self.assertEqual(text, '{"a":12345678901234567890"a":1.0e-7"\\u0041":"\\""}')
 
     def test_json_of_many_levels(self):
-        form, text = self.shown(b"[" * 20_000 + b"1" + b"]" * 20_000)
-        self.assertEqual(form, "JSON, 40,001 bytes")
-        self.assertTrue(text.startswith("[\n  [\n    [\n"))
+        for levels in (20_000, 200_000):
+            form, text = self.tree(b"[" * levels + b"1" + b"]" * levels)
+            self.assertEqual(form, f"JSON, {2 * levels + 1:,} bytes")
+            self.assertTrue(text.startswith("[0:[0:["))
+            self.assertLess(len(text), 2000)
+            self.value("document.querySelector('.tree .fold[aria-expanded=false]').click()")
+            self.assertIn("level 41", self.text(".tree"))
 
     def test_what_only_looks_like_json_is_text(self):
         self.assertEqual(self.shown(b"{a}"), ("text, 3 bytes", "{a}"))
@@ -385,6 +365,25 @@ class Hostile(PageTest):
         self.assertEqual(self.value("document.querySelectorAll('body script').length"), 3)
         self.assertEqual(self.value("document.title"), "<img src=x onerror=hacked=1>")
 
+    def test_trees_states_and_the_overview_of_hostile_texts(self):
+        values = [as_json({text: {text: [text, side]} for text in HOSTILE}) for side in (0, 1)]
+        streams = []
+        for side, value in enumerate(values):
+            frames = [frame("Start", state_map=[{"key": text.encode(), "value": text.encode()} for text in HOSTILE]),
+                      *(frame("SetStateCommand", key=text.encode(), value={"content": value}) for text in HOSTILE),
+                      frame("RunCommand", name=HOSTILE[side])]
+            streams.append(written(f"<b>{side}", b"".join(frames)))
+        self.open(*streams, place="#recorded-1?filter=<img src=x onerror=hacked=1>&type=<b>")
+        browser.press("Escape", "g")
+        self.value("document.querySelector('.state').open = true")
+        for _ in range(self.rows()):
+            browser.press("j")
+            self.value("document.querySelectorAll('.tree .key, .tree .fold').forEach((button) => button.click())")
+            self.value("fill(byId('strip-says'), visible(stripText(selected), HIDDEN_IN_ROW))")
+        self.assertEqual(self.value("typeof hacked"), "undefined")
+        self.assertEqual(self.value("document.querySelectorAll('img, b[onmouseover], svg:not(.bar svg)').length"), 0)
+        self.assertEqual(self.value("document.querySelectorAll('body script').length"), 4)
+
     def test_a_payload_is_shown_as_it_is(self):
         for text in HOSTILE[:6]:
             self.open(written("hostile", frame("InputCommand", value={"content": text.encode()})))
@@ -398,7 +397,8 @@ class Hostile(PageTest):
 
     def test_each_hidden_character(self):
         controls = [*range(0x20), *range(0x7F, 0xA0), 0x61C, 0x200E, 0x200F, *range(0x2028, 0x202F), *range(0x2066, 0x206A)]
-        others = [0xAD, 0x34F, 0x115F, 0x180E, 0x200B, 0x200D, 0x2060, 0x206A, 0x3164, 0xFE0F, 0xFEFF, 0xFFF9, 0xE0041]
+        others = [0xA0, 0xAD, 0x34F, 0x115F, 0x180E, 0x2003, 0x200B, 0x200D, 0x2060, 0x206A, 0x2800,
+                  0x3000, 0x3164, 0xE000, 0xFE0F, 0xFEFF, 0xFFF9, 0xE0041]
         hidden = [chr(number) for number in [*controls, *others] if chr(number) not in "\t\n"]
         numbers = [f"\\u{ord(one):04x}" if ord(one) < 0x10000 else f"\\u{{{ord(one):x}}}" for one in hidden]
         # bytes with a control that no text has are shown in hex
@@ -447,7 +447,6 @@ class Filter(PageTest):
             ("is:failure", 2),
             ("is:open", 2),
             ("is:command", 9),
-            ("is:constructor", 0),
             ("name:status", 3),
             ("ff reserve nothing", 0),
         ):
@@ -544,8 +543,8 @@ class Sizes(PageTest):
         same = frame("ClearAllStateCommand") * 10
         left, right = written("left", same + frame("End")), written("right", same + frame("OutputCommand"))
         self.open(left, right, "--items", "8")
-        self.assertIn("The recorded journal ends before command 10, where the replayed one has a command that is past "
-                      "the items of this page", self.text("#sentence"))
+        self.assertIn("The recorded journal ends before command 10, which is past the items of this page.",
+                      self.text("#sentence"))
         self.assertEqual(self.value("difference"), -1)
 
 
@@ -579,6 +578,19 @@ class Media(PageTest):
                         [...row.querySelectorAll('span')].some((part) => bottom(part) > bottom(row) + 1));
                     })().length"""
                 self.assertEqual(self.value(spills), 0, f"{width} {words}")
+
+    def test_two_types_are_not_cut_to_the_same_letters(self):
+        names = ("ProposeRunCompletion", "ProposeRunCompletionAck", "GetInvocationOutputCommand",
+                 "GetInvocationOutputCompletionNotification", "GetLazyStateCompletionNotification")
+        stream = written("types", b"".join(frame(name) for name in names))
+        for width in (320, 390, 700, 961, 1100, 1280, 1440):
+            browser.resize(width, 900)
+            self.open(stream, stream)
+            cut = self.value("""[...document.querySelectorAll('.cell .type span:last-child')].map((type) => {
+                const isCut = type.scrollWidth > type.clientWidth + 1 || type.getBoundingClientRect().right >
+                    type.closest('.cell').getBoundingClientRect().right + 1;
+                return isCut ? type.textContent : ''; }).filter(Boolean)""")
+            self.assertEqual([name for name in cut if len(name) < 34 or width <= 960], [], width)
 
     def test_paper_has_every_row(self):
         stream = written("forty", frame("ClearStateCommand", key=b"a key") * 400)

@@ -1,0 +1,90 @@
+// The words of the filter: what a text of words means, and whether an item has a word.
+
+const haystacks = new Map();
+
+/** What is searched of an item: its type, its names, and all its texts, in lower case. */
+function haystackOf(item) {
+  if (!haystacks.has(item)) {
+    const type = typeOf(item).toLowerCase();
+    const texts = itemValues(item).map(({ path, kind, value, cut }) => {
+      if (kind === "Future") return [path, allAwaitedBy(value).map(keyText).join(" ")];
+      if (kind !== "bytes") return [path, typeof value === "object" ? "" : String(value)];
+      const bytes = bytesOf(value);
+      return [path, textOf(bytes, cut !== undefined) ?? hexOf(bytes).replaceAll(" ", "")];
+    });
+    const lower = texts.map(([path, text]) => [path, text.toLowerCase()]);
+    haystacks.set(item, {
+      type,
+      names: lower.filter(([path]) => NAME_PATH.test(path)).map(([, text]) => text).join("\n"),
+      all: [type, ...lower.map(([, text]) => text)].join("\n"),
+    });
+  }
+  return haystacks.get(item);
+}
+
+const STATES = {
+  failure: (item) => item.failure !== null,
+  malformed: (item) => item.dump.malformed === true,
+  open: isOpen,
+};
+
+/** What `is:` may be followed by of a row of two journals. */
+const KINDS = { same: ["same"], ids: ["ids"], changed: ["changed", "replaced"], removed: ["removed"], inserted: ["inserted"] };
+
+// the fields of a number, each with the numbers of an item
+const NUMBERS = {
+  cmd: (item) => (item.command === null ? [] : [item.command]),
+  item: (item) => (item.direction === "rest" ? [] : [item.number]),
+  id: (item) => item.parts.filter(({ key }) => /^[ces]/.test(key)).map(({ key }) => Number(key.slice(1))),
+  size: (item) => [item.size],
+  offset: (item) => [item.dump.offset],
+};
+const UNITS = { "": 1, b: 1, kb: 1e3, mb: 1e6, gb: 1e9, kib: 1024, mib: 1024 ** 2, gib: 1024 ** 3 };
+
+/** The range that is meant by 49, 40-60, >49, >=1MB or <2kB: the least and the greatest number; null by other texts. */
+function rangeOf(text) {
+  const [, sign, from, unit, , to, lastUnit] =
+    text.match(/^(>=?|<=?|=)?([\d.,]+)([kmg]?i?b)?(-([\d.,]+)([kmg]?i?b)?)?$/) ?? [];
+  const [first, last] = [[from, unit], [to, lastUnit ?? unit]].map(([digits, of]) =>
+    digits === undefined ? undefined : Number(digits.replaceAll(",", "")) * UNITS[of ?? ""]);
+  if (first === undefined || Number.isNaN(first) || (to !== undefined && (sign || Number.isNaN(last)))) return null;
+  switch (sign) {
+    case ">":
+      return { least: first, most: Infinity, isOpen: true };
+    case ">=":
+      return { least: first, most: Infinity };
+    case "<":
+      return { least: -Infinity, most: first, isOpen: true };
+    case "<=":
+      return { least: -Infinity, most: first };
+    default:
+      return { least: first, most: last ?? first };
+  }
+}
+
+const isWithin = (value, { least, most, isOpen: isStrict }) =>
+  isStrict ? value > least && value < most : value >= least && value <= most;
+
+/** A word as a test of an item; `wrong` says what is wrong with it. */
+function testOf(field, rest) {
+  if (Object.hasOwn(NUMBERS, field)) {
+    const range = rangeOf(rest);
+    if (range === null) return { wrong: `${field}: is followed by a number, as ${field}:49, ${field}:>49 or ${field}:40-60` };
+    return { test: (item) => NUMBERS[field](item).some((value) => isWithin(value, range)) };
+  }
+  if (field === "is") {
+    if (Object.hasOwn(STATES, rest)) return { test: STATES[rest] };
+    if (isPair && Object.hasOwn(KINDS, rest)) return { test: (item) => KINDS[rest].includes(stepOf.get(item)?.kind) };
+    if (Object.hasOwn(DIRECTIONS, rest)) return { test: (item) => item.direction === rest };
+    return { wrong: `is: is not followed by ${rest}` };
+  }
+  const part = { type: "type", name: "names" }[field] ?? "all";
+  return { test: (item) => haystackOf(item)[part].includes(rest) };
+}
+
+/** The words of a text, in lower case: `-` before a word, a field before a colon, and a phrase in quotes. */
+function wordsOf(text) {
+  const WORD = /(-?)(?:(type|name|is|cmd|item|id|size|offset):)?(?:"([^"]*)"?|(\S*))/g;
+  const found = Array.from(text.toLowerCase().matchAll(WORD)).filter(([whole]) => whole !== "" && whole !== "-");
+  return found.map(([, minus, field, phrase, word]) => ({ ...testOf(field, phrase ?? word), isWithout: minus === "-" }));
+}
