@@ -42,6 +42,10 @@ int64_t measure_compare(uint32_t version, const uint8_t *stream, size_t stream_l
 int64_t measure_frame(uint32_t version, uint16_t code, const uint8_t *payload, size_t payload_length, size_t rounds,
                       uint8_t *out, size_t room);
 
+/* As measure_frame, but each frame is a buffer of its own with one allocation, as a Vec is. */
+int64_t measure_frame_vec(uint32_t version, uint16_t code, const uint8_t *payload, size_t payload_length, size_t rounds,
+                          uint8_t *out, size_t room);
+
 /*
  * As measure_frame, but all rounds append the frame to one buffer, which is cleared before each: only the first
  * allocates.

@@ -38,7 +38,12 @@ kinds() {
     { print $1, $2, ($NF == "malformed" ? "malformed" : "well-formed") }' "$@" | LC_ALL=C sort -u
 }
 
-stage target/release/agree --vectors ../conformance/*.txt
+# prost has no tables of fields
+set --
+for file in ../conformance/*.txt; do
+  [ "$file" = ../conformance/fields.txt ] || set -- "$@" "$file"
+done
+stage target/release/agree --vectors "$@"
 if command -v python3 > /dev/null; then
   stage python3 ../tools/generate.py --check random_vectors peer long_vectors record_vectors
 else

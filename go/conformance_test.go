@@ -36,7 +36,8 @@ func TestConformance(t *testing.T) {
 	for _, pattern := range []string{"../conformance/*.txt", "../conformance/json/*.txt"} {
 		for _, path := range must(filepath.Glob(pattern))(t) {
 			for _, line := range strings.Split(string(must(os.ReadFile(path))(t)), "\n") {
-				if line == "" || strings.HasPrefix(line, "#") || strings.HasPrefix(line, "record ") {
+				if line == "" || strings.HasPrefix(line, "#") || strings.HasPrefix(line, "record ") ||
+					strings.HasPrefix(line, "fields ") {
 					continue
 				}
 				question, want, _ := strings.Cut(line, " = ")
@@ -108,6 +109,15 @@ func payloadVector(names []string, data [][]byte) (string, error) {
 	again, err := Canonical(schema, canonical)
 	if err != nil || !bytes.Equal(again, canonical) {
 		return "", fmt.Errorf("the canonical payload of %x is %x, %w", canonical, again, err)
+	}
+	// so has the record that it means
+	record := newRecord(schema)
+	if err := record.UnmarshalBinary(data[0]); err != nil {
+		return "", fmt.Errorf("the record of %x: %v", data[0], err)
+	}
+	encoded, err := record.MarshalBinary()
+	if err != nil || !bytes.Equal(encoded, canonical) {
+		return "", fmt.Errorf("the record is %x, %v, and not %x", encoded, err, canonical)
 	}
 	json, err := ToJSON(schema, data[0])
 	canonicalJSON, canonicalErr := ToJSON(schema, canonical)

@@ -2,7 +2,9 @@ package pendratsoa
 
 import (
 	"bytes"
+	"encoding/binary"
 	"errors"
+	"fmt"
 	"io"
 )
 
@@ -33,6 +35,38 @@ type Decoder struct {
 	rest []byte
 	// readErr is what the reader returned with the last bytes
 	readErr error
+	// limit is the greatest size of a payload that is taken, if hasLimit
+	limit    uint32
+	hasLimit bool
+	// offset is how many bytes are in the items that Next returned; ended is the error that ended the stream
+	offset int64
+	ended  error
+}
+
+// A MessageTooLong is the error of a message whose payload is larger than the limit of its decoder.
+type MessageTooLong struct {
+	// Code is that of its type, Length the size of its payload by its header, Limit the greatest that is taken, and
+	// Offset where its header begins in the stream.
+	Code          uint16
+	Length, Limit uint32
+	Offset        int64
+}
+
+func (e *MessageTooLong) Error() string {
+	return fmt.Sprintf("pendratsoa: a message of type %#04x at offset %d has %d bytes, more than the limit of %d",
+		e.Code, e.Offset, e.Length, e.Limit)
+}
+
+// Unwrap returns ErrTooLong.
+func (e *MessageTooLong) Unwrap() error {
+	return ErrTooLong
+}
+
+// SetMaxMessageSize sets the greatest size of a payload that Next returns; without it there is no limit. Of a larger
+// message the error is a *MessageTooLong as soon as its header was read, and of each call from then on: what was read
+// of it is dropped.
+func (d *Decoder) SetMaxMessageSize(size uint32) {
+	d.limit, d.hasLimit = size, true
 }
 
 // NewDecoder returns a decoder of the stream of a version that comes from a reader, which it reads in blocks. Of an
@@ -60,6 +94,23 @@ func (d *Decoder) Next() (Item, error) {
 	}
 }
 
+// All returns the items that are to come, for a loop: in Go 1.23 and later
+//
+//	for item, err := range decoder.All() {
+//
+// and before that by a call with the function that takes them, which returns whether it takes more. The loop ends at the
+// end of the stream, and after an error, which comes without an item: io.ErrUnexpectedEOF if the last item is not whole.
+func (d *Decoder) All() func(yield func(item Item, err error) bool) {
+	return func(yield func(item Item, err error) bool) {
+		for {
+			item, err := d.Next()
+			if err == io.EOF || !yield(item, err) || err != nil {
+				return
+			}
+		}
+	}
+}
+
 // Rest returns the number of bytes that were read and are in no item that Next returned.
 func (d *Decoder) Rest() int {
 	return len(d.rest)
@@ -67,11 +118,25 @@ func (d *Decoder) Rest() int {
 
 // take returns the item that the rest begins with, if it is whole, and otherwise how many bytes are missing at least.
 func (d *Decoder) take() (Item, int64, error) {
+	if d.ended != nil {
+		return nil, 0, d.ended
+	}
 	version, err := unsigned("Decoder.Next", "version", d.version)
 	if err != nil {
 		return nil, 0, err
 	}
-	missing := journalNext(version, d.rest, &d.numbers)
+	var missing int64
+	if d.hasLimit {
+		missing = journalNextWithin(version, d.limit, d.rest, &d.numbers)
+	} else {
+		missing = journalNext(version, d.rest, &d.numbers)
+	}
+	if missing == tooLong && len(d.rest) >= 8 {
+		code, length := binary.BigEndian.Uint16(d.rest), binary.BigEndian.Uint32(d.rest[4:])
+		d.ended = &MessageTooLong{code, length, d.limit, d.offset}
+		d.rest = nil
+		return nil, 0, d.ended
+	}
 	if missing < 0 {
 		return nil, 0, arguments{version: named("version", d.version)}.refusal("Decoder.Next", missing)
 	}
@@ -84,6 +149,7 @@ func (d *Decoder) take() (Item, int64, error) {
 		return nil, 0, &Error{"Decoder.Next", named("version", d.version), err}
 	}
 	d.rest = d.rest[size:]
+	d.offset += int64(size)
 	return item, 0, nil
 }
 

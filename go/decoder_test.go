@@ -48,9 +48,9 @@ func returns(count int, err error) func([]byte) (int, error) {
 func TestItemsHoweverTheyAreRead(t *testing.T) {
 	stream := unhex(t, input+"0008000000000000"+"00058000000000050801720178"+"0400000000000014"+"0a")
 	want := []Item{
-		Message{8, CodeInputCommand, unhex(t, "72070a05696e707574"), false},
+		came(t, Message{Version: 8, Code: CodeInputCommand}, input),
 		UnknownCode{8, 8, 8 << 48},
-		Message{8, CodeProposeRunCompletion, unhex(t, "0801720178"), true},
+		came(t, Message{Version: 8, Code: CodeProposeRunCompletion, RequiresAck: true}, "00058000000000050801720178"),
 	}
 	readers := map[string]func(io.Reader) io.Reader{
 		"whole":            func(reader io.Reader) io.Reader { return reader },
@@ -74,10 +74,18 @@ func TestItemsHoweverTheyAreRead(t *testing.T) {
 	}
 }
 
+// came is a message with the bytes that it came as.
+func came(t *testing.T, message Message, digits string) Message {
+	message.came = unhex(t, digits)
+	message.Payload = message.came[headerSize:]
+	return message
+}
+
 func TestVersion9SkipsPayloads(t *testing.T) {
 	decoder := NewDecoder(bytes.NewReader(unhex(t, "00080000000000020003"+"000300000000")), 9)
 	items, err := all(decoder)
-	want := []Item{Skipped{9, 8, 8<<48 | 2, unhex(t, "0003")}}
+	data := unhex(t, "00080000000000020003")
+	want := []Item{Skipped{9, 8, 8<<48 | 2, data[8:], data}}
 	if !reflect.DeepEqual(items, want) || err != io.ErrUnexpectedEOF || decoder.Rest() != 6 {
 		t.Errorf("%v, %v, %d", items, err, decoder.Rest())
 	}
@@ -263,7 +271,7 @@ func TestMessageOfItsVersion(t *testing.T) {
 			t.Errorf("at version %d the schema is %d", version, found)
 		}
 	}
-	proposal := Message{6, CodeProposeRunCompletion, unhex(t, "0801720178"), false}
+	proposal := Message{Version: 6, Code: CodeProposeRunCompletion, Payload: unhex(t, "0801720178")}
 	for version, frame := range map[int]string{6: "00050000000000050801720178", 7: "00058000000000050801720178"} {
 		if found := must(proposal.Frame(version))(t); !bytes.Equal(found, unhex(t, frame)) {
 			t.Errorf("at version %d the frame is %x", version, found)
@@ -274,7 +282,7 @@ func TestMessageOfItsVersion(t *testing.T) {
 func TestNewMessage(t *testing.T) {
 	payload := unhex(t, "0801720178")
 	for version, requiresAck := range map[int]bool{6: false, 7: true} {
-		want := Message{version, CodeProposeRunCompletion, payload, requiresAck}
+		want := Message{Version: version, Code: CodeProposeRunCompletion, Payload: payload, RequiresAck: requiresAck}
 		if found := must(NewMessage(version, CodeProposeRunCompletion, payload))(t); !reflect.DeepEqual(found, want) {
 			t.Errorf("%+v", found)
 		}
@@ -310,4 +318,38 @@ func TestKindsOfMessages(t *testing.T) {
 			t.Errorf("code %#04x", code)
 		}
 	}
+}
+
+func TestMessageTooLong(t *testing.T) {
+	stream := unhex(t, input+"00000000ffffffff"+"010203")
+	for _, read := range []func(io.Reader) io.Reader{iotest.OneByteReader, iotest.DataErrReader} {
+		decoder := NewDecoder(read(bytes.NewReader(stream)), 8)
+		decoder.SetMaxMessageSize(9)
+		items, err := all(decoder)
+		if len(items) != 1 {
+			t.Errorf("%d items", len(items))
+		}
+		for i := 0; i < 2; i++ {
+			var long *MessageTooLong
+			if !errors.As(err, &long) || *long != (MessageTooLong{0, math.MaxUint32, 9, 17}) || decoder.Rest() != 0 {
+				t.Errorf("%v, with %d bytes left", err, decoder.Rest())
+			}
+			_, err = decoder.Next()
+		}
+		text := "pendratsoa: a message of type 0x0000 at offset 17 has 4294967295 bytes, more than the limit of 9"
+		if err.Error() != text || !errors.Is(err, ErrTooLong) {
+			t.Errorf("the error is %v", err)
+		}
+	}
+	decoder := NewDecoder(bytes.NewReader(stream), 8)
+	decoder.SetMaxMessageSize(8)
+	if items, err := all(decoder); len(items) != 0 || !errors.Is(err, ErrTooLong) {
+		t.Errorf("%v, %v", items, err)
+	}
+	decoder.All()(func(item Item, err error) bool {
+		if item != nil || !errors.Is(err, ErrTooLong) {
+			t.Errorf("%v, %v", item, err)
+		}
+		return true
+	})
 }

@@ -22,6 +22,8 @@ var (
 	ErrNoID = errors.New("has no id")
 	// ErrNoResult: a notification has an id and no result.
 	ErrNoResult = errors.New("has no result")
+	// ErrNotCanonical: a payload is well-formed for its schema, and not canonical.
+	ErrNotCanonical = errors.New("is well-formed, and not canonical")
 	// ErrJSON: a JSON text means no value of its schema. A JSONError wraps it.
 	ErrJSON = errors.New("JSON that means no value of its schema")
 	// ErrNegative: a length is negative.
@@ -95,6 +97,8 @@ func errorOf(number int64) error {
 		return ErrNoID
 	case noResult:
 		return ErrNoResult
+	case notCanonical:
+		return ErrNotCanonical
 	}
 	return unexpected("error", number)
 }

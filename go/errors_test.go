@@ -23,6 +23,7 @@ func TestErrorsAreThoseOfTheHeader(t *testing.T) {
 	names := map[error]string{
 		ErrMalformed: "MALFORMED", ErrOutOfMemory: "OUT_OF_MEMORY", ErrNoRoom: "NO_ROOM", ErrTooLong: "TOO_LONG",
 		ErrUnknown: "UNKNOWN", ErrNoID: "NO_ID", ErrNoResult: "NO_RESULT",
+		ErrNotCanonical: "NOT_CANONICAL",
 	}
 	numbers := defined(t, `(?m)^#define JOURNAL_(\w+) \((-\d+)\)$`)
 	kinds := map[int64]string{}
@@ -43,7 +44,7 @@ func TestErrorsAreThoseOfTheHeader(t *testing.T) {
 }
 
 func TestErrorOfLaterLibrary(t *testing.T) {
-	for _, number := range []int64{-8, -12, -1 << 63} {
+	for _, number := range []int64{-9, -12, -1 << 63} {
 		err := errorOf(number)
 		text := fmt.Sprintf("the library returned the error %d: a number that this package does not know", number)
 		if !errors.Is(err, ErrUnexpected) || err.Error() != text {

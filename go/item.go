@@ -1,10 +1,19 @@
 package pendratsoa
 
-import "fmt"
+import (
+	"encoding/binary"
+	"fmt"
+	"io"
+)
 
 // An Item is what a stream consists of: a Message, an UnknownCode or a Skipped. Its String is a line of a listing.
 type Item interface {
 	fmt.Stringer
+	// WriteTo writes the item as it came.
+	io.WriterTo
+	// Bytes returns the item as it came, byte for byte, header and payload: what a proxy passes on if it does not
+	// change it. Of an item of a Decoder they are a part of its block, as the payload is, without a copy.
+	Bytes() []byte
 	isItem()
 }
 
@@ -14,6 +23,8 @@ type Message struct {
 	Code        uint16
 	Payload     []byte
 	RequiresAck bool
+	// came is the message as it came, or nil of one that did not
+	came []byte
 }
 
 // An UnknownCode is eight bytes whose code is no type's, before version 9.
@@ -31,6 +42,8 @@ type Skipped struct {
 	// Word is the eight bytes of the header as one big-endian number.
 	Word    uint64
 	Payload []byte
+	// came is the message as it came, or nil of one that did not
+	came []byte
 }
 
 func (Message) isItem()     {}
@@ -61,6 +74,59 @@ func (s Skipped) String() string {
 	return fmt.Sprintf("skipped %#x %d", s.Code, len(s.Payload))
 }
 
+// Bytes returns the message as it came, whatever was set in it since. Of one that did not come in a stream they are its
+// payload as it is after the header of its type, and nil if its version, its code or the length has no header.
+func (m Message) Bytes() []byte {
+	if m.came != nil {
+		return m.came
+	}
+	header, err := Header(m.Version, m.Code, len(m.Payload))
+	if err != nil {
+		return nil
+	}
+	return append(header, m.Payload...)
+}
+
+// Bytes returns the eight bytes.
+func (u UnknownCode) Bytes() []byte {
+	return wordBytes(u.Word, nil)
+}
+
+// Bytes returns the message as it came, or its payload after its word if it did not come in a stream.
+func (s Skipped) Bytes() []byte {
+	if s.came != nil {
+		return s.came
+	}
+	return wordBytes(s.Word, s.Payload)
+}
+
+// WriteTo writes the message as it came, as Bytes returns it.
+func (m Message) WriteTo(writer io.Writer) (int64, error) {
+	return writeAll(writer, m.Bytes())
+}
+
+// WriteTo writes the eight bytes.
+func (u UnknownCode) WriteTo(writer io.Writer) (int64, error) {
+	return writeAll(writer, u.Bytes())
+}
+
+// WriteTo writes the message as it came, as Bytes returns it.
+func (s Skipped) WriteTo(writer io.Writer) (int64, error) {
+	return writeAll(writer, s.Bytes())
+}
+
+// wordBytes returns the bytes of a word, and a payload after them.
+func wordBytes(word uint64, payload []byte) []byte {
+	bytes := make([]byte, headerSize, headerSize+len(payload))
+	binary.BigEndian.PutUint64(bytes, word)
+	return append(bytes, payload...)
+}
+
+func writeAll(writer io.Writer, bytes []byte) (int64, error) {
+	written, err := writer.Write(bytes)
+	return int64(written), err
+}
+
 // NewMessage returns the message of a type with a payload, which is taken as it is. It requests an acknowledgement if
 // the header of its type does at this version. The errors are those of Header.
 func NewMessage(version int, code uint16, payload []byte) (Message, error) {
@@ -69,7 +135,7 @@ func NewMessage(version int, code uint16, payload []byte) (Message, error) {
 		return Message{}, err
 	}
 	// the flag is the high bit of the third byte
-	return Message{version, code, payload, header[2]&0x80 != 0}, nil
+	return Message{version, code, payload, header[2]&0x80 != 0, nil}, nil
 }
 
 // MessageFromJSON returns the message of a named type that a JSON text means. Its payload is canonical, and it requests
@@ -132,6 +198,22 @@ func (m Message) Frame(version int) ([]byte, error) {
 	return Frame(version, m.Code, m.Payload)
 }
 
+// AppendFrame appends the frame that Frame returns, and returns the extended slice. The errors are those of the function
+// AppendFrame.
+func (m Message) AppendFrame(dst []byte, version int) ([]byte, error) {
+	return AppendFrame(dst, version, m.Code, m.Payload)
+}
+
+// WriteFrame writes the frame that Frame returns. The errors are those of Frame and of the writer.
+func (m Message) WriteFrame(writer io.Writer, version int) error {
+	frame, err := m.Frame(version)
+	if err != nil {
+		return err
+	}
+	_, err = writer.Write(frame)
+	return err
+}
+
 // Notification returns the id and the result of the message, if it is a notification. The errors are those of
 // ReadNotification.
 func (m Message) Notification() (Notification, error) {
@@ -144,11 +226,11 @@ func itemOf(version int, numbers []uint64, bytes []byte) (Item, error) {
 	payload := bytes[numbers[itemPayload]:]
 	switch numbers[itemKind] {
 	case itemMessage:
-		return Message{version, code, payload, numbers[itemAck] != 0}, nil
+		return Message{version, code, payload, numbers[itemAck] != 0, bytes}, nil
 	case itemUnknownCode:
 		return UnknownCode{version, code, numbers[itemWord]}, nil
 	case itemSkipped:
-		return Skipped{version, code, numbers[itemWord], payload}, nil
+		return Skipped{version, code, numbers[itemWord], payload, bytes}, nil
 	}
 	return nil, unexpected("kind of item", numbers[itemKind])
 }

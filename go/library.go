@@ -4,7 +4,6 @@
 package pendratsoa
 
 /*
-#cgo pkg-config: pendratsoa
 #include <pendratsoa.h>
 */
 import "C"
@@ -28,6 +27,7 @@ const (
 	tooLong         = C.JOURNAL_TOO_LONG
 	noID            = C.JOURNAL_NO_ID
 	noResult        = C.JOURNAL_NO_RESULT
+	notCanonical    = C.JOURNAL_NOT_CANONICAL
 	malformedSecond = C.JOURNAL_MALFORMED_SECOND
 	unknownVersion  = C.JOURNAL_UNKNOWN_VERSION
 	unknownSchema   = C.JOURNAL_UNKNOWN_SCHEMA
@@ -49,6 +49,22 @@ const (
 	readingKind   = 0
 	readingOffset = 1
 	readNumbers   = C.JOURNAL_READ_NUMBERS
+)
+
+const (
+	fieldLevel   = 0
+	fieldNumber  = 1
+	fieldKind    = 2
+	fieldValue   = 3
+	fieldOffset  = 4
+	fieldLength  = 5
+	fieldNumbers = C.JOURNAL_FIELD_NUMBERS
+)
+
+const (
+	writingKind    = 0
+	writingIndex   = 1
+	writingNumbers = C.JOURNAL_WRITING_NUMBERS
 )
 
 const (
@@ -106,6 +122,31 @@ var namesOfJSONReason = []string{
 	"ReasonNotBase64",
 	"ReasonTooDeep",
 }
+
+// The kinds of fields.
+const (
+	kindOfFieldUint32  = C.JOURNAL_FIELD_UINT32
+	kindOfFieldUint64  = C.JOURNAL_FIELD_UINT64
+	kindOfFieldBool    = C.JOURNAL_FIELD_BOOL
+	kindOfFieldEnum    = C.JOURNAL_FIELD_ENUM
+	kindOfFieldString  = C.JOURNAL_FIELD_STRING
+	kindOfFieldBytes   = C.JOURNAL_FIELD_BYTES
+	kindOfFieldMessage = C.JOURNAL_FIELD_MESSAGE
+)
+
+// What kind of a result it is when a payload is written from a table: written, or why an entry may not come.
+const (
+	fieldsWritten        = C.JOURNAL_WRITTEN
+	fieldsUnknownField   = C.JOURNAL_ENTRY_UNKNOWN_FIELD
+	fieldsOutOfOrder     = C.JOURNAL_ENTRY_OUT_OF_ORDER
+	fieldsSeveralMembers = C.JOURNAL_ENTRY_SEVERAL_MEMBERS
+	fieldsWrongKind      = C.JOURNAL_ENTRY_WRONG_KIND
+	fieldsOutOfRange     = C.JOURNAL_ENTRY_OUT_OF_RANGE
+	fieldsNotUtf8        = C.JOURNAL_ENTRY_NOT_UTF8
+	fieldsOutOfBounds    = C.JOURNAL_ENTRY_OUT_OF_BOUNDS
+	fieldsWrongLevel     = C.JOURNAL_ENTRY_WRONG_LEVEL
+	fieldsTooDeep        = C.JOURNAL_ENTRY_TOO_DEEP
+)
 
 // The kinds of a notification's id.
 const (
@@ -172,10 +213,14 @@ var namesOfVerdictKind = []string{
 // pointer, and what the pointers lead to holds none, as the rules of cgo want it.
 
 func pointer(slice []byte) *C.uint8_t {
+	return (*C.uint8_t)(address(slice))
+}
+
+func address[Element any](slice []Element) unsafe.Pointer {
 	if len(slice) == 0 {
 		return nil
 	}
-	return (*C.uint8_t)(&slice[0])
+	return unsafe.Pointer(&slice[0])
 }
 
 func count[Element any](slice []Element) C.size_t {
@@ -209,6 +254,13 @@ func journalNext(version uint32, bytes []byte, item *[itemNumbers]uint64) int64 
 	return int64(C.journal_next(
 		C.uint32_t(version), pointer(bytes), count(bytes), (*C.struct_journal_item)(unsafe.Pointer(item)),
 		C.size_t(len(item)),
+	))
+}
+
+func journalNextWithin(version uint32, limit uint32, bytes []byte, item *[itemNumbers]uint64) int64 {
+	return int64(C.journal_next_within(
+		C.uint32_t(version), C.uint32_t(limit), pointer(bytes), count(bytes),
+		(*C.struct_journal_item)(unsafe.Pointer(item)), C.size_t(len(item)),
 	))
 }
 
@@ -246,6 +298,21 @@ func journalPayloadOfJSON(schema uint32, json []byte, reading *[readNumbers]uint
 	return int64(C.journal_payload_of_json(
 		C.uint32_t(schema), pointer(json), count(json), (*C.struct_journal_reading)(unsafe.Pointer(reading)),
 		C.size_t(len(reading)), pointer(out), count(out),
+	))
+}
+
+func journalFields(schema uint32, payload []byte, fields [][fieldNumbers]uint64) int64 {
+	return int64(C.journal_fields(
+		C.uint32_t(schema), pointer(payload), count(payload), (*C.struct_journal_field)(address(fields)), count(fields),
+	))
+}
+
+func journalPayloadOfFields(
+	schema uint32, fields [][fieldNumbers]uint64, bytes []byte, writing *[writingNumbers]uint64, out []byte,
+) int64 {
+	return int64(C.journal_payload_of_fields(
+		C.uint32_t(schema), (*C.struct_journal_field)(address(fields)), count(fields), pointer(bytes), count(bytes),
+		(*C.struct_journal_writing)(unsafe.Pointer(writing)), C.size_t(len(writing)), pointer(out), count(out),
 	))
 }
 

@@ -2,7 +2,7 @@ package pendratsoa
 
 import "fmt"
 
-// LibraryVersion returns the version of the library, as "0.1.0".
+// LibraryVersion returns the version of the library, as "0.2.0".
 func LibraryVersion() (string, error) {
 	version, number := written(nameRoom, journalLibraryVersion)
 	if number < 0 {
@@ -83,19 +83,30 @@ func Header(version int, code uint16, payloadLength int) ([]byte, error) {
 // it. A suspension is read by its schema from version 7 on, and written by that of the version. ErrMalformed,
 // ErrTooLong, ErrOutOfMemory; ErrUnknown for an unknown version and for a code that is no named type's.
 func Frame(version int, code uint16, payload []byte) ([]byte, error) {
-	number, err := unsigned("Frame", "version", version)
+	frame, err := appendFrame("Frame", nil, version, code, payload)
+	return frame[:len(frame):len(frame)], err
+}
+
+// AppendFrame appends the frame that Frame returns to a slice, and returns the extended slice, as append does. With an
+// error, which is one of those of Frame, it returns the slice as it was.
+func AppendFrame(dst []byte, version int, code uint16, payload []byte) ([]byte, error) {
+	return appendFrame("AppendFrame", dst, version, code, payload)
+}
+
+func appendFrame(call string, dst []byte, version int, code uint16, payload []byte) ([]byte, error) {
+	number, err := unsigned(call, "version", version)
 	if err != nil {
-		return nil, err
+		return dst, err
 	}
-	frame, result := written(headerSize+len(payload), func(out []byte) int64 {
+	extended, result := appended(dst, headerSize+len(payload), func(out []byte) int64 {
 		return journalFrame(number, code, payload, out)
 	})
 	if result < 0 {
 		given := versionAndCode(version, code)
 		given.payload = bytesText("payload", payload)
-		return nil, given.refusal("Frame", result)
+		return dst, given.refusal(call, result)
 	}
-	return frame, nil
+	return extended, nil
 }
 
 // versionAndCode returns the two arguments of a call that takes them.
@@ -114,17 +125,34 @@ const (
 	textRoom = 256
 )
 
-// written returns what a call writes, or the number of its error. The call is made again if it needs more room than the
-// first, which is what is expected.
+// written returns what a call writes, or the number of its error.
 func written(room int, call func(out []byte) int64) ([]byte, int64) {
-	out := make([]byte, room)
-	length := call(out)
-	if length > int64(len(out)) {
-		out = make([]byte, length)
-		length = call(out)
+	out, number := appended(nil, room, call)
+	return out[:len(out):len(out)], number
+}
+
+// appended appends what a call writes, or returns the number of its error. The call is made again if it needs more room
+// than the first, which is what is expected.
+func appended(dst []byte, room int, call func(out []byte) int64) ([]byte, int64) {
+	for {
+		dst = withRoom(dst, room)
+		length := call(dst[len(dst):cap(dst)])
+		switch {
+		case length < 0:
+			return nil, length
+		case length <= int64(cap(dst)-len(dst)):
+			return dst[:len(dst)+int(length)], 0
+		}
+		room = int(length)
 	}
-	if length < 0 {
-		return nil, length
+}
+
+// withRoom returns a slice with room for a number of further bytes.
+func withRoom(slice []byte, room int) []byte {
+	if cap(slice)-len(slice) >= room && slice != nil {
+		return slice
 	}
-	return out[:length:length], 0
+	larger := make([]byte, len(slice), len(slice)+room)
+	copy(larger, slice)
+	return larger
 }

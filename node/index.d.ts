@@ -7,9 +7,20 @@
  * is returned is the caller's, in memory of its own.
  */
 
+import type { MessageRecords, Records } from './messages.js';
 import type { NamedType, SchemaName } from './names.js';
 
+export * from './messages.js';
 export type { NamedType, SchemaName };
+
+/** What a record is made of: a field that is left out is absent, or what it is by default. */
+export type Init<R> = R extends Uint8Array | bigint | string | number | boolean | undefined
+  ? R
+  : R extends readonly (infer E)[]
+  ? readonly Init<E>[]
+  : R extends { readonly case: infer C; readonly value: infer V }
+  ? { readonly case: C; readonly value: Init<V> }
+  : { readonly [K in keyof R]?: Init<R[K]> | undefined };
 
 /** The first protocol version that is spoken. */
 export const FIRST_VERSION: number;
@@ -36,12 +47,24 @@ export interface JsonObject {
 
 // Streams.
 
-/** An item of a stream; `kind` says which one. */
-export type Item = Message | UnknownCode | Skipped;
+/** An item of a stream; `kind` says which one, and `type` of a message which record its `message` is. */
+export type Item = AnyTyped | UnknownCode | Skipped;
+
+/** A message of any type. */
+export type AnyTyped = { [T in NamedType]: Message<T> }[NamedType] | Message<`CustomEntry(${number})`>;
 
 /** A message of a stream. */
-export class Message {
+export class Message<T extends TypeName = TypeName> {
   constructor(version: number, code: number, payload: Uint8Array, requiresAck?: boolean);
+
+  /**
+   * The message of a type that a record is of. It requests an acknowledgement if the header of its type does at the
+   * version.
+   * @param version the protocol version, by default 8
+   * @throws {FieldError} a field cannot be encoded
+   * @throws {Unknown} the version is none, or no named type has the name
+   */
+  static of<T extends NamedType>(type: T, record: Init<MessageRecords[T]>, version?: number): Message<T>;
 
   /**
    * The message of a type that JSON means: a text in protobuf's form, its UTF-8, or the object that `json` returns. Its
@@ -66,8 +89,26 @@ export class Message {
   /** Whether its header requests an acknowledgement. */
   readonly requiresAck: boolean;
 
+  /** The eight bytes of its header as one big-endian number, where it came in a stream, and otherwise undefined. */
+  get word(): bigint | undefined;
+
+  /**
+   * The message as it came, byte for byte, in an array of its own: what a proxy passes on if it does not change it. If
+   * it came in no stream, its payload as it is after the header of its type.
+   * @throws {Unknown} it came in no stream, and there is no such version or type
+   */
+  get bytes(): Uint8Array;
+
   /** The name of its type. */
-  get type(): TypeName;
+  get type(): T;
+
+  /**
+   * The record that its payload means, which is decoded at each access. Bytes in it are parts of the payload, or of its
+   * canonical encoding.
+   * @throws {Malformed}
+   * @throws {Unknown} a custom entry has no schema
+   */
+  get message(): T extends NamedType ? MessageRecords[T] : never;
 
   /**
    * The number of the schema of its payload.
@@ -104,6 +145,14 @@ export class Message {
   frame(version?: number): Uint8Array;
 
   /**
+   * Writes its frame, at a version, by default its own, to the front of an array, as the function `frameInto`.
+   * @returns its length; if that is more than the length of the array, nothing is written
+   * @throws {Malformed}
+   * @throws {Unknown} a custom entry has no schema
+   */
+  frameInto(out: Uint8Array, version?: number): number;
+
+  /**
    * Its id and its result.
    * @throws {Unknown} it is no notification
    * @throws {Malformed}
@@ -111,6 +160,12 @@ export class Message {
    * @throws {NoResult}
    */
   notification(): Notification;
+
+  /** A line of a listing: the name of its type and the length of its payload, as `'InputCommand 9'`. */
+  toString(): string;
+
+  /** What `JSON.stringify` writes: its fields, with the name of its type, and its payload in base64. */
+  toJSON(): JsonObject;
 }
 
 /** A header whose code is no type's, before version 9: eight bytes, which are skipped. */
@@ -127,6 +182,15 @@ export class UnknownCode {
 
   /** The eight bytes as one big-endian number. */
   readonly word: bigint;
+
+  /** The eight bytes as they came. */
+  get bytes(): Uint8Array;
+
+  /** A line of a listing, as `'unknown 0x8'`. */
+  toString(): string;
+
+  /** What `JSON.stringify` writes: its fields, with the word as a text. */
+  toJSON(): JsonObject;
 }
 
 /** A message of an unknown type, which is skipped with its payload from version 9 on. */
@@ -146,6 +210,25 @@ export class Skipped {
 
   /** Its payload, as it came. */
   readonly payload: Uint8Array;
+
+  /** The message as it came, byte for byte, in an array of its own. */
+  get bytes(): Uint8Array;
+
+  /** A line of a listing, as `'skipped 0x8 2'`. */
+  toString(): string;
+
+  /** What `JSON.stringify` writes: its fields, with the word as a text, and its payload in base64. */
+  toJSON(): JsonObject;
+}
+
+/** What a stream takes. */
+export interface StreamOptions {
+  /**
+   * The greatest size of a payload in bytes; without it there is no limit. A larger message is a `TooLong` as soon as
+   * its header came, and ends the stream: what came is dropped, and from then on each loop, `feed` and `finish` throw
+   * that error.
+   */
+  maxMessageSize?: number;
 }
 
 /**
@@ -158,9 +241,10 @@ export class Skipped {
 export class Stream implements Iterable<Item> {
   /**
    * @param version the protocol version, by default 8
+   * @param options the limit of a stream, by default none
    * @throws {Unknown} it is no protocol version
    */
-  constructor(version?: number);
+  constructor(version?: number, options?: StreamOptions);
 
   /** The protocol version. */
   get version(): number;
@@ -174,6 +258,12 @@ export class Stream implements Iterable<Item> {
    */
   feed(chunk: Uint8Array): void;
 
+  /**
+   * Says that the stream ended. Its items have to be taken before.
+   * @throws {Incomplete} bytes are in no item
+   */
+  finish(): void;
+
   [Symbol.iterator](): Generator<Item, void, undefined>;
 }
 
@@ -182,7 +272,7 @@ export class Stream implements Iterable<Item> {
  * @param version the protocol version, by default 8
  * @throws {Unknown} it is no protocol version
  */
-export function decode(version?: number): TransformStream<Uint8Array, Item>;
+export function decode(version?: number, options?: StreamOptions): TransformStream<Uint8Array, Item>;
 
 /**
  * The items of the chunks of a source: a readable stream of Node or of the web, or anything else that can be iterated.
@@ -194,11 +284,12 @@ export function decode(version?: number): TransformStream<Uint8Array, Item>;
 export function items(
   source: AsyncIterable<Uint8Array> | Iterable<Uint8Array>,
   version?: number,
+  options?: StreamOptions,
 ): AsyncGenerator<Item, void, undefined>;
 
 // Names and numbers.
 
-/** The version of the library, as `'0.1.0'`. */
+/** The version of the library, as `'0.2.0'`. */
 export function libraryVersion(): string;
 
 /**
@@ -237,6 +328,16 @@ export function header(version: number, code: number, payloadLength: number): Ui
  */
 export function frame(version: number, code: number, payload: Uint8Array): Uint8Array;
 
+/**
+ * Writes the frame that `frame` returns to the front of an array; one in a greater memory is a part of it by
+ * `subarray`.
+ * @returns its length; if that is more than the length of the array, nothing is written
+ * @throws {Unknown} the version is none, or no named type has the code
+ * @throws {Malformed}
+ * @throws {TooLong}
+ */
+export function frameInto(version: number, code: number, payload: Uint8Array, out: Uint8Array): number;
+
 // Payloads, by their schemas. All throw `Unknown` if there is no such schema.
 
 /** Whether a payload is well-formed for a schema. */
@@ -269,6 +370,19 @@ export function toJson(schema: Schema, payload: Uint8Array): string;
  * @throws {TooLong}
  */
 export function payload(schema: Schema, json: string | Uint8Array): Uint8Array;
+
+/**
+ * The record that a payload means.
+ * @throws {Malformed}
+ */
+export function readRecord<N extends SchemaName>(schema: N, payload: Uint8Array): Records[N];
+
+/**
+ * The canonical payload of a record.
+ * @throws {FieldError} a field cannot be encoded
+ * @throws {TypeError} a value is of another kind than its field, or no field has the name
+ */
+export function writeRecord<N extends SchemaName>(schema: N, record: Init<Records[N]>): Uint8Array;
 
 // Notifications.
 
@@ -419,6 +533,11 @@ export class NoResult extends JournalError {
   readonly code: 'JOURNAL_NO_RESULT';
 }
 
+/** A payload is well-formed for its schema, and not canonical. */
+export class NotCanonical extends JournalError {
+  readonly code: 'JOURNAL_NOT_CANONICAL';
+}
+
 /** A JSON text means no value of its schema. */
 export class JsonError extends JournalError {
   readonly code: 'JOURNAL_JSON_ERROR';
@@ -441,7 +560,27 @@ export class JsonError extends JournalError {
   readonly path: string;
 }
 
-/** A source ended within an item; `value` is the number of bytes of it that came. */
+/** A field of a record cannot be encoded. */
+export class FieldError extends JournalError {
+  readonly code: 'JOURNAL_FIELD_ERROR';
+
+  /** Why. */
+  readonly reason:
+    | 'unknownField'
+    | 'outOfOrder'
+    | 'severalMembers'
+    | 'wrongKind'
+    | 'outOfRange'
+    | 'notUtf8'
+    | 'outOfBounds'
+    | 'wrongLevel'
+    | 'tooDeep';
+
+  /** What leads to the field, as `'headers[2].key'`. */
+  readonly path: string;
+}
+
+/** A source, or a stream that `finish` was called of, ended within an item, of which `value` bytes came. */
 export class Incomplete extends JournalError {
   readonly code: 'JOURNAL_INCOMPLETE';
   readonly value: number;

@@ -7,6 +7,7 @@ export {
   compareJournals,
   difference,
   frame,
+  frameInto,
   header,
   headerEq,
   isWellFormed,
@@ -20,6 +21,7 @@ export {
   typeName,
 } from './lib/calls.js';
 export {
+  FieldError,
   Incomplete,
   JournalError,
   JsonError,
@@ -27,10 +29,13 @@ export {
   NoId,
   NoResult,
   NoRoom,
+  NotCanonical,
   OutOfMemory,
   TooLong,
   Unknown,
 } from './lib/errors.js';
 export { Message, Skipped, UnknownCode } from './lib/items.js';
+export { CombinatorType, ErrorBehavior } from './lib/records.js';
+export { readRecord, writeRecord } from './lib/fields.js';
 export { schemaNames } from './lib/schemas.js';
 export { Stream, decode, items } from './lib/stream.js';

@@ -10,7 +10,12 @@ Gem::Specification.new do |spec|
   spec.authors = ["Pendratsoa maintainers"]
   spec.license = "MIT"
   spec.required_ruby_version = ">= 3.1"
-  # the shared library is there once `make ruby` has copied it beside the files
-  spec.files = Dir["lib/**/*.{rb,so}", "README.md", base: __dir__]
+  # the shared library is there once `make ruby` has copied it beside the files, and the gem is then for its processor
+  library = File.join(__dir__, "lib/pendratsoa/libpendratsoa.so")
+  if File.exist?(library)
+    spec.platform = { 62 => "x86_64-linux", 183 => "aarch64-linux" }.fetch(File.binread(library, 2, 18).unpack1("S<"))
+  end
+  # a release has the licences too
+  spec.files = Dir["lib/**/*.{rb,so}", "sig/*.rbs", "README.md", "LICENSE", "LINKED.txt", base: __dir__].sort
   spec.metadata["rubygems_mfa_required"] = "true"
 end

@@ -2,6 +2,9 @@
 //!
 //! PENDRATSOA_PREFIX names the folder that it was installed below; otherwise the program pkg-config says where it is.
 //! The shared library is linked, and where PENDRATSOA_STATIC is set to anything but 0 the static one.
+//!
+//! The crate of a release has the static library, in `lib`, in a folder of the target's name. There that one is linked,
+//! unless PENDRATSOA_PREFIX is set, or PENDRATSOA_STATIC is 0.
 
 use std::env;
 use std::ffi::OsString;
@@ -33,7 +36,11 @@ fn main() {
 
 /// Says to cargo what to link, or why there is nothing to link.
 fn link() -> Result<(), String> {
-    let (kind, file) = if is_static() {
+    if let Some(folder) = bundled() {
+        say("static", &folder, &folder.join("libpendratsoa.a"));
+        return Ok(());
+    }
+    let (kind, file) = if is_static().unwrap_or(false) {
         ("static", "libpendratsoa.a")
     } else {
         ("dylib", "libpendratsoa.so")
@@ -46,14 +53,30 @@ fn link() -> Result<(), String> {
     if !library.is_file() {
         return Err(format!("there is no {}; {INSTALL}", library.display()));
     }
-    println!("cargo:rerun-if-changed={}", library.display());
-    println!("cargo:rustc-link-search=native={}", folder.display());
-    println!("cargo:rustc-link-lib={kind}=pendratsoa");
+    say(kind, &folder, &library);
     Ok(())
 }
 
-fn is_static() -> bool {
-    env::var_os("PENDRATSOA_STATIC").map_or(false, |value| !value.is_empty() && value != "0")
+/// Says to cargo which library is linked, and in which folder it is.
+fn say(kind: &str, folder: &Path, library: &Path) {
+    println!("cargo:rerun-if-changed={}", library.display());
+    println!("cargo:rustc-link-search=native={}", folder.display());
+    println!("cargo:rustc-link-lib={kind}=pendratsoa");
+}
+
+/// The folder of the static library that a release has for this target, where that one is to be linked.
+fn bundled() -> Option<PathBuf> {
+    let is_chosen = env::var_os("PENDRATSOA_PREFIX").is_none() && is_static().unwrap_or(true);
+    let folder = Path::new(&env::var_os("CARGO_MANIFEST_DIR")?)
+        .join("lib")
+        .join(env::var_os("TARGET")?);
+    (is_chosen && folder.join("libpendratsoa.a").is_file()).then_some(folder)
+}
+
+/// Whether the static library is wanted, if PENDRATSOA_STATIC says so.
+fn is_static() -> Option<bool> {
+    let value = env::var_os("PENDRATSOA_STATIC").filter(|value| !value.is_empty())?;
+    Some(value != "0")
 }
 
 /// The folder of the library, by pkg-config: at least the version of this crate, since an older one may lack a call.

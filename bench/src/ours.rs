@@ -99,6 +99,15 @@ mod c {
             out: *mut u8,
             room: usize,
         ) -> i64;
+        pub fn measure_frame_vec(
+            version: u32,
+            code: u16,
+            payload: *const u8,
+            payload_length: usize,
+            rounds: usize,
+            out: *mut u8,
+            room: usize,
+        ) -> i64;
         pub fn measure_frame_into(
             version: u32,
             code: u16,
@@ -302,6 +311,17 @@ pub fn frame_to(
     out: &mut [u8],
 ) -> Result<usize, Refusal> {
     frame_by(c::measure_frame, version, code, payload, rounds, out)
+}
+
+/// The same, where the buffer is a `Vec`.
+pub fn frame_vec(
+    version: u32,
+    code: u16,
+    payload: &[u8],
+    rounds: usize,
+    out: &mut [u8],
+) -> Result<usize, Refusal> {
+    frame_by(c::measure_frame_vec, version, code, payload, rounds, out)
 }
 
 /// A frame for which all rounds have one buffer, which is cleared before each.

@@ -408,6 +408,18 @@ pub fn frame(version: u32, code: u16, payload: &[u8], rounds: usize) -> Result<B
     Ok(last)
 }
 
+/// The same as a `Vec`.
+pub fn frame_vec(
+    version: u32,
+    code: u16,
+    payload: &[u8],
+    rounds: usize,
+) -> Result<Vec<u8>, Refusal> {
+    let mut last = Vec::new();
+    frames(version, code, payload, rounds, &mut last)?;
+    Ok(last)
+}
+
 /// The same in one buffer, which is cleared before each round.
 pub fn frame_into(
     version: u32,
@@ -455,6 +467,14 @@ trait Room {
 impl Room for Bytes {
     fn put(&mut self, code: u16, acknowledge: bool, message: &impl Message) {
         *self = Bytes::new();
+        *self = new_frame(code, acknowledge, message).into();
+    }
+}
+
+/// A `Vec` of its own for each frame.
+impl Room for Vec<u8> {
+    fn put(&mut self, code: u16, acknowledge: bool, message: &impl Message) {
+        *self = Vec::new();
         *self = new_frame(code, acknowledge, message);
     }
 }
@@ -498,7 +518,7 @@ impl Kept {
 /// A buffer of its own for each frame.
 impl Room for Kept {
     fn put(&mut self, code: u16, acknowledge: bool, message: &impl Message) {
-        self.keep(new_frame(code, acknowledge, message));
+        self.keep(new_frame(code, acknowledge, message).into());
     }
 }
 
@@ -518,11 +538,11 @@ impl Room for Shared {
 }
 
 /// A frame in a buffer of its own.
-fn new_frame(code: u16, acknowledge: bool, message: &impl Message) -> Bytes {
+fn new_frame(code: u16, acknowledge: bool, message: &impl Message) -> Vec<u8> {
     let length = message.encoded_len();
     let mut frame = Vec::with_capacity(HEADER + length);
     append(code, acknowledge, length, message, &mut frame);
-    frame.into()
+    frame
 }
 
 /// Appends a header and the message's payload.

@@ -53,6 +53,10 @@ export function frame(version, code, payload) {
   return bytes(written((out) => addon.frame(version, code, payload, out), given));
 }
 
+export function frameInto(version, code, payload, out) {
+  return checked(addon.frame(version, code, payload, out), { call: 'frameInto', version, code, payload });
+}
+
 export function isWellFormed(schema, payload) {
   const given = { call: 'isWellFormed', schema, payload };
   return checked(addon.isWellFormed(known(schema, given), payload), given) === 1;

@@ -21,6 +21,32 @@ export const READINGS = [
   'tooDeep',
 ];
 
+/** The kinds of fields. */
+export const FIELD_KINDS = [
+  undefined,
+  'fieldUint32',
+  'fieldUint64',
+  'fieldBool',
+  'fieldEnum',
+  'fieldString',
+  'fieldBytes',
+  'fieldMessage',
+];
+
+/** What kind of a result it is when a payload is written from a table: written, or why an entry may not come. */
+export const WRITINGS = [
+  'written',
+  'unknownField',
+  'outOfOrder',
+  'severalMembers',
+  'wrongKind',
+  'outOfRange',
+  'notUtf8',
+  'outOfBounds',
+  'wrongLevel',
+  'tooDeep',
+];
+
 /** The kinds of a notification's id. */
 export const ID_KINDS = [
   'completionId',
@@ -56,6 +82,14 @@ export const ITEM_NUMBERS = 6;
 export const READING = { kind: 0, offset: 1 };
 export const READ_NUMBERS = 2;
 
+/** The indices of the numbers of a field, and how many there are. */
+export const FIELD = { level: 0, number: 1, kind: 2, value: 3, offset: 4, length: 5 };
+export const FIELD_NUMBERS = 6;
+
+/** The indices of the numbers of a writing, and how many there are. */
+export const WRITING = { kind: 0, index: 1 };
+export const WRITING_NUMBERS = 2;
+
 /** The indices of the numbers of a notification, and how many there are. */
 export const NOTIFICATION = { id: 0, number: 1, nameLength: 2, result: 3 };
 export const NOTIFICATION_NUMBERS = 4;
@@ -72,6 +106,7 @@ export const ERRORS = new Map([
   [-4, ['TooLong', []]],
   [-6, ['NoId', ['payload']]],
   [-7, ['NoResult', ['payload']]],
+  [-8, ['NotCanonical', ['payload']]],
   [-17, ['Malformed', ['second']]],
   [-21, ['Unknown', ['version']]],
   [-37, ['Unknown', ['schema']]],

@@ -67,6 +67,13 @@ export class NoResult extends JournalError {
   }
 }
 
+/** A payload is well-formed for its schema, and not canonical. */
+export class NotCanonical extends JournalError {
+  static {
+    identify(this, 'JOURNAL_NOT_CANONICAL');
+  }
+}
+
 /** A JSON text means no value of its schema. */
 export class JsonError extends JournalError {
   static {
@@ -77,6 +84,19 @@ export class JsonError extends JournalError {
     super(message, details);
     this.reason = reason;
     this.offset = offset;
+    this.path = path;
+  }
+}
+
+/** A field of a record cannot be encoded. */
+export class FieldError extends JournalError {
+  static {
+    identify(this, 'JOURNAL_FIELD_ERROR');
+  }
+
+  constructor(message, { reason, path, ...details } = {}) {
+    super(message, details);
+    this.reason = reason;
     this.path = path;
   }
 }
@@ -96,7 +116,10 @@ function identify(ErrorClass, code) {
   });
 }
 
-// Why a JSON text is rejected.
+/** The number of the error that a payload is not canonical. */
+export const NOT_CANONICAL = [...ERRORS].find(([, [kind]]) => kind === 'NotCanonical')[0];
+
+// Why a JSON text or a field of a record is rejected.
 const REASONS = {
   notJson: 'not JSON',
   unknownMember: 'unknown member',
@@ -105,6 +128,11 @@ const REASONS = {
   wrongKind: 'wrong kind of value',
   outOfRange: 'out of range',
   notBase64: 'not base64',
+  unknownField: 'unknown field',
+  outOfOrder: 'out of order',
+  notUtf8: 'not UTF-8',
+  outOfBounds: 'out of bounds',
+  wrongLevel: 'wrong level',
   tooDeep: 'too deep',
 };
 
@@ -117,10 +145,11 @@ const KINDS = {
   Unknown: [Unknown, 'unknown, or not of the kind that the call is for'],
   NoId: [NoId, 'the notification has no id'],
   NoResult: [NoResult, 'the notification has an id and no result'],
+  NotCanonical: [NotCanonical, 'well-formed for its schema, and not canonical'],
 };
 
 // What is too long, or becomes so: the library does not say which argument that is of.
-const LONG = ['payloadLength', 'json', 'payload', 'first'];
+const LONG = ['payloadLength', 'maxMessageSize', 'json', 'payload', 'first'];
 
 /** The error that a negative number is, of a call: its name and its arguments, by their names. */
 export function refusal(number, given) {
@@ -152,10 +181,25 @@ export function notTaken({ call, json }, { reason, offset, path }) {
   return new JsonError(`${call}: json ${shown(json)}: ${why}`, details);
 }
 
+/** The error of the message of a header, at an offset of a stream, that is longer than the limit of the stream. */
+export function messageTooLong({ call, maxMessageSize }, head, offset) {
+  const view = new DataView(head.buffer, head.byteOffset, 8);
+  const code = view.getUint16(0).toString(16).padStart(4, '0');
+  const what = `a message of type 0x${code} at offset ${offset} has ${view.getUint32(4)} bytes`;
+  const message = `${call}: ${what}, more than the limit of ${maxMessageSize}`;
+  return new TooLong(message, { call, argument: 'maxMessageSize', value: maxMessageSize });
+}
+
+/** The error that a field cannot be encoded: what leads to it, and why. */
+export function fieldError(path, reason) {
+  return new FieldError(`payload: ${path}: ${REASONS[reason]}`, { call: 'payload', reason, path });
+}
+
 /** The error that a source ended with bytes that are in no item, and how many. */
 export function incomplete(call, rest) {
-  const message = `${call}: the source ended within an item, after ${byteCount(rest)} of it`;
-  return new Incomplete(message, { call, argument: 'source', value: rest });
+  const what = call === 'finish' ? 'stream' : 'source';
+  const message = `${call}: the ${what} ended within an item, after ${byteCount(rest)} of it`;
+  return new Incomplete(message, { call, argument: what, value: rest });
 }
 
 /** The error that an argument is of another kind than it has to be. */

@@ -1,11 +1,37 @@
 // The items of a stream.
 
-import { canonical, frame, header, notification, payload, schema, toJson, typeCode, typeName } from './calls.js';
+import {
+  canonical,
+  frame,
+  frameInto,
+  header,
+  notification,
+  payload,
+  schema,
+  toJson,
+  typeCode,
+  typeName,
+} from './calls.js';
+import { Unknown, notKnown } from './errors.js';
+import { payloadOf, recordOf } from './fields.js';
 import { isCommandCode, isNotificationCode } from './protocol.js';
+import { RECORDS } from './records.js';
+
+/** The message of a stream whose header is this word. */
+export let messageThatCame;
 
 /** A message of a stream. */
 export class Message {
+  #word;
   kind = 'message';
+
+  static {
+    messageThatCame = (word, ...fields) => {
+      const message = new Message(...fields);
+      message.#word = word;
+      return message;
+    };
+  }
 
   constructor(version, code, payload, requiresAck = false) {
     this.version = version;
@@ -14,15 +40,38 @@ export class Message {
     this.requiresAck = requiresAck;
   }
 
+  static of(type, record, version = 8) {
+    const code = typeof type === 'string' ? typeCode(type) : type;
+    const number = schema(version, code);
+    if (number >= RECORDS.length) {
+      throw notKnown('Message.of', 'schema', number);
+    }
+    return made(version, code, payloadOf(number, record));
+  }
+
   static fromJson(type, json, version = 8) {
     const code = typeof type === 'string' ? typeCode(type) : type;
     const read = payload(schema(version, code), isPlainObject(json) ? JSON.stringify(json) : json);
-    // the flag is the high bit of the third byte
-    return new Message(version, code, read, header(version, code, read.length)[2] >= 0x80);
+    return made(version, code, read);
+  }
+
+  get word() {
+    return this.#word;
+  }
+
+  get bytes() {
+    // what came in no stream has the header of its type
+    const { version, code, payload } = this;
+    const first = this.#word === undefined ? header(version, code, payload.length) : wordBytes(this.#word);
+    return joined(first, payload);
   }
 
   get type() {
     return typeName(this.code);
+  }
+
+  get message() {
+    return recordOf(this.schema, this.payload);
   }
 
   get schema() {
@@ -49,9 +98,61 @@ export class Message {
     return frame(version, this.code, this.payload);
   }
 
+  frameInto(out, version = this.version) {
+    return frameInto(version, this.code, this.payload, out);
+  }
+
   notification() {
     return notification(this.code, this.payload);
   }
+
+  toString() {
+    return `${nameOf(this.code)} ${this.payload.length}${this.requiresAck ? ' ack' : ''}`;
+  }
+
+  toJSON() {
+    const { kind, version, code, requiresAck } = this;
+    return { kind, version, code, type: nameOf(code), requiresAck, payload: base64(this.payload) };
+  }
+}
+
+function made(version, code, payload) {
+  // the flag is the high bit of the third byte
+  return new Message(version, code, payload, header(version, code, payload.length)[2] >= 0x80);
+}
+
+/** The name of a type, or its code where a message was made with one that no type has. */
+function nameOf(code) {
+  try {
+    return typeName(code);
+  } catch (error) {
+    if (error instanceof Unknown) {
+      return `code ${hexOf(code)}`;
+    }
+    throw error;
+  }
+}
+
+function hexOf(code) {
+  return `0x${code.toString(16)}`;
+}
+
+function base64(bytes) {
+  return Buffer.from(bytes.buffer, bytes.byteOffset, bytes.byteLength).toString('base64');
+}
+
+/** The eight bytes of a word. */
+function wordBytes(word) {
+  const bytes = new Uint8Array(8);
+  new DataView(bytes.buffer).setBigUint64(0, word);
+  return bytes;
+}
+
+function joined(first, second) {
+  const bytes = new Uint8Array(first.length + second.length);
+  bytes.set(first);
+  bytes.set(second, first.length);
+  return bytes;
 }
 
 /** Whether a value is an object as JSON has them, and of no class. */
@@ -68,6 +169,19 @@ export class UnknownCode {
     this.code = code;
     this.word = word;
   }
+
+  get bytes() {
+    return wordBytes(this.word);
+  }
+
+  toString() {
+    return `unknown ${hexOf(this.code)}`;
+  }
+
+  toJSON() {
+    const { kind, version, code, word } = this;
+    return { kind, version, code, word: word.toString() };
+  }
 }
 
 /** A message of an unknown type, which is skipped with its payload from version 9 on. */
@@ -79,5 +193,18 @@ export class Skipped {
     this.code = code;
     this.word = word;
     this.payload = payload;
+  }
+
+  get bytes() {
+    return joined(wordBytes(this.word), this.payload);
+  }
+
+  toString() {
+    return `skipped ${hexOf(this.code)} ${this.payload.length}`;
+  }
+
+  toJSON() {
+    const { kind, version, code, word } = this;
+    return { kind, version, code, word: word.toString(), payload: base64(this.payload) };
   }
 }

@@ -3,8 +3,8 @@
 import { addon } from './addon.js';
 import { checked } from './calls.js';
 import { ITEM, ITEM_KINDS, ITEM_NUMBERS } from './declared.js';
-import { incomplete, notKnown } from './errors.js';
-import { Message, Skipped, UnknownCode } from './items.js';
+import { TooLong, incomplete, messageTooLong, notKnown } from './errors.js';
+import { Skipped, UnknownCode, messageThatCame } from './items.js';
 
 const NOTHING = new Uint8Array(0);
 
@@ -14,14 +14,19 @@ const numbers = new BigUint64Array(ITEM_NUMBERS);
 /** A stream that comes in chunks. */
 export class Stream {
   #version;
+  #limit;
+  // how many bytes are in the items that were taken, and the error that ended the stream
+  #offset = 0;
+  #ended;
   // what came and is in no item yet is from #begin up to #end; the rest is room
   #bytes = NOTHING;
   #begin = 0;
   #end = 0;
 
-  constructor(version = 8) {
-    checked(addon.next(version, NOTHING, numbers), { call: 'Stream', version });
+  constructor(version = 8, { maxMessageSize } = {}) {
     this.#version = version;
+    this.#limit = maxMessageSize;
+    checked(this.#next(NOTHING), { call: 'Stream', version, maxMessageSize });
   }
 
   get version() {
@@ -33,6 +38,7 @@ export class Stream {
   }
 
   feed(chunk) {
+    this.#check();
     const length = addon.chunkLength(chunk);
     if (length > this.#bytes.length - this.#end) {
       this.#makeRoom(length);
@@ -41,12 +47,53 @@ export class Stream {
     this.#end += length;
   }
 
+  finish() {
+    this.#check();
+    atEnd(this, 'finish');
+  }
+
   *[Symbol.iterator]() {
     let item = this.#take();
     while (item !== undefined) {
       yield item;
       item = this.#take();
     }
+  }
+
+  /** Throws the error that ended the stream. */
+  #check() {
+    if (this.#ended !== undefined) {
+      throw this.#ended;
+    }
+  }
+
+  /** What the library returns of bytes: how many are missing, or the number of an error. */
+  #next(bytes) {
+    if (this.#limit === undefined) {
+      return addon.next(this.#version, bytes, numbers);
+    }
+    return addon.nextWithin(this.#version, this.#limit, bytes, numbers);
+  }
+
+  /** Looks for an item. A message that is longer than the limit ends the stream: what came of it is dropped. */
+  #look(rest) {
+    const given = { call: 'Stream', version: this.#version, maxMessageSize: this.#limit };
+    try {
+      return checked(this.#next(rest), given);
+    } catch (error) {
+      if (error instanceof TooLong) {
+        this.#ended = messageTooLong(given, rest, this.#offset);
+        this.#clear();
+        throw this.#ended;
+      }
+      throw error;
+    }
+  }
+
+  #clear() {
+    this.#bytes = NOTHING;
+    this.#begin = 0;
+    this.#end = 0;
   }
 
   /** Moves what is in no item yet to the beginning of new memory, with room for more bytes. */
@@ -62,16 +109,17 @@ export class Stream {
 
   /** Takes the item that the rest begins with, if it is whole. An error takes nothing. */
   #take() {
+    this.#check();
     const rest = this.#bytes.subarray(this.#begin, this.#end);
-    if (checked(addon.next(this.#version, rest, numbers), { call: 'Stream', version: this.#version }) > 0) {
+    if (this.#look(rest) > 0) {
       return undefined;
     }
     const item = itemOf(this.#version, rest);
-    this.#begin += Number(numbers[ITEM.size]);
+    const size = Number(numbers[ITEM.size]);
+    this.#begin += size;
+    this.#offset += size;
     if (this.#begin === this.#end) {
-      this.#bytes = NOTHING;
-      this.#begin = 0;
-      this.#end = 0;
+      this.#clear();
     }
     return item;
   }
@@ -83,7 +131,7 @@ function itemOf(version, bytes) {
   const payload = () => bytes.slice(Number(numbers[ITEM.payload]), Number(numbers[ITEM.size]));
   switch (ITEM_KINDS[Number(numbers[ITEM.kind])]) {
     case 'message':
-      return new Message(version, code, payload(), numbers[ITEM.ack] === 1n);
+      return messageThatCame(numbers[ITEM.word], version, code, payload(), numbers[ITEM.ack] === 1n);
     case 'unknownCode':
       return new UnknownCode(version, code, numbers[ITEM.word]);
     case 'skipped':
@@ -94,8 +142,8 @@ function itemOf(version, bytes) {
 }
 
 /** Decodes chunks into items. */
-export function decode(version = 8) {
-  const stream = new Stream(version);
+export function decode(version = 8, options = {}) {
+  const stream = new Stream(version, options);
   return new TransformStream({
     transform(chunk, controller) {
       stream.feed(chunk);
@@ -110,8 +158,8 @@ export function decode(version = 8) {
 }
 
 /** The items of the chunks of a source. */
-export function items(source, version = 8) {
-  return itemsOf(new Stream(version), source);
+export function items(source, version = 8, options = {}) {
+  return itemsOf(new Stream(version, options), source);
 }
 
 async function* itemsOf(stream, source) {

@@ -8,8 +8,10 @@ static const char *const NAMES[] = {
     [CODE] = "code",
     [SCHEMA] = "schema",
     [PAYLOAD_LENGTH] = "payloadLength",
+    [LIMIT] = "maxMessageSize",
     [NAME] = "name",
     [CHUNK] = "chunk",
+    [BYTES] = "bytes",
     [PAYLOAD] = "payload",
     [JSON] = "json",
     [FIRST] = "first",
@@ -17,6 +19,7 @@ static const char *const NAMES[] = {
     [RECORDED] = "recorded",
     [REPLAYED] = "replayed",
     [IGNORE_PAYLOADS] = "ignorePayloads",
+    [FIELDS] = "fields",
     [NUMBERS] = "numbers",
     [OUT] = "out",
 };
@@ -103,6 +106,7 @@ static enum reading read_identifier(napi_env env, enum parameter parameter, napi
 }
 
 static enum reading read_length(napi_env env, enum parameter parameter, napi_value value, uint32_t *length) {
+    char text[128];
     double number = 0;
     enum reading reading = read_number(env, parameter, value, &number);
 
@@ -118,8 +122,8 @@ static enum reading read_length(napi_env env, enum parameter parameter, napi_val
             return READ;
         }
     }
-    (void)succeeded(env, napi_throw_range_error(env, "ERR_OUT_OF_RANGE",
-                                                "payloadLength is negative, or no whole number of bytes"));
+    (void)snprintf(text, sizeof text, "%s is negative, or no whole number of bytes", NAMES[parameter]);
+    (void)succeeded(env, napi_throw_range_error(env, "ERR_OUT_OF_RANGE", text));
     return THROWN;
 }
 
@@ -183,13 +187,13 @@ static enum reading read_bytes(napi_env env, enum parameter parameter, napi_valu
     return reading;
 }
 
-static enum reading read_numbers(napi_env env, enum parameter parameter, napi_value value,
-                                 struct arguments *arguments) {
-    void *numbers = NULL;
-    enum reading reading = read_array(env, parameter, value, napi_biguint64_array, "a BigUint64Array", &numbers,
-                                      &arguments->numbers_room);
+static enum reading read_numbers(napi_env env, enum parameter parameter, napi_value value, uint64_t **numbers,
+                                 size_t *count) {
+    void *elements = NULL;
+    enum reading reading =
+        read_array(env, parameter, value, napi_biguint64_array, "a BigUint64Array", &elements, count);
 
-    arguments->numbers = numbers;
+    *numbers = elements;
     return reading;
 }
 
@@ -209,8 +213,11 @@ static enum reading read_argument(napi_env env, enum parameter parameter, napi_v
         return reading;
     case PAYLOAD_LENGTH:
         return read_length(env, parameter, value, &arguments->payload_length);
+    case LIMIT:
+        return read_length(env, parameter, value, &arguments->limit);
     case NAME:
     case CHUNK:
+    case BYTES:
     case PAYLOAD:
     case JSON:
     case FIRST:
@@ -221,8 +228,10 @@ static enum reading read_argument(napi_env env, enum parameter parameter, napi_v
         return read_bytes(env, parameter, value, &arguments->second);
     case IGNORE_PAYLOADS:
         return read_flag(env, parameter, value, &arguments->ignore_payloads);
+    case FIELDS:
+        return read_numbers(env, parameter, value, &arguments->fields, &arguments->fields_count);
     case NUMBERS:
-        return read_numbers(env, parameter, value, arguments);
+        return read_numbers(env, parameter, value, &arguments->numbers, &arguments->numbers_room);
     case OUT:
         return read_bytes(env, parameter, value, &arguments->out);
     case NO_PARAMETER:

@@ -20,8 +20,10 @@ enum parameter {
     CODE,
     SCHEMA,
     PAYLOAD_LENGTH,
+    LIMIT,
     NAME,
     CHUNK,
+    BYTES,
     PAYLOAD,
     JSON,
     FIRST,
@@ -29,6 +31,7 @@ enum parameter {
     RECORDED,
     REPLAYED,
     IGNORE_PAYLOADS,
+    FIELDS,
     NUMBERS,
     OUT
 };
@@ -47,10 +50,13 @@ struct arguments {
     uint32_t version;
     uint32_t schema;
     uint32_t payload_length;
+    uint32_t limit;
     uint32_t ignore_payloads;
     uint16_t code;
     struct slice first;
     struct slice second;
+    uint64_t *fields;
+    size_t fields_count;
     uint64_t *numbers;
     size_t numbers_room;
     struct slice out;

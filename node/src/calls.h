@@ -22,6 +22,11 @@ static int64_t next(const struct arguments *arguments) {
                         arguments->numbers_room);
 }
 
+static int64_t next_within(const struct arguments *arguments) {
+    return journal_next_within(arguments->version, arguments->limit, arguments->first.bytes, arguments->first.length,
+                               (void *)arguments->numbers, arguments->numbers_room);
+}
+
 static int64_t header(const struct arguments *arguments) {
     return journal_header(arguments->version, arguments->code, arguments->payload_length, arguments->out.bytes,
                           arguments->out.length);
@@ -57,6 +62,18 @@ static int64_t payload_of_json(const struct arguments *arguments) {
                                    arguments->out.length);
 }
 
+static int64_t fields(const struct arguments *arguments) {
+    return journal_fields(arguments->schema, arguments->first.bytes, arguments->first.length,
+                          (void *)arguments->numbers, arguments->numbers_room / JOURNAL_FIELD_NUMBERS);
+}
+
+static int64_t payload_of_fields(const struct arguments *arguments) {
+    return journal_payload_of_fields(arguments->schema, (void *)arguments->fields, arguments->fields_count /
+                                     JOURNAL_FIELD_NUMBERS, arguments->first.bytes, arguments->first.length,
+                                     (void *)arguments->numbers, arguments->numbers_room, arguments->out.bytes,
+                                     arguments->out.length);
+}
+
 static int64_t notification(const struct arguments *arguments) {
     return journal_notification(arguments->code, arguments->first.bytes, arguments->first.length,
                                 (void *)arguments->numbers, arguments->numbers_room, arguments->out.bytes,
@@ -86,6 +103,7 @@ static int64_t verdict(const struct arguments *arguments) {
     {"typeName", type_name, {CODE, OUT}}, \
     {"typeCode", type_code, {NAME}}, \
     {"next", next, {VERSION, CHUNK, NUMBERS}}, \
+    {"nextWithin", next_within, {VERSION, LIMIT, CHUNK, NUMBERS}}, \
     {"header", header, {VERSION, CODE, PAYLOAD_LENGTH, OUT}}, \
     {"frame", frame, {VERSION, CODE, PAYLOAD, OUT}}, \
     {"isWellFormed", is_well_formed, {SCHEMA, PAYLOAD}}, \
@@ -93,6 +111,8 @@ static int64_t verdict(const struct arguments *arguments) {
     {"merge", merge, {SCHEMA, FIRST, SECOND, OUT}}, \
     {"json", json, {SCHEMA, PAYLOAD, OUT}}, \
     {"payloadOfJson", payload_of_json, {SCHEMA, JSON, NUMBERS, OUT}}, \
+    {"fields", fields, {SCHEMA, PAYLOAD, NUMBERS}}, \
+    {"payloadOfFields", payload_of_fields, {SCHEMA, FIELDS, BYTES, NUMBERS, OUT}}, \
     {"notification", notification, {CODE, PAYLOAD, NUMBERS, OUT}}, \
     {"headerEq", header_eq, {CODE, FIRST, SECOND, IGNORE_PAYLOADS}}, \
     {"difference", difference, {CODE, FIRST, SECOND, OUT}}, \

@@ -28,7 +28,8 @@ const BAD = '0403000000000001 07';
 const CALL = '040d000000000000';
 
 test('the names are those of index.d.ts', () => {
-  const declared = textOf('node/index.d.ts').matchAll(/^export (?:class|const|function) (\w+)/gm);
+  const texts = textOf('node/index.d.ts') + textOf('node/messages.d.ts');
+  const declared = texts.matchAll(/^export (?:class|const|function) (\w+)/gm);
   assert.deepEqual(Array.from(declared, ([, name]) => name).sort(), Object.keys(pendratsoa).sort());
 });
 
@@ -40,7 +41,7 @@ test('the version of the library is that of the package and of the header', () =
 test('each error of the header is that of a class', () => {
   const defined = Array.from(HEADER.matchAll(/^#define (JOURNAL_\w+) \((-\d+)\)$/gm));
   const kinds = new Map(defined.map(([, code, number]) => [Number(number), code]).filter(([number]) => number > -16));
-  assert.equal(kinds.size, 7);
+  assert.equal(kinds.size, 8);
   // no call returns the kind of what is unknown by itself
   for (const [, code, number] of defined.filter(([, name]) => name !== 'JOURNAL_UNKNOWN')) {
     const error = refusal(Number(number), { call: 'frame', version: 8, code: 0, payload: hex('') });

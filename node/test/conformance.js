@@ -20,9 +20,11 @@ import {
   isWellFormed,
   merge,
   payload as payloadOf,
+  readRecord,
   schema,
   toJson,
   typeCode,
+  writeRecord,
 } from 'pendratsoa';
 
 import { chunksOf, digits, hex, listed, textOf } from './support.js';
@@ -42,6 +44,7 @@ function payloadResult(name, payload) {
   const result = canonical(name, payload);
   assert.equal(isWellFormed(name, payload), true);
   assert.deepEqual(canonical(name, result), result);
+  assert.deepEqual(writeRecord(name, readRecord(name, payload)), result);
   assert.equal(jsonResult(name, payload), toJson(name, result));
   return digits(result);
 }

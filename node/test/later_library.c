@@ -51,6 +51,12 @@ int64_t journal_next(uint32_t version, const uint8_t *bytes, size_t length, stru
     return 0;
 }
 
+int64_t journal_next_within(uint32_t version, uint32_t limit, const uint8_t *bytes, size_t length,
+                            struct journal_item *item, size_t item_room) {
+    (void)limit;
+    return journal_next(version, bytes, length, item, item_room);
+}
+
 int64_t journal_header(uint32_t version, uint16_t code, uint32_t payload_length, uint8_t *out, size_t room) {
     (void)version;
     (void)code;
@@ -129,6 +135,36 @@ int64_t journal_json(uint32_t schema, const uint8_t *payload, size_t payload_len
     (void)out;
     (void)room;
     return JOURNAL_OUT_OF_MEMORY;
+}
+
+/* One field, of a number that no record has. */
+int64_t journal_fields(uint32_t schema, const uint8_t *payload, size_t payload_length, struct journal_field *fields,
+                       size_t room) {
+    (void)schema;
+    (void)payload;
+    (void)payload_length;
+    if (room >= 1) {
+        memset(fields, 0, sizeof *fields);
+        fields->number = 9999;
+    }
+    return 1;
+}
+
+/* A table is rejected as the kind that the first byte is. */
+int64_t journal_payload_of_fields(uint32_t schema, const struct journal_field *fields, size_t count,
+                                  const uint8_t *bytes, size_t length, struct journal_writing *writing,
+                                  size_t writing_room, uint8_t *out, size_t room) {
+    (void)schema;
+    (void)fields;
+    (void)count;
+    (void)out;
+    (void)room;
+    if (writing_room < JOURNAL_WRITING_NUMBERS) {
+        return JOURNAL_NO_ROOM;
+    }
+    writing->kind = length > 0 ? bytes[0] : JOURNAL_WRITTEN;
+    writing->index = 0;
+    return 0;
 }
 
 /* The four numbers are the first bytes of the payload. */

@@ -28,7 +28,7 @@ test('the library is not the proved one', () => {
 });
 
 test('errors of other numbers', () => {
-  for (const number of [8, 12, 65_535]) {
+  for (const number of [9, 12, 65_535]) {
     assert.throws(() => pendratsoa.schema(8, number), notKnown('schema', `error -${number}`));
   }
 });
@@ -69,6 +69,13 @@ test('notifications of other kinds', () => {
   assert.throws(() => pendratsoa.notification(0xfbff, hex('03000000')), notKnown('notification', 'kind of id 3'));
   assert.throws(() => pendratsoa.notification(0xfbff, hex('00000005')), notKnown('notification', 'kind of result 5'));
   assert.throws(() => pendratsoa.notification(0xfbff, hex('ff0000ff')), notKnown('notification', 'kind of id 255'));
+});
+
+test('tables of other kinds, and of other fields', () => {
+  const write = (kind) => () => pendratsoa.writeRecord('Value', { content: Uint8Array.of(kind) });
+  assert.throws(write(3), { name: 'FieldError', reason: 'severalMembers', path: 'content' });
+  assert.throws(write(10), notKnown('payload', 'kind of table 10'));
+  assert.throws(() => pendratsoa.readRecord('Value', NONE), notKnown('message', 'field of Value 9999'));
 });
 
 test('JSON texts of other kinds', () => {

@@ -5,7 +5,7 @@ import { Readable } from 'node:stream';
 import test from 'node:test';
 import { MessageChannel } from 'node:worker_threads';
 
-import { Message, Skipped, Stream, UnknownCode, decode, items } from 'pendratsoa';
+import { Message, Skipped, Stream, TooLong, UnknownCode, decode, items } from 'pendratsoa';
 
 import { bytesOf, chunksOf, hex, joined, listed, textOf } from './support.js';
 
@@ -343,4 +343,33 @@ test('the examples are listed as their listings are', () => {
     const lines = [...listed(stream), `rest ${stream.rest}`];
     assert.equal(lines.map((line) => `${line}\n`).join(''), textOf(`examples/streams/${name}.stdout`));
   }
+});
+
+test('a message that is longer than the limit ends the stream', async () => {
+  const endless = hex('00000000ffffffff 010203');
+  const stream = new Stream(8, { maxMessageSize: 9 });
+  stream.feed(joined(INPUT, endless));
+  const found = [];
+  const error = {
+    name: 'TooLong',
+    argument: 'maxMessageSize',
+    message: 'Stream: a message of type 0x0000 at offset 17 has 4294967295 bytes, more than the limit of 9',
+  };
+  for (let i = 0; i < 2; i += 1) {
+    assert.throws(() => {
+      for (const item of stream) {
+        found.push(item);
+      }
+    }, error);
+    assert.equal(stream.rest, 0);
+  }
+  assert.deepEqual(found, ITEMS.slice(0, 1));
+  assert.throws(() => stream.feed(INPUT), error);
+  assert.throws(() => stream.finish(), error);
+  await assert.rejects(collect(items([INPUT], 8, { maxMessageSize: 8 })), TooLong);
+  const open = new Stream();
+  open.feed(endless);
+  assert.deepEqual([...open], []);
+  assert.throws(() => new Stream(8, { maxMessageSize: -1 }), RangeError);
+  assert.throws(() => new Stream(8, { maxMessageSize: 2 ** 32 }), TooLong);
 });

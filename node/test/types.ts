@@ -1,7 +1,9 @@
 // What index.d.ts says, as tsc --strict reads it: nothing of this is run.
 
 import {
+  ErrorBehavior,
   FIRST_VERSION,
+  FieldError,
   Incomplete,
   Item,
   JournalError,
@@ -12,9 +14,11 @@ import {
   Message,
   Notification,
   SchemaName,
+  SetStateCommandMessage,
   Stream,
   TypeName,
   Unknown,
+  Value,
   Verdict,
   canonical,
   compareJournals,
@@ -29,11 +33,13 @@ import {
   merge,
   notification,
   payload,
+  readRecord,
   schema,
   schemaNames,
   toJson,
   typeCode,
   typeName,
+  writeRecord,
 } from 'pendratsoa';
 
 /** Compiles where two types are the same. */
@@ -47,16 +53,16 @@ export function described(item: Item): string {
     case 'message': {
       const type: TypeName = item.type;
       const json: JsonValue | undefined = item.json().value;
-      // @ts-expect-error a message has no word
-      item.word;
+      const word: bigint | undefined = item.word;
+      const length: number = item.bytes.length + item.frameInto(new Uint8Array(20), 9);
       // @ts-expect-error it cannot be changed
       item.payload = bytes;
-      return `${type} ${item.schema + item.payload.length} ${item.requiresAck} ${json} ${item.frame().length}`;
+      return `${type} ${item.schema + item.payload.length} ${item.requiresAck} ${json} ${item.frame().length} ${word} ${length}`;
     }
     case 'unknownCode':
       // @ts-expect-error it has no payload
       item.payload;
-      return `${item.code} ${item.word + 1n}`;
+      return `${item.code} ${item.word + 1n} ${item.bytes} ${item}`;
     case 'skipped':
       return `${item.code} ${item.word + 1n} ${item.payload.length}`;
   }
@@ -75,6 +81,59 @@ export function identified(found: Notification): number | string {
   return found.id + 1;
 }
 
+/** What the record of a message is, by the type of the message. */
+export function read(item: Item): string | bigint | number | Uint8Array | undefined {
+  if (item.kind !== 'message') {
+    return undefined;
+  }
+  // @ts-expect-error there is no such type
+  if (item.type === 'SetStatCommand') {
+    return undefined;
+  }
+  switch (item.type) {
+    case 'SetStateCommand':
+      // @ts-expect-error there is no such field
+      item.message.valu;
+      // @ts-expect-error it may be absent
+      item.message.value.content;
+      return item.message.value?.content;
+    case 'SleepCommand':
+      return item.message.wakeUpTime + 1n;
+    case 'SignalNotification': {
+      const { signalId, result } = item.message;
+      if (result?.case === 'failure') {
+        return result.value.message;
+      }
+      return signalId?.case === 'idx' ? signalId.value + 1 : signalId?.value.toUpperCase();
+    }
+    case 'Error':
+      return item.message.behavior === ErrorBehavior.PAUSE ? item.message.relatedCommandIndex : 0;
+    default:
+      return item.type.length;
+  }
+}
+
+export function made(): Uint8Array[] {
+  const command: SetStateCommandMessage = { key: bytes, value: { content: bytes }, name: '' };
+  const changed: SetStateCommandMessage = { ...command, value: { content: new Uint8Array(1) } };
+  // @ts-expect-error there is no such field
+  Message.of('SetStateCommand', { valu: command.value });
+  // @ts-expect-error a number of 64 bits is a bigint
+  Message.of('SleepCommand', { wakeUpTime: 5 });
+  // @ts-expect-error there is no such member
+  Message.of('OutputCommand', { result: { case: 'values', value: {} } });
+  // @ts-expect-error it cannot be changed
+  command.key = bytes;
+  const same: Same<ReturnType<typeof readRecord<'Value'>>, Value> = true;
+  return [
+    Message.of('SetStateCommand', changed, 9).frame(),
+    Message.of('OutputCommand', { result: { case: 'value', value: { content: bytes } } }).frame(),
+    writeRecord('Future', { nestedFutures: [{ waitingSignals: [1] }, {}] }),
+    readRecord('Value', bytes).content,
+    bytes.subarray(Number(same)),
+  ];
+}
+
 export async function streams(): Promise<void> {
   const stream = new Stream();
   stream.feed(bytes);
@@ -84,6 +143,7 @@ export async function streams(): Promise<void> {
   const rest: number = stream.rest + new Stream(FIRST_VERSION).version;
   // @ts-expect-error a text is no chunk
   stream.feed('text');
+  stream.finish();
   // @ts-expect-error the rest cannot be set
   stream.rest = rest;
   for await (const item of items([bytes], LAST_VERSION)) {
@@ -136,6 +196,9 @@ export function caught(error: unknown): string {
   if (error instanceof JsonError) {
     const offset: Same<JsonError['offset'], number | undefined> = true;
     return error.reason === 'notJson' ? `${error.offset} ${offset}` : error.path;
+  }
+  if (error instanceof FieldError) {
+    return error.reason === 'notUtf8' ? error.path : error.reason;
   }
   if (error instanceof Incomplete) {
     return error.value.toFixed();

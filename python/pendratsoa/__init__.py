@@ -16,6 +16,7 @@ the system finds as libpendratsoa.so.0.
 from ._calls import (
     Notification,
     Verdict,
+    append_frame,
     canonical,
     compare_journals,
     difference,
@@ -32,14 +33,17 @@ from ._calls import (
     type_code,
     type_name,
 )
-from ._declared import FIRST_VERSION, LAST_VERSION, IdKind, JsonReason, ResultKind, VerdictKind
+from ._declared import FIRST_VERSION, LAST_VERSION, FieldReason, IdKind, JsonReason, ResultKind, VerdictKind
 from ._errors import (
+    FieldError,
+    Incomplete,
     JournalError,
     JsonError,
     Malformed,
     NoId,
     NoResult,
     NoRoom,
+    NotCanonical,
     OutOfMemory,
     TooLong,
     Unknown,
@@ -55,7 +59,10 @@ __all__ = [
     "SCHEMAS",
     "SCHEMA_NAMES",
     "BytesLike",
+    "FieldError",
+    "FieldReason",
     "IdKind",
+    "Incomplete",
     "Item",
     "JournalError",
     "JsonError",
@@ -65,6 +72,7 @@ __all__ = [
     "NoId",
     "NoResult",
     "NoRoom",
+    "NotCanonical",
     "Notification",
     "OutOfMemory",
     "ResultKind",
@@ -77,6 +85,7 @@ __all__ = [
     "UnknownCode",
     "Verdict",
     "VerdictKind",
+    "append_frame",
     "canonical",
     "compare_journals",
     "difference",

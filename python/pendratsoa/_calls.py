@@ -35,7 +35,7 @@ class Verdict:
 
 
 def library_version() -> str:
-    """The version of the library, as "0.1.0"."""
+    """The version of the library, as "0.2.0"."""
     return Request("library_version").written(library.journal_library_version).decode()
 
 
@@ -80,6 +80,16 @@ def frame(version: int, code: int, payload: BytesLike) -> bytes:
     request = Request("frame", version=version, code=code, payload=payload)
     parameters = request.version(), request.code("a named type"), *request.data("payload")
     return request.written(library.journal_frame, *parameters)
+
+
+def append_frame(out: bytearray, version: int, code: int, payload: BytesLike) -> int:
+    """Appends the frame that `frame` returns to `out`, without a copy of it, and returns its length in bytes.
+
+    Its errors are those of `frame`; after one of them `out` is as it was.
+    """
+    request = Request("append_frame", version=version, code=code, payload=payload)
+    parameters = request.version(), request.code("a named type"), *request.data("payload")
+    return request.appended(out, library.journal_frame, *parameters)
 
 
 def is_well_formed(schema: Schema, payload: BytesLike) -> bool:

@@ -14,6 +14,7 @@ CALLS: Dict[str, Tuple[str, ...]] = {
     "journal_type_name": ("u16", "slice"),
     "journal_type_code": ("slice",),
     "journal_next": ("u32", "slice", "slice"),
+    "journal_next_within": ("u32", "u32", "slice", "slice"),
     "journal_header": ("u32", "u16", "u32", "slice"),
     "journal_frame": ("u32", "u16", "slice", "slice"),
     "journal_is_well_formed": ("u32", "slice"),
@@ -21,6 +22,8 @@ CALLS: Dict[str, Tuple[str, ...]] = {
     "journal_merge": ("u32", "slice", "slice", "slice"),
     "journal_json": ("u32", "slice", "slice"),
     "journal_payload_of_json": ("u32", "slice", "slice", "slice"),
+    "journal_fields": ("u32", "slice", "slice"),
+    "journal_payload_of_fields": ("u32", "slice", "slice", "slice", "slice"),
     "journal_notification": ("u16", "slice", "slice", "slice"),
     "journal_header_eq": ("u16", "slice", "slice", "u32"),
     "journal_difference": ("u16", "slice", "slice", "slice"),
@@ -30,6 +33,8 @@ CALLS: Dict[str, Tuple[str, ...]] = {
 # how many numbers each struct has
 ITEM_NUMBERS = 6
 READ_NUMBERS = 2
+FIELD_NUMBERS = 6
+WRITING_NUMBERS = 2
 NOTIFICATION_NUMBERS = 4
 VERDICT_NUMBERS = 2
 
@@ -41,6 +46,7 @@ ERRORS: Dict[int, Tuple[str, Tuple[str, ...]]] = {
     -4: ("TooLong", ()),
     -6: ("NoId", ("payload",)),
     -7: ("NoResult", ("payload",)),
+    -8: ("NotCanonical", ("payload",)),
     -17: ("Malformed", ("second",)),
     -21: ("Unknown", ("version",)),
     -37: ("Unknown", ("schema",)),
@@ -59,6 +65,20 @@ class JsonReason(IntEnum):
     OUT_OF_RANGE = 6
     NOT_BASE64 = 7
     TOO_DEEP = 8
+
+
+class FieldReason(IntEnum):
+    """Why an entry of a table of fields may not come."""
+
+    UNKNOWN_FIELD = 1
+    OUT_OF_ORDER = 2
+    SEVERAL_MEMBERS = 3
+    WRONG_KIND = 4
+    OUT_OF_RANGE = 5
+    NOT_UTF8 = 6
+    OUT_OF_BOUNDS = 7
+    WRONG_LEVEL = 8
+    TOO_DEEP = 9
 
 
 class IdKind(IntEnum):

@@ -5,7 +5,7 @@ from __future__ import annotations
 from typing import Dict, Optional, Tuple, Type
 
 from . import _declared
-from ._declared import JsonReason
+from ._declared import FieldReason, JsonReason
 
 
 class JournalError(Exception):
@@ -52,6 +52,10 @@ class NoResult(JournalError, ValueError):
     """A notification has an id, and no result."""
 
 
+class NotCanonical(JournalError, ValueError):
+    """A payload is well-formed for its schema, and not canonical."""
+
+
 class JsonError(JournalError, ValueError):
     """A JSON text means no value of its schema.
 
@@ -75,7 +79,24 @@ class JsonError(JournalError, ValueError):
         self.path = path
 
 
-_KINDS = (Malformed, OutOfMemory, NoRoom, TooLong, Unknown, NoId, NoResult)
+class Incomplete(JournalError, EOFError):
+    """A stream ended within an item; `rest` is the number of bytes of it that came."""
+
+    def __init__(self, *texts: str, call: Optional[str] = None, rest: int = 0) -> None:
+        super().__init__(*texts, call=call)
+        self.rest = rest
+
+
+class FieldError(JournalError, ValueError):
+    """A field of a record cannot be encoded. `reason` says why, and `path` leads to it, as "headers[2].key"."""
+
+    def __init__(self, *texts: str, call: Optional[str] = None, reason: FieldReason, path: str = "") -> None:
+        super().__init__(*texts, call=call)
+        self.reason = reason
+        self.path = path
+
+
+_KINDS = (Malformed, OutOfMemory, NoRoom, TooLong, Unknown, NoId, NoResult, NotCanonical)
 
 # the error of each negative number that the library returns, and the names of the arguments one of which it is about
 ERRORS: Dict[int, Tuple[Type[JournalError], Tuple[str, ...]]] = {

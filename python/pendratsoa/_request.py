@@ -16,6 +16,7 @@ from ._errors import (
     NoId,
     NoResult,
     NoRoom,
+    NotCanonical,
     OutOfMemory,
     TooLong,
     Unknown,
@@ -35,6 +36,7 @@ TEXTS = {
     NoId: "has no id",
     NoResult: "has an id, and no result",
     NoRoom: "a slice for numbers was too short",
+    NotCanonical: "is well-formed, and not canonical",
     OutOfMemory: "an allocation failed",
     TooLong: "the result would have more than 4,294,967,295 bytes",
     Unknown: "the library does not know an argument",
@@ -163,6 +165,25 @@ class Request:
                 raise self._refused(needed)
             if needed <= room:
                 return memoryview(out)[:needed].tobytes()
+
+    def appended(self, out: bytearray, function: Callable[..., int], *parameters: Any) -> int:
+        """Appends the bytes that a function writes, and returns their number. An error leaves `out` as it was."""
+        if not isinstance(out, bytearray):
+            raise TypeError(f"{self.call}: out must be a bytearray, not {type(out).__name__}")
+        begin = len(out)
+        needed = 200 + self.size * 3 // 2
+        while True:
+            room = needed
+            out.extend(bytes(room))
+            # while it is held no thread can move the bytes
+            first = ctypes.c_char.from_buffer(out, begin)
+            needed = function(*parameters, ctypes.addressof(first), room)
+            del first
+            del out[begin + max(0, needed if needed <= room else 0) :]
+            if needed < 0:
+                raise self._refused(needed)
+            if needed <= room:
+                return needed
 
     def error(self, kind: Type[JournalError], text: str, argument: Optional[str] = None) -> JournalError:
         """An error of this call, about one of its arguments or none."""

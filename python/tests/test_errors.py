@@ -179,7 +179,7 @@ class TestErrors(unittest.TestCase):
         unknown = "the library returned {}, which this module does not know"
         for function, found, call, what in (
             ("journal_canonical", returning(-12), lambda: pendratsoa.canonical(0, b""), "-12"),
-            ("journal_schema", returning(-8), lambda: pendratsoa.schema(8, 0), "-8"),
+            ("journal_schema", returning(-9), lambda: pendratsoa.schema(8, 0), "-9"),
             (
                 "journal_notification",
                 returning(0, 3, 0, 0, 0),

@@ -2,14 +2,14 @@
 
 require_relative "helper"
 
-# The test vectors of conformance/, by the calls that check them; no call prints a record.
+# The test vectors of conformance/, by the calls that check them; no call prints a record, or shows fields.
 class TestConformance < Minitest::Test
   FILES = Dir[File.join(Helper::TOP, "conformance/**/*.txt")].freeze
 
   def test_conformance
     passed = failed = 0
     lines = FILES.flat_map { |file| File.readlines(file, chomp: true, encoding: "UTF-8") }
-    lines.grep_v(/\A(#|record |\z)/).each do |line|
+    lines.grep_v(/\A(#|record |fields |\z)/).each do |line|
       question, expected = line.split(" = ", 2)
       found = result(*question.split)
       next passed += 1 if found == expected
@@ -44,6 +44,8 @@ class TestConformance < Minitest::Test
     canonical = Pendratsoa.canonical(schema, payload)
     assert is_well_formed
     assert_equal canonical, Pendratsoa.canonical(schema, canonical)
+    record = Pendratsoa.const_get(schema)
+    assert_equal canonical, record.decode(payload).encode
     json = Pendratsoa.to_json(schema, payload)
     assert_equal json, Pendratsoa.to_json(schema, canonical)
     assert_equal canonical, Pendratsoa.payload(schema, json)
@@ -57,6 +59,7 @@ class TestConformance < Minitest::Test
   def frame_result(type, version, payload)
     code = Pendratsoa.type_code(type)
     frame = Pendratsoa.frame(Integer(version), code, payload)
+    assert_equal frame, Pendratsoa.const_get("#{type}Message").decode(payload).frame(Integer(version))
     assert frame.start_with?(Pendratsoa.header(Integer(version), code, frame.bytesize - 8))
     digits(frame)
   end

@@ -50,7 +50,7 @@ class TestItems < Minitest::Test
     assert_raises(Pendratsoa::Unknown) { Pendratsoa::Message.of("Input") }
     assert_raises(Pendratsoa::Unknown) { Pendratsoa::Message.of(8) }
     assert_raises(Pendratsoa::Unknown) { Pendratsoa::Message.of(0, version: 4) }
-    [[nil], [0, nil], [:InputCommand]].each { |words| assert_raises(TypeError) { Pendratsoa::Message.of(*words) } }
+    [[nil], [0, nil], [1.5]].each { |words| assert_raises(TypeError) { Pendratsoa::Message.of(*words) } }
   end
 
   def test_pattern_matching

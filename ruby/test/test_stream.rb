@@ -132,12 +132,12 @@ class TestStream < Minitest::Test
   end
 
   def test_bytes_that_were_taken_are_dropped
-    chunk = (Pendratsoa.header(8, Helper::CODES[:custom_entry], 100) + ("x" * 100)) * 100
+    chunk = (Pendratsoa.header(8, Helper::CODES[:custom_entry], 100) + ("x" * 100)) * 400
     stream = Pendratsoa::Stream.new
     before = held
     # the last payload of each chunk is kept, and not the chunk
     payloads = Array.new(200) { stream.feed(chunk).to_a.last.payload }
-    assert_operator held - before, :<, 1 << 20
+    assert_operator held - before, :<, 100 * chunk.bytesize
     assert_equal ["x" * 100], payloads.uniq
   end
 
@@ -166,5 +166,28 @@ class TestStream < Minitest::Test
   def held
     GC.start
     ObjectSpace.memsize_of_all
+  end
+
+  def test_a_message_that_is_longer_than_the_limit
+    endless = ["00000000ffffffff010203"].pack("H*")
+    stream = Pendratsoa::Stream.new(max_message_size: 9)
+    stream.feed(Helper::INPUT + endless)
+    items = []
+    2.times do
+      error = assert_raises(Pendratsoa::TooLong) { stream.each { |item| items << item } }
+      assert_equal "Stream: a message of type 0x0000 at offset 17 has 4294967295 bytes, more than the limit of 9",
+                   error.message
+      assert_equal 0, stream.rest
+    end
+    assert_equal ITEMS.take(1), items
+    assert_raises(Pendratsoa::TooLong) { stream.feed("x") }
+    assert_raises(Pendratsoa::TooLong) { stream.finish }
+    [false, true].each do |strict|
+      read = Pendratsoa::Stream.read(StringIO.new(Helper::INPUT), strict: strict, max_message_size: 8)
+      assert_raises(Pendratsoa::TooLong) { read.to_a }
+    end
+    assert_empty Pendratsoa::Stream.new.feed(endless).to_a
+    assert_raises(ArgumentError) { Pendratsoa::Stream.new(max_message_size: -1) }
+    assert_raises(Pendratsoa::TooLong) { Pendratsoa::Stream.new(max_message_size: 1 << 32) }
   end
 end

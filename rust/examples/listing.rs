@@ -7,7 +7,7 @@ use std::env;
 use std::error::Error;
 use std::io::{self, Write};
 
-use pendratsoa::{Decoder, Item};
+use pendratsoa::Decoder;
 
 fn main() -> Result<(), Box<dyn Error>> {
     let version = env::args().nth(1).map_or(Ok(8), |word| word.parse())?;
@@ -16,21 +16,9 @@ fn main() -> Result<(), Box<dyn Error>> {
     let mut output = io::stdout().lock();
     while decoder.read_from(&mut input)? > 0 {
         for item in decoder.items() {
-            writeln!(output, "{}", line(&item?)?)?;
+            writeln!(output, "{}", item?)?;
         }
     }
     writeln!(output, "rest {}", decoder.rest())?;
     Ok(())
-}
-
-/// The line of an item.
-fn line(item: &Item<'_>) -> Result<String, pendratsoa::Error> {
-    Ok(match item {
-        Item::Message(message) => {
-            let ack = if message.requires_ack { " ack" } else { "" };
-            format!("{} {}{ack}", message.type_name()?, message.payload.len())
-        }
-        Item::UnknownCode(unknown) => format!("unknown {:#x}", unknown.code),
-        Item::Skipped(skipped) => format!("skipped {:#x} {}", skipped.code, skipped.payload.len()),
-    })
 }

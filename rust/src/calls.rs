@@ -3,7 +3,7 @@
 use crate::error::{Argument, Error};
 use crate::ffi::{self, About, Refusal};
 
-/// The version of the library, as `0.1.0`.
+/// The version of the library, as `0.2.0`.
 ///
 /// ```
 /// assert!(pendratsoa::library_version()?.starts_with("0."));
@@ -91,7 +91,28 @@ pub fn header(version: u32, code: u16, payload_length: usize) -> Result<[u8; 8],
 /// # Ok::<(), pendratsoa::Error>(())
 /// ```
 pub fn frame(version: u32, code: u16, payload: &[u8]) -> Result<Vec<u8>, Error> {
-    ffi::frame(version, code, payload)
+    let mut out = Vec::new();
+    append_frame(version, code, payload, &mut out)?;
+    Ok(out)
+}
+
+/// Appends the frame that [`frame`] returns to a vector, without a copy of it, and returns its length.
+///
+/// The errors are those of [`frame`], and leave the vector as it was.
+///
+/// ```
+/// let mut out = vec![7];
+/// assert_eq!(pendratsoa::append_frame(8, 0x0003, &[], &mut out)?, 8);
+/// assert_eq!(out, [7, 0, 3, 0, 0, 0, 0, 0, 0]);
+/// # Ok::<(), pendratsoa::Error>(())
+/// ```
+pub fn append_frame(
+    version: u32,
+    code: u16,
+    payload: &[u8],
+    out: &mut Vec<u8>,
+) -> Result<usize, Error> {
+    ffi::frame(version, code, payload, out)
         .map_err(|refusal| of_type(refusal, version, code, payload.len()))
 }
 
@@ -238,7 +259,7 @@ fn of_type(refusal: Refusal, version: u32, code: u16, length: usize) -> Error {
 }
 
 /// The error of a call that takes a schema and a payload.
-fn of_payload(refusal: Refusal, schema: u32, payload: &[u8]) -> Error {
+pub(crate) fn of_payload(refusal: Refusal, schema: u32, payload: &[u8]) -> Error {
     Error::of(refusal, |about| match about {
         About::Schema => Argument::Schema(schema),
         _ => Argument::Payload(payload.len()),

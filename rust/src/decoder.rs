@@ -4,7 +4,7 @@ use std::io::{self, ErrorKind, Read};
 use std::iter::FusedIterator;
 
 use crate::error::Error;
-use crate::item::{next_item, Item, Next};
+use crate::item::{next_item_within, Item, Next};
 
 /// The most bytes that are read at once.
 const CHUNK: usize = 64 << 10;
@@ -41,19 +41,56 @@ const CHUNK: usize = 64 << 10;
 #[derive(Clone, Debug)]
 pub struct Decoder {
     version: u32,
+    max_message_size: u32,
+    /// What came, and after it room.
     bytes: Vec<u8>,
     /// The index of the first byte that is in no item yet.
     begin: usize,
+    /// The index of the first byte that did not come.
+    end: usize,
+    /// The number of bytes that are in the items that were taken.
+    taken: u64,
+    /// The error of a message that is longer than the limit, which ended the stream.
+    ended: Option<Error>,
 }
 
 impl Decoder {
-    /// A decoder at a version from 5 to 9: `Error::Unknown` at another.
+    /// A decoder at a version from 5 to 9, without a limit on the size of a message: `Error::Unknown` at another.
     pub fn new(version: u32) -> Result<Decoder, Error> {
-        next_item(version, &[])?;
+        Decoder::with_max_message_size(version, u32::MAX)
+    }
+
+    /// A decoder at a version from 5 to 9 that takes no message whose payload has more bytes than this.
+    ///
+    /// A longer message is `Error::TooLong` as soon as its header came, with the length that the header announces. It
+    /// ends the stream: from then on each iteration, `feed`, `room`, `read_from` and `finish` return this error. The
+    /// first of the three that take bytes drops what came.
+    ///
+    /// ```
+    /// use pendratsoa::{Argument, Decoder, Error};
+    ///
+    /// let mut decoder = Decoder::with_max_message_size(8, 1_000)?;
+    /// decoder.feed(&[0, 3, 0, 0, 0, 0, 0, 0, 0, 0, 0, 0, 0xFF, 0xFF, 0xFF, 0xFF])?;
+    /// let mut items = decoder.items();
+    /// assert!(items.next().unwrap().is_ok());
+    /// let length = Argument::PayloadLength(4_294_967_295);
+    /// assert_eq!(items.next(), Some(Err(Error::TooLong(length.clone()))));
+    /// assert_eq!(decoder.offset(), 8);
+    /// assert_eq!(decoder.feed(&[0]), Err(Error::TooLong(length)));
+    /// assert_eq!(decoder.rest(), 0);
+    /// assert_eq!(decoder.finish(), decoder.feed(&[0]));
+    /// # Ok::<(), Error>(())
+    /// ```
+    pub fn with_max_message_size(version: u32, max_message_size: u32) -> Result<Decoder, Error> {
+        next_item_within(version, max_message_size, &[])?;
         Ok(Decoder {
             version,
+            max_message_size,
+            taken: 0,
+            ended: None,
             bytes: Vec::new(),
             begin: 0,
+            end: 0,
         })
     }
 
@@ -62,10 +99,17 @@ impl Decoder {
         self.version
     }
 
+    /// The number of bytes of the stream that are in the items that were taken: the offset of the next one.
+    pub fn offset(&self) -> u64 {
+        self.taken
+    }
+
     /// Appends bytes of the stream to those that came. `Error::OutOfMemory` leaves these unchanged.
     pub fn feed(&mut self, bytes: &[u8]) -> Result<(), Error> {
+        self.check()?;
         self.make_room(bytes.len())?;
         self.bytes.extend_from_slice(bytes);
+        self.end = self.bytes.len();
         Ok(())
     }
 
@@ -87,26 +131,94 @@ impl Decoder {
     /// # Ok::<(), Box<dyn std::error::Error>>(())
     /// ```
     pub fn read_from<R: Read>(&mut self, mut reader: R) -> io::Result<usize> {
-        self.make_room(CHUNK)
-            .map_err(|error| io::Error::new(ErrorKind::OutOfMemory, error))?;
-        let length = self.bytes.len();
-        self.bytes.resize(length + CHUNK, 0);
-        let read = loop {
-            match reader.read(&mut self.bytes[length..]) {
+        let room = self
+            .room(CHUNK)
+            .map_err(|error| io::Error::new(kind_of(&error), error))?;
+        let count = loop {
+            match reader.read(room) {
                 Err(error) if error.kind() == ErrorKind::Interrupted => {}
-                read => break read,
+                read => break CHUNK.min(read?),
             }
         };
-        let count = read.as_ref().map_or(0, |count| CHUNK.min(*count));
-        self.bytes.truncate(length + count);
-        read.map(|_| count)
+        self.advance(count);
+        Ok(count)
+    }
+
+    /// Room for more bytes of the stream, of this number, for a reader that [`Decoder::read_from`] cannot take, as one
+    /// that is read asynchronously. [`Decoder::advance`] then says how many bytes came. `Error::OutOfMemory` leaves the
+    /// bytes that came unchanged.
+    ///
+    /// ```
+    /// use pendratsoa::{Decoder, Error};
+    ///
+    /// # trait AsyncRead { fn read(&mut self, room: &mut [u8]) -> std::future::Ready<usize>; }
+    /// # async fn list(mut socket: impl AsyncRead) -> Result<(), Error> {
+    /// let mut decoder = Decoder::new(8)?;
+    /// loop {
+    ///     let count = socket.read(decoder.room(64 << 10)?).await;
+    ///     if count == 0 {
+    ///         break;
+    ///     }
+    ///     decoder.advance(count);
+    ///     for item in decoder.items() {
+    ///         println!("{}", item?);
+    ///     }
+    /// }
+    /// decoder.finish()
+    /// # }
+    /// ```
+    pub fn room(&mut self, count: usize) -> Result<&mut [u8], Error> {
+        self.check()?;
+        self.make_room(count)?;
+        self.bytes.resize(self.end + count, 0);
+        Ok(&mut self.bytes[self.end..])
+    }
+
+    /// Says that a number of bytes came, and were written to the front of the last [`Decoder::room`]; more than there
+    /// is room for are not counted.
+    pub fn advance(&mut self, count: usize) {
+        self.end += count.min(self.bytes.len() - self.end);
+    }
+
+    /// Says that the stream ended: `Error::Incomplete` if bytes are in no item. Its items have to be taken before.
+    ///
+    /// ```
+    /// use pendratsoa::{Decoder, Error};
+    ///
+    /// let mut decoder = Decoder::new(8)?;
+    /// decoder.feed(&[0, 3, 0, 0, 0, 0, 0, 0, 0, 3])?;
+    /// assert_eq!(decoder.items().count(), 1);
+    /// assert_eq!(decoder.finish(), Err(Error::Incomplete(2)));
+    /// # Ok::<(), Error>(())
+    /// ```
+    pub fn finish(&self) -> Result<(), Error> {
+        match (&self.ended, self.rest()) {
+            (Some(error), _) => Err(error.clone()),
+            (None, 0) => Ok(()),
+            (None, rest) => Err(Error::Incomplete(rest)),
+        }
+    }
+
+    /// The error that ended the stream, if one did; what came is dropped then.
+    fn check(&mut self) -> Result<(), Error> {
+        match &self.ended {
+            None => Ok(()),
+            Some(error) => {
+                self.bytes = Vec::new();
+                self.begin = 0;
+                self.end = 0;
+                Err(error.clone())
+            }
+        }
     }
 
     /// Makes room for more bytes, of this number.
     fn make_room(&mut self, count: usize) -> Result<(), Error> {
+        self.bytes.truncate(self.end);
         // used bytes are dropped once they are the greater part, so that each byte is moved once on average
-        if self.begin > self.bytes.len() / 2 {
+        if self.begin > self.end / 2 {
             self.bytes.drain(..self.begin);
+            self.end -= self.begin;
             self.begin = 0;
         }
         self.bytes
@@ -116,11 +228,15 @@ impl Decoder {
 
     /// The whole items among the bytes that came and are in no item yet. An item that was taken does not come again.
     ///
-    /// The iterator ends after an error, `Error::Unexpected`; the item that is the reason is not taken.
+    /// The iterator ends after an error, `Error::Unexpected` or `Error::TooLong`; the item that is the reason is not
+    /// taken.
     pub fn items(&mut self) -> Items<'_> {
         Items {
             version: self.version,
-            bytes: &self.bytes,
+            max_message_size: self.max_message_size,
+            taken: &mut self.taken,
+            ended: &mut self.ended,
+            bytes: &self.bytes[..self.end],
             begin: &mut self.begin,
             has_failed: false,
         }
@@ -128,7 +244,7 @@ impl Decoder {
 
     /// The number of bytes that are in no item yet.
     pub fn rest(&self) -> usize {
-        self.bytes.len() - self.begin
+        self.end - self.begin
     }
 }
 
@@ -136,6 +252,9 @@ impl Decoder {
 #[derive(Debug)]
 pub struct Items<'a> {
     version: u32,
+    max_message_size: u32,
+    taken: &'a mut u64,
+    ended: &'a mut Option<Error>,
     bytes: &'a [u8],
     begin: &'a mut usize,
     has_failed: bool,
@@ -148,14 +267,23 @@ impl<'a> Iterator for Items<'a> {
         if self.has_failed {
             return None;
         }
-        match next_item(self.version, &self.bytes[*self.begin..]) {
+        if let Some(error) = self.ended.clone() {
+            self.has_failed = true;
+            return Some(Err(error));
+        }
+        let bytes = &self.bytes[*self.begin..];
+        match next_item_within(self.version, self.max_message_size, bytes) {
             Ok(Next::Item { item, size }) => {
+                *self.taken += size as u64;
                 *self.begin += size;
                 Some(Ok(item))
             }
             Ok(Next::Missing(_)) => None,
             Err(error) => {
                 self.has_failed = true;
+                if let Error::TooLong(_) = error {
+                    *self.ended = Some(error.clone());
+                }
                 Some(Err(error))
             }
         }
@@ -163,3 +291,11 @@ impl<'a> Iterator for Items<'a> {
 }
 
 impl FusedIterator for Items<'_> {}
+
+/// What a reader that cannot give its bytes to a decoder reports.
+fn kind_of(error: &Error) -> ErrorKind {
+    match error {
+        Error::OutOfMemory => ErrorKind::OutOfMemory,
+        _ => ErrorKind::InvalidData,
+    }
+}

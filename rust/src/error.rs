@@ -4,6 +4,7 @@ use std::error;
 use std::fmt;
 
 use crate::ffi::{About, Refusal};
+use crate::fields::FieldError;
 use crate::reading::JsonError;
 
 /// Why a call fails, and which of its arguments is the reason.
@@ -24,8 +25,14 @@ pub enum Error {
     NoId(Argument),
     /// A notification has an id, and no result.
     NoResult(Argument),
+    /// A payload is well-formed for its schema, and not canonical.
+    NotCanonical(Argument),
     /// A JSON text means no value of its schema.
     Json(JsonError),
+    /// A field of a record cannot be encoded.
+    Field(FieldError),
+    /// A stream ended within an item, after this number of bytes of it.
+    Incomplete(usize),
     /// The library returned this, which the crate does not know, as a later version of the library may.
     Unexpected(String),
 }
@@ -65,6 +72,7 @@ impl Error {
             Refusal::Unknown(about) => Error::Unknown(argument(about)),
             Refusal::NoId => Error::NoId(argument(About::Payload)),
             Refusal::NoResult => Error::NoResult(argument(About::Payload)),
+            Refusal::NotCanonical => Error::NotCanonical(argument(About::Payload)),
             Refusal::Unlisted(number) => Error::unexpected("the error", number),
         }
     }
@@ -97,7 +105,18 @@ impl fmt::Display for Error {
             }
             Error::NoId(argument) => write!(f, "{argument} has no id"),
             Error::NoResult(argument) => write!(f, "{argument} has an id, and no result"),
+            Error::NotCanonical(argument) => {
+                write!(f, "{argument} is well-formed, and not canonical")
+            }
             Error::Json(error) => write!(f, "the JSON text: {error}"),
+            Error::Field(error) => write!(f, "the field {error}"),
+            Error::Incomplete(rest) => {
+                write!(
+                    f,
+                    "the stream ended within an item, after {} of it",
+                    bytes(*rest)
+                )
+            }
             Error::Unexpected(what) => {
                 write!(
                     f,
@@ -188,6 +207,10 @@ mod tests {
                 "the first payload of 2 bytes has an id, and no result",
             ),
             (
+                Error::Incomplete(1),
+                "the stream ended within an item, after 1 byte of it",
+            ),
+            (
                 Error::unexpected("the error", -12),
                 "the library returned the error -12, which this crate does not know",
             ),
@@ -211,6 +234,7 @@ mod tests {
             (Unknown(About::Type), Error::Unknown(code.clone())),
             (NoId, Error::NoId(payload.clone())),
             (NoResult, Error::NoResult(payload.clone())),
+            (NotCanonical, Error::NotCanonical(payload.clone())),
             (Unlisted(-12), Error::Unexpected("the error -12".to_owned())),
         ] {
             let found = Error::of(refusal, |about| match about {

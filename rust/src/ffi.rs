@@ -29,6 +29,7 @@ pub(crate) enum Refusal {
     Unknown(About),
     NoId,
     NoResult,
+    NotCanonical,
     /// One that the header does not list.
     Unlisted(i64),
 }
@@ -48,17 +49,40 @@ fn count(returned: i64) -> Result<usize> {
 /// The call is given a pointer and a number of bytes that it may write there. If what it returns is not negative and at
 /// most that number, it has written that many bytes.
 unsafe fn written(guess: usize, call: impl FnMut(*mut u8, usize) -> i64) -> Result<Vec<u8>> {
-    let mut call = call;
     let mut out = Vec::new();
+    // SAFETY: the call does what `appended` requires, as the caller of this promises
+    unsafe { appended(&mut out, guess, call)? };
+    Ok(out)
+}
+
+/// Appends the bytes that a call writes, and returns how many they are. It is made once if they fit into the room that
+/// is guessed, and otherwise again with as much as it returned. An error leaves the vector as it was.
+///
+/// # Safety
+///
+/// As for `written`.
+unsafe fn appended(
+    out: &mut Vec<u8>,
+    guess: usize,
+    call: impl FnMut(*mut u8, usize) -> i64,
+) -> Result<usize> {
+    let mut call = call;
     let mut room = guess;
     loop {
-        out.try_reserve_exact(room)
-            .map_err(|_| Refusal::OutOfMemory)?;
-        let length = count(call(out.as_mut_ptr(), out.capacity()))?;
-        if length <= out.capacity() {
+        // of a vector that holds nothing it is not known that more is appended
+        let reserved = if out.is_empty() {
+            out.try_reserve_exact(room)
+        } else {
+            out.try_reserve(room)
+        };
+        reserved.map_err(|_| Refusal::OutOfMemory)?;
+        let spare = out.spare_capacity_mut();
+        let (first, room_there) = (spare.as_mut_ptr().cast(), spare.len());
+        let length = count(call(first, room_there))?;
+        if length <= room_there {
             // SAFETY: the call has written this number of bytes, as its caller promises, and there is room for them
-            unsafe { out.set_len(length) };
-            return Ok(out);
+            unsafe { out.set_len(out.len() + length) };
+            return Ok(length);
         }
         room = length;
     }
@@ -132,6 +156,7 @@ mod tests {
             (TooLong, -4),
             (NoId, -6),
             (NoResult, -7),
+            (NotCanonical, -8),
             (Malformed(About::Second), -17),
             (Unknown(About::Version), -21),
             (Unknown(About::Schema), -37),
@@ -139,7 +164,7 @@ mod tests {
         ] {
             assert_eq!(count(returned), Err(refusal));
         }
-        for returned in [-5, -8, -12, -33, i64::MIN] {
+        for returned in [-5, -9, -12, -33, i64::MIN] {
             assert_eq!(count(returned), Err(Unlisted(returned)));
         }
         assert_eq!(count(0), Ok(0));

@@ -1,9 +1,13 @@
 //! The items of streams.
 
-use crate::calls::{canonical, frame, header, schema, to_json, type_name};
+use std::fmt;
+use std::io::{self, Write};
+
+use crate::calls::{append_frame, canonical, frame, header, schema, to_json, type_name};
 use crate::error::{narrowed, Argument, Error};
-use crate::ffi::{self, MESSAGE, SKIPPED, UNKNOWN_CODE};
+use crate::ffi::{self, Refusal, MESSAGE, SKIPPED, UNKNOWN_CODE};
 use crate::message_type::MessageType;
+use crate::messages::AnyMessage;
 use crate::notification::{notification, Notification};
 use crate::reading::payload;
 
@@ -58,6 +62,82 @@ pub struct Skipped<'a> {
     pub word: u64,
     /// The payload that is skipped.
     pub payload: &'a [u8],
+}
+
+impl<'a> Item<'a> {
+    /// The header, or the eight bytes of an unknown code, and the payload after it: together the item as it came.
+    ///
+    /// An item as it came is what a proxy passes on if it does not change it.
+    pub fn parts(&self) -> ([u8; 8], &'a [u8]) {
+        let (word, payload) = match *self {
+            Item::Message(message) => (message.word, message.payload),
+            Item::UnknownCode(unknown) => (unknown.word, &[][..]),
+            Item::Skipped(skipped) => (skipped.word, skipped.payload),
+        };
+        (word.to_be_bytes(), payload)
+    }
+
+    /// The item as it came, byte for byte. `Error::OutOfMemory`.
+    ///
+    /// ```
+    /// use pendratsoa::{next_item, Next};
+    ///
+    /// let stream = [0, 8, 0xFF, 0xFF, 0, 0, 0, 0];
+    /// match next_item(8, &stream)? {
+    ///     Next::Item { item, .. } => assert_eq!(item.to_bytes()?, stream),
+    ///     Next::Missing(_) => unreachable!(),
+    /// }
+    /// # Ok::<(), pendratsoa::Error>(())
+    /// ```
+    pub fn to_bytes(&self) -> Result<Vec<u8>, Error> {
+        let mut out = Vec::new();
+        self.append_to(&mut out)?;
+        Ok(out)
+    }
+
+    /// Appends the item as it came. `Error::OutOfMemory` leaves the vector as it was.
+    pub fn append_to(&self, out: &mut Vec<u8>) -> Result<(), Error> {
+        let (header, payload) = self.parts();
+        out.try_reserve(header.len() + payload.len())
+            .map_err(|_| Error::OutOfMemory)?;
+        out.extend_from_slice(&header);
+        out.extend_from_slice(payload);
+        Ok(())
+    }
+
+    /// Writes the item as it came, by two calls of the writer. A socket is faster within a `BufWriter`.
+    pub fn write_to<W: Write>(&self, mut writer: W) -> io::Result<()> {
+        let (header, payload) = self.parts();
+        writer.write_all(&header)?;
+        writer.write_all(payload)
+    }
+}
+
+/// The line of a listing, as `InputCommand 9`, with ` ack` if the header requests an acknowledgement; `unknown 0x8`, or
+/// `skipped 0x8 2`.
+impl fmt::Display for Item<'_> {
+    fn fmt(&self, f: &mut fmt::Formatter<'_>) -> fmt::Result {
+        match self {
+            Item::Message(message) => {
+                match message.type_name() {
+                    Ok(name) => f.write_str(&name)?,
+                    Err(_) => write!(f, "code {:#06x}", message.code)?,
+                }
+                let ack = if message.requires_ack { " ack" } else { "" };
+                write!(f, " {}{ack}", message.payload.len())
+            }
+            Item::UnknownCode(unknown) => write!(f, "unknown {:#x}", unknown.code),
+            Item::Skipped(skipped) => {
+                write!(f, "skipped {:#x} {}", skipped.code, skipped.payload.len())
+            }
+        }
+    }
+}
+
+impl<'a> From<Message<'a>> for Item<'a> {
+    fn from(message: Message<'a>) -> Item<'a> {
+        Item::Message(message)
+    }
 }
 
 impl<'a> Message<'a> {
@@ -144,6 +224,27 @@ impl<'a> Message<'a> {
         schema(self.version, self.code)
     }
 
+    /// The record that the payload means, which borrows it where it is canonical.
+    ///
+    /// `Error::Malformed`, `Error::TooLong`, `Error::OutOfMemory`; a custom entry has no schema: `Error::Unknown`.
+    ///
+    /// ```
+    /// use pendratsoa::messages::AnyMessage;
+    /// use pendratsoa::{Message, MessageType};
+    ///
+    /// let message = Message::new(8, MessageType::SetStateCommand.code(), b"\n\x01a\x1a\x03\n\x011")?;
+    /// if let AnyMessage::SetStateCommand(command) = message.message()? {
+    ///     assert_eq!(*command.key, *b"a");
+    ///     assert_eq!(*command.value.unwrap().content, *b"1");
+    /// }
+    /// # Ok::<(), pendratsoa::Error>(())
+    /// ```
+    pub fn message(&self) -> Result<AnyMessage<'a>, Error> {
+        let schema = self.schema()?;
+        AnyMessage::read(schema, self.payload)
+            .unwrap_or_else(|| Err(Error::unexpected("the schema", schema)))
+    }
+
     /// The JSON of what the payload means, as [`to_json`] writes it.
     pub fn json(&self) -> Result<String, Error> {
         to_json(self.schema()?, self.payload)
@@ -164,6 +265,32 @@ impl<'a> Message<'a> {
     /// The frame of the message at a version, as [`Message::frame`].
     pub fn frame_at(&self, version: u32) -> Result<Vec<u8>, Error> {
         frame(version, self.code, self.payload)
+    }
+
+    /// Appends the frame of the message at its own version, as [`Message::frame`], and returns its length. An error
+    /// leaves the vector as it was.
+    ///
+    /// ```
+    /// use pendratsoa::{Message, MessageType};
+    ///
+    /// let mut out = Vec::new();
+    /// let message = Message::new(8, MessageType::InputCommand.code(), &[])?;
+    /// assert_eq!(message.append_frame(&mut out)?, 8);
+    /// message.append_frame(&mut out)?;
+    /// assert_eq!(out.len(), 16);
+    /// # Ok::<(), pendratsoa::Error>(())
+    /// ```
+    pub fn append_frame(&self, out: &mut Vec<u8>) -> Result<usize, Error> {
+        append_frame(self.version, self.code, self.payload, out)
+    }
+
+    /// Writes the frame of the message at its own version, as [`Message::frame`]. What is no error of the writer is one
+    /// of the kind `InvalidData` that holds the [`Error`].
+    pub fn write_frame<W: Write>(&self, mut writer: W) -> io::Result<()> {
+        let frame = self
+            .frame()
+            .map_err(|error| io::Error::new(io::ErrorKind::InvalidData, error))?;
+        writer.write_all(&frame)
     }
 
     /// The id and the result, if it is a notification.
@@ -209,6 +336,39 @@ pub fn next_item(version: u32, bytes: &[u8]) -> Result<Next<'_>, Error> {
         return Ok(Next::Missing(missing));
     }
     item_of(version, bytes, numbers)
+}
+
+/// Finds the item that bytes begin with, as [`next_item`], if its payload has at most `limit` bytes.
+///
+/// `Error::TooLong` with [`Argument::PayloadLength`], the length that its header announces, as soon as the eight bytes
+/// of the header are there.
+///
+/// ```
+/// use pendratsoa::{next_item_within, Argument, Error};
+///
+/// let endless = [0, 0, 0, 0, 0xFF, 0xFF, 0xFF, 0xFF];
+/// let length = Argument::PayloadLength(4_294_967_295);
+/// assert_eq!(next_item_within(8, 1_000, &endless), Err(Error::TooLong(length)));
+/// ```
+pub fn next_item_within(version: u32, limit: u32, bytes: &[u8]) -> Result<Next<'_>, Error> {
+    let mut numbers = [0; 6];
+    let missing =
+        ffi::next_within(version, limit, bytes, &mut numbers).map_err(|refusal| match refusal {
+            Refusal::TooLong => Error::TooLong(Argument::PayloadLength(announced(bytes))),
+            refusal => Error::of(refusal, |_| Argument::Version(version)),
+        })?;
+    if missing > 0 {
+        return Ok(Next::Missing(missing));
+    }
+    item_of(version, bytes, numbers)
+}
+
+/// The length of a payload in the header that bytes begin with.
+fn announced(bytes: &[u8]) -> usize {
+    match bytes {
+        [_, _, _, _, a, b, c, d, ..] => u32::from_be_bytes([*a, *b, *c, *d]) as usize,
+        _ => 0,
+    }
 }
 
 /// The item of these numbers, which the bytes begin with.

@@ -34,21 +34,28 @@ mod calls;
 mod decoder;
 mod error;
 mod ffi;
+mod fields;
 mod item;
 mod journals;
+#[rustfmt::skip]
+mod kinds;
 mod message_type;
+#[rustfmt::skip]
+pub mod messages;
 mod notification;
 mod reading;
 mod schema;
 
 pub use calls::{
-    canonical, difference, frame, header, header_eq, is_well_formed, library_version, merge,
-    schema, to_json, type_code, type_name,
+    append_frame, canonical, difference, frame, header, header_eq, is_well_formed, library_version,
+    merge, schema, to_json, type_code, type_name,
 };
 pub use decoder::{Decoder, Items};
 pub use error::{Argument, Error};
-pub use item::{next_item, Item, Message, Next, Skipped, UnknownCode};
+pub use fields::FieldError;
+pub use item::{next_item, next_item_within, Item, Message, Next, Skipped, UnknownCode};
 pub use journals::{compare_journals, Verdict, VerdictKind};
+pub use kinds::{FieldReason, Version};
 pub use message_type::MessageType;
 pub use notification::{notification, Notification, NotificationId, NotificationResult};
 pub use reading::{payload, JsonError, JsonReason};

@@ -14,6 +14,11 @@ use pendratsoa::{
     to_json, type_code, Decoder, Error, Item, Schema,
 };
 
+#[rustfmt::skip]
+mod all_records;
+
+use all_records::encoded_again;
+
 type Outcome = Result<String, Box<dyn StdError>>;
 
 fn main() -> ExitCode {
@@ -67,7 +72,7 @@ fn result(input: &str) -> Option<Outcome> {
         ["compare", name, first, second] => on_compare(name, first, second),
         ["json", name, payload] => on_json(name, payload),
         ["read", name, text] => on_read(name, text),
-        ["record", ..] => return None,
+        ["record" | "fields", ..] => return None,
         _ => Err(format!("no such kind of line: {input}").into()),
     };
     Some(match outcome {
@@ -120,6 +125,11 @@ fn on_payload(name: &str, input: &str) -> Outcome {
     law(
         "a canonical payload is its own",
         canonical(schema, &found)? == found,
+    )?;
+    let record = Schema::from_number(schema).ok_or("a schema of no record")?;
+    law(
+        "its record is encoded so",
+        encoded_again(record, &input)? == found,
     )?;
     let json = to_json(schema, &input)?;
     law("its JSON is the same", to_json(schema, &found)? == json)?;

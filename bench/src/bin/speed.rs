@@ -1,6 +1,6 @@
 //! Measures the library and the peer side by side, and prints a table in Markdown: speed [--check] [--only WORKLOAD]
 //! [--side ours|peer]
-//! [--what items|item_refs|messages|encode|encode_into|encode_spare|encode_shared|encode_held|payloads|headers]
+//! [--what items|item_refs|messages|encode|encode_to_vec|encode_into|encode_spare|encode_shared|encode_held|payloads|headers]
 //! [--chunk N] [--row NAME] [--size N] [--rounds N] [--protocol 5..9]
 //!
 //! With --side nothing is compared or printed: that side alone goes over the workload that many times, for a profiler.
@@ -77,7 +77,10 @@ enum What {
     /// Items that are borrowed from a stream that is whole. The peer has no such form, and takes its items.
     ItemRefs,
     Messages,
+    /// Each frame is a `Bytes` of its own.
     Encode,
+    /// Each frame is a `Vec` of its own; the peer's too.
+    EncodeVec,
     /// Frames are made in one buffer that is used again.
     EncodeInto,
     EncodeSpare,
@@ -93,11 +96,12 @@ enum What {
 
 impl What {
     /// What is done to a stream of messages.
-    const STREAM: [What; 8] = [
+    const STREAM: [What; 9] = [
         What::Items,
         What::ItemRefs,
         What::Messages,
         What::Encode,
+        What::EncodeVec,
         What::EncodeInto,
         What::EncodeSpare,
         What::EncodeShared,
@@ -105,8 +109,9 @@ impl What {
     ];
 
     /// What is done to messages that are only written.
-    const FRAMES: [What; 5] = [
+    const FRAMES: [What; 6] = [
         What::Encode,
+        What::EncodeVec,
         What::EncodeInto,
         What::EncodeSpare,
         What::EncodeShared,
@@ -126,6 +131,7 @@ impl What {
         match self {
             What::Items | What::ItemRefs | What::Messages => 1,
             What::Encode
+            | What::EncodeVec
             | What::EncodeInto
             | What::EncodeSpare
             | What::EncodeShared
@@ -140,6 +146,7 @@ impl What {
             What::ItemRefs => "item_refs",
             What::Messages => "messages",
             What::Encode => "encode",
+            What::EncodeVec => "encode_to_vec",
             What::EncodeInto => "encode_into",
             What::EncodeSpare => "encode_spare",
             What::EncodeShared => "encode_shared",
@@ -320,6 +327,9 @@ impl<'a> Bench<'a> {
         let version = self.workload.version;
         for Frame { code, payload } in &self.workload.frames {
             match (side, self.what) {
+                (Side::Ours, What::EncodeVec) => {
+                    ours::frame_vec(version, *code, payload, rounds, &mut self.out)?;
+                }
                 (Side::Ours, What::EncodeInto) => {
                     ours::frame_into(version, *code, payload, rounds, &mut self.out)?;
                 }
@@ -331,6 +341,10 @@ impl<'a> Bench<'a> {
                 }
                 (Side::Ours, _) => {
                     ours::frame_to(version, *code, payload, rounds, &mut self.out)?;
+                }
+                (Side::Peer, What::EncodeVec) => {
+                    let frame = peer::frame_vec(version, *code, payload, rounds)?;
+                    self.out[..frame.len()].copy_from_slice(&frame);
                 }
                 (Side::Peer, What::EncodeShared) => {
                     let frame = peer::frame_shared(version, *code, payload, rounds)?;
@@ -946,7 +960,7 @@ fn measure_calls(crossings: &[Crossing]) -> Result<(), Failed> {
 fn main() -> ExitCode {
     let Some(options) = Options::read(env::args().skip(1)) else {
         eprintln!(
-            "usage: speed [--check] [--only WORKLOAD] [--side ours|peer] [--what items|item_refs|messages|encode|encode_into|encode_spare|encode_shared|encode_held|payloads|headers] [--chunk N] [--row NAME] [--size N] [--rounds N] [--protocol 5..9]"
+            "usage: speed [--check] [--only WORKLOAD] [--side ours|peer] [--what items|item_refs|messages|encode|encode_to_vec|encode_into|encode_spare|encode_shared|encode_held|payloads|headers] [--chunk N] [--row NAME] [--size N] [--rounds N] [--protocol 5..9]"
         );
         return ExitCode::from(2);
     };

@@ -9,6 +9,7 @@ module Pendratsoa
       Malformed => "is not well-formed",
       NoId => "has no id",
       NoResult => "has an id, and no result",
+      NotCanonical => "is well-formed, and not canonical",
       OutOfMemory => "an allocation failed",
       TooLong => "the result would have more than 4,294,967,295 bytes"
     }.freeze
@@ -109,11 +110,29 @@ module Pendratsoa
                     reason: reason, offset: reason == :not_json ? offset : nil, path: path)
     end
 
+    # The error of a message that is longer than the limit of a stream.
+    def message_too_long(code, offset, length, limit)
+      what = format("a message of type 0x%04x at offset %d has %d bytes", code, offset, length)
+      error(TooLong, "#{what}, more than the limit of #{limit}", :max_message_size)
+    end
+
     # The kind of a number among these. A later library may have further ones.
     def kind(kinds, number, what)
       raise unexpected("#{what} of the kind #{number}") unless number < kinds.length
 
       kinds[number]
+    end
+
+    # The error of a negative number. A later library may have further ones.
+    def refused(number)
+      name, arguments = ERRORS[number]
+      kind = name && Pendratsoa.const_get(name)
+      argument = arguments&.find { |candidate| @arguments.key?(candidate) }
+      return unknown(argument) if kind == Unknown && argument
+      return unexpected(number) unless TEXTS.key?(kind)
+      return error(kind, TEXTS.fetch(kind)) unless argument
+
+      error(kind, "#{argument} #{Shown.bytes(@arguments.fetch(argument))} #{TEXTS.fetch(kind)}", argument)
     end
 
     private
@@ -140,18 +159,6 @@ module Pendratsoa
       raise unknown(argument) unless (0...(1 << bits)).cover?(number)
 
       number
-    end
-
-    # The error of a negative number. A later library may have further ones.
-    def refused(number)
-      name, arguments = ERRORS[number]
-      kind = name && Pendratsoa.const_get(name)
-      argument = arguments&.find { |candidate| @arguments.key?(candidate) }
-      return unknown(argument) if kind == Unknown && argument
-      return unexpected(number) unless TEXTS.key?(kind)
-      return error(kind, TEXTS.fetch(kind)) unless argument
-
-      error(kind, "#{argument} #{Shown.bytes(@arguments.fetch(argument))} #{TEXTS.fetch(kind)}", argument)
     end
 
     def unknown(argument)

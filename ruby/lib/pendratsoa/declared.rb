@@ -14,6 +14,14 @@ module Pendratsoa
   JSON_REASONS = %i[not_json unknown_member repeated_member several_members wrong_kind out_of_range not_base64
     too_deep].freeze
 
+  # The kinds of fields.
+  FIELD_KINDS = [nil, *%i[field_uint32 field_uint64 field_bool field_enum field_string field_bytes
+    field_message]].freeze
+
+  # Why an entry of a table of fields may not come.
+  FIELD_REASONS = %i[unknown_field out_of_order several_members wrong_kind out_of_range not_utf8 out_of_bounds
+    wrong_level too_deep].freeze
+
   # The kinds of a notification's id.
   ID_KINDS = %i[completion_id signal_id signal_name].freeze
 
@@ -23,10 +31,13 @@ module Pendratsoa
   # How two journals compare.
   VERDICT_KINDS = %i[same recorded_ended replayed_ended type_mismatch header_mismatch bad_recorded bad_replayed].freeze
   private_constant :ITEM_KINDS
+  private_constant :FIELD_KINDS
 
   # How many numbers each struct has, and of which words each call has a parameter: the bits of a number, or a slice.
   ITEM_NUMBERS = 6
   READ_NUMBERS = 2
+  FIELD_NUMBERS = 6
+  WRITING_NUMBERS = 2
   NOTIFICATION_NUMBERS = 4
   VERDICT_NUMBERS = 2
   CALLS = {
@@ -35,6 +46,7 @@ module Pendratsoa
     journal_type_name: %i[u16 slice],
     journal_type_code: %i[slice],
     journal_next: %i[u32 slice slice],
+    journal_next_within: %i[u32 u32 slice slice],
     journal_header: %i[u32 u16 u32 slice],
     journal_frame: %i[u32 u16 slice slice],
     journal_is_well_formed: %i[u32 slice],
@@ -42,6 +54,8 @@ module Pendratsoa
     journal_merge: %i[u32 slice slice slice],
     journal_json: %i[u32 slice slice],
     journal_payload_of_json: %i[u32 slice slice slice],
+    journal_fields: %i[u32 slice slice],
+    journal_payload_of_fields: %i[u32 slice slice slice slice],
     journal_notification: %i[u16 slice slice slice],
     journal_header_eq: %i[u16 slice slice u32],
     journal_difference: %i[u16 slice slice slice],
@@ -56,10 +70,12 @@ module Pendratsoa
     -4 => [:TooLong, %i[]],
     -6 => [:NoId, %i[payload]],
     -7 => [:NoResult, %i[payload]],
+    -8 => [:NotCanonical, %i[payload]],
     -17 => [:Malformed, %i[second]],
     -21 => [:Unknown, %i[version]],
     -37 => [:Unknown, %i[schema]],
     -53 => [:Unknown, %i[code name]]
   }.freeze
-  private_constant :ITEM_NUMBERS, :READ_NUMBERS, :NOTIFICATION_NUMBERS, :VERDICT_NUMBERS, :CALLS, :ERRORS
+  private_constant :ITEM_NUMBERS, :READ_NUMBERS, :FIELD_NUMBERS, :WRITING_NUMBERS, :NOTIFICATION_NUMBERS,
+    :VERDICT_NUMBERS, :CALLS, :ERRORS
 end

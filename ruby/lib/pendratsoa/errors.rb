@@ -36,6 +36,36 @@ module Pendratsoa
   # A notification has an id, and no result.
   class NoResult < Error; end
 
+  # A payload is well-formed for its schema, and not canonical.
+  class NotCanonical < Error; end
+
+  # A field of a record cannot be encoded.
+  class FieldError < Error
+    # Why, as one of FIELD_REASONS, and what leads to the field, as "headers[2].key".
+    attr_reader :reason, :path
+
+    def initialize(message = nil, reason: nil, path: "", **details)
+      super(message, **details)
+      @reason = reason
+      @path = path
+    end
+
+    def self.of(path, reason)
+      new("encode: #{path}: #{reason.to_s.tr("_", " ")}", call: "encode", reason: reason, path: path)
+    end
+  end
+
+  # A stream ended within an item.
+  class Incomplete < Error
+    # How many bytes of the item came.
+    attr_reader :rest
+
+    def initialize(message = nil, rest: 0, **details)
+      super(message, **details)
+      @rest = rest
+    end
+  end
+
   # A JSON text means no value of its schema.
   class JsonError < Error
     # Why, as one of JSON_REASONS; where the text stops being JSON, in bytes, which is nil if it is JSON; and then what

@@ -26,7 +26,7 @@ module Pendratsoa
   end
 
   class << self
-    # The version of the library, as "0.1.0".
+    # The version of the library, as "0.2.0".
     def library_version
       Call.new("library_version").text(:journal_library_version)
     end
@@ -66,6 +66,15 @@ module Pendratsoa
     def frame(version, code, payload)
       call = Call.new("frame", version: version, code: code, payload: payload)
       call.written(:journal_frame, call.version, call.code("a named type"), *call.data(:payload))
+    end
+
+    # Appends the frame that `frame` returns to a binary String, which it returns. The errors are those of `frame`; after
+    # one of them the String is as it was.
+    def append_frame(out, version, code, payload)
+      raise TypeError, "append_frame: out must be a String, not #{out.class}" unless out.is_a?(String)
+
+      call = Call.new("append_frame", version: version, code: code, payload: payload)
+      out << call.written(:journal_frame, call.version, call.code("a named type"), *call.data(:payload))
     end
 
     # Whether a payload is well-formed for a schema. Unknown if there is no such schema.

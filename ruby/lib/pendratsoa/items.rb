@@ -3,22 +3,49 @@
 require "json"
 
 module Pendratsoa
+  # What each item of a stream has besides its fields.
+  module Item
+    # The item as it came, byte for byte, header and payload, as a binary String: what a proxy passes on if it does not
+    # change it.
+    def bytes
+      [word].pack("Q>") << payload
+    end
+
+    # Writes the item as it came to an IO or the like, and returns the item.
+    def write_to(output)
+      output.write(bytes)
+      self
+    end
+  end
+
   # A message of a stream of a version: the code of its type, its payload, and whether its header requests an
   # acknowledgement. It is frozen, and so is its payload.
+  #
+  # `word` is the eight bytes of its header as one big-endian number, where it came in a stream, and otherwise nil. It is
+  # no member, and `==` does not compare it. In a pattern a message has its `type` besides:
+  #
+  #   case item
+  #   in Pendratsoa::Message[type: "SetStateCommand", payload:] then ..
+  #   end
   Message = Struct.new(:version, :code, :payload, :requires_ack) do
+    include Item
+
     alias_method :requires_ack?, :requires_ack
 
-    def initialize(version, code, payload, requires_ack = false)
+    attr_reader :word
+
+    def initialize(version, code, payload, requires_ack = false, word: nil)
       bytes, = Call.new("Message.new", payload: payload).data(:payload)
       super(version, code, bytes, requires_ack ? true : false)
+      @word = word
       freeze
     end
 
-    # The message of a type, which is given by its code or by its name as "SleepCommand", with a payload. It requests an
-    # acknowledgement if the header of its type does at this version. The payload is taken as it is: `frame` rejects one
-    # that is malformed. Unknown if there is no such version or type.
+    # The message of a type, which is given by its code or by its name as "SleepCommand" or :SleepCommand, with a
+    # payload. It requests an acknowledgement if the header of its type does at this version. The payload is taken as it
+    # is: `frame` rejects one that is malformed. Unknown if there is no such version or type.
     def self.of(type, payload = "", version: 8)
-      code = type.is_a?(String) ? Pendratsoa.type_code(type) : type
+      code = code_of(type)
       bytes, length = Call.new("Message.of", payload: payload).data(:payload)
       # the flag is the high bit of the third byte
       new(version, code, bytes, Pendratsoa.header(version, code, length).getbyte(2) >= 0x80)
@@ -28,15 +55,35 @@ module Pendratsoa
     # canonical, and it requests an acknowledgement if the header of its type does at this version. JsonError if the
     # text means no such message; Unknown if there is no such version or type, or the type is that of a custom entry.
     def self.from_json(type, json, version: 8)
-      code = type.is_a?(String) ? Pendratsoa.type_code(type) : type
+      code = code_of(type)
       # the deepest message has 202 levels of JSON
       text = json.is_a?(Hash) ? JSON.generate(json, max_nesting: 1000) : json
       of(code, Pendratsoa.payload(Pendratsoa.schema(version, code), text), version: version)
     end
 
+    # The code of a type that is given by its code or its name.
+    def self.code_of(type)
+      case type
+      when Symbol then Pendratsoa.type_code(type.name)
+      when String then Pendratsoa.type_code(type)
+      else type
+      end
+    end
+    private_class_method :code_of
+
     # The name of its type, as "SleepCommand", or "CustomEntry(64513)". Unknown if no type has its code.
     def type
       Pendratsoa.type_name(code)
+    end
+
+    # The record that its payload means, which is decoded each time. Malformed if it means none; a custom entry has no
+    # schema: Unknown.
+    def message
+      number = schema
+      record = RECORDS[number]
+      raise Error.new("message: the schema #{number} is of no record that this gem knows", call: "message") unless record
+
+      record.decode(payload)
     end
 
     # The number of its payload's schema. A custom entry has none: Unknown.
@@ -70,6 +117,22 @@ module Pendratsoa
       Pendratsoa.frame(version, code, payload)
     end
 
+    # Appends its frame, as `frame` returns it, to a binary String, which it returns. After an error it is as it was.
+    def append_frame(out, version = self.version)
+      Pendratsoa.append_frame(out, version, code, payload)
+    end
+
+    # Writes its frame, as `frame` returns it, to an IO or the like, and returns the message.
+    def write_frame(output, version = self.version)
+      output.write(frame(version))
+      self
+    end
+
+    # The message as it came; if it came in no stream, its payload as it is after the header of its type.
+    def bytes
+      word ? super : Pendratsoa.header(version, code, payload.bytesize) << payload
+    end
+
     # Its id and its result, if it is a notification.
     def notification
       Pendratsoa.notification(code, payload)
@@ -85,13 +148,43 @@ module Pendratsoa
     def inspect
       "#<#{self.class} #{self}, version #{version}, payload #{Shown.bytes(payload)}>"
     end
+
+    # What `case .. in` takes: its members, the name of its type, which is nil where no type has its code, and where the
+    # pattern names it the record, which is nil where the payload means none.
+    def deconstruct_keys(keys)
+      # a Struct gives nothing for a key that is no member, and for those after it
+      found = super(keys && (keys - %i[type message]))
+      found[:type] = name_of_type if keys.nil? || keys.include?(:type)
+      found[:message] = message_or_nil if keys&.include?(:message)
+      found
+    end
+
+    private
+
+    def message_or_nil
+      message
+    rescue Malformed, Unknown
+      nil
+    end
+
+    def name_of_type
+      type
+    rescue Error
+      nil
+    end
   end
 
   # Eight bytes whose code is no type's, before version 9; `word` is all eight as one big-endian number. It is frozen.
   UnknownCode = Struct.new(:version, :code, :word) do
+    include Item
+
     def initialize(*)
       super
       freeze
+    end
+
+    def bytes
+      [word].pack("Q>")
     end
 
     def to_s
@@ -106,6 +199,8 @@ module Pendratsoa
   # A message of an unknown type, which is skipped with its payload from version 9 on; `word` is its header's eight
   # bytes as one big-endian number. It is frozen, and so is its payload.
   Skipped = Struct.new(:version, :code, :word, :payload) do
+    include Item
+
     def initialize(*)
       super
       payload.freeze

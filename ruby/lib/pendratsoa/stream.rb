@@ -9,6 +9,10 @@ module Pendratsoa
   #
   # Each loop over it continues where the one before stopped, and ends when no whole item is left. More may be fed at
   # any time, within the loop too. Several threads may use one stream; each item then comes to one of them.
+  #
+  # A message whose payload has more than `max_message_size` bytes raises TooLong as soon as its header came, and ends
+  # the stream: what came is dropped, and from then on each loop, `feed`, `read` and `finish` raise the same error. nil
+  # is no limit.
   class Stream
     include Enumerable
 
@@ -17,15 +21,20 @@ module Pendratsoa
 
     attr_reader :version
 
-    # Yields the items that come from what is open for reading. Without a block it returns an Enumerator.
-    def self.read(input, version: 8, size: CHUNK, &block)
-      new(version: version).read(input, size: size, &block)
+    # Yields the items that come from what is open for reading. Without a block it returns an Enumerator. Bytes at its
+    # end that are in no item are left out, or are Incomplete if it is strict.
+    def self.read(input, version: 8, size: CHUNK, strict: false, max_message_size: nil, &block)
+      new(version: version, max_message_size: max_message_size).read(input, size: size, strict: strict, &block)
     end
 
     # Unknown if there is no such version.
-    def initialize(version: 8)
-      @call = Call.new("Stream", version: version)
+    def initialize(version: 8, max_message_size: nil)
+      @call = Call.new("Stream", version: version, max_message_size: max_message_size)
       @version = @call.version
+      @limit = max_message_size && @call.length(:max_message_size)
+      # how many bytes items have taken, and the error that ended the stream
+      @offset = 0
+      @ended = nil
       @lock = Mutex.new
       # what came, where that which is in no item yet begins in it, and how many bytes of that the next item needs
       @bytes = String.new
@@ -38,6 +47,7 @@ module Pendratsoa
     def feed(data)
       bytes, = Call.new("feed", data: data).data(:data)
       @lock.synchronize do
+        check
         # used bytes are dropped once they are the greater part
         drop_used if @begin > @bytes.bytesize / 2
         @bytes << bytes
@@ -61,15 +71,23 @@ module Pendratsoa
     end
 
     # Feeds what an IO or the like has, at most `size` bytes at a time, and yields the items as they come. It ends where
-    # the input ends; the bytes in no item are then in `rest`. Without a block it returns an Enumerator.
-    def read(input, size: CHUNK, &block)
+    # the input ends; the bytes in no item are then in `rest`, and are Incomplete if it is strict. Without a block it
+    # returns an Enumerator.
+    def read(input, size: CHUNK, strict: false, &block)
       raise ArgumentError, "read: size #{size} is less than 1" if size < 1
-      return enum_for(:read, input, size: size) unless block
+      return enum_for(:read, input, size: size, strict: strict) unless block
 
       each(&block)
       while (data = chunk(input, size))
         feed(data).each(&block)
       end
+      ended("read") if strict
+      self
+    end
+
+    # Says that the stream ended: Incomplete if bytes are in no item. Its items have to be taken before.
+    def finish
+      ended("finish")
       self
     end
 
@@ -78,6 +96,20 @@ module Pendratsoa
     end
 
     private
+
+    # Raises the error that ended the stream.
+    def check
+      raise @ended if @ended
+    end
+
+    def ended(call)
+      check
+      count = rest
+      return if count.zero?
+
+      text = "the stream ended within an item, after #{count == 1 ? "1 byte" : "#{count} bytes"} of it"
+      raise Incomplete.new("#{call}: #{text}", call: call, rest: count)
+    end
 
     # A copy goes on by itself.
     def initialize_copy(original)
@@ -97,6 +129,7 @@ module Pendratsoa
     # Takes the next item from the bytes, or nil if not all of it came.
     def take
       @lock.synchronize do
+        check
         next if @bytes.bytesize - @begin < @needed
 
         missing, numbers = look
@@ -111,9 +144,20 @@ module Pendratsoa
       whole = Fiddle::Pointer[@bytes]
       numbers = Library.numbers(ITEM_NUMBERS) do |room|
         rest = whole + @begin, whole.size - @begin
-        missing = @call.returned(:journal_next, @version, *rest, room, ITEM_NUMBERS)
+        missing =
+          if @limit
+            @call.returned(:journal_next_within, @version, @limit, *rest, room, ITEM_NUMBERS)
+          else
+            @call.returned(:journal_next, @version, *rest, room, ITEM_NUMBERS)
+          end
       end
       [missing, numbers]
+    rescue TooLong
+      code, _, length = @bytes.byteslice(@begin, 8).unpack("nnN")
+      @ended = @call.message_too_long(code, @offset, length, @limit)
+      @bytes = String.new
+      @begin = 0
+      raise @ended
     end
 
     def drop_used
@@ -127,8 +171,9 @@ module Pendratsoa
       # a copy; a slice of the String could keep all of it in memory
       payload = Fiddle::Pointer[@bytes][@begin + payload_begin, size - payload_begin]
       @begin += size
+      @offset += size
       case kind
-      when :message then Message.new(@version, code, payload, ack == 1)
+      when :message then Message.new(@version, code, payload, ack == 1, word: word)
       when :unknown_code then UnknownCode.new(@version, code, word)
       else Skipped.new(@version, code, word, payload)
       end

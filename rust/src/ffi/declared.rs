@@ -5,12 +5,20 @@
 //! Each safe function here gives its call the pointer and the length of every slice. So what the header requires of its
 //! callers holds: a slice that is written is exclusively borrowed, and overlaps no other.
 
-use super::{count, written, About, Refusal, Result};
+use super::{appended, count, written, About, Refusal, Result};
 
 pub(crate) const MESSAGE: u64 = 0;
 pub(crate) const UNKNOWN_CODE: u64 = 1;
 pub(crate) const SKIPPED: u64 = 2;
 pub(crate) const READ: u64 = 0;
+pub(crate) const FIELD_UINT32: u64 = 1;
+pub(crate) const FIELD_UINT64: u64 = 2;
+pub(crate) const FIELD_BOOL: u64 = 3;
+pub(crate) const FIELD_ENUM: u64 = 4;
+pub(crate) const FIELD_STRING: u64 = 5;
+pub(crate) const FIELD_BYTES: u64 = 6;
+pub(crate) const FIELD_MESSAGE: u64 = 7;
+pub(crate) const WRITTEN: u64 = 0;
 pub(crate) const COMPLETION_ID: u64 = 0;
 pub(crate) const SIGNAL_ID: u64 = 1;
 pub(crate) const SIGNAL_NAME: u64 = 2;
@@ -28,6 +36,7 @@ mod c {
         pub fn journal_type_name(code: u16, out: *mut u8, room: usize) -> i64;
         pub fn journal_type_code(name: *const u8, name_length: usize) -> i64;
         pub fn journal_next(version: u32, bytes: *const u8, length: usize, item: *mut u64, item_room: usize) -> i64;
+        pub fn journal_next_within(version: u32, limit: u32, bytes: *const u8, length: usize, item: *mut u64, item_room: usize) -> i64;
         pub fn journal_header(version: u32, code: u16, payload_length: u32, out: *mut u8, room: usize) -> i64;
         pub fn journal_frame(version: u32, code: u16, payload: *const u8, payload_length: usize, out: *mut u8, room: usize) -> i64;
         pub fn journal_is_well_formed(schema: u32, payload: *const u8, payload_length: usize) -> i64;
@@ -35,6 +44,8 @@ mod c {
         pub fn journal_merge(schema: u32, first: *const u8, first_length: usize, second: *const u8, second_length: usize, out: *mut u8, room: usize) -> i64;
         pub fn journal_json(schema: u32, payload: *const u8, payload_length: usize, out: *mut u8, room: usize) -> i64;
         pub fn journal_payload_of_json(schema: u32, json: *const u8, json_length: usize, reading: *mut u64, reading_room: usize, out: *mut u8, room: usize) -> i64;
+        pub fn journal_fields(schema: u32, payload: *const u8, payload_length: usize, fields: *mut [u64; 6], room: usize) -> i64;
+        pub fn journal_payload_of_fields(schema: u32, fields: *const [u64; 6], count: usize, bytes: *const u8, length: usize, writing: *mut u64, writing_room: usize, out: *mut u8, room: usize) -> i64;
         pub fn journal_notification(code: u16, payload: *const u8, payload_length: usize, notification: *mut u64, notification_room: usize, out: *mut u8, room: usize) -> i64;
         pub fn journal_header_eq(code: u16, first: *const u8, first_length: usize, second: *const u8, second_length: usize, ignore_payloads: u32) -> i64;
         pub fn journal_difference(code: u16, first: *const u8, first_length: usize, second: *const u8, second_length: usize, out: *mut u8, room: usize) -> i64;
@@ -51,6 +62,7 @@ impl From<i64> for Refusal {
             -4 => Refusal::TooLong,
             -6 => Refusal::NoId,
             -7 => Refusal::NoResult,
+            -8 => Refusal::NotCanonical,
             -17 => Refusal::Malformed(About::Second),
             -21 => Refusal::Unknown(About::Version),
             -37 => Refusal::Unknown(About::Schema),
@@ -87,15 +99,20 @@ pub(crate) fn next(version: u32, bytes: &[u8], item: &mut [u64; 6]) -> Result<us
     count(unsafe { c::journal_next(version, bytes.as_ptr(), bytes.len(), item.as_mut_ptr(), item.len()) })
 }
 
+pub(crate) fn next_within(version: u32, limit: u32, bytes: &[u8], item: &mut [u64; 6]) -> Result<usize> {
+    // SAFETY: each pointer comes with the length of its slice; those that are written are borrowed for it
+    count(unsafe { c::journal_next_within(version, limit, bytes.as_ptr(), bytes.len(), item.as_mut_ptr(), item.len()) })
+}
+
 pub(crate) fn header(version: u32, code: u16, payload_length: u32, out: &mut [u8; 8]) -> Result<usize> {
     // SAFETY: each pointer comes with the length of its slice; those that are written are borrowed for it
     count(unsafe { c::journal_header(version, code, payload_length, out.as_mut_ptr(), out.len()) })
 }
 
-pub(crate) fn frame(version: u32, code: u16, payload: &[u8]) -> Result<Vec<u8>> {
+pub(crate) fn frame(version: u32, code: u16, payload: &[u8], out: &mut Vec<u8>) -> Result<usize> {
     // SAFETY: each pointer comes with the length of its slice, and the call writes at most `room` bytes and
     // returns how many they are
-    unsafe { written(payload.len() + 32, |out, room| c::journal_frame(version, code, payload.as_ptr(), payload.len(), out, room)) }
+    unsafe { appended(out, payload.len() + 32, |out, room| c::journal_frame(version, code, payload.as_ptr(), payload.len(), out, room)) }
 }
 
 pub(crate) fn is_well_formed(schema: u32, payload: &[u8]) -> Result<usize> {
@@ -125,6 +142,17 @@ pub(crate) fn payload_of_json(schema: u32, json: &[u8], reading: &mut [u64; 2]) 
     // SAFETY: each pointer comes with the length of its slice, and the call writes at most `room` bytes and
     // returns how many they are
     unsafe { written(json.len(), |out, room| c::journal_payload_of_json(schema, json.as_ptr(), json.len(), reading.as_mut_ptr(), reading.len(), out, room)) }
+}
+
+pub(crate) fn fields(schema: u32, payload: &[u8], fields: &mut [[u64; 6]]) -> Result<usize> {
+    // SAFETY: each pointer comes with the length of its slice; those that are written are borrowed for it
+    count(unsafe { c::journal_fields(schema, payload.as_ptr(), payload.len(), fields.as_mut_ptr(), fields.len()) })
+}
+
+pub(crate) fn payload_of_fields(schema: u32, fields: &[[u64; 6]], bytes: &[u8], writing: &mut [u64; 2], out: &mut Vec<u8>) -> Result<usize> {
+    // SAFETY: each pointer comes with the length of its slice, and the call writes at most `room` bytes and
+    // returns how many they are
+    unsafe { appended(out, bytes.len() + 6 * fields.len() + 16, |out, room| c::journal_payload_of_fields(schema, fields.as_ptr(), fields.len(), bytes.as_ptr(), bytes.len(), writing.as_mut_ptr(), writing.len(), out, room)) }
 }
 
 pub(crate) fn notification(code: u16, payload: &[u8], notification: &mut [u64; 4]) -> Result<Vec<u8>> {

@@ -92,8 +92,9 @@ fn compare_case(tally: &mut Tally, random: &mut Random) {
             let code = message_type.code;
             let ours = ours::frame_once(*version, code, payload);
             equal(tally, kind, &case, &written(&ours), &verdict.result);
-            let calls: [FrameCall; 4] = [
+            let calls: [FrameCall; 5] = [
                 ours::frame_to,
+                ours::frame_vec,
                 ours::frame_into,
                 ours::frame_spare,
                 ours::frame_shared,

@@ -1,0 +1,105 @@
+package pendratsoa
+
+import (
+	"bytes"
+	"errors"
+	"io"
+	"testing"
+	"testing/iotest"
+)
+
+// Flags that no encoder sets, a long length of a field, a custom entry, an unknown code and what is skipped.
+var faithful = map[int]string{
+	8: "0400123400000009" + "72070a05696e707574" + "040300000000000b" + "0a81000a1a050a82007879" +
+		"fc01ffff00000001ff" + "0008a5a500000000" + "0003000000000000",
+	9: "0008a5a500000002" + "0003" + "fc01000000000000",
+}
+
+func TestItemsAreCopiedAsTheyCame(t *testing.T) {
+	for version, digits := range faithful {
+		stream := unhex(t, digits)
+		for _, reader := range []io.Reader{bytes.NewReader(stream), iotest.OneByteReader(bytes.NewReader(stream))} {
+			var copied, written bytes.Buffer
+			NewDecoder(reader, version).All()(func(item Item, err error) bool {
+				if err != nil {
+					t.Fatal(err)
+				}
+				copied.Write(item.Bytes())
+				count, err := item.WriteTo(&written)
+				if count != int64(len(item.Bytes())) || err != nil {
+					t.Errorf("%v: %d, %v", item, count, err)
+				}
+				return true
+			})
+			if !bytes.Equal(copied.Bytes(), stream) || !bytes.Equal(written.Bytes(), stream) {
+				t.Errorf("at version %d the copy is %x", version, copied.Bytes())
+			}
+		}
+	}
+}
+
+func TestBytesOfItemsThatDidNotCome(t *testing.T) {
+	proposal := must(NewMessage(8, CodeProposeRunCompletion, unhex(t, "08810072")))(t)
+	for want, item := range map[string]Item{
+		"000580000000000408810072": proposal,
+		"0008000000000002":         UnknownCode{8, 8, 8<<48 | 2},
+		"00080000000000020003":     Skipped{Version: 9, Code: 8, Word: 8<<48 | 2, Payload: []byte{0, 3}},
+	} {
+		if !bytes.Equal(item.Bytes(), unhex(t, want)) {
+			t.Errorf("%v is %x", item, item.Bytes())
+		}
+	}
+	if none := (Message{Version: 8, Code: 8}).Bytes(); none != nil {
+		t.Errorf("%x", none)
+	}
+}
+
+func TestFramesWithADestination(t *testing.T) {
+	payload := unhex(t, "72070a05696e707574")
+	message := must(NewMessage(8, CodeInputCommand, payload))(t)
+	frame := unhex(t, input)
+	for _, room := range []int{0, 1, 17, 100} {
+		dst := append(make([]byte, 0, 1+room), 7)
+		found := must(message.AppendFrame(dst, 8))(t)
+		if !bytes.Equal(found, append([]byte{7}, frame...)) {
+			t.Errorf("room %d: %x", room, found)
+		}
+		if (room >= len(frame)) != (&found[0] == &dst[0]) {
+			t.Errorf("room %d: whether it is the same array", room)
+		}
+		dst, err := AppendFrame(dst, 8, CodeInputCommand, payload[:3])
+		if !errors.Is(err, ErrMalformed) || !bytes.Equal(dst, []byte{7}) {
+			t.Errorf("%x, %v", dst, err)
+		}
+	}
+	var out bytes.Buffer
+	if err := message.WriteFrame(&out, 9); err != nil || !bytes.Equal(out.Bytes(), frame) {
+		t.Errorf("%x, %v", out.Bytes(), err)
+	}
+	message.Payload = payload[:3]
+	if err := message.WriteFrame(&out, 9); !errors.Is(err, ErrMalformed) || out.Len() != len(frame) {
+		t.Errorf("%x, %v", out.Bytes(), err)
+	}
+}
+
+func TestAllItems(t *testing.T) {
+	stream := unhex(t, input+input+"0a")
+	decoder := NewDecoder(bytes.NewReader(stream), 8)
+	var items, failures int
+	for _, most := range []int{1, 9, 9} {
+		decoder.All()(func(item Item, err error) bool {
+			if err != nil {
+				failures++
+				if item != nil || err != io.ErrUnexpectedEOF {
+					t.Errorf("%v, %v", item, err)
+				}
+				return true
+			}
+			items++
+			return items < most
+		})
+	}
+	if items != 2 || failures != 2 {
+		t.Errorf("%d items, %d failures", items, failures)
+	}
+}

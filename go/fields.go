@@ -1,0 +1,258 @@
+package pendratsoa
+
+import (
+	"encoding"
+	"errors"
+	"fmt"
+	"strings"
+	"sync"
+)
+
+// ErrField: a field of a record cannot be encoded. A FieldError wraps it.
+var ErrField = errors.New("a field that cannot be encoded")
+
+// A FieldError says why a field of a record cannot be encoded. It wraps ErrField.
+type FieldError struct {
+	// Path leads to the field, as "headers[2].key".
+	Path string
+	// Reason is why, as "not UTF-8".
+	Reason string
+}
+
+// Error returns a text as "pendratsoa: headers[2].key: not UTF-8".
+func (e *FieldError) Error() string {
+	return "pendratsoa: " + e.Path + ": " + e.Reason
+}
+
+// Unwrap returns ErrField.
+func (e *FieldError) Unwrap() error {
+	return ErrField
+}
+
+// A Record is what a payload means: a pointer to one of the structs as SetStateCommandMessage.
+type Record interface {
+	encoding.BinaryMarshaler
+	encoding.BinaryUnmarshaler
+	// Schema returns the number of its schema.
+	Schema() int
+	read(table *fieldTable, level uint64) error
+	write(writer *fieldWriter, level uint64)
+}
+
+// Record returns what the payload means: a pointer to a struct as SetStateCommandMessage, for a type switch. The errors
+// are those of Schema and Canonical.
+func (m Message) Record() (Record, error) {
+	schema, err := m.Schema()
+	if err != nil {
+		return nil, err
+	}
+	record := newRecord(schema)
+	if record == nil {
+		return nil, &Error{"Record", named("schema", schema), ErrUnexpected}
+	}
+	return record, unmarshal(record, m.Payload)
+}
+
+// NewMessageOf returns the message of a type at a version that a record is of. The errors are those of MarshalBinary of
+// the record and of NewMessage.
+func NewMessageOf(version int, code uint16, record Record) (Message, error) {
+	payload, err := record.MarshalBinary()
+	if err != nil {
+		return Message{}, err
+	}
+	return NewMessage(version, code, payload)
+}
+
+// A tableField is an entry of the table of fields, as the library has it.
+type tableField = [fieldNumbers]uint64
+
+// How many entries there is room for at first.
+const fieldRoom = 64
+
+// A fieldName is what an error says of a field: its name, whether it is repeated, and the schema of what it holds.
+type fieldName struct {
+	name       string
+	isRepeated bool
+	schema     int
+}
+
+// A fieldTable is the entries of a payload, which are read one by one.
+type fieldTable struct {
+	fields  []tableField
+	at      int
+	payload []byte
+	// texts is the payload as a text, of which all texts are parts, once there is one
+	texts string
+}
+
+// has returns whether the next entry is of a level.
+func (t *fieldTable) has(level uint64) bool {
+	return t.at < len(t.fields) && t.fields[t.at][fieldLevel] == level
+}
+
+// next returns the next entry.
+func (t *fieldTable) next() *tableField {
+	t.at++
+	return &t.fields[t.at-1]
+}
+
+func (t *fieldTable) bytes(field *tableField) []byte {
+	begin := field[fieldOffset]
+	end := begin + field[fieldLength]
+	return t.payload[begin:end:end]
+}
+
+func (t *fieldTable) text(field *tableField) string {
+	begin, length := field[fieldOffset], field[fieldLength]
+	if length == 0 {
+		return ""
+	}
+	if t.texts == "" {
+		t.texts = string(t.payload)
+	}
+	return t.texts[begin : begin+length]
+}
+
+// unknown returns the error that a later library knows more fields.
+func (t *fieldTable) unknown(record string) error {
+	return &Error{"UnmarshalBinary", "field of " + record, ErrUnexpected}
+}
+
+var tables = sync.Pool{New: func() any { return new([fieldRoom]tableField) }}
+
+// unmarshal reads a record from a payload.
+func unmarshal(record Record, payload []byte) error {
+	room := tables.Get().(*[fieldRoom]tableField)
+	defer tables.Put(room)
+	schema := record.Schema()
+	fields := room[:]
+	count := journalFields(uint32(schema), payload, fields)
+	if count == notCanonical {
+		canonical, err := Canonical(schema, payload)
+		if err != nil {
+			return err
+		}
+		payload = canonical
+		count = journalFields(uint32(schema), payload, fields)
+	}
+	if count > int64(len(fields)) {
+		fields = make([]tableField, count)
+		count = journalFields(uint32(schema), payload, fields)
+	}
+	if count < 0 {
+		return schemaError("UnmarshalBinary", count, schema, bytesText("payload", payload))
+	}
+	table := fieldTable{fields: fields[:count], payload: payload}
+	return record.read(&table, 0)
+}
+
+// A fieldWriter is the table of a record, and the bytes that its entries are places in.
+type fieldWriter struct {
+	fields []tableField
+	data   []byte
+	// writing is what the library writes: why there is no payload, and the index of the entry
+	writing [writingNumbers]uint64
+}
+
+func (w *fieldWriter) number(level, number, kind, value uint64) {
+	w.fields = append(w.fields, tableField{level, number, kind, value, 0, 0})
+}
+
+func (w *fieldWriter) flag(level, number uint64, isSet bool) {
+	w.number(level, number, kindOfFieldBool, uint64(flag(isSet)))
+}
+
+func (w *fieldWriter) bytes(level, number uint64, value []byte) {
+	w.fields = append(w.fields, tableField{level, number, kindOfFieldBytes, 0, uint64(len(w.data)), uint64(len(value))})
+	w.data = append(w.data, value...)
+}
+
+func (w *fieldWriter) text(level, number uint64, value string) {
+	w.fields = append(w.fields, tableField{level, number, kindOfFieldString, 0, uint64(len(w.data)), uint64(len(value))})
+	w.data = append(w.data, value...)
+}
+
+func (w *fieldWriter) message(level, number, schema uint64) {
+	w.number(level, number, kindOfFieldMessage, schema)
+}
+
+// The most that a writer keeps for the next record.
+const keptWriter = 64 << 10
+
+var writers = sync.Pool{New: func() any { return new(fieldWriter) }}
+
+// marshal returns the canonical payload of a record.
+func marshal(record Record) ([]byte, error) {
+	writer := writers.Get().(*fieldWriter)
+	writer.fields, writer.data = writer.fields[:0], writer.data[:0]
+	record.write(writer, 0)
+	payload, err := writer.payload(record.Schema())
+	if cap(writer.data) <= keptWriter && cap(writer.fields) <= keptWriter/48 {
+		writers.Put(writer)
+	}
+	return payload, err
+}
+
+// payload returns the payload that the table means for a schema.
+func (w *fieldWriter) payload(schema int) ([]byte, error) {
+	// what is enough for most
+	out := make([]byte, len(w.data)+6*len(w.fields))
+	for {
+		length := journalPayloadOfFields(uint32(schema), w.fields, w.data, &w.writing, out)
+		switch kind := w.writing[writingKind]; {
+		case length < 0:
+			return nil, schemaError("MarshalBinary", length, schema, bytesText("payload", w.data))
+		case kind >= uint64(len(fieldReasons)):
+			return nil, unexpected("kind", kind)
+		case kind != fieldsWritten:
+			return nil, &FieldError{pathOf(schema, w.fields[:w.writing[writingIndex]+1]), fieldReasons[kind]}
+		case length <= int64(len(out)):
+			return out[:length:length], nil
+		}
+		out = make([]byte, length)
+	}
+}
+
+// frameOf returns the frame of a record at a version.
+func frameOf(record Record, version int, code uint16) ([]byte, error) {
+	payload, err := marshal(record)
+	if err != nil {
+		return nil, err
+	}
+	return Frame(version, code, payload)
+}
+
+// earlierFrame returns the frame of a record that a type has at earlier versions only.
+func earlierFrame(record Record, version int, code uint16) ([]byte, error) {
+	schema, err := Schema(version, code)
+	if err != nil {
+		return nil, err
+	}
+	if schema != record.Schema() {
+		return nil, &Error{"Frame", named("version", version), ErrUnknown}
+	}
+	message, err := NewMessageOf(version, code, record)
+	return message.Bytes(), err
+}
+
+// pathOf returns what leads to the last of these entries, as "headers[2].key".
+func pathOf(schema int, fields []tableField) string {
+	schemas := []int{schema}
+	counts := []map[uint64]int{{}}
+	var names []string
+	for _, field := range fields {
+		level, number := field[fieldLevel], field[fieldNumber]
+		schemas, counts, names = schemas[:level+1], counts[:level+1], names[:level]
+		found := fieldNames[schemas[level]][number]
+		name := found.name
+		if found.isRepeated {
+			name = fmt.Sprintf("%s[%d]", name, counts[level][number])
+			counts[level][number]++
+		}
+		names = append(names, name)
+		if field[fieldKind] == kindOfFieldMessage {
+			schemas, counts = append(schemas, found.schema), append(counts, map[uint64]int{})
+		}
+	}
+	return strings.Join(names, ".")
+}

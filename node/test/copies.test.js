@@ -1,0 +1,89 @@
+// Items as they came and as texts, frames with a destination, and the end of a stream.
+
+import assert from 'node:assert/strict';
+import test from 'node:test';
+
+import { Incomplete, Malformed, Message, Skipped, Stream, Unknown, UnknownCode, frameInto, items } from 'pendratsoa';
+
+import { chunksOf, hex, joined } from './support.js';
+
+// Flags that no encoder sets, long lengths of fields, a custom entry, and what is of no type.
+const FAITHFUL = [
+  [
+    8,
+    '0400123400000009 72070a05696e707574 040300000000000b 0a81000a1a050a82007879 fc01ffff00000001ff' +
+      '0008a5a500000000 0003000000000000',
+  ],
+  [9, '0008a5a500000002 0003 fc01000000000000'],
+];
+
+const PAYLOAD = hex('72070a05696e707574');
+const FRAME = joined(hex('0400000000000009'), PAYLOAD);
+
+test('items are copied as they came', async () => {
+  for (const [version, digits] of FAITHFUL) {
+    const stream = hex(digits);
+    for (const size of [1, 7, stream.length]) {
+      const copied = [];
+      for await (const item of items(chunksOf(stream, size), version)) {
+        copied.push(item.bytes);
+        item.bytes.fill(0);
+      }
+      assert.deepEqual(joined(...copied), stream);
+    }
+  }
+});
+
+test('a message that is made has the header of its type', () => {
+  const message = new Message(8, 0x0005, hex('088100'));
+  assert.deepEqual(message.bytes, hex('0005800000000003 088100'));
+  assert.equal(message.word, undefined);
+  const stream = new Stream();
+  stream.feed(message.bytes);
+  const [came] = stream;
+  assert.equal(came.word, 0x0005800000000003n);
+  assert.throws(() => new Message(8, 8, hex('')).bytes, Unknown);
+  assert.deepEqual(new UnknownCode(8, 8, 2n).bytes, hex('0000000000000002'));
+  assert.deepEqual(new Skipped(9, 8, 1n, hex('ff')).bytes, hex('0000000000000001 ff'));
+});
+
+test('frames with a destination', () => {
+  const message = new Message(8, 0x0400, PAYLOAD);
+  for (const room of [0, 16, 17, 30]) {
+    const out = new Uint8Array(room).fill(7);
+    assert.equal(message.frameInto(out), 17);
+    assert.equal(frameInto(9, 0x0400, PAYLOAD, out), 17);
+    const wanted = room < 17 ? new Uint8Array(room).fill(7) : joined(FRAME, new Uint8Array(room - 17).fill(7));
+    assert.deepEqual(out, wanted);
+  }
+  assert.throws(() => frameInto(8, 0x0400, PAYLOAD.slice(0, 3), new Uint8Array(30)), Malformed);
+  assert.throws(() => message.frameInto([]), TypeError);
+});
+
+test('items as texts and as JSON', () => {
+  const stream = new Stream(8);
+  stream.feed(hex(FAITHFUL[0][1]));
+  const made = [new Skipped(9, 8, 3n, hex('00ff')), new Message(8, 8, hex('')), new Message(8, 5, hex(''), true)];
+  const found = [...stream, ...made];
+  const lines = ['InputCommand 9', 'SetStateCommand 11', 'CustomEntry(64513) 1', 'unknown 0x8', 'End 0'];
+  assert.deepEqual(found.map(String), [...lines, 'skipped 0x8 2', 'code 0x8 0', 'ProposeRunCompletion 0 ack']);
+  const json = JSON.parse(JSON.stringify(found));
+  const fields = { kind: 'message', version: 8, requiresAck: false, payload: '/w==' };
+  assert.deepEqual(json[2], { ...fields, code: 0xfc01, type: 'CustomEntry(64513)' });
+  assert.deepEqual(json[3], { kind: 'unknownCode', version: 8, code: 8, word: String(0x0008a5a500000000n) });
+  assert.deepEqual(json[5], { kind: 'skipped', version: 9, code: 8, word: '3', payload: 'AP8=' });
+});
+
+test('the end of a stream', () => {
+  const stream = new Stream();
+  stream.feed(FRAME);
+  assert.equal([...stream].length, 1);
+  stream.finish();
+  stream.feed(hex('04'));
+  assert.throws(() => stream.finish(), (error) => {
+    assert.ok(error instanceof Incomplete);
+    assert.equal(error.message, 'finish: the stream ended within an item, after 1 byte of it');
+    assert.deepEqual([error.call, error.argument, error.value], ['finish', 'stream', 1]);
+    return true;
+  });
+});

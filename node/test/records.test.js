@@ -1,0 +1,130 @@
+// The records of messages: decoded, changed, encoded, and what cannot be.
+
+import assert from 'node:assert/strict';
+import test from 'node:test';
+
+import {
+  ErrorBehavior,
+  FieldError,
+  Malformed,
+  Message,
+  Stream,
+  Unknown,
+  readRecord,
+  schemaNames,
+  writeRecord,
+} from 'pendratsoa';
+
+import { bytesOf, digits, hex } from './support.js';
+
+const text = (bytes) => Buffer.from(bytes).toString();
+
+test('the messages of a stream', () => {
+  const stream = new Stream();
+  stream.feed(bytesOf('examples/streams/recorded'));
+  const found = [];
+  for (const item of stream) {
+    assert.deepEqual(Message.of(item.type, item.message).frame(), item.bytes);
+    if (item.type === 'SetStateCommand') {
+      const { key, value } = item.message;
+      found.push([text(key), text(value.content)]);
+      const changed = Message.of(item.type, { ...item.message, value: { content: Buffer.from('22') } });
+      assert.equal(digits(changed.payload), '0a07636f756e746572 1a040a023232'.replaceAll(' ', ''));
+    } else if (item.type === 'CallCompletionNotification') {
+      found.push([item.message.result.case, text(item.message.result.value.content)]);
+    }
+  }
+  assert.deepEqual(found, [['counter', '1'], ['value', 'hi']]);
+});
+
+test('an empty record of each schema', () => {
+  for (const name of schemaNames) {
+    assert.deepEqual(writeRecord(name, {}), hex(''));
+    assert.deepEqual(writeRecord(name, readRecord(name, hex(''))), hex(''));
+  }
+  assert.deepEqual(readRecord('SetStateCommandMessage', hex('')), { key: hex(''), value: undefined, name: '' });
+});
+
+test('presence', () => {
+  const error = { relatedCommandIndex: 0, relatedCommandName: '', behavior: -5 };
+  const found = readRecord('ErrorMessage', writeRecord('ErrorMessage', error));
+  assert.deepEqual([found.relatedCommandIndex, found.relatedCommandName, found.behavior], [0, '', -5]);
+  assert.equal(found.nextRetryDelay, undefined);
+  assert.equal(ErrorBehavior.PAUSE, 1);
+  for (const signalId of [undefined, { case: 'idx', value: 0 }, { case: 'name', value: '' }]) {
+    const payload = writeRecord('SignalNotificationMessage', { signalId });
+    assert.deepEqual(readRecord('SignalNotificationMessage', payload).signalId, signalId);
+  }
+  const sleep = { wakeUpTime: (1n << 64n) - 1n };
+  assert.equal(readRecord('SleepCommandMessage', writeRecord('SleepCommandMessage', sleep)).wakeUpTime, sleep.wakeUpTime);
+});
+
+test('another encoding, and many fields', () => {
+  assert.deepEqual(readRecord('SuspensionMessageV6', hex('08010a020203')).waitingCompletions, [1, 2, 3]);
+  const keys = Array.from({ length: 5000 }, (_, number) => Buffer.from(String(number)));
+  const found = readRecord('StateKeys', writeRecord('StateKeys', { keys }));
+  assert.deepEqual(found.keys.map(text), keys.map(text));
+  const long = { content: new Uint8Array(100000).fill(7) };
+  assert.deepEqual(readRecord('Value', writeRecord('Value', long)), long);
+});
+
+test('the record of a suspension is that of its version', () => {
+  const message = Message.of('Suspension', { waitingCompletions: [1] }, 6);
+  assert.deepEqual(message.bytes, hex('0001000000000003 0a0101'));
+  assert.deepEqual(message.message.waitingCompletions, [1]);
+});
+
+test('fields that cannot be encoded', () => {
+  for (const [name, record, path] of [
+    ['Failure', { code: -1 }, 'code'],
+    ['Failure', { code: 2 ** 32 }, 'code'],
+    ['ErrorMessage', { behavior: 2 ** 31 }, 'behavior'],
+    ['InputCommandMessage', { headers: [{ key: 'a' }, { value: '\ud800' }] }, 'headers[1].value'],
+    ['OutputCommandMessage', { result: { case: 'failure', value: { message: 'a\udfffb' } } }, 'failure.message'],
+  ]) {
+    assert.throws(() => writeRecord(name, record), (error) => {
+      assert.ok(error instanceof FieldError);
+      assert.deepEqual([error.path, error.code], [path, 'JOURNAL_FIELD_ERROR']);
+      return true;
+    });
+  }
+  let deep = {};
+  for (let level = 0; level < 100; level += 1) {
+    deep = { nestedFutures: [deep] };
+  }
+  assert.doesNotThrow(() => writeRecord('Future', deep));
+  assert.throws(() => writeRecord('Future', { nestedFutures: [deep] }), { reason: 'tooDeep' });
+});
+
+test('values of another kind', () => {
+  for (const [name, record] of [
+    ['Failure', { code: '1' }],
+    ['Failure', { code: 1.5 }],
+    ['Failure', { code: 2 ** 64 }],
+    ['Failure', { kode: 1 }],
+    ['Failure', null],
+    ['Value', { content: 'text' }],
+    ['SleepCommandMessage', { wakeUpTime: 5 }],
+    ['SleepCommandMessage', { wakeUpTime: 1n << 64n }],
+    ['InputCommandMessage', { headers: {} }],
+    ['OutputCommandMessage', { result: { case: 'none', value: {} } }],
+    ['OutputCommandMessage', { result: {} }],
+  ]) {
+    assert.throws(() => writeRecord(name, record), TypeError, JSON.stringify([name, String(record)]));
+  }
+  assert.throws(() => readRecord('Value', hex('0a')), Malformed);
+  assert.throws(() => readRecord('Values', hex('')), Unknown);
+  assert.throws(() => new Message(8, 0xfc01, hex('')).message, Unknown);
+  assert.throws(() => Message.of('SetStatCommand', {}), Unknown);
+});
+
+test('a getter that writes another record', () => {
+  const record = {
+    get key() {
+      return writeRecord('Value', { content: hex('01') });
+    },
+    value: { content: hex('02') },
+  };
+  const { key, value } = readRecord('SetStateCommandMessage', writeRecord('SetStateCommandMessage', record));
+  assert.deepEqual([digits(key), digits(value.content)], ['0a0101', '02']);
+});

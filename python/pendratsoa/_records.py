@@ -1,0 +1,245 @@
+"""Records and the table of fields: a record is read from the fields that the library finds in a payload, and written as
+those of which the library makes one. Nothing is known here of how a payload is encoded."""
+
+from __future__ import annotations
+
+import ctypes
+import functools
+import threading
+from array import array
+from enum import IntEnum
+from typing import Any, Callable, ClassVar, Dict, List, NamedTuple, NoReturn, Optional, Tuple, Type, TypeVar
+
+from . import _calls
+from ._declared import FIELD_NUMBERS as NUMBERS
+from ._declared import WRITING_NUMBERS, FieldReason
+from ._errors import ERRORS, FieldError, JournalError, NotCanonical, Unknown
+from ._library import library
+from ._request import BytesLike, Request
+
+# the room that is tried first: for entries, and for bytes
+ENTRIES = 64
+BYTES = 1024
+
+U64_END = 1 << 64
+I64_END = 1 << 63
+
+# what reads and what writes each record, at the number of its schema: generated in _codec.py
+READERS: List[Callable[[List[int], int, int, bytes], Tuple[Any, int]]] = []
+WRITERS: List[Callable[[Any, int, Any, int], int]] = []
+
+R = TypeVar("R", bound="Record")
+
+
+class OpenEnum(IntEnum):
+    """An enum that keeps numbers without a name, as proto3 has them."""
+
+    @classmethod
+    def _missing_(cls, value: object) -> Any:
+        if not isinstance(value, int) or not -(1 << 31) <= value < 1 << 31:
+            return None
+        member = int.__new__(cls, value)
+        member._name_ = f"{cls.__name__}({value})"
+        member._value_ = int(value)
+        return member
+
+
+class Row(NamedTuple):
+    """A field of a record: its name, or that of the oneof that it is a member of, its number, its kind and its shape,
+    what it holds if that is a record or an enum, its own name in a oneof, and the class that tells it apart there."""
+
+    name: str
+    number: int
+    kind: int
+    shape: str
+    holds: Any = None
+    member: Optional[str] = None
+    wrapper: Any = None
+
+
+class Record:
+    """What all records have. Each is a frozen dataclass of `pendratsoa.messages`."""
+
+    SCHEMA: ClassVar[int]
+
+    _by_number: ClassVar[Dict[int, Row]]
+
+    @classmethod
+    def decode(cls: Type[R], payload: BytesLike) -> R:
+        """The record that a payload means, in any encoding. `Malformed` if it is not well-formed."""
+        schema = cls.SCHEMA
+        data = payload if type(payload) is bytes else Request("decode", payload=payload).data("payload")[0]
+        count = library.journal_fields(schema, data, len(data), _scratch.table, ENTRIES)
+        if 0 <= count <= ENTRIES:
+            table = _scratch.numbers[: NUMBERS * count].tolist()
+        else:
+            table, data = _table_of(schema, data, count)
+        record: R = READERS[schema](table, 0, 0, data)[0]
+        return record
+
+    def encode(self) -> bytes:
+        """Its canonical payload. A `FieldError` names the field that a value is wrong for; a value of another type is a
+        `TypeError`."""
+        schema = self.SCHEMA
+        writer = Writer(type(self))
+        size = WRITERS[schema](self, 0, writer, 0)
+        table = writer.table
+        try:
+            entries = array("Q", table)
+        except OverflowError:
+            raise writer.out_of_range() from None
+        data = b"".join(writer.parts)
+        scratch = _scratch
+        count = len(table) // NUMBERS
+        parameters = schema, entries.buffer_info()[0], count, data, size, scratch.writing, WRITING_NUMBERS
+        length = library.journal_payload_of_fields(*parameters, scratch.out, BYTES)
+        if length < 0 or length > BYTES or scratch.written[0] != 0:
+            return _long_payload(writer, parameters, length, scratch)
+        return scratch.bytes[:length].tobytes()
+
+
+class MessageRecord(Record):
+    """What the records of messages have: the name and the code of the type, and a frame."""
+
+    TYPE: ClassVar[str]
+    CODE: ClassVar[int]
+    # the version before which it is that of its type, if the type has another one since
+    BEFORE_VERSION: ClassVar[Optional[int]] = None
+
+    def frame(self, version: int = 8) -> bytes:
+        """Its frame at a version: the header, and its canonical payload. `Unknown` if it is none of the version."""
+        payload = self.encode()
+        if self.BEFORE_VERSION is None:
+            return _calls.frame(version, self.CODE, payload)
+        if _calls.schema(version, self.CODE) != self.SCHEMA:
+            raise Unknown(f"frame: there is no {type(self).__name__} at version {version}", call="frame")
+        return _calls.header(version, self.CODE, len(payload)) + payload
+
+
+def described(record: Type[Record], rows: Tuple[Row, ...]) -> None:
+    """Says which fields a record has."""
+    record._by_number = {row.number: row for row in rows}
+
+
+@functools.lru_cache(maxsize=1024)
+def schema_of(version: int, code: int) -> int:
+    """The schema of a type at a version, which is asked once."""
+    return _calls.schema(version, code)
+
+
+class _Scratch(threading.local):
+    """What a thread has for calls that need no more room: for the numbers of a table, for a payload, and for what a table
+    is written as; of each the address, and a view."""
+
+    def __init__(self) -> None:
+        self._numbers = (ctypes.c_uint64 * (NUMBERS * ENTRIES))()
+        self._bytes = (ctypes.c_char * BYTES)()
+        self._writing = (ctypes.c_uint64 * WRITING_NUMBERS)()
+        self.table = ctypes.addressof(self._numbers)
+        self.out = ctypes.addressof(self._bytes)
+        self.writing = ctypes.addressof(self._writing)
+        self.numbers = memoryview(self._numbers).cast("B").cast("Q")
+        self.bytes = memoryview(self._bytes).cast("B")
+        self.written = memoryview(self._writing).cast("B").cast("Q")
+
+
+_scratch = _Scratch()
+_NOT_CANONICAL = next(number for number, (kind, _) in ERRORS.items() if kind is NotCanonical)
+
+
+def _table_of(schema: int, data: bytes, count: int) -> Tuple[List[int], bytes]:
+    """The entries of a payload that is not canonical, or has more of them than there is room for, and the payload that
+    they are places in: it, or its canonical encoding."""
+    if count == _NOT_CANONICAL:
+        data = _calls.canonical(schema, data)
+        count = library.journal_fields(schema, data, len(data), None, 0)
+    if count < 0:
+        raise Request("decode", schema=schema, payload=data)._refused(count)
+    numbers = array("Q", bytes(8 * NUMBERS * count))
+    library.journal_fields(schema, data, len(data), numbers.buffer_info()[0], count)
+    return numbers.tolist(), data
+
+
+def _long_payload(writer: Writer, parameters: Tuple[Any, ...], length: int, scratch: _Scratch) -> bytes:
+    """The payload of a table that there was no room for, or the error that there is none."""
+    request = Request("encode", payload=parameters[3])
+    number, index = scratch.written
+    if number == 0:
+        out = ctypes.create_string_buffer(request.returned(lambda: length))
+        length = request.returned(library.journal_payload_of_fields, *parameters, out, len(out))
+        return out.raw[:length]
+    if number not in FieldReason.__members__.values():
+        raise request.unexpected(f"a table of fields of the kind {number}")
+    raise _field_error(writer.of, writer.table, index, FieldReason(number))
+
+
+def signed(number: int) -> int:
+    """The number of an enum, which the table has with its sign extended."""
+    return number if number < I64_END else number - U64_END
+
+
+def unknown(name: str, number: int) -> JournalError:
+    """The error that a later library knows a further field."""
+    text = f"the library returned the field {number} of {name}, which this module does not know"
+    return JournalError(f"decode: {text}", call="decode")
+
+
+class Writer:
+    """The table of a record of a class, and the bytes that its entries are places in."""
+
+    __slots__ = ("of", "table", "parts")
+
+    def __init__(self, of: Type[Record]) -> None:
+        self.of = of
+        self.table: List[int] = []
+        self.parts: List[bytes] = []
+
+    def copied(self, number: int, level: int, value: Any) -> bytes:
+        """Bytes that may be of another type, or change."""
+        try:
+            return memoryview(value).tobytes()
+        except TypeError:
+            self.wrong(number, level, value, bytes)
+
+    def unsigned(self, number: int) -> int:
+        """The number of an enum as the table has it; one below any of an enum stays negative, and is refused."""
+        return number + U64_END if -I64_END <= number < 0 else number
+
+    def wrong(self, number: int, level: int, value: Any, *wanted: type) -> NoReturn:
+        """Says that a value is of none of the types that its field has."""
+        table = [*self.table, level, number, 0, 0, 0, 0]
+        path = _path(self.of, table, len(table) // NUMBERS - 1, len(wanted) > 1)
+        names = ", ".join(one.__name__ for one in wanted)
+        what = f"one of {names}" if len(wanted) > 1 else names
+        raise TypeError(f"encode: {path} must be {what}, not {type(value).__name__}")
+
+    def out_of_range(self) -> FieldError:
+        """The error that a number has not 64 bits."""
+        at = next(at for at, number in enumerate(self.table) if not 0 <= number < U64_END)
+        return _field_error(self.of, self.table, at // NUMBERS, FieldReason.OUT_OF_RANGE)
+
+
+def _field_error(record: Type[Record], table: List[int], index: int, reason: FieldReason) -> FieldError:
+    path = _path(record, table, index)
+    text = reason.name.lower().replace("_", " ")
+    return FieldError(f"encode: {path}: {text}", call="encode", reason=reason, path=path)
+
+
+def _path(record: Type[Record], table: List[int], index: int, is_oneof: bool = False) -> str:
+    """What leads to an entry of a table, as "headers[2].key"."""
+    records: List[Any] = [record]
+    counts: List[Dict[int, int]] = [{}]
+    names: List[str] = []
+    for at in range(0, NUMBERS * (index + 1), NUMBERS):
+        level, number = table[at], table[at + 1]
+        del records[level + 1 :], counts[level + 1 :], names[level:]
+        row = records[level]._by_number[number]
+        name = (is_oneof and row.name) or row.member or row.name
+        if row.shape == "repeated":
+            counts[level][number] = count = counts[level].get(number, -1) + 1
+            name = f"{name}[{count}]"
+        names.append(name)
+        if at < NUMBERS * index and isinstance(row.holds, type) and issubclass(row.holds, Record):
+            records.append(row.holds)
+            counts.append({})
+    return ".".join(names)

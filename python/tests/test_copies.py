@@ -1,0 +1,188 @@
+"""Items as they came, frames with a destination, streams that are read asynchronously, and the end of a stream."""
+
+import asyncio
+import copy
+import ctypes
+import dataclasses
+import io
+import pickle
+import unittest
+from unittest import mock
+
+from pendratsoa import (
+    Incomplete,
+    Malformed,
+    Message,
+    Skipped,
+    Stream,
+    Unknown,
+    UnknownCode,
+    append_frame,
+    header,
+)
+
+from support import INPUT, INPUT_COMMAND, replaced
+
+# flags that no encoder sets, long lengths of fields, a custom entry, and what is of no type
+FAITHFUL = {
+    8: "0400123400000009" "72070a05696e707574" "040300000000000b" "0a81000a1a050a82007879"
+    "fc01ffff00000001ff" "0008a5a500000000" "0003000000000000",
+    9: "0008a5a500000002" "0003" "fc01000000000000",
+}
+
+
+class TestCopies(unittest.TestCase):
+    def test_items_as_they_came(self):
+        for version, digits in FAITHFUL.items():
+            stream = bytes.fromhex(digits)
+            for size in (1, 7, len(stream)):
+                items = list(Stream(version).read(io.BytesIO(stream), size))
+                self.assertEqual(b"".join(item.bytes for item in items), stream)
+                self.assertEqual(b"".join(map(bytes, items)), stream)
+                out = io.BytesIO()
+                for item in items:
+                    item.write_to(out)
+                self.assertEqual(out.getvalue(), stream)
+            for item in items:
+                for other in (copy.copy(item), copy.deepcopy(item), pickle.loads(pickle.dumps(item))):
+                    self.assertEqual((other, bytes(other), hash(other)), (item, bytes(item), hash(item)))
+
+    def test_a_message_that_is_made(self):
+        message = Message.of("ProposeRunCompletion", b"\x08\x81\x00")
+        self.assertEqual(bytes(message), bytes.fromhex("0005800000000003088100"))
+        self.assertIsNone(message.word)
+        stream = Stream()
+        stream.feed(bytes(message))
+        (came,) = stream
+        self.assertEqual((came, came.word), (message, 0x0005_8000_0000_0003))
+        self.assertEqual(repr(came), repr(message))
+        self.assertRaises(Unknown, bytes, Message(8, 8, b""))
+        self.assertEqual(bytes(UnknownCode(8, 8, 2)), bytes(7) + b"\x02")
+        self.assertEqual(bytes(Skipped(9, 8, 1, b"\xff")), bytes(7) + b"\x01\xff")
+
+    def test_what_is_replaced_did_not_come(self):
+        stream = Stream()
+        stream.feed(bytes.fromhex(FAITHFUL[8]))
+        message = dataclasses.replace(next(iter(stream)), payload=b"")
+        self.assertEqual(bytes(message), header(8, INPUT_COMMAND, 0))
+
+
+class TestFrames(unittest.TestCase):
+    def test_a_destination(self):
+        message = Message.of("InputCommand", INPUT[8:])
+        out = bytearray(b"\xff")
+        self.assertEqual(message.append_frame(out), len(INPUT))
+        self.assertEqual(append_frame(out, 9, INPUT_COMMAND, memoryview(INPUT)[8:]), len(INPUT))
+        self.assertEqual(out, b"\xff" + INPUT + INPUT)
+        written = io.BytesIO()
+        message.write_frame(written, 9)
+        self.assertEqual(written.getvalue(), INPUT)
+
+    def test_more_than_the_first_room(self):
+        rooms = []
+
+        def function(version, code, payload, length, address, room):
+            rooms.append(room)
+            if room >= 3000:
+                ctypes.memset(address, 7, 3000)
+            return 3000
+
+        out = bytearray(b"\xff")
+        with replaced("journal_frame", function):
+            self.assertEqual(append_frame(out, 8, INPUT_COMMAND, b""), 3000)
+        self.assertEqual(rooms, [200, 3000])
+        self.assertEqual(out, b"\xff" + b"\x07" * 3000)
+
+    def test_an_error_leaves_it_as_it_was(self):
+        out = bytearray(b"\xff")
+        for error, *arguments in (
+            (Malformed, 8, INPUT_COMMAND, INPUT[8:10]),
+            (Unknown, 4, INPUT_COMMAND, b""),
+            (Unknown, 8, 8, b""),
+            (TypeError, 8, INPUT_COMMAND, "text"),
+        ):
+            self.assertRaises(error, append_frame, out, *arguments)
+            self.assertEqual(out, b"\xff")
+        # it can still be resized
+        out += b"more"
+        self.assertRaises(TypeError, append_frame, b"", 8, INPUT_COMMAND, b"")
+        held = memoryview(out)
+        self.assertRaises(BufferError, append_frame, out, 8, INPUT_COMMAND, b"")
+        self.assertEqual(held, b"\xffmore")
+
+
+class TestEnd(unittest.TestCase):
+    def test_finish(self):
+        stream = Stream()
+        stream.finish()
+        stream.feed(INPUT)
+        self.assertEqual(len(list(stream)), 1)
+        stream.finish()
+        stream.feed(b"\x04")
+        with self.assertRaises(Incomplete) as caught:
+            stream.finish()
+        self.assertEqual(str(caught.exception), "finish: the stream ended within an item, after 1 byte of it")
+        self.assertEqual((caught.exception.call, caught.exception.rest), ("finish", 1))
+        self.assertIsInstance(caught.exception, EOFError)
+
+    def test_strict(self):
+        items = Stream().read(io.BytesIO(INPUT + INPUT[:5]), strict=True)
+        self.assertEqual(str(next(items)), "InputCommand 9")
+        with self.assertRaisesRegex(Incomplete, r"^read: the stream ended within an item, after 5 bytes of it$"):
+            next(items)
+        self.assertEqual(len(list(Stream().read(io.BytesIO(INPUT), strict=True))), 1)
+
+
+class TestAsync(unittest.IsolatedAsyncioTestCase):
+    async def test_a_reader(self):
+        for version, digits in FAITHFUL.items():
+            stream = bytes.fromhex(digits)
+            for size in (1, 7, 1 << 16):
+                reader = asyncio.StreamReader()
+                reader.feed_data(stream)
+                reader.feed_eof()
+                found = [bytes(item) async for item in Stream(version).read_async(reader, size)]
+                self.assertEqual(b"".join(found), stream)
+
+    async def test_items_come_before_the_end(self):
+        reader = asyncio.StreamReader()
+        items = Stream().read_async(reader, strict=True)
+        reader.feed_data(INPUT + INPUT[:5])
+        self.assertEqual(str(await items.__anext__()), "InputCommand 9")
+        self.assertEqual(await asyncio.wait([asyncio.ensure_future(items.__anext__())], timeout=0.01), (set(), mock.ANY))
+
+    async def test_strict(self):
+        reader = asyncio.StreamReader()
+        reader.feed_data(INPUT + INPUT[:5])
+        reader.feed_eof()
+        items = Stream().read_async(reader, strict=True)
+        self.assertEqual(str(await items.__anext__()), "InputCommand 9")
+        with self.assertRaisesRegex(Incomplete, "^read_async: the stream ended"):
+            await items.__anext__()
+
+    async def test_a_connection(self):
+        async def serve(reader, writer):
+            for byte in INPUT + INPUT:
+                writer.write(bytes([byte]))
+                await writer.drain()
+            writer.close()
+
+        server = await asyncio.start_server(serve, "127.0.0.1", 0)
+        reader, writer = await asyncio.open_connection(*server.sockets[0].getsockname())
+        found = [item.type async for item in Stream().read_async(reader, strict=True)]
+        self.assertEqual(found, ["InputCommand", "InputCommand"])
+        writer.close()
+        server.close()
+        await server.wait_closed()
+
+    async def test_a_reader_of_the_other_kind(self):
+        reader = asyncio.StreamReader()
+        with self.assertRaisesRegex(TypeError, "read_async"):
+            list(Stream().read(reader))
+        with self.assertRaises(TypeError):
+            [item async for item in Stream().read_async(io.BytesIO(INPUT))]
+        self.assertRaises(ValueError, Stream().read_async, reader, 0)
+
+
+if __name__ == "__main__":
+    unittest.main()

@@ -1,0 +1,251 @@
+"""The records of messages: decoded, changed, encoded, and what cannot be."""
+
+import copy
+import ctypes
+import dataclasses
+import pathlib
+import pickle
+import re
+import sys
+import threading
+import typing
+import unittest
+
+import pendratsoa
+from pendratsoa import FieldError, FieldReason, JournalError, Malformed, Message, Stream, Unknown, messages
+from pendratsoa.messages import (
+    RECORDS,
+    CallCompletionNotificationMessage,
+    CombinatorType,
+    ErrorBehavior,
+    ErrorMessage,
+    Failure,
+    FailureMetadata,
+    Future,
+    Header,
+    InputCommandMessage,
+    NotificationTemplate,
+    NotificationTemplateCompletionId,
+    NotificationTemplateSignalId,
+    OutputCommandMessage,
+    ProposeRunCompletionMessage,
+    SendSignalCommandMessage,
+    SetStateCommandMessage,
+    SignalNotificationMessage,
+    SleepCommandMessage,
+    StateKeys,
+    SuspensionMessage,
+    SuspensionMessageV6,
+    Value,
+    Void,
+)
+
+from support import CUSTOM_ENTRY, RECORDED, SUSPENSION, replaced, returning, types
+
+MATCH = """
+match record:
+    case SleepCommandMessage():
+        raise AssertionError
+    case SetStateCommandMessage(key=name, value=Value(content=content)):
+        pass
+"""
+
+COMMAND = SetStateCommandMessage(key=b"counter", value=Value(b"1"))
+
+
+class TestDecoding(unittest.TestCase):
+    def test_the_messages_of_a_stream(self):
+        stream = Stream()
+        stream.feed(RECORDED)
+        found = []
+        for item in stream:
+            self.assertEqual(item.message.frame(), item.bytes)
+            if isinstance(item.message, SetStateCommandMessage):
+                found.append((item.message.key, item.message.value.content))
+            elif isinstance(item.message, CallCompletionNotificationMessage):
+                found.append(item.message.result.content)
+        self.assertEqual(found, [(b"counter", b"1"), b"hi"])
+
+    @unittest.skipIf(sys.version_info < (3, 10), "a word of Python 3.10")
+    def test_match(self):
+        found = {"record": COMMAND}
+        exec(MATCH, globals(), found)
+        self.assertEqual((found["name"], found["content"]), (b"counter", b"1"))
+
+    def test_each_schema_and_each_type(self):
+        self.assertEqual([record.__name__ for record in RECORDS], list(pendratsoa.SCHEMA_NAMES))
+        self.assertEqual([record.SCHEMA for record in RECORDS], list(range(len(RECORDS))))
+        for code, name in types():
+            record = RECORDS[pendratsoa.schema(9, code)]
+            self.assertEqual((record.CODE, record.TYPE, record.__name__), (code, name, f"{name}Message"))
+            self.assertEqual(Message(9, code, b"").message, record())
+        self.assertEqual(list(typing.get_args(messages.TypeName)), [name for _, name in types()])
+
+    def test_another_encoding(self):
+        self.assertEqual(Value.decode(b"\n\x81\x00x"), Value(b"x"))
+        self.assertEqual(SuspensionMessageV6.decode(bytearray(b"\x08\x01\n\x02\x02\x03")).waiting_completions, (1, 2, 3))
+        self.assertEqual(SetStateCommandMessage.decode(memoryview(b"")), SetStateCommandMessage())
+
+    def test_what_is_malformed(self):
+        self.assertRaisesRegex(Malformed, r"^decode: payload b'\\n' is not well-formed$", Value.decode, b"\n")
+        self.assertRaises(TypeError, Value.decode, "text")
+        with self.assertRaises(Unknown):
+            Message(8, CUSTOM_ENTRY, b"").message
+
+    def test_more_fields_than_the_first_room(self):
+        keys = StateKeys(tuple(b"%d" % number for number in range(10000)))
+        self.assertEqual(StateKeys.decode(keys.encode()), keys)
+
+    def test_what_a_later_library_has(self):
+        def one_field(schema, payload, length, table, room):
+            ctypes.memset(table, 0, 48)
+            return 1
+
+        with replaced("journal_fields", one_field):
+            self.assertRaisesRegex(JournalError, "the field 0 of Value, which this module does not know", Value.decode, b"")
+
+        def of_another_kind(*parameters):
+            (ctypes.c_uint64 * 2).from_address(parameters[5])[:] = 10, 0
+            return 0
+
+        with replaced("journal_payload_of_fields", of_another_kind):
+            text = "^encode: the library returned a table of fields of the kind 10, which this module does not know$"
+            self.assertRaisesRegex(JournalError, text, Value(b"x").encode)
+        with replaced("journal_schema", returning(len(RECORDS))), self.assertRaises(JournalError):
+            Message(8, 0x7FFF, b"").message
+
+    def test_threads(self):
+        payload = Future(waiting_signals=tuple(range(60)), nested_futures=(Future(),)).encode()
+        wrong = []
+
+        def decode():
+            for _ in range(300):
+                if Future.decode(payload).encode() != payload:
+                    wrong.append(1)
+
+        threads = [threading.Thread(target=decode) for _ in range(4)]
+        for thread in threads:
+            thread.start()
+        for thread in threads:
+            thread.join()
+        self.assertEqual(wrong, [])
+
+
+class TestValues(unittest.TestCase):
+    def test_they_are_values(self):
+        decoded = SetStateCommandMessage.decode(COMMAND.encode())
+        self.assertEqual((decoded, hash(decoded), repr(decoded)), (COMMAND, hash(COMMAND), repr(COMMAND)))
+        for other in (copy.copy(decoded), copy.deepcopy(decoded), pickle.loads(pickle.dumps(decoded))):
+            self.assertEqual(other, COMMAND)
+        with self.assertRaises(dataclasses.FrozenInstanceError):
+            decoded.key = b""
+        self.assertNotEqual(Value(b"a"), Void())
+
+    def test_replace_changes_one_field_alone(self):
+        for record in RECORDS:
+            for field in dataclasses.fields(record):
+                if isinstance(field.default, (int, str, bytes)) and not isinstance(field.default, bool):
+                    other = {int: 7, str: "seven", bytes: b"seven"}.get(type(field.default), ErrorBehavior.PAUSE)
+                    changed = dataclasses.replace(record(), **{field.name: other})
+                    decoded = record.decode(changed.encode())
+                    self.assertEqual(decoded, changed)
+                    self.assertEqual(dataclasses.replace(decoded, **{field.name: field.default}), record())
+
+    def test_presence(self):
+        record = ErrorMessage(related_command_index=0, related_command_name="", next_retry_delay=0)
+        self.assertEqual(ErrorMessage.decode(record.encode()), record)
+        self.assertEqual(ErrorMessage(code=0, message="", behavior=ErrorBehavior.RETRY).encode(), b"")
+        for signal in (None, 0, 5, "", "name"):
+            record = SignalNotificationMessage(signal_id=signal, result=Void())
+            self.assertEqual(SignalNotificationMessage.decode(record.encode()), record)
+        for result in (None, b"", b"bytes", Failure(), Failure(500, "text", (FailureMetadata("a", "b"),))):
+            record = ProposeRunCompletionMessage(result=result)
+            self.assertEqual(ProposeRunCompletionMessage.decode(record.encode()), record)
+
+    def test_members_of_one_class(self):
+        for member in (NotificationTemplateCompletionId(5), NotificationTemplateSignalId(5)):
+            record = NotificationTemplate(id=member)
+            self.assertEqual(NotificationTemplate.decode(record.encode()), record)
+
+    def test_enums_keep_numbers_without_a_name(self):
+        for number in (-(1 << 31), -1, 2, (1 << 31) - 1):
+            found = ErrorMessage.decode(ErrorMessage(behavior=ErrorBehavior(number)).encode()).behavior
+            self.assertEqual((found, type(found)), (number, ErrorBehavior))
+        self.assertIs(ErrorMessage.decode(ErrorMessage(behavior=1).encode()).behavior, ErrorBehavior.PAUSE)
+        self.assertRaises(ValueError, CombinatorType, 1 << 31)
+
+    def test_numbers_of_64_bits(self):
+        record = SleepCommandMessage(wake_up_time=(1 << 64) - 1)
+        self.assertEqual(SleepCommandMessage.decode(record.encode()), record)
+
+
+class TestFrames(unittest.TestCase):
+    def test_a_message_of_a_record(self):
+        message = Message.of_record(COMMAND, 9)
+        self.assertEqual((message.type, message.version, message.message), ("SetStateCommand", 9, COMMAND))
+        self.assertEqual(message.frame(), COMMAND.frame(9))
+
+    def test_a_record_of_earlier_versions(self):
+        record = SuspensionMessageV6(waiting_completions=(1, 2))
+        self.assertEqual(record.frame(6), bytes.fromhex("0001000000000004" "0a020102"))
+        self.assertEqual(Message(6, SUSPENSION, record.encode()).message, record)
+        self.assertRaisesRegex(Unknown, "^frame: there is no SuspensionMessageV6 at version 7$", record.frame, 7)
+        self.assertRaises(Unknown, record.frame, 4)
+        later = SuspensionMessage.decode(b"").frame(6)
+        self.assertEqual(later, SuspensionMessageV6().frame(6))
+
+
+class TestWrongFields(unittest.TestCase):
+    def test_the_path(self):
+        headers = Header("a", "b"), Header("a", "\ud800")
+        for record, path, reason in (
+            (Failure(code=-1), "code", FieldReason.OUT_OF_RANGE),
+            (Failure(code=1 << 32), "code", FieldReason.OUT_OF_RANGE),
+            (Failure(code=1 << 64), "code", FieldReason.OUT_OF_RANGE),
+            (SleepCommandMessage(wake_up_time=-1), "wake_up_time", FieldReason.OUT_OF_RANGE),
+            (ErrorMessage(behavior=1 << 31), "behavior", FieldReason.OUT_OF_RANGE),
+            (ErrorMessage(behavior=-(1 << 65)), "behavior", FieldReason.OUT_OF_RANGE),
+            (InputCommandMessage(headers=headers), "headers[1].value", FieldReason.NOT_UTF8),
+            (OutputCommandMessage(result=Failure(message="\udfff")), "failure.message", FieldReason.NOT_UTF8),
+        ):
+            with self.subTest(record), self.assertRaises(FieldError) as caught:
+                record.encode()
+            self.assertEqual((caught.exception.path, caught.exception.reason), (path, reason))
+            self.assertIn(f"encode: {path}: ", str(caught.exception))
+            self.assertIsInstance(caught.exception, ValueError)
+
+    def test_the_type(self):
+        for record, text in (
+            (Failure(code="1"), "code must be int, not str"),
+            (Failure(code=1.0), "code must be int, not float"),
+            (Value(content="text"), "content must be bytes, not str"),
+            (Value(content=None), "content must be bytes, not NoneType"),
+            (Header(value=b"bytes"), "value must be str, not bytes"),
+            (InputCommandMessage(value=Failure()), "value must be Value, not Failure"),
+            (InputCommandMessage(headers=(Header(), 5)), r"headers\[1\] must be Header, not int"),
+            (SendSignalCommandMessage(result=b""), "result must be one of Void, Value, Failure, not bytes"),
+        ):
+            with self.subTest(text):
+                self.assertRaisesRegex(TypeError, f"^encode: {text}$", record.encode)
+
+    def test_too_deep(self):
+        deep = Future()
+        for _ in range(100):
+            deep = Future(nested_futures=(deep,))
+        self.assertEqual(Future.decode(deep.encode()), deep)
+        with self.assertRaises(FieldError) as caught:
+            Future(nested_futures=(Future(), deep)).encode()
+        self.assertEqual(caught.exception.reason, FieldReason.TOO_DEEP)
+        self.assertTrue(caught.exception.path.startswith("nested_futures[1].nested_futures[0]."))
+
+
+class TestComments(unittest.TestCase):
+    def test_each_record_and_field_has_that_of_the_description(self):
+        proto = (pathlib.Path(__file__).parents[2] / "proto/journal.proto").read_text()
+        for record in RECORDS:
+            comment = re.search(rf"((?:^// .*\n)+)message {record.__name__} ", proto, re.M)[1]
+            self.assertEqual(" ".join(record.__doc__.split()), " ".join(comment.replace("//", " ").split()))
+
+
+if __name__ == "__main__":
+    unittest.main()

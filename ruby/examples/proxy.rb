@@ -1,0 +1,32 @@
+# frozen_string_literal: true
+
+# Passes a journal on from one connection to another, with each state one greater: ruby proxy.rb VERSION HOST PORT
+#
+# It takes a connection at a port of this machine, which it prints, and opens one to HOST and PORT. All that it does not
+# change it passes on byte for byte.
+
+require "pendratsoa"
+require "socket"
+
+# What takes the place of an item.
+def passed_on(item)
+  case item
+  in Pendratsoa::Message[type: "SetStateCommand", version:, message: { value: { content: } } => command]
+    command.with(value: Pendratsoa::Value.new(content: (Integer(content, 10) + 1).to_s)).frame(version)
+  else item.bytes
+  end
+end
+
+abort "usage: proxy.rb 5..9 HOST PORT" unless ARGV.length == 3 && ARGV[0].match?(/\A[5-9]\z/)
+
+version, host, port = ARGV
+server = TCPServer.new("127.0.0.1", 0)
+puts server.local_address.ip_port
+$stdout.flush
+source = server.accept
+target = TCPSocket.new(host, port)
+begin
+  Pendratsoa::Stream.read(source, version: Integer(version), strict: true) { |item| target.write(passed_on(item)) }
+rescue Pendratsoa::Incomplete => error
+  abort "proxy.rb: #{error.message}"
+end

@@ -1,0 +1,158 @@
+# frozen_string_literal: true
+
+module Pendratsoa
+  # What the records of messages have: constants TYPE and CODE, and a frame.
+  module MessageRecord
+    # Its frame at a version: the header, and its canonical payload. Unknown if it is no record of the version.
+    def frame(version = 8)
+      payload = encode
+      code = self.class::CODE
+      return Pendratsoa.frame(version, code, payload) unless self.class.const_defined?(:BEFORE_VERSION)
+
+      if Pendratsoa.schema(version, code) != self.class::SCHEMA
+        raise Unknown.new("frame: there is no #{self.class} at version #{version}", call: "frame")
+      end
+
+      Pendratsoa.header(version, code, payload.bytesize) << payload
+    end
+  end
+
+  # A member of a oneof where its class alone does not tell it apart: it holds a value.
+  class Member
+    attr_reader :value
+
+    # A class of its own for a member.
+    def self.of
+      Class.new(self)
+    end
+
+    def initialize(value)
+      @value = value
+      freeze
+    end
+
+    def ==(other)
+      other.instance_of?(self.class) && other.value == value
+    end
+    alias eql? ==
+
+    def hash
+      [self.class, value].hash
+    end
+
+    def deconstruct
+      [value]
+    end
+
+    def deconstruct_keys(_keys)
+      { value: value }
+    end
+
+    def inspect
+      "#<#{self.class} #{value.inspect}>"
+    end
+  end
+
+  # What all records have. Each is a frozen class below this one, made with keywords: what is left out is absent, or what
+  # the field is by default.
+  #
+  #   command = Pendratsoa::SetStateCommandMessage.new(key: "counter", value: Pendratsoa::Value.new(content: "1"))
+  #   command.frame(8)
+  #   command.with(name: "set") # as command, but for its name
+  #
+  #   case message.message
+  #   in Pendratsoa::SetStateCommandMessage[key:, value: { content: }] then ..
+  #   end
+  class Record
+    # A field: its name, or that of the oneof that it is a member of, its number, its kind, its shape, what it holds, and
+    # of a member of a oneof its own name, its class, and whether that is made for it.
+    Row = Struct.new(:name, :number, :kind, :shape, :holds, :member, :member_class, :is_wrapped) do
+      # What it holds, which may be a class that comes later in the file.
+      def held
+        @held ||= Pendratsoa.const_get(holds)
+      end
+
+      # The class of the member, of Ruby itself or of this gem.
+      def member_held
+        @member_held ||= Pendratsoa.const_get(member_class)
+      end
+    end
+    private_constant :Row
+
+    class << self
+      # The record that a payload means, in any encoding. Malformed if it is not well-formed.
+      def decode(payload)
+        bytes, = Call.new("decode", payload: payload).data(:payload)
+        numbers, bytes = Fields.of(self::SCHEMA, bytes)
+        Fields::Reader.new(numbers, bytes).record(self, 0)
+      end
+
+      # A record of fields that are all there.
+      def of_fields(fields)
+        record = allocate
+        record.instance_variable_set(:@fields, fields.freeze)
+        record.freeze
+      end
+
+      # The names of its fields.
+      attr_reader :members
+
+      # What the table of fields has of it: rows by their numbers, by their names, and what each field is by default.
+      attr_reader :by_number, :entries, :defaults
+
+      private
+
+      def has(defaults, rows)
+        @defaults = defaults.each_value(&:freeze).freeze
+        @members = defaults.keys.freeze
+        found = rows.map { |row| Row.new(*row) }
+        @by_number = found.to_h { |row| [row.number, row] }.freeze
+        @entries = found.group_by(&:name).transform_values { |of_name| of_name[0].member ? of_name : of_name[0] }.freeze
+        @members.each { |name| define_method(name) { @fields[name] } }
+      end
+    end
+
+    def initialize(**fields)
+      unknown = fields.keys - self.class.members
+      raise ArgumentError, "#{self.class} has no field #{unknown.join(", ")}" unless unknown.empty?
+
+      @fields = self.class.defaults.merge(fields).freeze
+      freeze
+    end
+
+    # The same record with other values of these fields.
+    def with(**fields)
+      self.class.new(**@fields, **fields)
+    end
+
+    # Its canonical payload. A FieldError names the field that a value is wrong for; a value of another class is a
+    # TypeError.
+    def encode
+      Fields::Writer.new(self.class).payload(self)
+    end
+
+    # Its fields by their names.
+    def to_h
+      @fields
+    end
+
+    # What `case .. in` takes.
+    def deconstruct_keys(_keys)
+      @fields
+    end
+
+    def ==(other)
+      other.instance_of?(self.class) && other.to_h == to_h
+    end
+    alias eql? ==
+
+    def hash
+      [self.class, to_h].hash
+    end
+
+    def inspect
+      "#<#{[self.class, *@fields.map { |name, value| "#{name}: #{value.inspect}" }].join(" ")}>"
+    end
+    alias to_s inspect
+  end
+end

@@ -1,0 +1,78 @@
+# frozen_string_literal: true
+
+require_relative "helper"
+require "stringio"
+
+class TestCopies < Minitest::Test
+  # Flags that no encoder sets, long lengths of fields, a custom entry, and what is of no type.
+  FAITHFUL = {
+    8 => "0400123400000009" "72070a05696e707574" "040300000000000b" "0a81000a1a050a82007879" \
+         "fc01ffff00000001ff" "0008a5a500000000" "0003000000000000",
+    9 => "0008a5a500000002" "0003" "fc01000000000000"
+  }.freeze
+
+  def test_items_as_they_came
+    FAITHFUL.each do |version, digits|
+      stream = unhex(digits)
+      [1, 7, stream.bytesize].each do |size|
+        items = Pendratsoa::Stream.read(StringIO.new(stream), version: version, size: size).to_a
+        assert_equal stream, items.map(&:bytes).join
+        assert_equal stream, items.each_with_object(StringIO.new("".b)) { |item, out| item.write_to(out) }.string
+        assert_equal stream, items.map(&:dup).map(&:bytes).join
+        assert(items.all? { |item| Ractor.shareable?(item) })
+      end
+    end
+  end
+
+  def test_a_message_that_is_made
+    message = Pendratsoa::Message.of(:ProposeRunCompletion, unhex("088100"))
+    assert_equal unhex("0005800000000003088100"), message.bytes
+    assert_nil message.word
+    came = Pendratsoa::Stream.new.feed(message.bytes).first
+    assert_equal message, came
+    assert_equal 0x0005_8000_0000_0003, came.word
+    assert_raises(Pendratsoa::Unknown) { Pendratsoa::Message.new(8, 8, "").bytes }
+  end
+
+  def test_frames_with_a_destination
+    message = Pendratsoa::Message.of("InputCommand", INPUT[8..])
+    out = +"\xFF".b
+    assert_same out, message.append_frame(out)
+    assert_equal "\xFF".b + INPUT, out
+    assert_raises(Pendratsoa::Malformed) { Pendratsoa.append_frame(out, 8, CODES[:input], INPUT[8..10]) }
+    assert_raises(TypeError) { message.append_frame(nil) }
+    assert_equal "\xFF".b + INPUT, out
+    written = StringIO.new("".b)
+    assert_same message, message.write_frame(written, 9)
+    assert_equal INPUT, written.string
+  end
+
+  def test_the_end_of_a_stream
+    stream = Pendratsoa::Stream.new
+    assert_same stream, stream.feed(INPUT).each { |item| item }.finish
+    text = "finish: the stream ended within an item, after 1 byte of it"
+    assert_equal 1, assert_error(Pendratsoa::Incomplete, text) { stream.feed("x").finish }.rest
+    items = Pendratsoa::Stream.read(StringIO.new(INPUT + INPUT[0, 5]), strict: true)
+    assert_equal "InputCommand 9", items.next.to_s
+    error = assert_error(Pendratsoa::Incomplete, "read: the stream ended within an item, after 5 bytes of it") { items.next }
+    assert_equal ["read", 5], [error.call, error.rest]
+  end
+
+  def test_patterns_with_the_type
+    found = [INPUT, unhex("fc01000000000000"), unhex("0008000000000000")].map do |bytes|
+      case Pendratsoa::Stream.new.feed(bytes).first
+      in Pendratsoa::Message[type: "InputCommand", version: 8, payload:] then payload
+      in Pendratsoa::Message[type: /Custom/ => type, **others] then [type, others.keys]
+      in Pendratsoa::UnknownCode[code: 8] then :unknown
+      end
+    end
+    assert_equal [INPUT[8..], ["CustomEntry(64513)", %i[version code payload requires_ack]], :unknown], found
+    assert_equal({ code: 8, type: nil }, Pendratsoa::Message.new(8, 8, "").deconstruct_keys(%i[code type]))
+    assert_equal({}, Pendratsoa::Message.new(8, 8, "").deconstruct_keys(%i[none code type]).except(:type))
+  end
+
+  def test_types_as_symbols
+    assert_equal Pendratsoa::Message.of("InputCommand"), Pendratsoa::Message.of(:InputCommand)
+    assert_raises(Pendratsoa::Unknown) { Pendratsoa::Message.of(:Input) }
+  end
+end

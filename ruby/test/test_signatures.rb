@@ -1,0 +1,55 @@
+# frozen_string_literal: true
+
+require_relative "helper"
+
+begin
+  require "rbs"
+rescue LoadError
+  warn "test_signatures.rb: not run, since there is no rbs"
+end
+
+# The signatures of sig/ have the methods that there are, and no others.
+class TestSignatures < Minitest::Test
+  # What every object has, and writers of frozen members.
+  COMMON = %i[initialize to_s inspect hash == eql? deconstruct deconstruct_keys].freeze
+
+  def setup
+    skip unless defined?(RBS)
+    loader = RBS::EnvironmentLoader.new
+    loader.add(path: Pathname(File.join(TOP, "ruby/sig")))
+    @builder = RBS::DefinitionBuilder.new(env: RBS::Environment.from_loader(loader).resolve_type_names)
+  end
+
+  def test_the_functions
+    declared = names(@builder.build_singleton(type_name("Pendratsoa")))
+    assert_equal Pendratsoa.singleton_methods(false).sort, declared
+  end
+
+  def test_the_classes
+    classes = Pendratsoa.constants.map { |name| Pendratsoa.const_get(name) }.grep(Module)
+    refute_empty classes
+    classes.each do |one|
+      declared = names(@builder.build_instance(type_name(one.name))) - COMMON
+      found = one.public_instance_methods(false).reject { |name| COMMON.include?(name) || name.end_with?("=") }
+      # what a class inherits of a module is in both, or in the module alone
+      assert_equal [], (found - declared).sort, one.name
+      assert_equal [], (declared - one.public_instance_methods).sort, one.name
+    end
+  end
+
+  private
+
+  def type_name(name)
+    *outer, last = name.split("::").map(&:to_sym)
+    RBS::TypeName.new(name: last, namespace: RBS::Namespace.new(path: outer, absolute: true))
+  end
+
+  # The public methods that are declared in this gem.
+  def names(definition)
+    definition.methods.select { |_, method| method.public? && ours?(method.implemented_in || method.defined_in) }.keys.sort
+  end
+
+  def ours?(name)
+    name.to_s.start_with?("::Pendratsoa")
+  end
+end

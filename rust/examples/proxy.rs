@@ -1,0 +1,59 @@
+//! Passes a journal on from one connection to another, with each state one greater: proxy VERSION HOST PORT
+//!
+//! It takes a connection at a port of this machine, which it prints, and opens one to HOST and PORT. All that it does
+//! not change it passes on byte for byte.
+
+use std::env;
+use std::error::Error;
+use std::io::{Read, Write};
+use std::net::{TcpListener, TcpStream};
+
+use pendratsoa::messages::{MessageRecord, Record, SetStateCommandMessage};
+use pendratsoa::{Decoder, Item, MessageType};
+
+fn main() -> Result<(), Box<dyn Error>> {
+    let words: Vec<String> = env::args().skip(1).collect();
+    let (version, host, port) = match words.as_slice() {
+        [version, host, port] => (version, host.as_str(), port),
+        _ => return Err("usage: proxy 5..9 HOST PORT".into()),
+    };
+    let decoder = Decoder::new(version.parse()?)?;
+    let listener = TcpListener::bind("127.0.0.1:0")?;
+    println!("{}", listener.local_addr()?.port());
+    let (source, _) = listener.accept()?;
+    let target = TcpStream::connect((host, port.parse()?))?;
+    pass_on(decoder, source, target)
+}
+
+/// Writes the items of a stream, as they are to be passed on.
+fn pass_on(
+    mut decoder: Decoder,
+    mut source: impl Read,
+    mut target: impl Write,
+) -> Result<(), Box<dyn Error>> {
+    let mut out = Vec::new();
+    while decoder.read_from(&mut source)? > 0 {
+        for item in decoder.items() {
+            append(&item?, &mut out)?;
+        }
+        target.write_all(&out)?;
+        out.clear();
+    }
+    Ok(decoder.finish()?)
+}
+
+/// Appends what takes the place of an item.
+fn append(item: &Item<'_>, out: &mut Vec<u8>) -> Result<(), Box<dyn Error>> {
+    match item {
+        Item::Message(message) if message.code == MessageType::SetStateCommand.code() => {
+            let mut command = SetStateCommandMessage::decode(message.payload)?;
+            if let Some(value) = &mut command.value {
+                let number: i64 = std::str::from_utf8(&value.content)?.parse()?;
+                value.content = (number + 1).to_string().into_bytes().into();
+            }
+            out.extend(command.frame(message.version)?);
+        }
+        other => other.append_to(out)?,
+    }
+    Ok(())
+}

@@ -1,0 +1,171 @@
+//! Items as they came, frames with a destination, and the end of a stream.
+
+use std::io;
+
+use pendratsoa::{
+    append_frame, next_item, Argument, Decoder, Error, Item, Message, MessageType, Next,
+};
+
+/// Flags that no encoder sets, long lengths of fields, a custom entry, and what is of no type.
+const FAITHFUL: [(u32, &[u8]); 2] = [
+    (
+        8,
+        b"\x04\x00\x12\x34\x00\x00\x00\x09r\x07\n\x05input\
+          \x04\x03\x00\x00\x00\x00\x00\x0b\n\x81\x00a\x1a\x05\n\x82\x00xy\
+          \xFC\x01\xFF\xFF\x00\x00\x00\x01\xFF\
+          \x00\x08\xA5\xA5\x00\x00\x00\x00\
+          \x00\x03\x00\x00\x00\x00\x00\x00",
+    ),
+    (
+        9,
+        b"\x00\x08\xA5\xA5\x00\x00\x00\x02\x00\x03\xFC\x01\x00\x00\x00\x00\x00\x00",
+    ),
+];
+
+#[test]
+fn items_are_copied_as_they_came() {
+    for (version, stream) in FAITHFUL {
+        for size in [1, 7, stream.len()] {
+            let (mut appended, mut written, mut together) = (Vec::new(), Vec::new(), Vec::new());
+            let mut decoder = Decoder::new(version).unwrap();
+            for chunk in stream.chunks(size) {
+                decoder.feed(chunk).unwrap();
+                for item in decoder.items() {
+                    let item = item.unwrap();
+                    item.append_to(&mut appended).unwrap();
+                    item.write_to(&mut written).unwrap();
+                    together.extend(item.to_bytes().unwrap());
+                }
+            }
+            assert_eq!(appended, stream);
+            assert_eq!(written, stream);
+            assert_eq!(together, stream);
+            assert_eq!(decoder.finish(), Ok(()));
+        }
+    }
+}
+
+#[test]
+fn a_message_that_is_made_is_copied_with_the_header_of_its_type() {
+    let code = MessageType::ProposeRunCompletion.code();
+    let message = Message::new(8, code, &[8, 0x81, 0]).unwrap();
+    let bytes = Item::from(message).to_bytes().unwrap();
+    assert_eq!(bytes, b"\x00\x05\x80\x00\x00\x00\x00\x03\x08\x81\x00");
+    let (item, size) = (Item::Message(message), 11);
+    assert_eq!(next_item(8, &bytes), Ok(Next::Item { item, size }));
+}
+
+#[test]
+fn items_print_as_a_listing() {
+    let (_, stream) = FAITHFUL[0];
+    let mut decoder = Decoder::new(8).unwrap();
+    decoder.feed(stream).unwrap();
+    decoder.feed(&[0, 5, 0x80, 0, 0, 0, 0, 0]).unwrap();
+    let lines: Vec<String> = decoder
+        .items()
+        .map(|item| item.unwrap().to_string())
+        .collect();
+    assert_eq!(
+        lines,
+        [
+            "InputCommand 9",
+            "SetStateCommand 11",
+            "CustomEntry(64513) 1",
+            "unknown 0x8",
+            "End 0",
+            "ProposeRunCompletion 0 ack"
+        ]
+    );
+}
+
+#[test]
+fn frames_are_appended() {
+    let payload = b"r\x07\n\x05input";
+    let message = Message::new(8, MessageType::InputCommand.code(), payload).unwrap();
+    for room in [0, 1, 17, 100] {
+        let mut out = Vec::with_capacity(1 + room);
+        out.push(7);
+        assert_eq!(message.append_frame(&mut out), Ok(17));
+        assert_eq!(out[1..], message.frame().unwrap());
+        assert_eq!(out[0], 7);
+        let before = out.clone();
+        for (version, code, payload) in [
+            (8, 0x400, &payload[..3]),
+            (4, 0x400, payload),
+            (8, 8, payload),
+        ] {
+            assert!(append_frame(version, code, payload, &mut out).is_err());
+            assert_eq!(out, before);
+        }
+    }
+    let mut written = Vec::new();
+    message.write_frame(&mut written).unwrap();
+    assert_eq!(written, message.frame().unwrap());
+    let malformed = Message::new(8, 0x400, &payload[..3]).unwrap();
+    let error = malformed.write_frame(&mut written).unwrap_err();
+    assert_eq!(error.kind(), io::ErrorKind::InvalidData);
+    let inner = error.into_inner().unwrap();
+    assert!(matches!(inner.downcast_ref(), Some(Error::Malformed(_))));
+    assert_eq!(written.len(), 17);
+}
+
+#[test]
+fn a_decoder_has_room_for_what_comes_in_another_way() {
+    let (version, stream) = FAITHFUL[0];
+    for size in 1..=stream.len() {
+        let mut decoder = Decoder::new(version).unwrap();
+        let mut copied = Vec::new();
+        for chunk in stream.chunks(size) {
+            // room that is not used, and room of which a part is
+            decoder.room(3).unwrap().fill(0xFF);
+            let room = decoder.room(size + 5).unwrap();
+            assert_eq!(room.len(), size + 5);
+            room.fill(0xEE);
+            room[..chunk.len()].copy_from_slice(chunk);
+            let rest = decoder.rest();
+            decoder.advance(chunk.len());
+            assert_eq!(decoder.rest(), rest + chunk.len());
+            for item in decoder.items() {
+                item.unwrap().append_to(&mut copied).unwrap();
+            }
+        }
+        assert_eq!(copied, stream);
+    }
+    let mut decoder = Decoder::new(8).unwrap();
+    decoder.advance(9);
+    assert_eq!(decoder.rest(), 0);
+    decoder.room(2).unwrap();
+    decoder.advance(9);
+    assert_eq!(decoder.finish(), Err(Error::Incomplete(2)));
+    assert_eq!(decoder.room(usize::MAX / 2), Err(Error::OutOfMemory));
+    assert_eq!(decoder.rest(), 2);
+    decoder.advance(1);
+    assert_eq!(decoder.rest(), 2);
+}
+
+#[test]
+fn a_message_that_is_longer_than_the_limit_ends_the_stream() {
+    let stream = [0, 0, 0, 0, 0, 0, 0, 0, 0, 0, 0, 0, 0, 0, 0, 10, 0xFF];
+    let error = Error::TooLong(Argument::PayloadLength(10));
+    for takes in 0..3 {
+        let mut decoder = Decoder::with_max_message_size(8, 9).unwrap();
+        decoder.room(20).unwrap()[..17].copy_from_slice(&stream);
+        decoder.advance(17);
+        let found: Vec<bool> = decoder.items().map(|item| item.is_ok()).collect();
+        assert_eq!(found, [true, false]);
+        assert_eq!((decoder.offset(), decoder.rest()), (8, 9));
+        match takes {
+            0 => assert_eq!(decoder.feed(&[0]), Err(error.clone())),
+            1 => assert_eq!(decoder.room(1), Err(error.clone())),
+            _ => {
+                let found = decoder.read_from(&[0][..]).unwrap_err();
+                assert_eq!(found.kind(), io::ErrorKind::InvalidData);
+            }
+        }
+        assert_eq!(decoder.rest(), 0);
+        decoder.advance(1);
+        assert_eq!(decoder.rest(), 0);
+        assert_eq!(decoder.finish(), Err(error.clone()));
+        assert_eq!(decoder.items().next(), Some(Err(error.clone())));
+    }
+}

@@ -1,0 +1,181 @@
+//! Records, which are read from payloads and written as such.
+
+use std::borrow::Cow;
+
+use pendratsoa::messages::{
+    AnyMessage, CallCompletionNotificationMessage, ErrorBehavior, ErrorMessage, Failure, Future,
+    Header, InputCommandMessage, MessageRecord, OutputCommandMessage, OutputCommandResult, Record,
+    SetStateCommandMessage, SignalNotificationMessage, SignalNotificationSignalId, StateKeys,
+    SuspensionMessageV6, Value, Void,
+};
+use pendratsoa::{Argument, Decoder, Error, FieldReason, Item, Message, MessageType, Version};
+
+const RECORDED: &[u8] = include_bytes!("../../examples/streams/recorded");
+
+#[test]
+fn the_messages_of_a_stream() {
+    let mut decoder = Decoder::new(8).unwrap();
+    decoder.feed(RECORDED).unwrap();
+    let mut states = 0;
+    for item in decoder.items() {
+        let item = item.unwrap();
+        let message = match item {
+            Item::Message(message) => message,
+            other => panic!("{other}"),
+        };
+        let record = message.message().unwrap();
+        assert_eq!(record.frame(Version::V8).unwrap(), item.to_bytes().unwrap());
+        if let AnyMessage::SetStateCommand(command) = record {
+            assert!(matches!(command.key, Cow::Borrowed(b"counter")));
+            let changed = SetStateCommandMessage {
+                value: Some(Value {
+                    content: b"22"[..].into(),
+                }),
+                ..command.clone()
+            };
+            let payload = changed.encode().unwrap();
+            assert_eq!(payload, b"\n\x07counter\x1a\x04\n\x0222");
+            assert_eq!(SetStateCommandMessage::decode(&payload).unwrap(), changed);
+            states += 1;
+        }
+    }
+    assert_eq!(states, 1);
+}
+
+#[test]
+fn what_is_absent_is_none() {
+    let record = ErrorMessage {
+        related_command_index: Some(0),
+        related_command_name: Some("".into()),
+        behavior: ErrorBehavior(-5),
+        ..Default::default()
+    };
+    assert_eq!(
+        ErrorMessage::decode(&record.encode().unwrap()).unwrap(),
+        record
+    );
+    assert_eq!(ErrorMessage::default().encode().unwrap(), b"");
+    for signal_id in [
+        None,
+        Some(SignalNotificationSignalId::Idx(0)),
+        Some(SignalNotificationSignalId::Name("".into())),
+    ] {
+        let record = SignalNotificationMessage {
+            signal_id,
+            result: None,
+        };
+        let payload = record.encode().unwrap();
+        assert_eq!(SignalNotificationMessage::decode(&payload).unwrap(), record);
+    }
+    assert_eq!(Void::decode(&[]), Ok(Void {}));
+}
+
+#[test]
+fn another_encoding_is_copied() {
+    let payload = b"\n\x81\x00a\x1a\x05\n\x82\x00xy";
+    let command = SetStateCommandMessage::decode(payload).unwrap();
+    assert!(matches!(&command.key, Cow::Owned(key) if key == b"a"));
+    assert_eq!(*command.value.unwrap().content, *b"xy");
+    let suspension = SuspensionMessageV6::decode(&[8, 1, 10, 2, 2, 3, 8, 4]).unwrap();
+    assert_eq!(suspension.waiting_completions, [1, 2, 3, 4]);
+}
+
+#[test]
+fn more_fields_than_the_first_room() {
+    let keys = StateKeys {
+        keys: vec![b"key"[..].into(); 1000],
+    };
+    let mut out = vec![7];
+    assert_eq!(keys.append_to(&mut out), Ok(5000));
+    assert_eq!(StateKeys::decode(&out[1..]).unwrap(), keys);
+}
+
+#[test]
+fn a_field_that_cannot_be_encoded_is_named() {
+    let mut deep = Future::default();
+    for _ in 0..100 {
+        deep = Future {
+            nested_futures: vec![Future::default(), deep],
+            ..Default::default()
+        };
+    }
+    let mut out = vec![7];
+    match deep.append_to(&mut out) {
+        Ok(_) => assert_eq!(Future::decode(&out[1..]).unwrap(), deep),
+        Err(error) => panic!("{error}"),
+    }
+    let deeper = Future {
+        nested_futures: vec![deep],
+        ..Default::default()
+    };
+    let error = deeper.encode().unwrap_err();
+    match &error {
+        Error::Field(error) => {
+            assert_eq!(error.reason, FieldReason::TooDeep);
+            assert!(error
+                .path
+                .starts_with("nested_futures[0].nested_futures[1].nested_futures[1]."));
+        }
+        other => panic!("{other}"),
+    }
+    assert!(error.to_string().ends_with(": too deep"), "{error}");
+}
+
+#[test]
+fn what_is_no_record() {
+    assert_eq!(
+        Value::decode(&[10]),
+        Err(Error::Malformed(Argument::Payload(1)))
+    );
+    let entry = Message::new(8, 0xFC01, &[]).unwrap();
+    assert_eq!(entry.message(), Err(Error::Unknown(Argument::Code(0xFC01))));
+    let suspension = SuspensionMessageV6 {
+        waiting_completions: vec![1],
+        ..Default::default()
+    };
+    assert_eq!(
+        suspension.frame(6u32).unwrap(),
+        [0, 1, 0, 0, 0, 0, 0, 3, 10, 1, 1]
+    );
+    assert_eq!(
+        suspension.frame(7u32),
+        Err(Error::Unknown(Argument::Version(7)))
+    );
+    assert_eq!(
+        suspension.frame(4u32),
+        Err(Error::Unknown(Argument::Version(4)))
+    );
+}
+
+#[test]
+fn records_of_messages_have_their_types() {
+    assert_eq!(InputCommandMessage::TYPE, MessageType::InputCommand);
+    let headers = vec![Header {
+        key: "a".into(),
+        value: "b".into(),
+    }];
+    let input = InputCommandMessage {
+        headers,
+        ..Default::default()
+    };
+    assert_eq!(
+        InputCommandMessage::decode(&input.encode().unwrap()).unwrap(),
+        input
+    );
+    let result = Some(OutputCommandResult::Failure(Failure {
+        code: 500,
+        ..Default::default()
+    }));
+    let output = OutputCommandMessage {
+        result,
+        ..Default::default()
+    };
+    assert_eq!(
+        OutputCommandMessage::decode(&output.encode().unwrap()).unwrap(),
+        output
+    );
+    assert!(CallCompletionNotificationMessage::default()
+        .encode()
+        .unwrap()
+        .is_empty());
+}

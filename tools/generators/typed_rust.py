@@ -1,0 +1,298 @@
+"""The records as structs of Rust, which borrow the payload that they are read from."""
+import functools
+import textwrap
+
+from .calls_data import described
+from .typed_model import TypedOneOf, enumerations, messages, reasons, records
+
+HEAD = """\
+//! The records of the journal protocol, a struct for each, with the comments of its description.
+//!
+//! What is absent is `None`, and a oneof is an enum. Bytes and texts are borrowed from the payload where it is
+//! canonical, and otherwise copied. [`Record::decode`] reads any payload that means one, and [`Record::encode`] makes
+//! the canonical one; those of messages have a [`MessageRecord::frame`].
+//!
+//! ```
+//! use pendratsoa::messages::{MessageRecord, SetStateCommandMessage, Value};
+//!
+//! let command = SetStateCommandMessage {
+//!     key: b"counter"[..].into(),
+//!     value: Some(Value { content: b"1"[..].into() }),
+//!     ..Default::default()
+//! };
+//! let frame = command.frame(8u32)?;
+//! assert_eq!(frame.len(), 22);
+//! # Ok::<(), pendratsoa::Error>(())
+//! ```
+
+use std::borrow::Cow;
+
+use crate::error::Error;
+use crate::fields::{Fields, Listed, Table, Writer};
+use crate::message_type::MessageType;
+use crate::schema::Schema;
+
+pub use crate::fields::{MessageRecord, Record};
+"""
+
+
+def camel(name):
+    return "".join(word.capitalize() for word in name.split("_"))
+
+
+def doc(comment, indent=""):
+    return "".join(f"{indent}/// {line}\n" for line in textwrap.wrap(comment, 115 - len(indent)))
+
+
+@functools.cache
+def borrows(name):
+    """Whether a record borrows anything."""
+    seen, left = set(), [name]
+    by_name = {record.name: record for record in records()}
+    while left:
+        record = by_name[left.pop()]
+        seen.add(record.name)
+        for field in record.fields():
+            if field.kind in ("text", "bytes"):
+                return True
+            if field.record and field.record not in seen:
+                left.append(field.record)
+    return False
+
+
+def life(name):
+    return "<'a>" if borrows(name) else ""
+
+
+TYPES = {"u32": "u32", "u64": "u64", "bool": "bool", "text": "Cow<'a, str>", "bytes": "Cow<'a, [u8]>"}
+
+
+def element(field):
+    return f"{field.record}{life(field.record)}" if field.record else field.enum or TYPES[field.kind]
+
+
+def oneof_name(record, row):
+    return f"{record.name.removesuffix('Message')}{camel(row.name)}"
+
+
+def oneof_life(row):
+    borrowed = any(field.kind in ("text", "bytes") or field.record and borrows(field.record) for field in row.members)
+    return "<'a>" if borrowed else ""
+
+
+def type_of(record, row):
+    if isinstance(row, TypedOneOf):
+        return f"Option<{oneof_name(record, row)}{oneof_life(row)}>"
+    if row.shape == "repeated":
+        return f"Vec<{element(row)}>"
+    return f"Option<{element(row)}>" if row.shape == "optional" else element(row)
+
+
+def raw(name):
+    """A field's name, where it is a word of Rust."""
+    return f"r#{name}" if name in ("type", "fn", "match", "move", "ref", "use", "where", "loop", "mod", "impl", "in") else name
+
+
+def struct(record):
+    text = "\n" + doc(record.comment) + "#[derive(Clone, Debug, Default, PartialEq, Eq, Hash)]\n"
+    if not record.rows:
+        return text + f"pub struct {record.name} {{}}\n"
+    text += f"pub struct {record.name}{life(record.name)} {{\n"
+    for row in record.rows:
+        text += doc(row.comment, "    ") + f"    pub {raw(row.name)}: {type_of(record, row)},\n"
+    return text + "}\n"
+
+
+def oneof(record, row):
+    name = oneof_name(record, row)
+    text = "\n" + doc(row.comment) + f"#[derive(Clone, Debug, PartialEq, Eq, Hash)]\npub enum {name}{oneof_life(row)} {{\n"
+    for field in row.members:
+        text += doc(field.comment, "    ") + f"    {camel(field.name)}({element(field)}),\n"
+    return text + "}\n"
+
+
+READS = {
+    "u32": "field.number32()?",
+    "u64": "field.value()",
+    "bool": "field.value() != 0",
+    "text": "table.text(&field)?",
+    "bytes": "table.bytes(&field)?",
+    "message": "Fields::read(table, level + 1)?",
+}
+
+
+def reading(field):
+    return f"{field.enum}(field.signed()?)" if field.enum else READS[field.kind]
+
+
+def read_arm(record, row, field):
+    target = f"found.{raw(row.name)}"
+    if isinstance(row, TypedOneOf):
+        return (
+            f"{field.number} => {{\n                    let value = {reading(field)};\n"
+            f"                    {target} = Some({oneof_name(record, row)}::{camel(field.name)}(value));\n                }}"
+        )
+    if field.shape == "repeated":
+        return (
+            f"{field.number} => {{\n                    let element = {reading(field)};\n"
+            f"                    push(&mut {target}, element)?;\n                }}"
+        )
+    return f"{field.number} => {target} = {f'Some({reading(field)})' if field.shape == 'optional' else reading(field)},"
+
+
+def writing(field, value, is_reference):
+    """What writes a value, which is a reference or a place."""
+    number = field.number
+    held = value if is_reference else f"&{value}"
+    plain = f"*{value}" if is_reference else value
+    if field.record:
+        return f"writer.record(level, {number}, {held})?;"
+    if field.kind in ("text", "bytes"):
+        return f"writer.{field.kind}(level, {number}, {held})?;"
+    if field.enum:
+        return f"writer.signed(level, {number}, {value}.0)?;"
+    if field.kind == "bool":
+        return f"writer.flag(level, {number}, {plain})?;"
+    if field.kind == "u64":
+        return f"writer.number64(level, {number}, {plain})?;"
+    return f"writer.number32(level, {number}, {plain})?;"
+
+
+def write_part(record, row):
+    target = f"self.{raw(row.name)}"
+    if isinstance(row, TypedOneOf):
+        arms = "".join(
+            f"            Some({oneof_name(record, row)}::{camel(field.name)}(value)) => {{\n"
+            f"                {writing(field, 'value', True)}\n            }}\n"
+            for field in row.members
+        )
+        return f"        match &{target} {{\n{arms}            None => {{}}\n        }}\n"
+    if row.shape == "repeated":
+        return f"        for element in &{target} {{\n            {writing(row, 'element', True)}\n        }}\n"
+    if row.shape == "optional":
+        return f"        if let Some(value) = &{target} {{\n            {writing(row, 'value', True)}\n        }}\n"
+    return f"        {writing(row, target, False)}\n"
+
+
+def implementation(record):
+    # a record that borrows nothing is read from any payload
+    name = record.name
+    generic = f"impl<'a> Fields<'a> for {name}{life(name)}"
+    text = f"\n{generic} {{\n    const LISTED: &'static Listed = &LISTED[{record.schema}];\n\n"
+    text += "    fn read(table: &mut Table<'a, '_>, level: u64) -> Result<Self, Error> {\n"
+    if record.rows:
+        text += "        let mut found = Self::default();\n        while let Some(field) = table.next(level) {\n"
+        text += "            match field.number() {\n"
+        for row in record.rows:
+            for field in row.members if isinstance(row, TypedOneOf) else [row]:
+                text += "                " + read_arm(record, row, field) + "\n"
+        text += "                number => return Err(Self::unknown(number)),\n            }\n        }\n        Ok(found)\n    }\n"
+        text += "\n    fn write(&self, writer: &mut Writer, level: u64) -> Result<(), Error> {\n"
+        text += "".join(write_part(record, row) for row in record.rows) + "        Ok(())\n    }\n}\n"
+    else:
+        text += "        match table.next(level) {\n            Some(field) => Err(Self::unknown(field.number())),\n"
+        text += "            None => Ok(Self {}),\n        }\n    }\n"
+        text += "\n    fn write(&self, _: &mut Writer, _: u64) -> Result<(), Error> {\n        Ok(())\n    }\n}\n"
+    text += f"\nimpl<'a> Record<'a> for {name}{life(name)} {{\n    const SCHEMA: Schema = Schema::{name};\n}}\n"
+    if record.code is not None:
+        before = f"    const BEFORE_VERSION: Option<u32> = Some({record.before_version});\n" if record.before_version else ""
+        text += (
+            f"\nimpl<'a> MessageRecord<'a> for {name}{life(name)} {{\n"
+            f"    const TYPE: MessageType = MessageType::{record.type_name};\n{before}}}\n"
+        )
+    return text
+
+
+def enum(found):
+    text = "\n" + doc(found.comment) + "#[derive(Clone, Copy, Debug, Default, PartialEq, Eq, Hash)]\n"
+    text += f"pub struct {found.name}(pub i32);\n\nimpl {found.name} {{\n"
+    for name, number in found.values:
+        text += f"    /// `{name}`.\n    pub const {name}: {found.name} = {found.name}({number});\n"
+    return text + "}\n"
+
+
+def any_message():
+    sent = [record for record in records() if record.code is not None]
+    text = "\n/// The record of a message of any type.\n#[derive(Clone, Debug, PartialEq, Eq, Hash)]\n#[non_exhaustive]\n"
+    text += "pub enum AnyMessage<'a> {\n"
+    for record in sent:
+        text += doc(record.comment, "    ") + f"    {variant(record)}({record.name}{life(record.name)}),\n"
+    text += "}\n\nimpl<'a> AnyMessage<'a> {\n"
+    text += "    /// The record that a payload means for a schema, or `None` if the schema is of no message's record.\n"
+    text += "    pub(crate) fn read(schema: u32, payload: &'a [u8]) -> Option<Result<AnyMessage<'a>, Error>> {\n"
+    text += "        Some(match Schema::from_number(schema)? {\n"
+    for record in sent:
+        text += f"            Schema::{record.name} => {{\n"
+        text += f"                Record::decode(payload).map(AnyMessage::{variant(record)})\n            }}\n"
+    text += "            _ => return None,\n        })\n    }\n\n"
+    text += "    /// Its frame at a version, as [`MessageRecord::frame`].\n"
+    text += "    pub fn frame(&self, version: impl Into<u32>) -> Result<Vec<u8>, Error> {\n        match self {\n"
+    for record in sent:
+        text += f"            AnyMessage::{variant(record)}(record) => record.frame(version),\n"
+    return text + "        }\n    }\n}\n"
+
+
+def variant(record):
+    return record.name.replace("Message", "")
+
+
+def listed():
+    text = "\n/// The names of the records and of their fields, at the numbers of their schemas, for the paths of errors.\n"
+    text += f"const LISTED: [Listed; {len(records())}] = [\n"
+    for record in records():
+        fields = "".join(
+            f'        ({field.number}, "{field.name}", {str(field.shape == "repeated").lower()}, '
+            + (f"Some({next(other.schema for other in records() if other.name == field.record)})" if field.record else "None")
+            + "),\n"
+            for field in record.fields()
+        )
+        fields = f"\n{fields}    " if fields else ""
+        text += f'    Listed {{ name: "{record.name}", fields: &[{fields}] }},\n'
+    text += "];\n\nstatic ALL: [Listed; %d] = LISTED;\n\n" % len(records())
+    text += "pub(crate) fn listed(schema: usize) -> &'static Listed {\n    &ALL[schema]\n}\n"
+    return text
+
+
+def kinds():
+    text = "//! Why a field cannot be encoded, by the numbers of the library, and the versions.\n\n"
+    names = [("".join(word.capitalize() for word in name.split("_")), *texts) for name, *texts in reasons()]
+    text += "/// Why a field cannot be encoded.\n#[derive(Clone, Copy, Debug, PartialEq, Eq, Hash)]\n#[non_exhaustive]\n"
+    text += "pub enum FieldReason {\n" + "".join(f"    /// {said[0].upper()}{said[1:]}.\n    {name},\n" for name, said, _ in names)
+    text += "}\n\nimpl FieldReason {\n    pub(crate) fn from_number(number: u64) -> Option<FieldReason> {\n        Some(match number {\n"
+    text += "".join(f"            {number} => FieldReason::{name},\n" for number, (name, _, _) in enumerate(names, 1))
+    text += "            _ => return None,\n        })\n    }\n\n    pub(crate) fn text(self) -> &'static str {\n        match self {\n"
+    text += "".join(f'            FieldReason::{name} => "{words}",\n' for name, _, words in names)
+    first, last = described()["versions"]
+    text += "        }\n    }\n}\n\n/// The protocol versions.\n#[derive(Clone, Copy, Debug, PartialEq, Eq, PartialOrd, Ord, Hash)]\n#[non_exhaustive]\n"
+    text += "pub enum Version {\n" + "".join(f"    /// Version {number}.\n    V{number} = {number},\n" for number in range(first, last + 1))
+    text += "}\n\nimpl From<Version> for u32 {\n    fn from(version: Version) -> u32 {\n        version as u32\n    }\n}\n"
+    return text
+
+
+def module():
+    text = HEAD + "\n/// Appends an element. `Error::OutOfMemory`.\nfn push<T>(elements: &mut Vec<T>, element: T) -> Result<(), Error> {\n"
+    text += "    elements.try_reserve(1).map_err(|_| Error::OutOfMemory)?;\n    elements.push(element);\n    Ok(())\n}\n"
+    text += "".join(enum(found) for found in enumerations())
+    for record in records():
+        text += struct(record) + "".join(oneof(record, row) for row in record.rows if isinstance(row, TypedOneOf))
+        text += implementation(record)
+    return text + any_message() + listed()
+
+
+def all_records():
+    """What the tests need of every record."""
+    text = "//! Every record, by its schema: what is decoded, and encoded again.\n\n"
+    text += "use pendratsoa::messages::{self, Record};\nuse pendratsoa::{Error, Schema};\n\n"
+    text += "fn again<'a, R: Record<'a>>(payload: &'a [u8]) -> Result<Vec<u8>, Error> {\n    R::decode(payload)?.encode()\n}\n\n"
+    text += "/// The payload of the record that a payload means for a schema.\n"
+    text += "pub fn encoded_again(schema: Schema, payload: &[u8]) -> Result<Vec<u8>, Error> {\n    match schema {\n"
+    text += "".join(f"        Schema::{record.name} => again::<messages::{record.name}>(payload),\n" for record in records())
+    return text + '        other => panic!("{other:?} is not listed"),\n    }\n}\n'
+
+
+def files():
+    return {
+        "rust/src/messages.rs": module(),
+        "rust/src/kinds.rs": kinds(),
+        "rust/tests/all_records/mod.rs": all_records(),
+    }
