@@ -1,0 +1,507 @@
+#!/usr/bin/env python3
+"""A release: its files are the same from another folder, and are installed, used and removed in a bare system.
+
+scripts/release.sh makes the files of what is proved, and once more those that have the library and the programs, in a
+clone of another name with another day, language and mask. The bare systems are roots of Debian's base packages and the
+interpreters, which mmdebstrap makes from the source of packages that apt is set up with, one for x86-64 and one for
+arm64, under qemu: without a compiler, the toolchain or a network. C, Rust and Go are compiled outside of them.
+"""
+from __future__ import annotations
+
+import collections.abc
+import dataclasses
+import os
+import pathlib
+import re
+import shutil
+import subprocess
+
+import checks
+import crates
+import machines
+
+VERSION = checks.library_version()
+STREAMS = pathlib.Path("examples/streams")
+LISTED = (STREAMS / "replay", STREAMS / "replay.stdout")
+
+# The latest glibc whose symbols the library and the addon may have, that of Debian 11, and the programs, which have
+# what the toolchain links.
+LIBRARY_GLIBC = (2, 31)
+PROGRAMS_GLIBC = (2, 34)
+
+# What the bare systems have beside the packages of every system.
+PACKAGES = {
+    "x86_64": ("python3-venv", "ruby", "ruby-minitest", "nodejs"),
+    "aarch64": ("python3", "python3-pip-whl", "ruby", "nodejs"),
+}
+
+# Of how many test vectors one is taken: under qemu a few, since scripts/checks/arm64.sh takes all of them there.
+TAKEN_OF = {"x86_64": 1, "aarch64": 10}
+
+# What the programs print: their words, and the file of it or the text.
+PRINTS = (
+    (("journal_list", STREAMS / "replay"), STREAMS / "replay.stdout"),
+    (("journal_dump", STREAMS / "replay"), STREAMS / "replay.dump"),
+    (("journal", "make", STREAMS / "replay.dump"), STREAMS / "replay"),
+    (("journal", "diff", STREAMS / "recorded", STREAMS / "recorded"), "same, 4 commands\n"),
+    (("journal", "--version"), f"journal {VERSION}\n"),
+)
+
+# What the roots have of this repository, for examples and test vectors.
+TAKEN = ("examples", "conformance", "include", "proto", "python", "ruby/test", "node/test")
+
+# What dpkg and ldconfig note of what they do, and the folders that gem makes for its first gem; all else is a trace.
+NOTES = re.compile(
+    r"^(var/log/|var/lib/dpkg/(status|diversions|triggers/.*)-old$|var/cache/ldconfig/|var/lib/gems/[^/]*/(\w*/)?$"
+    r"|trial/|proc/|dev/)"
+)
+
+
+@dataclasses.dataclass
+class Root:
+    """A bare system: its folder, and what runs its programs where this is another processor."""
+
+    folder: pathlib.Path
+    emulator: tuple[str, ...] = ()
+
+    def run(self, *words: str | pathlib.Path, given: checks.Given = b"", **env: str) -> checks.Run:
+        """Runs a program of it, in its folder /trial, without a network."""
+        unshare = ["unshare", "--mount", "--pid", "--fork", "--kill-child", "--net", "--mount-proc"]
+        inside = [f"--root={self.folder}", "--wd=/trial", *self.emulator]
+        plain = {"PATH": "/usr/local/bin:/usr/sbin:/usr/bin:/sbin:/bin", "HOME": "/root", "LC_ALL": "C.UTF-8", **env}
+        return checks.run([*unshare, *inside, *words], given, env={**plain, "PYTHONDONTWRITEBYTECODE": "1"})
+
+    def traces(self) -> set[str]:
+        """All that is there, with what each is."""
+        found = set()
+        for path in self.folder.rglob("*"):
+            name = str(path.relative_to(self.folder))
+            if not NOTES.match(f"{name}/" if path.is_dir() and not path.is_symlink() else name):
+                status = path.lstat()
+                size = 0 if path.is_dir() else status.st_size
+                found.add(f"{name} {oct(status.st_mode)} {size} {os.readlink(path) if path.is_symlink() else ''}")
+        return found
+
+
+class Trial:
+    """A release that is tried in a root for one machine."""
+
+    def __init__(self, check: checks.Check, machine: machines.Machine, release: pathlib.Path):
+        self.check = check
+        self.machine = machine
+        self.release = release
+        self.work = check.work / machine.name
+        self.work.mkdir()
+        self.root = self.bare()
+        self.inside = self.root.folder / "trial"
+        for name in TAKEN:
+            shutil.copytree(name, self.inside / name, dirs_exist_ok=True)
+        self.lines = []
+        for file in sorted((self.inside / "conformance").rglob("*.txt")):
+            lines = [line for line in file.read_bytes().splitlines(keepends=True) if not line.startswith((b"#", b"\n"))]
+            file.write_bytes(b"".join(lines[:: TAKEN_OF[machine.name]]))
+            self.lines.append(file.read_bytes())
+        shutil.copytree(release, self.inside / "release")
+        for file in ("scripts/install.sh", "scripts/checks/conformance_calls.py"):
+            (self.inside / file).parent.mkdir(parents=True, exist_ok=True)
+            shutil.copyfile(file, self.inside / file)
+
+    def bare(self) -> Root:
+        """A bare system for the machine, by mmdebstrap."""
+        said = ["apt-get", "indextargets", "--format", "deb $(REPO_URI) $(CODENAME) $(COMPONENT)"]
+        lines = checks.run([*said, "Created-By: Packages", "Origin: Debian"]).out.decode().splitlines()
+        if not lines:
+            raise checks.NotRun("apt has no lists of Debian's packages; apt-get update gets them")
+        sources = self.work / "sources.list"
+        sources.write_text("".join(f"{line}\n" for line in dict.fromkeys(lines)))
+        folder = self.work / "root"
+        words = ["timeout", "900", "mmdebstrap", "--quiet", f"--include={','.join(PACKAGES[self.machine.name])}"]
+        emulator = ()
+        if self.machine.tools:
+            # no script of a package runs there, since this processor cannot
+            words += ["--variant=extract", f"--architectures={self.machine.debian}"]
+            emulator = ("/qemu",)
+        else:
+            words += ["--variant=essential"]
+        ended = checks.run([*words, lines[0].split()[2], folder, sources])
+        if ended.status != 0:
+            raise checks.NotRun(f"mmdebstrap makes no bare system: {ended.err.decode(errors='replace').strip()[-200:]}")
+        if emulator:
+            shutil.copy(shutil.which(f"qemu-{self.machine.name}-static"), folder / "qemu")
+        for name in ("trial", "proc", "srv"):
+            (folder / name).mkdir(exist_ok=True)
+        return Root(folder, emulator)
+
+    def case(self, name: str, *words: str | pathlib.Path, **how: object) -> checks.Run:
+        """Counts a command in the root, which is right where its status is 0."""
+        ended = self.root.run(*words, **how)
+        self.check.case(f"{name}, {self.machine.name}", ended.status == 0, ended)
+        return ended
+
+    def lists(self, name: str, *words: str | pathlib.Path, **env: str) -> None:
+        """An example in the root lists a stream."""
+        ended = self.root.run(*words, given=LISTED[0], **env)
+        self.check.same(f"{name}, {self.machine.name}", LISTED[1].read_bytes(), ended.out or ended.err)
+
+    def vectors(self, name: str, *words: str | pathlib.Path, **env: str) -> None:
+        """A program in the root that counts test vectors, which it is given, and of which none fails."""
+        ended = self.root.run(*words, given=b"".join(self.lines), **env)
+        counts = re.search(rb"^(\d+) passed, 0 failed$", ended.out, re.MULTILINE)
+        is_right = bool(counts) and int(counts[1]) > 10000 // TAKEN_OF[self.machine.name]
+        self.check.case(f"{name}, {self.machine.name}", is_right, ended)
+
+    def file(self, name: str) -> str:
+        """The path in the root of a file of the release."""
+        found = [path.name for path in self.release.glob(name)]
+        self.check.case(f"one file is {name}", len(found) == 1, found)
+        return f"release/{found[0]}" if found else name
+
+    @property
+    def tarball(self) -> str:
+        return self.file(f"pendratsoa-{VERSION}-linux-{self.machine.name}.tar.gz")
+
+    def programs(self, name: str, folder: str) -> None:
+        """What the programs in a folder of the root print."""
+        for (program, *words), of in PRINTS:
+            expected = of.encode() if isinstance(of, str) else of.read_bytes()
+            ended = self.root.run(f"{folder}/{program}", *words)
+            self.check.same(f"{program} {' '.join(map(str, words))}, {name}", expected, ended.out or ended.err)
+
+    def removed(self, name: str, use: collections.abc.Callable[[], None]) -> None:
+        """What is installed, used and removed leaves no trace."""
+        before = self.root.traces()
+        use()
+        after = self.root.traces()
+        changes = sorted(f"- {line}" for line in before - after) + sorted(f"+ {line}" for line in after - before)
+        self.check.case(f"{name} leaves no trace, {self.machine.name}", not changes, changes[:10])
+
+    def compiled(self) -> None:
+        """Programs in C, which are compiled outside with what the tarball has: the example, and the test vectors."""
+        unpacked = self.work / "unpacked"
+        unpacked.mkdir()
+        self.check.command("tar", ["tar", "-xf", self.release / pathlib.Path(self.tarball).name, "-C", unpacked,
+                                   "--strip-components=1"])
+        library = unpacked / "lib"
+        for source, name, linked in (
+            ("examples/c/listing.c", "static", "libpendratsoa.a"),
+            ("examples/c/listing.c", "shared", "libpendratsoa.so"),
+            ("tests/c/test_vectors.c", "vectors", "libpendratsoa.so"),
+        ):
+            words = [f"{self.machine.tools}gcc", "-O2", "-I", unpacked / "include", source, library / linked]
+            self.check.command(f"{name} for {self.machine.name}", [*words, "-o", self.inside / name])
+        described = pathlib.Path("proto/journal.proto").read_text()
+        names = re.findall(r"^message (\w+) |^  option \(schema\) = (\d+)", described, re.MULTILINE)
+        numbered = [(int(number), names[at - 1][0]) for at, (_, number) in enumerate(names) if number]
+        (self.inside / "schemas").write_text("".join(f"{name}\n" for _, name in sorted(numbered)))
+        elves = [package for package in (unpacked / "lib").glob("*.so") if package.exists()]
+        self.needs_at_most("the library", LIBRARY_GLIBC, *elves)
+        if self.machine.has_programs:
+            self.needs_at_most("the programs", PROGRAMS_GLIBC, *(unpacked / "bin").iterdir())
+
+    def needs_at_most(self, name: str, latest: tuple[int, ...], *files: pathlib.Path) -> None:
+        """The symbols of the C library in these files are of no later version than this."""
+        found = self.machine.glibc(*files)
+        is_right = tuple(map(int, found.split("."))) <= latest
+        wanted = ".".join(map(str, latest))
+        self.check.case(f"{name} for {self.machine.name} needs glibc {wanted} at most", is_right, found)
+
+    def of_c(self, **env: str) -> None:
+        """The example and the test vectors in C, with the library that is installed."""
+        self.lists("the listing in C, static", "/trial/static")
+        self.lists("the listing in C, shared", "/trial/shared", **env)
+        self.vectors("the test vectors in C", "/trial/vectors", "schemas", **env)
+
+    def of_python(self, *python: str | pathlib.Path, **env: str) -> None:
+        self.lists("the listing in Python", *python, "examples/python/listing.py", **env)
+        self.vectors("the test vectors in Python", *python, "scripts/checks/conformance_calls.py", **env)
+
+    def node(self) -> None:
+        """The package for Node, in a user's folder: by npm where that is there and this is its processor."""
+        user = self.inside / "user"
+        package = user / "node_modules/pendratsoa"
+        file = self.release / pathlib.Path(self.file(f"pendratsoa-{VERSION}-linux-{self.machine.node}.tgz")).name
+        user.mkdir()
+        (user / "package.json").write_text('{"private": true}\n')
+        if not self.machine.tools and self.check.has("npm", "npm install"):
+            words = ["npm", "install", "--offline", "--no-audit", "--no-fund", file]
+            self.check.command("npm install", words, cwd=user, env={**os.environ, "HOME": str(self.work)})
+        else:
+            package.mkdir(parents=True)
+            self.check.command("tar", ["tar", "-xf", file, "-C", package, "--strip-components=1"])
+        self.needs_at_most("the addon", LIBRARY_GLIBC, package / "build/pendratsoa.node")
+        # the tests are beside the package's files, and find the vectors two folders above
+        shutil.copytree("node/test", package / "test")
+        (user / "node_modules/conformance").symlink_to("/trial/conformance")
+        test = "user/node_modules/pendratsoa/test/conformance.js"
+        self.vectors("the test vectors in JavaScript", "/usr/bin/node", test)
+        if self.check.has("tsc", "the example in TypeScript"):
+            shutil.copy("examples/typescript/listing.mts", user)
+            words = ["tsc", "--strict", "--target", "es2022", "--module", "node16", user / "listing.mts"]
+            self.check.command("tsc with the types of the package", words)
+            self.lists("the listing in TypeScript", "/usr/bin/node", "user/listing.mjs")
+
+
+def here(trial: Trial) -> None:
+    """All that is for this processor, as its page says."""
+    check, root, tarball = trial.check, trial.root, trial.tarball
+
+    def by_tarball() -> None:
+        trial.case("the tarball is unpacked", "tar", "-xf", tarball)
+        folder = pathlib.Path(tarball).name.removesuffix(".tar.gz")
+        trial.case("install.sh", "sh", f"{folder}/install.sh")
+        trial.case("install.sh again", "sh", f"{folder}/install.sh")
+        trial.programs("of the tarball", "/usr/local/bin")
+        trial.of_c()
+        trial.case("install.sh --uninstall", "sh", f"{folder}/install.sh", "--uninstall")
+        mine = root.folder / "usr/local/bin/journal"
+        mine.write_text("mine\n")
+        ended = root.run("sh", f"{folder}/install.sh")
+        is_kept = mine.read_text() == "mine\n"
+        check.case("install.sh replaces no file of another's", ended.status == 2 and is_kept, ended)
+        mine.unlink()
+
+    def by_script() -> None:
+        words = ["sh", "scripts/install.sh", "--from", tarball]
+        trial.case("scripts/install.sh --from", *words, "/srv/pendratsoa")
+        trial.programs("by --from", "/srv/pendratsoa/bin")
+        trial.of_c(LD_LIBRARY_PATH="/srv/pendratsoa/lib")
+        trial.case("scripts/install.sh --from .. --uninstall", *words, "--uninstall", "/srv/pendratsoa")
+        sums = trial.inside / "release/SHA256SUMS"
+        kept = sums.read_text()
+        sums.write_text(kept.replace("0", "1"))
+        ended = root.run(*words, "/srv/pendratsoa")
+        check.case("scripts/install.sh --from, with another checksum", ended.status == 2, ended)
+        sums.write_text(kept)
+
+    def by_deb() -> None:
+        trial.case("dpkg -i", "dpkg", "-i", trial.file(f"pendratsoa_{VERSION}_amd64.deb"))
+        trial.programs("of the Debian package", "/usr/bin")
+        trial.of_c()
+        trial.case("dpkg -P", "dpkg", "-P", "pendratsoa")
+
+    def by_wheel() -> None:
+        wheel = trial.file(f"pendratsoa-{VERSION}-py3-none-*_x86_64.whl")
+        trial.case("a virtual environment", "python3", "-m", "venv", "venv")
+        trial.case("pip install", "venv/bin/pip", "install", "--no-index", wheel)
+        trial.of_python("venv/bin/python")
+        trial.case("pip uninstall", "venv/bin/pip", "uninstall", "-y", "pendratsoa")
+        left = list(trial.inside.glob("venv/lib/python3*/site-packages/pendratsoa*"))
+        check.case("pip uninstall leaves nothing", not left, left)
+
+    def by_gem() -> None:
+        gem = trial.file(f"pendratsoa-{VERSION}-x86_64-linux.gem")
+        trial.case("gem install", "gem", "install", "--local", "--no-document", gem)
+        trial.lists("the listing in Ruby", "ruby", "/trial/ruby/listing.rb")
+        trial.vectors("the test vectors in Ruby", "ruby", "/trial/ruby/test/test_conformance.rb")
+        trial.case("gem uninstall", "gem", "uninstall", "--executables", "pendratsoa")
+
+    shutil.copy("ruby/examples/listing.rb", trial.inside / "ruby")
+    for name, use in (("the tarball", by_tarball), ("scripts/install.sh --from", by_script), ("the package", by_deb),
+                      ("the wheel", by_wheel), ("the gem", by_gem), ("the package for Node", trial.node)):
+        trial.removed(name, use)
+    rust(trial)
+    go(trial)
+
+
+def rust(trial: Trial) -> None:
+    """The crate for Rust, added to a user's outside with nothing set, whose program is run in the root."""
+    check, folder = trial.check, trial.work / "rust"
+    if not (check.has("cargo", "the crate for Rust") and check.has("rustc", "the crate for Rust")):
+        return
+    unpack(trial, f"pendratsoa-rust-{VERSION}.tar.gz", folder)
+    # its tests are in the repository alone
+    shutil.copy("rust/Cargo.toml", folder)
+    shutil.copytree("rust/tests", folder / "tests")
+    (trial.work / "conformance").symlink_to(checks.ROOT / "conformance")
+    env = {**bare_environment(), "CARGO_HOME": str(trial.work / "cargo"), "CARGO_NET_OFFLINE": "true"}
+    if "RUSTUP_HOME" in os.environ or pathlib.Path("~/.rustup").expanduser().exists():
+        env["RUSTUP_HOME"] = os.environ.get("RUSTUP_HOME", str(pathlib.Path("~/.rustup").expanduser()))
+    words = ["cargo", "test", "--quiet", "--test", "conformance"]
+    check.counted("the test vectors in Rust", words, cwd=folder, env=env)
+    user = trial.work / "user_of_rust"
+    user.mkdir()
+    for words in (["init", "--quiet", "--vcs", "none", "--name", "listing"], ["add", "--quiet", "--path", folder]):
+        check.command(f"cargo {words[0]}", ["cargo", *words], cwd=user, env=env)
+    shutil.copy("rust/examples/listing.rs", user / "src/main.rs")
+    check.command("cargo build", ["cargo", "build", "--quiet"], cwd=user, env=env)
+    if check.command("the program in Rust", ["cp", user / "target/debug/listing", trial.inside / "listing_rust"]):
+        trial.lists("the listing in Rust", "/trial/listing_rust")
+
+
+def go(trial: Trial) -> None:
+    """The package for Go, required by a user's module outside with nothing set, whose program is run in the root, with
+    the test vectors."""
+    check, folder = trial.check, trial.work / "go"
+    if not check.has("go", "the package for Go"):
+        return
+    unpack(trial, f"pendratsoa-go-{VERSION}.tar.gz", folder)
+    for file in sorted(pathlib.Path("go").glob("*_test.go")):
+        shutil.copy(file, folder)
+    env = {**bare_environment(), "GOPROXY": "off", "GOFLAGS": "-mod=mod", "GOPATH": str(trial.work / "path"),
+           "GOCACHE": str(trial.work / "cache"), "GOSUMDB": "off"}
+    inside = trial.inside / "go"
+    inside.mkdir()
+    user = trial.work / "user_of_go"
+    user.mkdir()
+    shutil.copy("go/examples/listing/main.go", user)
+    module = "pendratsoa.dev/pendratsoa"
+    for words in (
+        ["mod", "init", "listing"],
+        ["mod", "edit", "-require", f"{module}@v{VERSION}", "-replace", f"{module}={folder}"],
+        ["build", "-o", inside / "listing", "."],
+    ):
+        check.command(f"go {' '.join(map(str, words[:2]))}", ["go", *words], cwd=user, env=env)
+    check.command("go test -c", ["go", "test", "-c", "-o", inside / "tests", "."], cwd=folder, env=env)
+    trial.lists("the listing in Go", "/trial/go/listing")
+    trial.vectors("the test vectors in Go", "sh", "-c", "cd go && ./tests -test.v -test.run Conformance")
+
+
+def unpack(trial: Trial, name: str, folder: pathlib.Path) -> None:
+    folder.mkdir()
+    trial.check.command(f"tar -xf {name}", ["tar", "-xf", trial.release / name, "-C", folder, "--strip-components=1"])
+
+
+def bare_environment() -> dict[str, str]:
+    """An environment in which no variable leads to the library."""
+    return {name: os.environ[name] for name in ("PATH", "HOME") if name in os.environ}
+
+
+def under_qemu(trial: Trial) -> None:
+    """What is for arm64, by the interpreters of that processor. No script of sh runs there: install.sh runs outside."""
+    check, root = trial.check, trial.root
+
+    def by_tarball() -> None:
+        check.command("tar", ["tar", "-xf", trial.inside / trial.tarball, "-C", trial.inside])
+        folder = trial.inside / pathlib.Path(trial.tarball).name.removesuffix(".tar.gz")
+        words = ["sh", folder / "install.sh"]
+        check.command("install.sh for arm64", [*words, root.folder / "srv/pendratsoa"])
+        trial.of_c(LD_LIBRARY_PATH="/srv/pendratsoa/lib")
+        check.command("install.sh --uninstall for arm64", [*words, "--uninstall", root.folder / "srv/pendratsoa"])
+
+    def by_deb() -> None:
+        deb = trial.inside / trial.file(f"pendratsoa_{VERSION}_arm64.deb")
+        check.command("dpkg-deb --extract for arm64", ["dpkg-deb", "--extract", deb, trial.inside / "deb"])
+        trial.of_c(LD_LIBRARY_PATH="/trial/deb/usr/lib/aarch64-linux-gnu")
+
+    def by_wheel() -> None:
+        wheel = trial.file(f"pendratsoa-{VERSION}-py3-none-*_aarch64.whl")
+        pip = next(root.folder.glob("usr/share/python-wheels/pip-*.whl")).relative_to(root.folder)
+        words = ["install", "--no-index", "--no-cache-dir", "--target", "site", wheel]
+        trial.case("pip install", "/usr/bin/python3", f"/{pip}/pip", *words)
+        trial.of_python("/usr/bin/python3", PYTHONPATH="/trial/site")
+
+    def by_gem() -> None:
+        gem = trial.file(f"pendratsoa-{VERSION}-aarch64-linux.gem")
+        ruby = "/usr/bin/ruby"
+        words = ["install", "--local", "--no-document", "--install-dir", "/trial/gems", gem]
+        trial.case("gem install", ruby, "/usr/bin/gem", *words)
+        trial.lists("the listing in Ruby", ruby, "/trial/ruby/listing.rb", GEM_PATH="/trial/gems")
+
+    shutil.copy("ruby/examples/listing.rb", trial.inside / "ruby")
+    uses = (("the tarball", by_tarball), ("the package", by_deb), ("the wheel", by_wheel), ("the gem", by_gem))
+    for name, use in uses:
+        trial.removed(name, use)
+    trial.node()
+
+
+def rejected(check: checks.Check) -> None:
+    """Wrong words, and what is no release, are rejected in a line on the standard error that says why."""
+    full = check.work / "full"
+    full.mkdir()
+    (full / "file").write_text("file\n")
+    gate = check.work / "gate"
+    gate.write_text("5 passed, 1 failed\n")
+    for words, why in (
+        ([], "required: FOLDER"),
+        (["--only", "nothing", "x"], "invalid choice"),
+        (["--draft", full], "is no empty folder"),
+        (["--draft", "--gate", gate, check.work / "none"], "'5 passed, 1 failed'"),
+    ):
+        ended = checks.run(["sh", "scripts/release.sh", *words])
+        is_right = ended.status == 2 and why.encode() in ended.err and not ended.out
+        check.case(f"release.sh {' '.join(map(str, words))}", is_right, ended)
+    ended = checks.run(["sh", "scripts/releasing.sh", "scripts"])
+    is_right = ended.status == 1 and b"is in the repository" in ended.err
+    check.case("releasing.sh with a folder of the repository", is_right, ended)
+
+
+def made(check: checks.Check, machine: str | None) -> pathlib.Path:
+    """The files of a release, whose checksums are right; where a tool for them is absent the check ends."""
+    release = check.work / "release"
+    words = ["sh", "scripts/release.sh", "--draft", *(["--machine", machine] if machine else []), release]
+    ended = checks.run(words)
+    absent = re.search(rb"(?:nothing is built|no release is made), since ((?:there is no|no python3) .*)", ended.err)
+    if ended.status == 2 and absent:
+        raise checks.NotRun(absent[1].decode())
+    check.case("release.sh", ended.status == 0, ended)
+    check.stop_if_failed()
+    check.command("sha256sum -c", ["sha256sum", "--check", "--strict", "--quiet", "SHA256SUMS"], cwd=release)
+    return release
+
+
+def again(check: checks.Check, release: pathlib.Path) -> None:
+    """The library is built again, and files that have it and the programs are made, in another folder: they have the
+    same bytes. The programs are those that rt ci has built."""
+    if checks.run(["git", "rev-parse", "HEAD"]).status != 0:
+        check.left_out("the same again", "there is no commit")
+        return
+    other = check.work / "another folder"
+    check.command("git clone", ["git", "clone", "--quiet", "--shared", checks.ROOT, other])
+    names = checks.run(["git", "ls-files", "-z", "--cached", "--others", "--exclude-standard"]).out.decode().split("\0")
+    for name in filter(os.path.isfile, names):
+        (other / name).parent.mkdir(parents=True, exist_ok=True)
+        shutil.copy2(name, other / name)
+    # what is built is up to date by the times of files, which are copied, and of folders
+    for part in crates.PARTS:
+        for folder in pathlib.Path("crates").glob(f"*/{part}/**/"):
+            if (other / folder).is_dir():
+                shutil.copystat(folder, other / folder)
+    for out in pathlib.Path("crates").glob("*/out"):
+        if out.parent.name != "journal_ffi":
+            (other / out).symlink_to(out.resolve())
+        elif (out / "incremental").exists():
+            # what is proved of the crate; it is compiled again
+            shutil.copytree(out / "incremental", other / out / "incremental")
+    folder = check.work / "release again"
+    script = 'umask 077; exec sh scripts/release.sh --draft --machine x86_64 --only deb --only wheel "$1"'
+    env = {**os.environ, "TZ": "Asia/Tokyo", "LC_ALL": "C", "HOME": str(check.work), "SOURCE_DATE_EPOCH": date()}
+    if not check.command("release.sh, again", ["sh", "-c", script, "sh", folder], cwd=other, env=env):
+        return
+    for file in sorted(folder.glob("*.deb")) + sorted(folder.glob("*.whl")):
+        check.case(f"{file.name}, again", file.read_bytes() == (release / file.name).read_bytes())
+    library = pathlib.Path("crates/journal_ffi/out/libjournal_ffi.a")
+    check.case("the library, again", (other / library).read_bytes() == library.read_bytes())
+
+
+def date() -> str:
+    return checks.run(["git", "log", "-1", "--format=%ct"]).out.decode().strip()
+
+
+def main(check: checks.Check) -> None:
+    for name in checks.PROGRAMS:
+        check.program(name)
+    check.static_library()
+    rejected(check)
+    arm = machines.MACHINES[1]
+    has_arm = shutil.which(f"{arm.tools}gcc") and pathlib.Path("/usr/aarch64-linux-gnu/include/stdlib.h").exists()
+    if not has_arm:
+        check.without("what is for arm64", f"{arm.tools}gcc with its C library")
+    release = made(check, None if has_arm else "x86_64")
+    again(check, release)
+    if os.geteuid() != 0:
+        check.left_out("the bare systems", "only root may make them")
+        return
+    for tool in ("mmdebstrap", "unshare", "apt-get"):
+        if not check.has(tool, "the bare systems"):
+            return
+    trial = Trial(check, machines.MACHINES[0], release)
+    trial.compiled()
+    here(trial)
+    if has_arm and check.has(f"qemu-{arm.name}-static", "what is for arm64, run"):
+        trial = Trial(check, arm, release)
+        trial.compiled()
+        under_qemu(trial)
+
+
+if __name__ == "__main__":
+    checks.perform(main)

@@ -1,0 +1,379 @@
+#!/usr/bin/env python3
+"""Makes the files of a release, of what is proved: scripts/release.sh [OPTION..] FOLDER
+
+    FOLDER             where the files are made; it is made too, and has nothing in it
+    --gate FILE        what sh scripts/test.sh has printed over this commit: PROVED has its last line
+    --machine NAME     for this processor alone, x86_64 or aarch64
+    --only KIND        files of this kind alone, which may be given several times; --list lists the kinds
+    --draft            also of changes that are not committed, which PROVED then says
+
+The files are listed by --list. Beside them are PROVED, which says what is proved and what is trusted, a list of what is
+within (SPDX) and SHA256SUMS. The same commit has the same bytes in any folder and on any day, made by the same tools.
+What is not proved yet is proved first, in more than an hour; docs/RELEASING.md has what is run before a release.
+"""
+from __future__ import annotations
+
+import argparse
+import collections.abc
+import datetime
+import gzip
+import hashlib
+import io
+import json
+import os
+import pathlib
+import re
+import shutil
+import subprocess
+import sys
+import tarfile
+import tempfile
+import uuid
+
+import linked
+import package
+from machines import MACHINES, Machine
+from package import NotMade, needs, run, version
+
+ROOT = pathlib.Path(__file__).resolve().parent.parent
+DESCRIPTION = "pendratsoa, the journal protocol of the Restate SDKs"
+
+# What of a package stays in the repository: tests, and what is for git.
+TESTS = re.compile(r"(^|/)(tests?/|\.)|_test\.go$")
+
+# What takes the place of go/link.go: the library is that of the release.
+LINK_GO = """\
+package pendratsoa
+
+// The static library of the release is linked.
+
+/*
+#cgo CFLAGS: -I${SRCDIR}/include
+%s
+*/
+import "C"
+"""
+
+PROVED = """\
+# pendratsoa {version}: what is proved
+
+| | |
+|---|---|
+| Commit | {commit} |
+| Toolchain | {toolchain} |
+| The gate, `sh scripts/test.sh` | {gate} |
+
+Each program and each call of the library is proved to do what its contract says; docs/PROOFS.md of that commit names
+the clause of each promise, and the version of `journal_ffi` for aarch64 is proved for that processor. The packages for
+Python, Ruby, Node, Rust and Go make those calls, and are tested.
+
+## Needs
+
+{needs}
+## What the gate did not run
+
+{not_run}
+## What is trusted
+"""
+
+
+class Release:
+    """What all files of a release are made of, in a folder of its own."""
+
+    def __init__(self, work: pathlib.Path, options: argparse.Namespace):
+        said = {"commit": commit(options.draft), **gate(options)}
+        self.work = work
+        self.out = pathlib.Path(options.folder).resolve()
+        self.date = int(package.seconds())
+        self.machines = [each for each in MACHINES if options.machine in (None, each.name)]
+        self.linked = linked.linked(["journal", "journal_list", "journal_ffi"])
+        self.licences = {"LICENSE": pathlib.Path("LICENSE").read_text(), "LINKED.txt": linked.page(self.linked)}
+        self.prefixes = {machine.name: self.installed(machine) for machine in self.machines}
+        self.proved = PROVED.format(**said, **self.made_with()) + trusted()
+
+    def installed(self, machine: Machine) -> pathlib.Path:
+        """A folder below which the library, and the programs, for a machine are installed."""
+        prefix = self.work / machine.name
+        package.installed(machine, str(prefix))
+        package.strip(prefix, machine)
+        return prefix
+
+    def made_with(self) -> dict[str, str]:
+        """What is made by which toolchain, and what it needs where it runs."""
+        lines = []
+        for machine in self.machines:
+            prefix = self.prefixes[machine.name]
+            line = f"- {machine.name}: the library glibc {machine.glibc(package.shared_library(prefix))}"
+            if machine.has_programs:
+                programs = machine.glibc(*package.programs(prefix))
+                line += f", the programs {programs}, or later, and a processor with SSE4.2"
+            else:
+                line += " or later; there are no programs for it"
+            lines.append(f"{line}\n")
+        return {"version": version(), "toolchain": run("rt", "version").strip(), "needs": "".join(lines)}
+
+    def copy(self, folder: str, name: str | None = None) -> pathlib.Path:
+        """A copy of a package, a folder of the repository, without its tests, and with the licences."""
+        target = self.work / (name or folder)
+        listed = run("git", "ls-files", "-z", "--cached", "--others", "--exclude-standard", "--", folder)
+        for file in filter(os.path.isfile, listed.split("\0")):
+            inside = os.path.relpath(file, folder)
+            if not TESTS.search(inside):
+                (target / inside).parent.mkdir(parents=True, exist_ok=True)
+                shutil.copyfile(file, target / inside)
+        for file, text in self.licences.items():
+            package.write(target / file, text)
+        return target
+
+    def archive(self, folder: pathlib.Path, name: str, top: str | None = None) -> None:
+        """A .tar.gz of what is in a folder, below the folder `top`: in order, with no owner, of one date."""
+        top = name.removesuffix(".tar.gz") if top is None else top
+        packed = io.BytesIO()
+        with tarfile.open(fileobj=packed, mode="w", format=tarfile.USTAR_FORMAT) as tar:
+            for path in sorted([folder, *folder.rglob("*")], key=str):
+                entry = tar.gettarinfo(path, arcname=f"{top}/{path.relative_to(folder)}".removesuffix("/."))
+                entry.mode = 0o755 if path.is_dir() or entry.mode & 0o100 else 0o644
+                entry.uid = entry.gid = 0
+                entry.uname = entry.gname = ""
+                entry.mtime = self.date
+                with path.open("rb") if entry.isreg() else io.BytesIO() as file:
+                    tar.addfile(entry, file)
+        (self.out / name).write_bytes(gzip.compress(packed.getvalue(), 9, mtime=0))
+
+
+def tarball(release: Release, machine: Machine) -> None:
+    """The programs and the library, for any Linux with glibc: unpack it, and run its install.sh."""
+    prefix = release.prefixes[machine.name]
+    pages = prefix / "share/doc/pendratsoa"
+    changes = pathlib.Path("CHANGELOG.md").read_text()
+    for file, text in {**release.licences, "CHANGELOG.md": changes, "PROVED": release.proved}.items():
+        package.write(pages / file, text)
+    files = [path.relative_to(prefix) for path in prefix.rglob("*") if path.is_symlink() or not path.is_dir()]
+    package.write(prefix / "FILES", "".join(sorted(f"{file}\n" for file in files)))
+    package.write(prefix / "VERSION", f"{version()}\n")
+    for file in ("install.sh", "README.md"):
+        shutil.copyfile(ROOT / "scripts/release" / file, prefix / file)
+    release.archive(prefix, f"pendratsoa-{version()}-linux-{machine.name}.tar.gz")
+
+
+def deb(release: Release, machine: Machine) -> None:
+    """The Debian package, of the programs and the library; for arm64 of the library."""
+    work = release.work / f"deb-{machine.name}"
+    work.mkdir()
+    package.make(release.out, work, machine)
+
+
+def wheel(release: Release, machine: Machine) -> None:
+    """The wheel for Python, with the library in it."""
+    library = package.shared_library(release.prefixes[machine.name])
+    folder = release.copy("python", f"python-{machine.name}")
+    # older tags than this one are names of their own
+    minor = max(17, int(machine.glibc(library).split(".")[1]))
+    run("sh", "scripts/python.sh", folder, library, f"manylinux_2_{minor}_{machine.name}", PYTHONDONTWRITEBYTECODE="1")
+    made = list(folder.glob("dist/*.whl"))
+    if not made:
+        raise NotMade("no python3 has pip, setuptools and wheel")
+    shutil.copyfile(made[0], release.out / made[0].name)
+
+
+def gem(release: Release, machine: Machine) -> None:
+    """The gem for Ruby, with the library in it."""
+    needs("gem")
+    folder = release.copy("ruby", f"ruby-{machine.name}")
+    shutil.copyfile(package.shared_library(release.prefixes[machine.name]), folder / "lib/pendratsoa/libpendratsoa.so")
+    subprocess.run(["gem", "build", "--silent", "pendratsoa.gemspec"], cwd=folder, check=True)
+    made = next(folder.glob("*.gem"))
+    shutil.copyfile(made, release.out / made.name)
+
+
+def npm(release: Release, machine: Machine) -> None:
+    """The package for Node and TypeScript, with its addon, which has the library in it."""
+    folder = release.copy("node", f"node-{machine.name}")
+    run("sh", folder / "build.sh", release.prefixes[machine.name], CC=f"{machine.tools}gcc")
+    run(f"{machine.tools}strip", "--strip-unneeded", folder / "build/pendratsoa.node")
+    # what npm takes of a package: what it lists, and these
+    description = json.loads((folder / "package.json").read_text())
+    packed = release.work / f"npm-{machine.name}"
+    for name in ["README.md", *release.licences, *description["files"]]:
+        (packed / name).parent.mkdir(parents=True, exist_ok=True)
+        (folder / name).rename(packed / name)
+    del description["scripts"]
+    package.write(packed / "package.json", json.dumps({**description, "cpu": [machine.node]}, indent=2) + "\n")
+    release.archive(packed, f"pendratsoa-{version()}-linux-{machine.node}.tgz", "package")
+
+
+def rust(release: Release) -> None:
+    """The crate for Rust in source, with the static library, which it links."""
+    folder = release.copy("rust")
+    # its tests stay in the repository
+    manifest = folder / "Cargo.toml"
+    manifest.write_text(manifest.read_text().partition("\n[[test]]")[0])
+    for machine in release.machines:
+        library = folder / "lib" / machine.target / "libpendratsoa.a"
+        library.parent.mkdir(parents=True)
+        shutil.copyfile(release.prefixes[machine.name] / "lib/libpendratsoa.a", library)
+    release.archive(folder, f"pendratsoa-rust-{version()}.tar.gz")
+
+
+def go(release: Release) -> None:
+    """The package for Go in source, with the static library, which it links."""
+    folder = release.copy("go")
+    shutil.copytree(release.prefixes[release.machines[0].name] / "include", folder / "include")
+    flags = []
+    for machine in release.machines:
+        library = folder / "lib" / f"linux_{machine.go}" / "libpendratsoa.a"
+        library.parent.mkdir(parents=True)
+        shutil.copyfile(release.prefixes[machine.name] / "lib/libpendratsoa.a", library)
+        flags.append(f"#cgo linux,{machine.go} LDFLAGS: ${{SRCDIR}}/{library.relative_to(folder)}")
+    package.write(folder / "link.go", LINK_GO % "\n".join(flags))
+    release.archive(folder, f"pendratsoa-go-{version()}.tar.gz")
+
+
+# The kinds of files: those that are made for each processor, in an order in which none takes in what another adds, and
+# those that have the library for all.
+FOR_EACH = (wheel, gem, npm, deb, tarball)
+FOR_ALL = (rust, go)
+
+
+def gate(options: argparse.Namespace) -> dict[str, str]:
+    """What the gate's output says at its end, in which no case has failed, and what it did not run."""
+    if not options.gate:
+        return {"gate": "its result was not given", "not_run": "- not known\n"}
+    lines = pathlib.Path(options.gate).read_text(errors="replace").splitlines()
+    last = lines[-1] if lines else ""
+    if not re.fullmatch(r"\d+ passed, 0 failed", last):
+        raise NotMade(f"the last line of {options.gate} is '{last}', and not 'N passed, 0 failed'")
+    not_run = sorted({f"- {line}\n" for line in lines if "not run, since" in line}) or ["- nothing\n"]
+    return {"gate": last, "not_run": "".join(not_run)}
+
+
+def trusted() -> str:
+    """What is trusted, as the page on what is proved says."""
+    return pathlib.Path("docs/PROOFS.md").read_text().partition("\n## What is trusted\n")[2]
+
+
+def commit(is_draft: bool) -> str:
+    """The commit that is checked out. What is not committed is in no release."""
+    try:
+        name = run("git", "rev-parse", "HEAD").strip()
+        changed = run("git", "status", "--porcelain")
+    except (OSError, subprocess.CalledProcessError):
+        raise NotMade("this is no checkout of a commit") from None
+    if changed and not is_draft:
+        raise NotMade("there are changes that are not committed; with --draft it is made all the same")
+    return f"{name}, with changes that are not committed: a draft" if changed else name
+
+
+def contents(release: Release, files: list[pathlib.Path]) -> str:
+    """The list of what is within, as SPDX has it."""
+    created = datetime.datetime.fromtimestamp(release.date, datetime.timezone.utc).strftime("%Y-%m-%dT%H:%M:%SZ")
+    sums = {file.name: hashlib.sha256(file.read_bytes()).hexdigest() for file in files}
+
+    def described(name: str, licence: str, **more: object) -> dict[str, object]:
+        return {
+            "SPDXID": spdx_name(name),
+            "name": name,
+            "downloadLocation": "NOASSERTION",
+            "filesAnalyzed": False,
+            "licenseConcluded": licence,
+            "licenseDeclared": licence,
+            "copyrightText": "NOASSERTION",
+            **more,
+        }
+
+    packages = [
+        described(name, "MIT", versionInfo=version(), packageFileName=name,
+                  checksums=[{"algorithm": "SHA256", "checksumValue": value}])
+        for name, value in sums.items()
+    ]
+    packages += [described(f"toolchain/{each.name}", each.expression()) for each in release.linked]
+    crates_of = [spdx_name(f"toolchain/{each.name}") for each in release.linked]
+    relations = [("SPDXRef-DOCUMENT", "DESCRIBES", spdx_name(name)) for name in sums]
+    relations += [(spdx_name(name), "STATIC_LINK", crate) for name in sums for crate in crates_of]
+    text = "\n".join(f"{name} {value}" for name, value in sums.items())
+    return json.dumps({
+        "spdxVersion": "SPDX-2.3",
+        "dataLicense": "CC0-1.0",
+        "SPDXID": "SPDXRef-DOCUMENT",
+        "name": f"pendratsoa-{version()}",
+        "documentNamespace": f"urn:uuid:{uuid.uuid5(uuid.NAMESPACE_OID, text)}",
+        "comment": DESCRIPTION,
+        "creationInfo": {"created": created, "creators": ["Tool: scripts/release.sh"]},
+        "packages": packages,
+        "relationships": [
+            {"spdxElementId": one, "relationshipType": kind, "relatedSpdxElement": other}
+            for one, kind, other in relations
+        ],
+    }, indent=1) + "\n"
+
+
+def spdx_name(name: str) -> str:
+    return "SPDXRef-" + re.sub(r"[^A-Za-z0-9.-]", "-", name)
+
+
+def make(options: argparse.Namespace, work: pathlib.Path) -> list[pathlib.Path]:
+    """Makes the files, and returns where they are."""
+    needs("rt", "readelf", "strip")
+    out = pathlib.Path(options.folder)
+    if out.exists() and (not out.is_dir() or any(out.iterdir())):
+        raise NotMade(f"{out} is there, and is no empty folder")
+    release = Release(work, options)
+    out.mkdir(parents=True, exist_ok=True)
+    os.environ["SOURCE_DATE_EPOCH"] = str(release.date)
+    for make_for in FOR_EACH:
+        for machine in release.machines:
+            if wanted(make_for, options):
+                make_for(release, machine)
+    for make_all in FOR_ALL:
+        if wanted(make_all, options):
+            make_all(release)
+    files = sorted(release.out.iterdir())
+    package.write(release.out / "PROVED", release.proved)
+    package.write(release.out / f"pendratsoa-{version()}.spdx.json", contents(release, files))
+    files = sorted(release.out.iterdir())
+    sums = "".join(f"{hashlib.sha256(file.read_bytes()).hexdigest()}  {file.name}\n" for file in files)
+    package.write(release.out / "SHA256SUMS", sums)
+    return [*files, release.out / "SHA256SUMS"]
+
+
+def wanted(kind: collections.abc.Callable[..., None], options: argparse.Namespace) -> bool:
+    return not options.only or kind.__name__ in options.only
+
+
+def arguments(words: list[str]) -> argparse.Namespace:
+    kinds = [kind.__name__ for kind in (*FOR_EACH, *FOR_ALL)]
+    parser = argparse.ArgumentParser(prog="release.sh", usage="release.sh [OPTION..] FOLDER", add_help=False)
+    parser.add_argument("folder", metavar="FOLDER")
+    parser.add_argument("--gate")
+    parser.add_argument("--machine", choices=[machine.name for machine in MACHINES])
+    parser.add_argument("--only", action="append", choices=kinds)
+    parser.add_argument("--draft", action="store_true")
+    return parser.parse_args(words)
+
+
+def main(words: list[str]) -> int:
+    if words == ["--help"]:
+        print(__doc__.strip())
+        return 0
+    if words == ["--list"]:
+        for kind in (*FOR_EACH, *FOR_ALL):
+            print(f"{kind.__name__:8} {kind.__doc__}")
+        return 0
+    options = arguments(words)
+    options.folder = os.path.abspath(options.folder)
+    if options.gate:
+        options.gate = os.path.abspath(options.gate)
+    os.umask(0o022)
+    os.chdir(ROOT)
+    try:
+        with tempfile.TemporaryDirectory() as work:
+            for file in make(options, pathlib.Path(work)):
+                print(f"release.sh: made {file}")
+    except (NotMade, subprocess.CalledProcessError) as why:
+        print(f"release.sh: no release is made, since {why}", file=sys.stderr)
+        return 2
+    return 0
+
+
+if __name__ == "__main__":
+    sys.exit(main(sys.argv[1:]))
