@@ -1,5 +1,5 @@
 # A front for the scripts, which say more with --help: no rule of it does anything else.
-.PHONY: help quick test check generate view install uninstall package python go ruby rust node bench
+.PHONY: help quick test check generate view install uninstall package release python go ruby rust node bench
 
 help:
 	@echo 'make quick                  what can be known in two minutes, without a proof (sh scripts/test.sh --quick)'
@@ -10,6 +10,7 @@ help:
 	@echo 'make install PREFIX=..      puts the programs and the library for C below a folder (sh scripts/install.sh)'
 	@echo 'make uninstall PREFIX=..    removes them'
 	@echo 'make package                makes a Debian package of them in this folder (sh scripts/package.sh)'
+	@echo 'make release OUT=..         makes the files of a release in that folder (sh scripts/release.sh)'
 	@echo 'make python                 builds the package for Python, with the library in it (sh scripts/python.sh)'
 	@echo 'make go                     builds and vets the package for Go over the library that pkg-config finds'
 	@echo 'make ruby [PREFIX=..]       builds the gem for Ruby, with the library that is installed there'
@@ -40,6 +41,9 @@ uninstall:
 
 package:
 	sh scripts/package.sh
+
+release:
+	sh scripts/release.sh '$(OUT)'
 
 python:
 	sh scripts/python.sh

@@ -4,13 +4,14 @@
  *
  * Memory. The caller owns all of it, before, during and after a call. A call reads the `const` slices, writes the
  * others, and keeps no pointer; nothing that it allocates outlives it, and nothing has to be freed. Every pointer comes
- * with a count of elements, that to a struct with the count of its numbers; if the count is 0 it may be null. What a
- * call writes overlaps nothing else of that call.
+ * with a count of elements, that to a struct with the count of its numbers, that to a table with the count of its
+ * structs; if the count is 0 it may be null. What a call writes overlaps nothing else of that call.
  *
  * Results. A call returns a number that is not negative, or one of the errors below. One that writes bytes returns how
  * many they are, and writes them if `room` is at least as much; if it is less, the slice is unchanged, and the call can
- * be repeated with enough room. After an error all that a call could write is unchanged. Texts are UTF-8 and have no
- * zero byte at the end.
+ * be repeated with enough room. One that writes a table returns how many entries there are, and writes the first ones,
+ * as many as `room`. After an error all that a call could write is unchanged. Texts are UTF-8 and have no zero byte at
+ * the end.
  *
  * Threads. Calls share nothing: any number of threads may make them at once.
  */
@@ -30,7 +31,7 @@ extern "C" {
 #define JOURNAL_OUT_OF_MEMORY (-2)
 /* The room for a struct is less than it has numbers. */
 #define JOURNAL_NO_ROOM (-3)
-/* A payload would have more than 4,294,967,295 bytes, or a result 2^63 or more. */
+/* A payload would have more than 4,294,967,295 bytes, or has more than a limit, or a result 2^63 or more. */
 #define JOURNAL_TOO_LONG (-4)
 /* The kind of the last three; no call returns it by itself. */
 #define JOURNAL_UNKNOWN (-5)
@@ -38,6 +39,8 @@ extern "C" {
 #define JOURNAL_NO_ID (-6)
 /* A notification has an id, and no result. */
 #define JOURNAL_NO_RESULT (-7)
+/* The payload is well-formed for its schema, and not canonical. */
+#define JOURNAL_NOT_CANONICAL (-8)
 /* The second payload is not well-formed for its schema, and the first one is. */
 #define JOURNAL_MALFORMED_SECOND (-17)
 /* There is no such version. */
@@ -66,9 +69,9 @@ extern "C" {
 #define JOURNAL_SCHEMAS 53
 
 /* The version of the library that this header belongs to. */
-#define JOURNAL_LIBRARY_VERSION "0.1.0"
+#define JOURNAL_LIBRARY_VERSION "0.2.0"
 
-/* Writes the version of the library, as "0.1.0". Returns its length in bytes. */
+/* Writes the version of the library, as "0.2.0". Returns its length in bytes. */
 int64_t journal_library_version(uint8_t *out, size_t room);
 
 /*
@@ -230,6 +233,17 @@ int64_t journal_next(uint32_t version, const uint8_t *bytes, size_t length, stru
                      size_t item_room);
 
 /*
+ * Finds the item that the bytes begin with, as journal_next, if its payload has at most `limit` bytes. As soon as the
+ * eight bytes of a header are there that announces more, the error is JOURNAL_TOO_LONG: a reader of a network ends
+ * there, and holds nothing of it. 4,294,967,295 is no limit.
+ *
+ * Its errors, of which the first that is true comes: JOURNAL_UNKNOWN_VERSION, JOURNAL_NO_ROOM, JOURNAL_TOO_LONG if the
+ * payload of the item has more than `limit` bytes.
+ */
+int64_t journal_next_within(uint32_t version, uint32_t limit, const uint8_t *bytes, size_t length,
+                            struct journal_item *item, size_t item_room);
+
+/*
  * Writes the eight bytes of the header that a message of a type has at a version, by the length of its payload in
  * bytes; the payload comes after it. Returns 8. A custom entry has a header.
  *
@@ -319,6 +333,80 @@ struct journal_reading {
  */
 int64_t journal_payload_of_json(uint32_t schema, const uint8_t *json, size_t json_length,
                                 struct journal_reading *reading, size_t reading_room, uint8_t *out, size_t room);
+
+/*
+ * The fields of payloads.
+ */
+
+/* The kinds of fields. */
+#define JOURNAL_FIELD_UINT32 1  /* the value is the number */
+#define JOURNAL_FIELD_UINT64 2  /* the value is the number */
+#define JOURNAL_FIELD_BOOL 3    /* the value is 0 or 1 */
+#define JOURNAL_FIELD_ENUM 4    /* the value is the number, an int32, sign-extended to 64 bits */
+#define JOURNAL_FIELD_STRING 5  /* UTF-8, at the offset */
+#define JOURNAL_FIELD_BYTES 6   /* at the offset */
+#define JOURNAL_FIELD_MESSAGE 7 /* a payload, at the offset; the value is the number of its schema */
+
+/* A field of a payload, in a table of those of all levels. */
+struct journal_field {
+    uint64_t level;  /* 0 of the payload's own fields, and one more within each message */
+    uint64_t number; /* its field number */
+    uint64_t kind;   /* one of the seven kinds */
+    uint64_t value;  /* its number, or the schema of a message; otherwise 0 */
+    uint64_t offset; /* where its bytes begin in the payload, or in what is given with a table; 0 if it has none */
+    uint64_t length; /* how many bytes it has; 0 if it has none */
+};
+
+/*
+ * How many numbers that are: a struct journal_field is as an array of them; the room for a table is a count of structs.
+ */
+#define JOURNAL_FIELD_NUMBERS 6
+
+/*
+ * Writes the fields of a canonical payload as a table, those within a message after it, and of a packed run an entry
+ * for each number. Returns how many entries the payload has, at most as many as it has bytes; the first ones are
+ * written, as many as there is room for. It copies nothing and does not allocate.
+ *
+ * Its errors, of which the first that is true comes: JOURNAL_UNKNOWN_SCHEMA, JOURNAL_MALFORMED, JOURNAL_NOT_CANONICAL.
+ */
+int64_t journal_fields(uint32_t schema, const uint8_t *payload, size_t payload_length, struct journal_field *fields,
+                       size_t room);
+
+/* What kind of a result it is when a payload is written from a table: written, or why an entry may not come. */
+#define JOURNAL_WRITTEN 0               /* the payload is written */
+#define JOURNAL_ENTRY_UNKNOWN_FIELD 1   /* the schema of its message has no field of its number */
+#define JOURNAL_ENTRY_OUT_OF_ORDER 2    /* its field is before the last one, or is there already and not repeated */
+#define JOURNAL_ENTRY_SEVERAL_MEMBERS 3 /* another member of its oneof is there */
+#define JOURNAL_ENTRY_WRONG_KIND 4      /* its kind is not that of its field, or it is a message of another schema */
+#define JOURNAL_ENTRY_OUT_OF_RANGE 5    /* its value is not in the range of its kind */
+#define JOURNAL_ENTRY_NOT_UTF8 6        /* its bytes should be a text, and are not UTF-8 */
+#define JOURNAL_ENTRY_OUT_OF_BOUNDS 7   /* its bytes are not within those that are given */
+#define JOURNAL_ENTRY_WRONG_LEVEL 8     /* it is deeper than the last entry, and no field of that */
+#define JOURNAL_ENTRY_TOO_DEEP 9        /* it is a message that is nested more than one hundred levels deep */
+
+/* What a table of fields is written as. */
+struct journal_writing {
+    uint64_t kind;  /* one of the ten kinds */
+    uint64_t index; /* of the first entry that may not come; 0 if the payload is written */
+};
+
+/* How many numbers that are: a struct journal_writing is as an array of them, and the room for one is their count. */
+#define JOURNAL_WRITING_NUMBERS 2
+
+/*
+ * Writes the canonical payload whose fields a table gives, in the order of journal_fields; strings and bytes are at
+ * their offsets in the bytes that are given. Of a message no offset and no length is looked at: its fields are the
+ * entries after it. A plain field that is the default may come, and is left out. Writes two numbers, and as bytes the
+ * payload; if there is no room for it, the numbers are written nevertheless. A rejected table is no error of the call:
+ * the kind of the result says why its first entry that may not come is rejected, and there are no bytes. Returns how
+ * many bytes there are.
+ *
+ * Its errors, of which the first that is true comes: JOURNAL_UNKNOWN_SCHEMA, JOURNAL_NO_ROOM, JOURNAL_TOO_LONG;
+ * JOURNAL_OUT_OF_MEMORY in place of each after JOURNAL_NO_ROOM.
+ */
+int64_t journal_payload_of_fields(uint32_t schema, const struct journal_field *fields, size_t count,
+                                  const uint8_t *bytes, size_t length, struct journal_writing *writing,
+                                  size_t writing_room, uint8_t *out, size_t room);
 
 /*
  * Notifications.

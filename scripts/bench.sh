@@ -5,6 +5,7 @@
 #                                             frames a second, and allocations
 #   scripts/bench.sh programs [LENGTH]        journal_dump and journal_list, in MB a second
 #   scripts/bench.sh journals                 journal_diff on two journals of 100 MB
+#   scripts/bench.sh languages                the typed messages of each language beside protobuf's own packages
 #   scripts/bench.sh agree [SEED [COUNT]]     whether both agree on random payloads and streams, by the calls for C
 #   scripts/bench.sh vectors [SEED [COUNT]]   whether prost agrees with the test vectors of conformance/, and the
 #                                             library with random ones that prost has read
@@ -14,13 +15,13 @@
 set -eu
 
 usage() {
-  sed -n '2,14s/^# \{0,1\}//p' "$0"
+  sed -n '2,15s/^# \{0,1\}//p' "$0"
 }
 
 command=${1---help}
 [ $# -eq 0 ] || shift
 case $command in
-  speed | programs | journals | agree | vectors) exec sh "$(dirname "$0")/../bench/$command.sh" "$@" ;;
+  speed | programs | journals | languages | agree | vectors) exec sh "$(dirname "$0")/../bench/$command.sh" "$@" ;;
   --help) usage ;;
   *)
     usage >&2

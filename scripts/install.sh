@@ -3,22 +3,26 @@
 #
 #   scripts/install.sh [--library] [--target TRIPLE] [--libdir DIR] PREFIX
 #   scripts/install.sh --uninstall [--libdir DIR] PREFIX
+#   scripts/install.sh --from RELEASE.tar.gz [--uninstall] [PREFIX]
 #
 #   PREFIX       a folder, as /usr/local; it gets the programs in bin, the header in include, the static and the shared
-#                library and a file for pkg-config in lib, and man pages and completion for bash and zsh in share
+#                library and files for pkg-config and CMake in lib, and man pages and completion for bash and zsh in
+#                share
 #   --library    the library alone, its man pages with it: no program is proved or built for that
 #   --target     the library alone, for aarch64-unknown-linux-gnu, by Debian's gcc-aarch64-linux-gnu
 #   --libdir     where the libraries are, below PREFIX, instead of lib
 #   --uninstall  removes exactly these files
+#   --from       installs what is in a release, by the install.sh in it, which needs no toolchain and no compiler; where
+#                a file SHA256SUMS is beside the release, it has to name it
 #
-# What is installed is proved. What is not up to date is proved first: every crate below the programs and the library,
-# which takes more than an hour of processor time the first time, and no time where nothing has changed. The variable
-# DESTDIR is a folder in which PREFIX is made, for a package, and CC the C compiler. Both libraries export the calls of
-# include/pendratsoa.h and nothing else, and need the C library alone.
+# What is installed is proved. Without --from, what is not up to date is proved first: every crate below the programs
+# and the library, which takes more than an hour of processor time the first time, and no time where nothing has
+# changed. The variable DESTDIR is a folder in which PREFIX is made, for a package, and CC the C compiler. Both
+# libraries export the calls of include/pendratsoa.h and nothing else, and need the C library alone.
 set -eu
 
 usage() {
-  echo 'usage: install.sh [--library] [--target TRIPLE] [--libdir DIR] PREFIX; or install.sh --uninstall ..' >&2
+  echo 'usage: install.sh [--library] [--target TRIPLE] [--libdir DIR] PREFIX; or --uninstall ..; or --from FILE ..' >&2
   exit 2
 }
 
@@ -28,8 +32,33 @@ not_installed() {
   exit 2
 }
 
+# from_release FILE [WORD..]: gives the words to the install.sh of a release, unpacked
+from_release() {
+  [ -f "$1" ] || not_installed "there is no file $1"
+  sums=$(dirname "$1")/SHA256SUMS
+  if [ -f "$sums" ]; then
+    sum=$(sha256sum "$1" | cut -d ' ' -f 1)
+    grep -qxF "$sum  $(basename "$1")" "$sums" || not_installed "$sums has another checksum for $1, or none"
+  fi
+  release=$(mktemp -d)
+  trap 'rm -rf "$release"' EXIT
+  tar -xzf "$1" -C "$release" --strip-components=1 || not_installed "$1 cannot be unpacked"
+  [ -f "$release/install.sh" ] || not_installed "$1 has no install.sh: it is none of pendratsoa-VERSION-linux-*.tar.gz"
+  shift
+  sh "$release/install.sh" "$@"
+}
+
+if [ "${1-}" = --from ]; then
+  [ $# -gt 1 ] || usage
+  shift
+  from_release "$@"
+  exit
+fi
+
 top=$(cd "$(dirname "$0")/.." && pwd)
-header=$top/include/pendratsoa.h
+# the headers, of which the first has the version and the calls
+headers='pendratsoa.h'
+header=$top/include/${headers%% *}
 . "$top/scripts/up_to_date.sh"
 programs='journal journal_list'
 action=install
@@ -46,7 +75,7 @@ while [ $# -gt 1 ]; do
   shift
 done
 case ${1-} in
-  --help) sed -n '2,18s/^# \{0,1\}//p' "$0"; exit 0 ;;
+  --help) sed -n '2,24s/^# \{0,1\}//p' "$0"; exit 0 ;;
   '' | -*) usage ;;
 esac
 case $machine in
@@ -56,14 +85,17 @@ case $machine in
 esac
 prefix=$1
 target=${DESTDIR-}$prefix
-version=$(sed -n 's/^#define JOURNAL_LIBRARY_VERSION "\(.*\)"$/\1/p' "$header")
+version=$(cat "$top/VERSION")
 soname=libpendratsoa.so.${version%%.*}
 calls=$(awk '/^int64_t journal_/ { sub(/^int64_t /, ""); sub(/\(.*/, ""); print }' "$header")
 
 # library_files, program_files: what is installed, below PREFIX
 library_files() {
-  printf '%s\n' include/pendratsoa.h share/man/man3/pendratsoa.3
-  printf "$libdir/%s\n" libpendratsoa.a "libpendratsoa.so.$version" "$soname" libpendratsoa.so pkgconfig/pendratsoa.pc
+  # shellcheck disable=SC2086 # the names are split
+  printf 'include/%s\n' $headers
+  echo share/man/man3/pendratsoa.3
+  printf "$libdir/%s\n" libpendratsoa.a "libpendratsoa.so.$version" "$soname" libpendratsoa.so pkgconfig/pendratsoa.pc \
+    cmake/pendratsoa/pendratsoa-config.cmake cmake/pendratsoa/pendratsoa-config-version.cmake
   # shellcheck disable=SC2086 # the names are split
   printf 'share/man/man3/%s.3\n' $calls
 }
@@ -127,10 +159,11 @@ echo "$calls" > "$work/calls"
   -o "$work/libpendratsoa.so" "$work/pendratsoa.o"
 
 # The folder may be moved after it is installed, unless it is for a package.
+above_libraries=$(echo "/$libdir" | sed 's|/[^/]*|/..|g')
 if [ -n "${DESTDIR-}" ]; then
   found=$prefix
 else
-  found='${pcfiledir}/..'$(echo "/$libdir" | sed 's|/[^/]*|/..|g')
+  found='${pcfiledir}/..'$above_libraries
 fi
 cat > "$work/pendratsoa.pc" << END
 prefix=$found
@@ -143,6 +176,32 @@ Version: $version
 Cflags: -I\${includedir}
 Libs: -L\${libdir} -lpendratsoa
 END
+cat > "$work/pendratsoa-config.cmake" << END
+# The targets pendratsoa::pendratsoa, the shared library, and pendratsoa::static.
+if(NOT TARGET pendratsoa::pendratsoa)
+  get_filename_component(pendratsoa_libraries "\${CMAKE_CURRENT_LIST_DIR}/../.." ABSOLUTE)
+  get_filename_component(pendratsoa_headers "\${pendratsoa_libraries}$above_libraries/include" ABSOLUTE)
+  add_library(pendratsoa::pendratsoa SHARED IMPORTED)
+  set_target_properties(pendratsoa::pendratsoa PROPERTIES
+    IMPORTED_LOCATION "\${pendratsoa_libraries}/libpendratsoa.so.$version"
+    IMPORTED_SONAME $soname
+    INTERFACE_INCLUDE_DIRECTORIES "\${pendratsoa_headers}")
+  add_library(pendratsoa::static STATIC IMPORTED)
+  set_target_properties(pendratsoa::static PROPERTIES
+    IMPORTED_LOCATION "\${pendratsoa_libraries}/libpendratsoa.a"
+    INTERFACE_INCLUDE_DIRECTORIES "\${pendratsoa_headers}")
+endif()
+END
+cat > "$work/pendratsoa-config-version.cmake" << END
+set(PACKAGE_VERSION "$version")
+if(NOT PACKAGE_FIND_VERSION OR (PACKAGE_FIND_VERSION VERSION_LESS_EQUAL PACKAGE_VERSION
+                                AND PACKAGE_FIND_VERSION_MAJOR EQUAL ${version%%.*}))
+  set(PACKAGE_VERSION_COMPATIBLE TRUE)
+endif()
+if(PACKAGE_FIND_VERSION VERSION_EQUAL PACKAGE_VERSION)
+  set(PACKAGE_VERSION_EXACT TRUE)
+endif()
+END
 
 # place FILE MODE TARGET: puts a file where it belongs. A program that runs keeps the file that it has open.
 place() {
@@ -152,10 +211,15 @@ place() {
   chmod "$2" "$target/$3"
 }
 
-place "$header" 644 include/pendratsoa.h
+for name in $headers; do
+  place "$top/include/$name" 644 "include/$name"
+done
 place "$work/libpendratsoa.a" 644 "$libdir/libpendratsoa.a"
 place "$work/libpendratsoa.so" 755 "$libdir/libpendratsoa.so.$version"
 place "$work/pendratsoa.pc" 644 "$libdir/pkgconfig/pendratsoa.pc"
+for name in pendratsoa-config pendratsoa-config-version; do
+  place "$work/$name.cmake" 644 "$libdir/cmake/pendratsoa/$name.cmake"
+done
 ln -sfn "libpendratsoa.so.$version" "$target/$libdir/$soname"
 ln -sfn "$soname" "$target/$libdir/libpendratsoa.so"
 place "$top/share/man/man3/pendratsoa.3" 644 share/man/man3/pendratsoa.3

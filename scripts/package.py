@@ -1,9 +1,9 @@
 #!/usr/bin/env python3
-"""Makes a Debian package of the programs and the library for C, for amd64: scripts/package.sh [FOLDER]
+"""Makes a Debian package of the programs and the library for C: scripts/package.sh [--arm64] [FOLDER]
 
 The package is FOLDER/pendratsoa_VERSION_amd64.deb, by default in the current folder, and has what scripts/install.sh
-installs, which is proved. The same tools make the same bytes of the same commit. It needs what scripts/install.sh
-needs, and dpkg-deb and gzip.
+installs, which is proved; with --arm64 it is that of the library alone, for arm64. The same tools make the same bytes
+of the same commit. It needs what scripts/install.sh needs, and dpkg-deb and gzip.
 """
 from __future__ import annotations
 
@@ -11,16 +11,17 @@ import email.utils
 import hashlib
 import os
 import pathlib
-import re
 import shutil
 import subprocess
 import sys
 import tempfile
 
+import linked
+from machines import MACHINES, Machine
+
 ROOT = pathlib.Path(__file__).resolve().parent.parent
 MAINTAINER = "Pendratsoa maintainers <maintainers@users.noreply.pendratsoa.example>"
-LIBRARIES = "lib/x86_64-linux-gnu"
-TOOLS = ("dpkg-deb", "gzip", "strip", "readelf")
+TOOLS = ("dpkg-deb", "gzip", "readelf")
 
 COPYRIGHT = """\
 Format: https://www.debian.org/doc/packaging-manuals/copyright-format/1.0/
@@ -30,6 +31,7 @@ Files: *
 Copyright: {holder}
 License: Expat
 {terms}
+Comment: what is linked in from the toolchain, with its licences, is in linked.txt.gz
 """
 CHANGELOG = """\
 pendratsoa ({version}) unstable; urgency=medium
@@ -39,27 +41,33 @@ pendratsoa ({version}) unstable; urgency=medium
  -- {maintainer}  {date}
 """
 OVERRIDES = """\
-# one package has the programs, the library, and what others are built with against it
+# one package has the library, what others are built with against it, and the programs
 pendratsoa: package-name-doesnt-match-sonames libpendratsoa*
 pendratsoa: link-to-shared-library-in-wrong-package *
 """
 CONTROL = """\
 Package: pendratsoa
 Version: {version}
-Architecture: amd64
+Architecture: {architecture}
 Maintainer: {maintainer}
 Installed-Size: {size}
 Depends: libc6 (>= {glibc})
-Section: utils
+Section: {section}
 Priority: optional
 Description: journal protocol of the Restate SDKs
+{description}
+"""
+PROGRAMS = """\
  Programs that list a stream of the protocol, print it as JSON and say where
  two journals differ, and the protocol as a library for C: items of a stream,
  frames, payloads and their JSON, notifications, commands and journals
  compared. Each call is proved to do what its contract says.
  .
- It needs a processor that has SSE4.2.
-"""
+ It needs a processor that has SSE4.2."""
+LIBRARY = """\
+ The protocol as a library for C: items of a stream, frames, payloads and
+ their JSON, notifications, commands and journals compared. Each call is
+ proved to do what its contract says."""
 
 
 class NotMade(Exception):
@@ -79,6 +87,11 @@ def seconds() -> str:
     return shown.stdout.strip() if shown.returncode == 0 else str(int(pathlib.Path("CHANGELOG.md").stat().st_mtime))
 
 
+def version() -> str:
+    """The version of the library and the programs."""
+    return pathlib.Path("VERSION").read_text().strip()
+
+
 def write(file: pathlib.Path, text: str) -> None:
     file.parent.mkdir(parents=True, exist_ok=True)
     file.write_text(text)
@@ -86,23 +99,34 @@ def write(file: pathlib.Path, text: str) -> None:
 
 def programs(usr: pathlib.Path) -> list[pathlib.Path]:
     """The programs, without the links to them."""
-    return sorted(path for path in (usr / "bin").iterdir() if not path.is_symlink())
+    return sorted(path for path in usr.glob("bin/*") if not path.is_symlink())
 
 
-def adapt(usr: pathlib.Path, library: pathlib.Path) -> None:
+def shared_library(usr: pathlib.Path) -> pathlib.Path:
+    """The shared library, without the links to it."""
+    return next(path for path in sorted(usr.glob("lib/**/libpendratsoa.so.*")) if not path.is_symlink())
+
+
+def strip(usr: pathlib.Path, machine: Machine) -> None:
+    """Takes away the symbols that only a debugger reads."""
+    run(f"{machine.tools}strip", "--strip-unneeded", *programs(usr), shared_library(usr))
+
+
+def adapt(usr: pathlib.Path, machine: Machine) -> None:
     """Makes of what is installed what Debian has: no symbols that only a debugger reads, completion where its zsh
     looks, compressed pages, and links for pages that have several names."""
-    run("strip", "--strip-unneeded", *programs(usr), library)
-    library.chmod(0o644)
-    (usr / "share/zsh/site-functions").rename(usr / "share/zsh/vendor-completions")
+    strip(usr, machine)
+    shared_library(usr).chmod(0o644)
+    if machine.has_programs:
+        (usr / "share/zsh/site-functions").rename(usr / "share/zsh/vendor-completions")
     pages = usr / "share/man"
     for page in (pages / "man3").glob("journal_*.3"):
         page.unlink()
         page.with_name(f"{page.name}.gz").symlink_to("pendratsoa.3.gz")
-    run("gzip", "-9n", *sorted((pages / "man1").glob("*.1")), pages / "man3/pendratsoa.3")
+    run("gzip", "-9n", *sorted(pages.glob("man1/*.1")), pages / "man3/pendratsoa.3")
 
 
-def documents(usr: pathlib.Path, version: str, date: str) -> None:
+def documents(usr: pathlib.Path, date: str) -> None:
     """Writes the license, the changelogs, and what lintian is not to say."""
     pages = usr / "share/doc/pendratsoa"
     lines = pathlib.Path("LICENSE").read_text().splitlines()
@@ -111,43 +135,57 @@ def documents(usr: pathlib.Path, version: str, date: str) -> None:
     write(pages / "copyright", COPYRIGHT.format(holder=lines[at].removeprefix("Copyright (c) "), terms=terms))
     shutil.copyfile("CHANGELOG.md", pages / "CHANGELOG.md")
     written = email.utils.formatdate(int(date)).replace("-0000", "+0000")
-    write(pages / "changelog", CHANGELOG.format(version=version, maintainer=MAINTAINER, date=written))
-    run("gzip", "-9n", pages / "CHANGELOG.md", pages / "changelog")
+    write(pages / "changelog", CHANGELOG.format(version=version(), maintainer=MAINTAINER, date=written))
+    write(pages / "linked.txt", linked.page(linked.linked(["journal", "journal_list", "journal_ffi"])))
+    run("gzip", "-9n", pages / "CHANGELOG.md", pages / "changelog", pages / "linked.txt")
     write(usr / "share/lintian/overrides/pendratsoa", OVERRIDES)
 
 
-def describe(root: pathlib.Path, library: pathlib.Path, version: str) -> None:
+def describe(root: pathlib.Path, machine: Machine) -> None:
     """Writes what dpkg reads of the package, with the latest version of the C library that a symbol of it has."""
     usr, debian = root / "usr", root / "DEBIAN"
-    found = re.findall(r"GLIBC_(\d[0-9.]*)", run("readelf", "-V", *programs(usr), library))
-    glibc = max(found, key=lambda number: [int(part) for part in number.split(".")])
-    size = run("du", "-ks", "--apparent-size", usr).split()[0]
-    write(debian / "control", CONTROL.format(version=version, maintainer=MAINTAINER, size=size, glibc=glibc))
-    write(debian / "shlibs", f"libpendratsoa {version.split('.')[0]} pendratsoa (>= {version})\n")
+    said = {
+        "version": version(),
+        "maintainer": MAINTAINER,
+        "architecture": machine.debian,
+        "size": run("du", "-ks", "--apparent-size", usr).split()[0],
+        "glibc": machine.glibc(*programs(usr), shared_library(usr)),
+        "section": "utils" if machine.has_programs else "libdevel",
+        "description": PROGRAMS if machine.has_programs else LIBRARY,
+    }
+    write(debian / "control", CONTROL.format(**said))
+    write(debian / "shlibs", f"libpendratsoa {version().split('.')[0]} pendratsoa (>= {version()})\n")
     write(debian / "triggers", "activate-noawait ldconfig\n")
     files = sorted((file for file in usr.rglob("*") if file.is_file() and not file.is_symlink()), key=str)
     sums = [f"{hashlib.md5(file.read_bytes()).hexdigest()}  {file.relative_to(root)}\n" for file in files]
     write(debian / "md5sums", "".join(sums))
 
 
-def make(folder: pathlib.Path, work: pathlib.Path) -> pathlib.Path:
-    """Makes the package in a folder, and returns where it is."""
-    for tool in TOOLS:
-        if not shutil.which(tool):
-            raise NotMade(f"there is no {tool}")
-    header = pathlib.Path("include/pendratsoa.h").read_text()
-    version = re.search(r'^#define JOURNAL_LIBRARY_VERSION "(.*)"$', header, re.M)[1]
-    date = seconds()
-    root = work / "root"
-    library = root / "usr" / LIBRARIES / f"libpendratsoa.so.{version}"
+def installed(machine: Machine, *words: str, **env: str) -> None:
+    """Installs for a machine; the first time what is not proved is proved."""
     try:
-        run("sh", "scripts/install.sh", "--libdir", LIBRARIES, "/usr", DESTDIR=str(root))
+        run("sh", "scripts/install.sh", *machine.words(), *words, **env)
     except subprocess.CalledProcessError:
         raise NotMade("scripts/install.sh failed") from None
-    adapt(root / "usr", library)
-    documents(root / "usr", version, date)
-    describe(root, library, version)
-    package = folder / f"pendratsoa_{version}_amd64.deb"
+
+
+def needs(*tools: str) -> None:
+    """Ends where a tool is absent."""
+    for tool in tools:
+        if not shutil.which(tool):
+            raise NotMade(f"there is no {tool}")
+
+
+def make(folder: pathlib.Path, work: pathlib.Path, machine: Machine) -> pathlib.Path:
+    """Makes the package in a folder, and returns where it is."""
+    needs(*TOOLS, f"{machine.tools}strip")
+    date = seconds()
+    root = work / "root"
+    installed(machine, "--libdir", f"lib/{machine.triplet}", "/usr", DESTDIR=str(root))
+    adapt(root / "usr", machine)
+    documents(root / "usr", date)
+    describe(root, machine)
+    package = folder / f"pendratsoa_{version()}_{machine.debian}.deb"
     try:
         run("dpkg-deb", "--root-owner-group", "--build", root, package, SOURCE_DATE_EPOCH=date)
     except subprocess.CalledProcessError:
@@ -156,9 +194,11 @@ def make(folder: pathlib.Path, work: pathlib.Path) -> pathlib.Path:
 
 
 def main(words: list[str]) -> int:
-    word = words[0] if words else "."
-    if len(words) > 1 or word == "" or word.startswith("-"):
-        print("usage: package.sh [FOLDER]", file=sys.stderr)
+    machine = MACHINES[words[:1] == ["--arm64"]]
+    rest = words[1:] if words[:1] == ["--arm64"] else words
+    word = rest[0] if rest else "."
+    if len(rest) > 1 or word == "" or word.startswith("-"):
+        print("usage: package.sh [--arm64] [FOLDER]", file=sys.stderr)
         return 2
     folder = pathlib.Path(word).resolve()
     os.umask(0o022)
@@ -167,7 +207,7 @@ def main(words: list[str]) -> int:
             raise NotMade(f"there is no folder {word}")
         os.chdir(ROOT)
         with tempfile.TemporaryDirectory() as work:
-            print(f"package.sh: made {make(folder, pathlib.Path(work))}")
+            print(f"package.sh: made {make(folder, pathlib.Path(work), machine)}")
     except NotMade as why:
         print(f"package.sh: nothing is made, since {why}", file=sys.stderr)
         return 2

@@ -1,3 +1,3 @@
 #!/bin/sh
-# Makes a Debian package of the programs and the library for C, for amd64: scripts/package.sh [FOLDER]
+# Makes a Debian package of the programs and the library for C: scripts/package.sh [--arm64] [FOLDER]
 exec python3 -B "$(dirname "$0")/package.py" "$@"

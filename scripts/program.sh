@@ -5,7 +5,8 @@
 # With --unproved it takes that one if it is up to date, and otherwise builds crates/CRATE/out/unproved/CRATE without
 # the proofs, in one to three minutes of processor time: half of them for the program, and half for a check beside it of
 # what the compiler refuses. That program has an address sanitizer, which stops it at a bad access, and is hundreds
-# of times slower; rt try has no other way. The status is 2 where there is no rt.
+# of times slower. The toolchain has no other way: rt try takes no option that leaves these checks out, and rattle
+# build, which optimises, makes nothing of what is not proved. The status is 2 where there is no rt.
 set -eu
 cd "$(dirname "$0")/.."
 . scripts/keeping_kit.sh
@@ -54,7 +55,8 @@ tell_time > /dev/null &
 trap 'kill $! 2> /dev/null || :; rm -rf "$work"' EXIT
 # In both cases it is run, without input and arguments, and may fail then.
 if [ "$is_unproved" = yes ]; then
-  echo "program.sh: building $crate without the proofs, once, in one to three minutes of processor time" >&2
+  echo "program.sh: building $crate without the proofs, once, in one to three minutes of processor time; it is slow," \
+    'since the toolchain optimises only what is proved' >&2
   keeping_kit "$work"
   (cd "crates/$crate" && "$work/kit/bin/rt" try --steps 1 < /dev/null) > "$work/log" 2>&1 || :
   if [ -e "$work/program" ]; then

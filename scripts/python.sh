@@ -1,13 +1,14 @@
 #!/bin/sh
-# Makes the package for Python whole: scripts/python.sh [FOLDER], which is python/ or a copy of it.
+# Makes the package for Python whole: scripts/python.sh [FOLDER [LIBRARY PLATFORM]]; FOLDER is python/ or a copy of it.
 #
 # It puts the shared library beside the modules, so that 'pip install FOLDER' takes it along, and builds the wheel in
 # FOLDER/dist, which needs a Python with pip, setuptools and wheel (Debian's python3-pip, python3-setuptools and
-# python3-wheel). Nothing is downloaded. The library is that of scripts/install.sh, and needs what that needs.
+# python3-wheel). Nothing is downloaded. The library is that of scripts/install.sh, and needs what that needs, or the
+# file LIBRARY, for a platform as manylinux_2_17_aarch64.
 set -eu
 
-if [ $# -gt 1 ]; then
-  echo 'usage: python.sh [FOLDER]' >&2
+if [ $# -eq 2 ] || [ $# -gt 3 ]; then
+  echo 'usage: python.sh [FOLDER [LIBRARY PLATFORM]]' >&2
   exit 2
 fi
 top=$(cd "$(dirname "$0")/.." && pwd)
@@ -15,9 +16,10 @@ folder=${1:-$top/python}
 work=$(mktemp -d)
 trap 'rm -rf "$work"' EXIT
 
-DESTDIR='' sh "$top/scripts/install.sh" --library "$work/prefix" > "$work/log"
+library=${2:-$work/prefix/lib/libpendratsoa.so}
+[ $# -eq 3 ] || DESTDIR='' sh "$top/scripts/install.sh" --library "$work/prefix" > "$work/log"
 rm -f "$folder/pendratsoa/libpendratsoa.so"
-cp "$work/prefix/lib/libpendratsoa.so" "$folder/pendratsoa/libpendratsoa.so"
+cp "$library" "$folder/pendratsoa/libpendratsoa.so"
 echo "python.sh: the library is in $folder/pendratsoa"
 
 for python in python3 /usr/bin/python3; do
@@ -26,7 +28,7 @@ for python in python3 /usr/bin/python3; do
     # what an earlier build has left would be taken along
     rm -rf "$folder/build"
     "$python" -m pip wheel --quiet --disable-pip-version-check --no-cache-dir --no-index --no-deps \
-      --no-build-isolation --wheel-dir "$folder/dist" "$folder"
+      --no-build-isolation ${3:+--config-settings=--build-option=--plat-name=$3} --wheel-dir "$folder/dist" "$folder"
     echo "python.sh: the wheel is $(ls "$folder"/dist/*.whl)"
     exit 0
   fi

@@ -31,7 +31,7 @@ import textwrap
 
 sys.dont_write_bytecode = True
 
-from generators import ROOT, Refused, descriptors, forms, proto, renumbered  # noqa: E402
+from generators import ROOT, Refused, descriptors, forms, laid_out, proto, quoted, renumbered  # noqa: E402
 from generators.model import COMMANDS, NOTIFICATIONS, json_name, snake  # noqa: E402
 
 PROGRAMS = ("journal", "journal_list")
@@ -51,6 +51,12 @@ WIRE = {
 # one.
 NAME = "name"
 SUSPENSION, FLAT = "SuspensionMessage", "SuspensionMessageV6"
+
+# The message without fields here, and that of protobuf.
+EMPTY = "Void", "Empty"
+
+# The version of the streams of examples/.
+EXAMPLES = 8
 
 # What is said of a field or a message.
 SAME, RENUMBERED, THEIRS, OURS, KIND = "the same", "renumbered", "only there", "only here", "of another kind"
@@ -158,6 +164,8 @@ class Adoption:
             other = renamed.get(name) or (name if name in self.theirs else alike[0] if len(alike) == 1 else None)
             if other in self.theirs:
                 pairs[name] = self.theirs[other]
+        if EMPTY[0] not in pairs and EMPTY[1] in self.theirs and not self.theirs[EMPTY[1]].fields:
+            pairs[EMPTY[0]] = self.theirs[EMPTY[1]]
         # a file that has one suspension alone may have the three lists in it
         last = pairs.get(SUSPENSION)
         if FLAT not in pairs and last and "waiting_completions" in [field.name for field in last.fields]:
@@ -191,8 +199,21 @@ class Adoption:
                 ]
                 self.rows[-1].more = ", ".join(["it stays", *moved])
             self.code(message, other)
+        self.order_of_futures()
         self.enums()
         self.further_messages()
+
+    def order_of_futures(self):
+        """Says where the proofs of the record that holds itself do not follow."""
+        for name in forms.HAND_WRITTEN:
+            fields = self.ours[name].fields
+            ours = [field.name for field in sorted(fields, key=lambda field: field.number)]
+            theirs = [field.name for field in sorted(fields, key=lambda field: self.numbers[field.line][1])]
+            if ours != theirs:
+                self.person(
+                    f"{name} has its fields in another order there ({', '.join(theirs)}): its code follows, and the "
+                    f"prover rejects six files that have their places, which docs/CHANGING.md lists, until they are changed"
+                )
 
     def other_fields(self, message, other):
         """Our fields of a message, each with theirs or None."""
@@ -203,7 +224,23 @@ class Adoption:
         for theirs, ours in self.renames.items():
             if theirs.startswith(f"{message.name}."):
                 by_name[ours.partition(".")[2] or ours] = by_name.get(theirs.partition(".")[2])
-        return {field.name: by_name.get(field.name) or by_plain.get(plain(field.name)) for field in message.fields}
+        matched = {field.name: by_name.get(field.name) or by_plain.get(plain(field.name)) for field in message.fields}
+        for oneof in message.oneofs:
+            self.match_members(message, oneof.name, other, matched)
+        return matched
+
+    def match_members(self, message, oneof, other, matched):
+        """Of a oneof the members that are called otherwise there, and are the only ones of their kind on both sides."""
+        ours = [field for field in message.fields if field.oneof == oneof]
+        theirs = {matched[field.name].oneof for field in ours if matched[field.name]} - {""}
+        theirs |= {one.name for one in other.oneofs if plain(one.name) == plain(oneof)}
+        taken = {id(field) for field in matched.values() if field}
+        free = [field for field in other.fields if field.oneof in theirs and id(field) not in taken]
+        missing = [field for field in ours if matched[field.name] is None]
+        for field in missing:
+            alike = [one for one in free if is_same_shape(field, one, self.names)]
+            if len(alike) == 1 and sum(is_same_shape(one, alike[0], self.names) for one in missing) == 1:
+                matched[field.name] = alike[0]
 
     def common_name(self):
         """The number of the field that names a command there, which most of them have."""
@@ -409,7 +446,7 @@ class Adoption:
                         field.name
                     ] and matched[field.name].oneof == oneof
                 ),
-                None
+                next((one.name for one in message.oneofs if one.name == oneof), None),
             )
             if oneof and not home:
                 place += 1
@@ -488,6 +525,7 @@ class Adoption:
                 (one for one in self.our_enums.values() if plain(one.name) == plain(name)), None
             )
             if enum is None:
+                self.further_enum(name, other)
                 continue
             ours = {value: (number, line) for value, number, line in enum.values}
             by_number = {number: value for value, number, _ in enum.values}
@@ -503,6 +541,17 @@ class Adoption:
                 else:
                     row = self.say(where, "", f"{number}", THEIRS)
                     self.added.append(Added(value, [f"  {value} = {number};"], enum.end, row, (), enum.name))
+
+    def further_enum(self, name, other):
+        """An enum that only they have, which is added if a field here holds it."""
+        row = self.say(name, "", f"an enum of {', '.join(f'{number} {value}' for value, number, _ in other.values)}", THEIRS)
+        kept, seen = [], set()
+        for value, number, _ in other.values:
+            if number >= 0 and number not in seen:
+                kept.append(f"  {value} = {number};")
+            seen.add(number)
+        comment = [f"// {line}" for line in about(other, f"Of the runtime: {name}.")]
+        self.added.append(Added(name, ["", *comment, f"enum {name} {{", *kept, "}"], len(self.lines), row, (), "enum"))
 
     def take_value(self, name, line, number):
         self.numbers[line] = (name, number)
@@ -629,7 +678,7 @@ class Adoption:
                 if one.before == 0 and one.within in gone:
                     one.row.more = "left out with its message"
                     changed = True
-                elif one.within == "message" and not any(
+                elif one.within in ("message", "enum") and not any(
                     "option (code)" in line for line in one.lines
                 ) and one.name not in held:
                     one.row.more = "left out: nothing here holds it"
@@ -738,35 +787,92 @@ def with_heading(text, theirs):
     return re.sub(r"// The field numbers are this project's own, .*\n(?=// Fields are)", said + "\n", text)
 
 
-def adopt_frames(out, adoption):
-    """The codes of types in the hand-written conformance/frames.txt, with a line for each type that is added."""
-    place = out / "conformance" / "frames.txt"
-    text = place.read_text(encoding="utf-8")
-    codes = {name.removesuffix("Message"): code for name, code in adoption.codes.items()}
-
-    def line(match):
-        code = codes.get(match[2])
-        return match[0] if code is None else f"{match[1]}{code:04x}"
-
-    text = re.sub(r"^(frame (\w+) .* = )([0-9a-f]{4})", line, text, flags=re.M)
+def adopt_further(out, adoption):
+    """The lines of the hand-written test vectors that each further message has, and each further type."""
     for one in adoption.added:
+        if one.within != "message" or one.row.more:
+            continue
+        add_line(out, "payloads.txt", r"payload \w+ - = -\n", f"payload {one.name} - = -\n")
         code = next((re.search(r"0x(\w{4})", line)[1] for line in one.lines if "option (code)" in line), None)
-        if one.within == "message" and code and not one.row.more:
-            text += f"frame {one.name.removesuffix('Message')} 5 - = {code.lower()}{'0' * 12}\n"
-    place.write_text(text, encoding="utf-8")
+        if code:
+            line = f"frame {one.name.removesuffix('Message')} 5 - = {code.lower()}{'0' * 12}\n"
+            add_line(out, "frames.txt", r"frame \w+ 5 - = \w+\n", line)
 
 
-def adopt_vectors(out, described):
-    """The hand-written test vectors with their numbers; the number of lines that are others now."""
-    renumbering = renumbered.Renumbering(proto.description(), described)
-    count = 0
-    for place in sorted((out / "conformance").glob("*.txt")):
+def add_line(out, name, alike, line):
+    """Adds a line to the first lines of a file that are alike, and to their number on pages."""
+    place = out / "conformance" / name
+    text = place.read_text(encoding="utf-8")
+    heading, lines = re.search(rf"^# (.*)\n(?:#.*\n)*((?:{alike})+)", text, re.M).groups()
+    place.write_text(text.replace(lines, lines + line, 1), encoding="utf-8")
+    for page in (out / "docs").glob("*.md"):
+        said = page.read_text(encoding="utf-8")
+        counted = [row for row in re.findall(rf"^    {name}, \d+: .*$", said, re.M) if heading.startswith(row.split(": ", 1)[1])]
+        for row in counted:
+            said = said.replace(row, re.sub(r"\d+", str(lines.count("\n") + 1), row, count=1))
+        page.write_text(said, encoding="utf-8")
+
+
+def adopt_vectors(out, renumbering):
+    """The hand-written test vectors with their numbers, and where pages have the same lines; the number of lines that
+    are others now."""
+    changed = {}
+    vectors = [*sorted((out / "conformance").glob("*.txt")), out / "tests" / "vectors" / "wrong_lines.txt"]
+    for place in vectors:
         text = place.read_text(encoding="utf-8")
-        if not text.startswith("# @generated"):
-            changed = renumbering.text(text)
-            count += sum(old != new for old, new in zip(text.split("\n"), changed.split("\n")))
-            place.write_text(changed, encoding="utf-8")
-    return count
+        # the random ones are made by prost, which is seldom there
+        if not text.startswith("# @generated") or place.name.startswith("random_"):
+            new = renumbering.text(text)
+            changed.update((old, line) for old, line in zip(text.split("\n"), new.split("\n")) if old != line)
+            place.write_text(new, encoding="utf-8")
+    found = out / "tests" / "vectors" / "wrong_lines.found"
+    found.write_text(renumbering.found(found.read_text(encoding="utf-8")), encoding="utf-8")
+    for page in (out / "docs").glob("*.md"):
+        lines = page.read_text(encoding="utf-8").split("\n")
+        page.write_text("\n".join(line.replace(line.strip(), changed.get(line.strip(), line.strip())) for line in lines), encoding="utf-8")
+    return len(changed)
+
+
+def adopt_examples(out, renumbering):
+    """The streams of examples/ with their numbers, their listings and dumps, and the dump that README.md shows."""
+    for listed in sorted((out / "examples" / "streams").glob("*.stdout")):
+        place = listed.with_suffix("")
+        data = place.read_bytes()
+        place.write_bytes(b"".join(renumbering.stream(EXAMPLES, [data], None)))
+        new = place.read_bytes()
+        listed.write_text(renumbering.new.listing(EXAMPLES, new).replace(", ", "\n") + "\n", encoding="utf-8")
+        dump = listed.with_suffix(".dump")
+        if dump.exists():
+            before = dump.read_text(encoding="utf-8")
+            after = renumbering.dump(EXAMPLES, data, new, before)
+            dump.write_text(after, encoding="utf-8")
+            readme = out / "README.md"
+            text = readme.read_text(encoding="utf-8")
+            for old, line in zip(before.splitlines(), after.splitlines()):
+                text = text.replace(f"    {old}\n", f"    {line}\n")
+            readme.write_text(text, encoding="utf-8")
+
+
+def adopt_table(out):
+    """What is said there of the example of another .proto, whose numbers are others now."""
+    example = out / "tests" / "adopt"
+    words = [sys.executable, "-B", "tools/adopt.py", "--table", "--all", "tests/adopt/other.proto"]
+    said = subprocess.run(words, cwd=out, capture_output=True, text=True, check=True).stdout
+    (example / "other.txt").write_text(said, encoding="utf-8")
+
+
+def adopt_tests(out, renumbering):
+    """The payloads that tests quote with their numbers; how many these are."""
+    quotes = quoted.Quoted(renumbering)
+    changed = {}
+    for place in sorted((out / "tests").glob("*/*.rt.in")):
+        path, text = str(place.relative_to(out)), place.read_text(encoding="utf-8")
+        new = text if text.startswith("// @generated") else quotes.text(path, text)
+        if new != text:
+            changed[path] = new
+    for path, text in laid_out(changed).items():
+        (out / path).write_text(text, encoding="utf-8")
+    return quotes.count
 
 
 # A stream of theirs.
@@ -950,14 +1056,18 @@ def main():
     copied(asked.out)
     (asked.out / "proto" / "journal.proto").write_text(with_heading(text, asked.theirs), encoding="utf-8")
     described = descriptors.read(asked.out / "proto" / "journal.proto")
-    adopt_frames(asked.out, adoption)
-    print(f"{adopt_vectors(asked.out, described)} hand-written test vectors have other numbers")
+    adopt_further(asked.out, adoption)
+    renumbering = renumbered.Renumbering(proto.description(), described)
+    print(f"{adopt_vectors(asked.out, renumbering)} hand-written test vectors have other numbers")
+    print(f"{adopt_tests(asked.out, renumbering)} payloads that tests quote have other numbers")
+    adopt_examples(asked.out, renumbering)
     print(f"\n{asked.out}: the copy, with its description; generating what repeats it", flush=True)
     ended = subprocess.run([sys.executable, "-B", "tools/generate.py"], cwd=asked.out, capture_output=True, text=True)
     if ended.returncode != 0:
         print(f"adopt: tools/generate.py fails there:\n{ended.stdout[-2000:]}{ended.stderr.strip()}", file=sys.stderr)
         return 1
     print(f"{ended.stdout.count('wrote ')} files generated", flush=True)
+    adopt_table(asked.out)
     stream, expected = stream_of(adoption, theirs, asked.theirs, described)
     (asked.out / "theirs.stream").write_bytes(stream)
     (asked.out / "theirs.json").write_text(
@@ -995,8 +1105,9 @@ NEXT = """
 Next, in {out}:
   git diff proto/                               what the description is now
   sh scripts/run.sh journal dump STREAM         a stream of theirs; without proofs it is slow
+  sh scripts/check.sh conformance generated     the test vectors have these numbers, and all that repeats them
   sh scripts/check.sh table                     what hand-written tables do not say yet (new fields of commands)
-  sh scripts/test.sh --quick                    what tests quote of the numbers here
+  sh scripts/test.sh --quick                    the tests that say lengths, orders or numbers of before; docs/CHANGING.md
   rt all check                                  proves the library for these numbers, or says where not, in hours
   sh scripts/install.sh DIR                     installs the proved programs"""
 

@@ -55,17 +55,28 @@ if command -v pkg-config > /dev/null; then
 else
   without 'the program of docs/C.md' pkg-config
 fi
-if command -v pkg-config > /dev/null && command -v cmake > /dev/null && command -v make > /dev/null; then
+if command -v cmake > /dev/null && command -v make > /dev/null; then
   mkdir "$work/cmake"
   cp "$work/page.c" "$work/cmake/frame.c"
   awk '/^```cmake$/ { is_code = 1; next } /^```$/ { is_code = 0 } is_code' docs/C.md > "$work/cmake/CMakeLists.txt"
-  case_of 'cmake with docs/C.md' env PKG_CONFIG_PATH="$plain/lib/pkgconfig" \
-    cmake -S "$work/cmake" -B "$work/cmake/build"
+  # the other library, and an older version, are found as well, and a later one is not
+  {
+    echo 'find_package(pendratsoa 0.1 REQUIRED)'
+    echo 'find_package(pendratsoa 99 QUIET)'
+    echo 'if(pendratsoa_FOUND)'
+    echo '  message(FATAL_ERROR "version 99 is found")'
+    echo 'endif()'
+    echo 'add_executable(frame_static frame.c)'
+    echo 'target_link_libraries(frame_static PRIVATE pendratsoa::static)'
+  } >> "$work/cmake/CMakeLists.txt"
+  case_of 'cmake with docs/C.md' cmake -DCMAKE_PREFIX_PATH="$prefix" -S "$work/cmake" -B "$work/cmake/build"
   case_of 'cmake --build' cmake --build "$work/cmake/build"
-  "$work/cmake/build/frame" > "$out" 2> "$err"
-  same 'what the program by cmake prints' "$work/wanted" "$out"
+  for program in frame frame_static; do
+    "$work/cmake/build/$program" > "$out" 2> "$err"
+    same "what $program by cmake prints" "$work/wanted" "$out"
+  done
 else
-  without 'cmake with docs/C.md' 'cmake, make or pkg-config'
+  without 'cmake with docs/C.md' 'cmake or make'
 fi
 sed -n 's/^#define \(JOURNAL_[A-Z_]*\) (\(-[0-9]*\)).*/\2 \1/p' include/pendratsoa.h > "$work/wanted"
 sed -n 's/^| \(-[0-9]*\) | `\(JOURNAL_[A-Z_]*\)` .*/\1 \2/p' docs/C.md > "$work/out"

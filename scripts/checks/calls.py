@@ -59,7 +59,7 @@ def calls(check: checks.Check) -> None:
     in_go = {call.symbol(): calls_data.camel(call.symbol(), False) for call in calls_data.calls()}
     uses = {
         "python/pendratsoa": re.findall(r"\blibrary\.(journal_\w+)", together("python/pendratsoa/*.py")),
-        "ruby/lib": re.findall(r":(journal_\w+)", together("ruby/lib/pendratsoa/functions.rb", "ruby/lib/pendratsoa/stream.rb")),
+        "ruby/lib": re.findall(r":(journal_\w+)", together("ruby/lib/pendratsoa/f*.rb", "ruby/lib/pendratsoa/stream.rb")),
         "tests/ffi": re.findall(r"\b(journal_\w+)\(", together("tests/ffi/*.rt.in")),
         "docs/PROOFS.md": re.findall(r"`(journal_\w+)`", read("docs/PROOFS.md").partition("\n## journal_ffi:")[2].partition("\n## ")[0]),
     }

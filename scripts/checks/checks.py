@@ -224,11 +224,8 @@ def python_with_protobuf() -> str:
 
 
 def library_version() -> str:
-    """The version of the library, by its header."""
-    for line in (ROOT / "include" / "pendratsoa.h").read_text().splitlines():
-        if line.startswith('#define JOURNAL_LIBRARY_VERSION "'):
-            return line.split('"')[1]
-    raise ValueError("include/pendratsoa.h has no version")
+    """The version of the library and the programs."""
+    return (ROOT / "VERSION").read_text().strip()
 
 
 def names_below(folder: pathlib.Path) -> list[str]:

@@ -1,7 +1,7 @@
 """Checks the test vectors on standard input by the calls for C: conformance_calls.py < LINES
 
 It takes the package for Python, which has to be installed or in PYTHONPATH. Lines of the kind `record` have no call.
-Besides, a stream is the same byte by byte, a canonical payload is its own canonical payload and has the same JSON, JSON
+Besides, a record that is decoded and encoded is the canonical payload, a stream is the same byte by byte, a canonical payload is its own canonical payload and has the same JSON, JSON
 is read as the canonical payload, a frame is a header and the canonical payload, and a command is the same as itself. The
 last line is 'N passed, M failed'.
 """
@@ -10,16 +10,22 @@ import sys
 
 import pendratsoa
 from pendratsoa import JsonError, Malformed, Stream
+from pendratsoa.messages import RECORDS
 
 
 def payload(schema, data):
     result = pendratsoa.canonical(schema, data)
     assert pendratsoa.is_well_formed(schema, data)
     assert pendratsoa.canonical(schema, result) == result
+    assert record(schema, data).encode() == result
     text = pendratsoa.to_json(schema, data)
     assert pendratsoa.to_json(schema, result) == text
     assert pendratsoa.payload(schema, text) == result
     return result.hex()
+
+
+def record(schema, data):
+    return RECORDS[pendratsoa.SCHEMA_NAMES.index(schema)].decode(data)
 
 
 def merge(schema, *data):
@@ -35,6 +41,7 @@ def frame(type_, version, data):
     schema = pendratsoa.schema(int(version), code)
     assert result[:8] == pendratsoa.header(int(version), code, len(result) - 8)
     assert pendratsoa.canonical(schema, result[8:]) == result[8:]
+    assert record(f"{type_}Message", data).frame(int(version)) == result
     return result.hex()
 
 

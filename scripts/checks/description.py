@@ -4,7 +4,8 @@
 Each of the descriptions is the one of proto/journal.proto with an edit, and tools/generators has to reject it with
 these words, and with a line. tests/adopt/other.proto is what a runtime may have: scripts/adopt.sh says of it what
 tests/adopt/other.txt has, and each message that protoc makes with that file has, by the description that comes of it,
-the fields that it was made of. Nothing is generated or built. It needs protoc.
+the fields that it was made of. The hand-written test vectors get its numbers, and then those of before again. Nothing
+is generated or built. It needs protoc.
 """
 from __future__ import annotations
 
@@ -17,7 +18,9 @@ sys.dont_write_bytecode = True
 
 from checks import ROOT, Check, NotRun, perform
 
-# What is wrong; a text of the description, and what is there in its place; and what is said, after the line.
+# What is wrong; a text of the description, and what is there in its place; and what is said, after the line. The numbers
+# of fields and of enum values are those that the description has, and in braces is the number of the field of that
+# name, the code of a type's message, the schema of another message, or how many messages there are.
 REFUSED = [
     # what protoc rejects
     ("an enum that does not begin at 0", "RETRY = 0;", "RETRY = 5;", "The first enum value must be zero in proto3."),
@@ -37,13 +40,13 @@ REFUSED = [
     ("proto2", 'syntax = "proto3";', 'syntax = "proto2";', "Expected "),
     (
         "an option that is no number",
-        "option (schema) = 1;",
+        "option (schema) = {Value};",
         "option (schema) = five;",
         "Value must be non-negative integer for uint32 option",
     ),
     (
         "a code below 0",
-        "option (code) = 0x0000;",
+        "option (code) = {StartMessage};",
         "option (code) = -1;",
         "Value must be non-negative integer for uint32 option",
     ),
@@ -53,12 +56,12 @@ REFUSED = [
         "[(printed) = one]",
         "Value must be non-negative integer for uint32 option",
     ),
-    ("an unknown option", "option (schema) = 1;", "option (scheme) = 1;", 'Option "(scheme)" unknown.'),
+    ("an unknown option", "option (schema) = {Value};", "option (scheme) = 1;", 'Option "(scheme)" unknown.'),
     (
         "a number that is taken",
         "string debug_id = 2;",
-        "string debug_id = 1;",
-        'Field number 1 has already been used in "pendratsoa.journal.StartMessage"',
+        "string debug_id = 2; string other_id = {debug_id};",
+        'Field number {debug_id} has already been used in "pendratsoa.journal.StartMessage"',
     ),
     (
         "a number of protobuf's own",
@@ -70,8 +73,8 @@ REFUSED = [
     (
         "a number that is reserved",
         "bytes content = 1;",
-        "reserved 1; bytes content = 1;",
-        'Field "content" uses reserved number 1.',
+        "reserved {content}; bytes content = 1;",
+        'Field "content" uses reserved number {content}.',
     ),
     # kinds that the library lacks
     (
@@ -114,13 +117,13 @@ REFUSED = [
     (
         "a second name of a value",
         "PAUSE = 1;",
-        "PAUSE = 1; option allow_alias = true; STOP = 0x1;",
+        "PAUSE = 1; option allow_alias = true; STOP = {PAUSE};",
         "STOP of ErrorBehavior has the number of PAUSE",
     ),
     (
         "a message within another",
         "bytes content = 1;",
-        "message Inner { option (schema) = 53; } bytes content = 1;",
+        "message Inner { option (schema) = {messages}; } bytes content = 1;",
         "Inner is within Value: messages are beside each other",
     ),
     (
@@ -158,19 +161,19 @@ REFUSED = [
     (
         "a message of a type's name",
         "message Void {",
-        "message Vec { option (schema) = 53; }\n// Nothing.\nmessage Void {",
+        "message Vec { option (schema) = {messages}; }\n// Nothing.\nmessage Void {",
         "a message cannot be called Vec",
     ),
     (
         "a message of a module's name",
         "message Void {",
-        "message Notification { option (schema) = 53; }\n// Nothing.\nmessage Void {",
+        "message Notification { option (schema) = {messages}; }\n// Nothing.\nmessage Void {",
         "a message cannot be called Notification",
     ),
     (
         "a message in lower case",
         "message Void {",
-        "message voids { option (schema) = 53; }\n// Nothing.\nmessage Void {",
+        "message voids { option (schema) = {messages}; }\n// Nothing.\nmessage Void {",
         "the name voids is not in UpperCamelCase",
     ),
     (
@@ -188,40 +191,40 @@ REFUSED = [
     (
         "two members of one variant",
         "uint32 idx = 2;\n    // The name",
-        "uint32 name_ = 2;\n    // The name",
+        "uint32 name_ = {idx};\n    // The name",
         'The JSON camel-case name of field "name" conflicts with field "name_".',
     ),
     # schemas, types and commands
     ("no comment", "  // The bytes.\n", "", "content of Value has no comment, which its record would have"),
-    ("no schema", "  option (schema) = 1;\n", "", "Value has no option (schema)"),
-    ("a schema of another", "option (schema) = 1;", "option (schema) = 0;", "Value has the schema 0 of Void"),
+    ("no schema", "  option (schema) = {Value};\n", "", "Value has no option (schema)"),
+    ("a schema of another", "option (schema) = {Value};", "option (schema) = {Void};", "Value has the schema {Void} of Void"),
     (
         "a gap",
-        "option (schema) = 1;",
-        "option (schema) = 53;",
-        "Value has the schema 53, and the 53 messages have those below 53",
+        "option (schema) = {Value};",
+        "option (schema) = {messages};",
+        "Value has the schema {messages}, and the {messages} messages have those below {messages}",
     ),
     (
         "a code of another",
-        "option (code) = 0x0002;",
-        "option (code) = 0x0003;",
+        "option (code) = {ErrorMessage};",
+        "option (code) = {EndMessage};",
         "EndMessage has the code of ErrorMessage",
     ),
     (
         "a code past the last",
-        "option (code) = 0xFBFF;",
+        "option (code) = {SignalNotificationMessage};",
         "option (code) = 0xFC00;",
         "SignalNotificationMessage has the code 0xFC00, where the codes of types end at 0xFBFF",
     ),
     (
         "a code of a command",
-        "option (code) = 0x0003;",
+        "option (code) = {EndMessage};",
         "option (code) = 0x0600;",
         "EndMessage has the code 0x0600, and so its name has to end with CommandMessage",
     ),
     (
         "a code of a notification",
-        "option (code) = 0x0401;",
+        "option (code) = {OutputCommandMessage};",
         "option (code) = 0x8401;",
         "OutputCommandMessage has the code 0x8401, and so its name has to end with NotificationMessage",
     ),
@@ -235,8 +238,8 @@ REFUSED = [
     (
         "a command without a name",
         "string entry_name = 12;",
-        "string entry_name = 13;",
-        "SendSignalCommandMessage has no text 12, its name",
+        "string entry_name = 1234;",
+        "SendSignalCommandMessage has no text {entry_name}, its name",
     ),
     (
         "a compared field that is not printed",
@@ -247,13 +250,13 @@ REFUSED = [
     (
         "a list that no difference prints",
         "string awakeable_id = 1 [(printed) = 1];",
-        "string awakeable_id = 1 [(printed) = 1];\n  // More.\n  repeated Value more = 9 [(printed) = 3];",
+        "string awakeable_id = 1 [(printed) = 1];\n  // More.\n  repeated Value more = 5000 [(printed) = 3];",
         "there is no form yet that prints more of CompleteAwakeableCommandMessage, a list of Value",
     ),
     (
         "a message that no difference prints",
         "string awakeable_id = 1 [(printed) = 1];",
-        "string awakeable_id = 1 [(printed) = 1];\n  // More.\n  StateEntry more = 9 [(printed) = 3];",
+        "string awakeable_id = 1 [(printed) = 1];\n  // More.\n  StateEntry more = 5000 [(printed) = 3];",
         "there is no form yet that prints more of CompleteAwakeableCommandMessage: StateEntry has no text",
     ),
     (
@@ -271,28 +274,28 @@ REFUSED = [
     (
         "a row that the template lacks",
         "StateKeys state_keys = 17;\n}",
-        "StateKeys state_keys = 18;\n}",
-        "state_keys of GetLazyStateKeysCompletionNotificationMessage is a StateKeys at 18",
+        "StateKeys state_keys = 1234;\n}",
+        "state_keys of GetLazyStateKeysCompletionNotificationMessage is a StateKeys at 1234",
     ),
     (
         "another field of Future",
         "repeated Future nested_futures = 4;",
-        "repeated Future nested = 4;",
+        "repeated Future nested = {nested_futures};",
         "future.rt is hand-written, and has no nested that is a Vec<Future>",
     ),
     (
         "another order of lists",
         "repeated uint32 waiting_signals = 2;\n  // The signals that are awaited, by their names.\n  repeated string "
         "waiting_named_signals = 3;\n}",
-        "repeated uint32 waiting_signals = 4;\n  // The signals that are awaited, by their names.\n  repeated string "
-        "waiting_named_signals = 3;\n}",
+        "repeated uint32 waiting_signals = {waiting_named_signals};\n  // The signals that are awaited, by their names.\n"
+        "  repeated string waiting_named_signals = {waiting_signals};\n}",
         "SuspensionMessageV6 has to have waiting_completions, waiting_signals, waiting_named_signals",
     ),
 ]
 
 # A field of a command of each kind, as differences print them.
 EACH_KIND = "string awakeable_id = 1 [(printed) = 1];\n" + "".join(
-    f"// A field.\n{label} {kind} field_{at} = {at + 20} [(printed) = {at + 3}];\n"
+    f"// A field.\n{label} {kind} field_{at} = {at + 5000} [(printed) = {at + 3}];\n"
     for at, (label, kind) in enumerate(
         [
             (label, kind) for label in ("", "optional") for kind in (
@@ -324,9 +327,37 @@ ACCEPTED = [
     (
         "members called as locals",
         "uint32 idx = 2;\n    // The name of the signal.\n    string name = 3;",
-        "uint32 size = 2;\n    // The name of the signal.\n    string out = 3;",
+        "uint32 size = {idx};\n    // The name of the signal.\n    string out = {name};",
     ),
 ]
+
+
+# The number of a field or of an enum value as the description declares it.
+DECLARED = re.compile(r"\b(\w+) = (\w+)(?=[; ]|$)")
+
+
+def edited(proto, text, old, new, wanted=""):
+    """The description with an edit, and what is said of it, with the numbers of the description; or None where it has
+    no such place."""
+    known = {"messages": str(len(proto.messages()))}
+    for message in proto.messages():
+        known[message.name] = str(message.schema) if message.code is None else f"0x{message.code:04X}"
+
+    def filled(words):
+        return re.sub(r"\{(\w+)\}", lambda match: known.get(match[1], match[0]), words)
+
+    old = filled(old)
+    parts = DECLARED.split(old)
+    pattern = "".join(
+        rf"\b{part} = (\w+)" if at % 3 == 1 else re.escape(part) for at, part in enumerate(parts) if at % 3 != 2
+    )
+    found = re.search(pattern, text)
+    if not found:
+        return None
+    held = dict(zip(zip(parts[1::3], parts[2::3]), found.groups()))
+    known.update((name, number) for (name, _), number in held.items())
+    new = filled(DECLARED.sub(lambda match: f"{match[1]} = {held.get(match.groups(), match[2])}", new))
+    return text[:found.start()] + new + text[found.end():], filled(wanted)
 
 
 def problems(proto, Refused, text):
@@ -344,22 +375,23 @@ def descriptions(check: Check) -> None:
 
     text = proto.PROTO.read_text(encoding="utf-8")
     for what, old, new, wanted in REFUSED:
-        if not check.case(f"{what}: the description has no {old!r}", old in text):
+        made = edited(proto, text, old, new, wanted)
+        if not check.case(f"{what}: the description has no {old!r}", made is not None):
             continue
-        said = problems(proto, Refused, text.replace(old, new, 1))
+        said = problems(proto, Refused, made[0])
         found = [
-            problem for problem in said if wanted in problem and re.match(
+            problem for problem in said if made[1] in problem and re.match(
                 r"proto/journal\.proto:(\d+:| Field)", problem
             )
         ]
         check.case(what, bool(found), said)
     for what, old, new in ACCEPTED:
-        said = problems(proto, Refused, text.replace(old, new, 1))
-        check.case(what, old in text and not said, said)
+        made = edited(proto, text, old, new)
+        said = problems(proto, Refused, made[0]) if made else [f"the description has no {old!r}"]
+        check.case(what, not said, said)
     # all that is wrong is said at once
-    both = text.replace("bytes content = 1;", "sint32 content = 1;", 1).replace(
-        "option (schema) = 5;", "option (schema) = 6;", 1
-    )
+    both, _ = edited(proto, text, "bytes content = 1;", "sint32 content = 1;")
+    both, _ = edited(proto, both, "option (schema) = {StateKeys};", "option (schema) = {StateEntry};")
     check.case("two things are wrong", len(problems(proto, Refused, both)) == 2, problems(proto, Refused, both))
 
 
@@ -391,7 +423,7 @@ def adopted(check: Check) -> None:
     from generators.model import json_name
 
     path = ROOT / "tests" / "adopt" / "other.proto"
-    theirs = descriptors.read(path)
+    theirs = descriptors.read(path, with_imports=True)
     adoption = adopt.Adoption(proto.description(), theirs, {})
     adoption.match()
     text = adoption.checked()
@@ -412,12 +444,19 @@ def adopted(check: Check) -> None:
         named = [json_name(field) for field in re.findall(r"^ *([a-z]\w*)(?::| \{)", said, re.M)]
         check.case(f"{name} of other.proto", sorted(named) == fields(shown), f"{said} is not {shown}")
     check.case("the whole stream", at == len(stream) and bool(expected))
-    # the numbers of a test vector are changed to theirs, and back
+    # the numbers of the hand-written test vectors are changed to theirs, and back
     there = renumbered.Renumbering(proto.description(), described)
-    back = renumbered.Renumbering(described, proto.description())
-    vectors = (ROOT / "conformance" / "merging.txt").read_text(encoding="utf-8")
-    check.case("vectors with other numbers", there.text(vectors) != vectors)
-    check.same("vectors with these numbers again", vectors, back.text(there.text(vectors)))
+    same = renumbered.Renumbering(proto.description(), proto.description())
+    for path in [*sorted((ROOT / "conformance").glob("*.txt")), ROOT / "tests" / "vectors" / "wrong_lines.txt"]:
+        vectors = path.read_text(encoding="utf-8")
+        if not vectors.startswith("# @generated"):
+            other = there.text(vectors)
+            check.same(f"{path.name} with the same numbers", vectors, same.text(vectors))
+            check.case(f"{path.name} with other numbers", other != vectors)
+            check.same(f"{path.name} with these numbers again", vectors, there.inverse(proto.description()).text(other))
+    found = (ROOT / "tests" / "vectors" / "wrong_lines.found").read_text(encoding="utf-8")
+    other = there.found(found)
+    check.same("what wrong lines should have", found, there.inverse(proto.description()).found(other))
 
 
 def body(check: Check) -> None:

@@ -49,6 +49,18 @@ listed replay 8
 listed cut_short 7
 listed unknown_type 9
 
+case_of 'the proxy is built' go build -o "$work/proxy_program" ./examples/proxy
+counted 'the proxy' python3 -B "$top/scripts/checks/proxied.py" "$work/proxy_program"
+
+# The page: its program, and its part of the proxy.
+mkdir "$work/go/page"
+awk -v page="$work/go/page/main.go" -v part="$work/part" \
+  '/^```go$/ { file = blocks++ ? part : page; next } /^```$/ { file = "" } file != "" { print > file }' README.md
+sed -n '/^Of `examples/,/^[A-Z] /s/^    //p' README.md > "$work/wanted"
+go run ./page < "$work/examples/streams/replay" > "$out" 2> "$err"
+same 'the program of go/README.md' "$work/wanted" "$out"
+case_of 'the proxy of go/README.md' python3 -B "$top/scripts/checks/is_part.py" "$work/part" examples/proxy/main.go
+
 if go test -race -run '^$' . > "$work/race" 2>&1; then
   case_of 'goroutines with the race detector' go test -race -run Goroutines .
 else

@@ -125,6 +125,9 @@ sed -n 1p "$work/log" > "$out"
 sed -n 's/^It prints `\(.*\)` first\..*/\1/p' node/README.md > "$work/wanted"
 same 'the program of node/README.md' "$work/wanted" "$out"
 
+cp examples/typescript/proxy.mjs "$user/"
+counted 'the proxy' python3 -B scripts/checks/proxied.py node "$user/proxy.mjs"
+
 # Another library in place of the proved one.
 copy later
 mkdir -p "$work/other/include" "$work/other/lib"

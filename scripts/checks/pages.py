@@ -2,9 +2,8 @@
 """Links, paths, worked lines and the names in tables of promises exist; the README shows what runs.
 
 Each link, anchor and path of this repository in `code`, the length of lines, the form of decisions, each worked line
-of conformance, the test vectors of each rule, the README's page of code and the dump that it shows, each name in a
-table of promises, in the crates of its section, and the version of the library. What is missing is shown before the
-last line.
+of conformance, the test vectors of each rule, the README's page of code and the dump that it shows, and each name in a
+table of promises, in the crates of its section. What is missing is shown before the last line.
 """
 from __future__ import annotations
 
@@ -35,29 +34,6 @@ BUILT = ("out", "target")
 
 # The files of test vectors that are not random: each of their headings is named by a rule.
 VECTORS = ("payloads", "merging", "levels", "hostile", "worked", "streams", "frames", "long")
-
-# Where the version of the library is: in the first line that has these words, it is the number after them.
-VERSIONS = (
-    ("CHANGELOG.md", r"^## "),
-    ("README.md", r"^Status: "),
-    ("crates/journal_ffi/src/names.rt", r'the version of the library, as "'),
-    ("docs/C.md", r"libpendratsoa\.so\."),
-    ("docs/C.md", r"The version\*\*, "),
-    ("go/README.md", r"pendratsoa@v"),
-    ("go/types.go", r'the version of the library, as "'),
-    ("include/pendratsoa.h", r'JOURNAL_LIBRARY_VERSION "'),
-    ("include/pendratsoa.h", r'the version of the library, as "'),
-    ("node/index.d.ts", r"The version of the library, as `'"),
-    ("node/package.json", r'^  "version": "'),
-    ("python/pendratsoa/_calls.py", r'The version of the library, as "'),
-    ("python/README.md", r"pendratsoa-"),
-    ("python/pyproject.toml", r'^version = "'),
-    ("rust/Cargo.toml", r'^version = "'),
-    ("rust/src/calls.rs", r"The version of the library, as `"),
-    ("ruby/README.md", r"pendratsoa-"),
-    ("ruby/lib/pendratsoa/functions.rb", r'The version of the library, as "'),
-    ("ruby/lib/pendratsoa/version.rb", r'VERSION = "'),
-)
 
 
 def files(top: str, *endings: str) -> list[str]:
@@ -259,20 +235,9 @@ def promised_names() -> Found:
                 yield page, f"{name} is not in crates/{crate}", name in known or bool(words_of(name))
 
 
-def versions() -> Found:
-    """The version of the library is one everywhere."""
-    stated = re.search(r'^pub const LIBRARY_VERSION: &str = "(.*)";$', text("crates/journal_c_api/src/names.rt"), re.M)
-    version = stated[1] if stated else ""
-    for place, words in VERSIONS:
-        found = re.search(words + r"([0-9]+(?:\.[0-9]+)+)", text(place), re.M)
-        number = found[1] if found else ""
-        complaint = f"the version of the library is '{version}', and after '{words}' is '{number}'"
-        yield place, complaint, number == version != ""
-
-
 PARTS = (
     links_and_paths, anchors, long_lines, decisions, worked_lines, rules, page_of_code, quoted_code, shown_dump,
-    promised_names, versions,
+    promised_names,
 )
 
 

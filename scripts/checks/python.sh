@@ -10,7 +10,7 @@ cd "$(dirname "$0")/../.." || exit 1
 
 needs python3 python3
 installed_library
-version=$(sed -n 's/^version = "\(.*\)"$/\1/p' python/pyproject.toml)
+version=$(cat VERSION)
 PYTHONDONTWRITEBYTECODE=1
 export PYTHONDONTWRITEBYTECODE
 # only the library of the package is to be found
@@ -75,14 +75,21 @@ same 'what it prints' "$work/wanted" "$out"
 python_of python/README.md > "$work/page.py"
 sed -n 's/^    \([A-Z][A-Za-z]* {.*\)$/\1/p' python/README.md > "$work/wanted"
 cp examples/streams/replay "$work/journal"
+sed -n '/^def passed_on/,$p' "$work/page.py" > "$work/part.py"
+sed -i '/^def passed_on/,$d' "$work/page.py"
 (cd "$work" && python3 page.py) > "$out" 2> "$err"
 same 'the lines of python/README.md' "$work/wanted" "$out"
+
+case_of 'the proxy of python/README.md' python3 -B scripts/checks/is_part.py "$work/part.py" examples/python/proxy.py
+counted 'the proxy' python3 -B scripts/checks/proxied.py python3 examples/python/proxy.py
 
 if command -v mypy > /dev/null; then
   (cd "$work/python" && mypy --cache-dir=/dev/null) > "$out" 2> "$err"
   outcome 'the types' $?
-  MYPYPATH=$site mypy --strict --cache-dir=/dev/null examples/python/listing.py > "$out" 2> "$err"
-  outcome 'the types of the example' $?
+  for file in examples/python/listing.py examples/python/proxy.py python/tests/records_types.py; do
+    MYPYPATH=$site mypy --strict --cache-dir=/dev/null $file > "$out" 2> "$err"
+    outcome "the types of $file" $?
+  done
 else
   without 'the types' 'mypy; the Debian package mypy has it'
 fi

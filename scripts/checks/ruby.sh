@@ -49,6 +49,22 @@ listed() {
   ruby examples/listing.rb "$2" < "$work/examples/streams/$1" > "$out" 2> "$err"
   same "the listing of $1" "$work/listing" "$out"
 }
+counted 'the proxy' python3 -B "$top/scripts/checks/proxied.py" ruby -w examples/proxy.rb
+
+# The page: its program, its part of the proxy, and its expressions.
+awk -v folder="$work" \
+  '/^```ruby$/ { file = folder "/page" ++blocks ".rb"; next } /^```$/ { file = "" } file != "" { print > file }' README.md
+(cd "$work" && ruby page1.rb) > "$work/log" 2> "$err"
+printf '%s\n' 'Start 19' 'InputCommand 9' 'GetLazyStateCompletionNotification 4' > "$work/wanted"
+cut -d ' ' -f 1,2 "$work/log" > "$out"
+same 'the program of ruby/README.md' "$work/wanted" "$out"
+case_of 'the proxy of ruby/README.md' python3 -B "$top/scripts/checks/is_part.py" "$work/page2.rb" examples/proxy.rb
+case_of 'the expressions of ruby/README.md' ruby -C "$work" -rpendratsoa -e '
+  File.foreach("page3.rb") do |line|
+    found, wanted = TOPLEVEL_BINDING.eval(line).inspect, line[/# => (.*)/, 1]
+    abort "#{line}is #{found}" unless wanted.nil? || found == wanted
+  end'
+
 listed replay 8
 listed cut_short 7
 listed unknown_type 9

@@ -26,6 +26,8 @@ for part in Cargo.toml build.rs README.md src tests examples; do
   cp -R "rust/$part" "$work/rust/"
 done
 ln -s "$top/conformance" "$work/conformance"
+mkdir "$work/examples"
+ln -s "$top/examples/streams" "$work/examples/streams"
 cd "$work/rust" || exit 1
 
 # links FILE: whether a program links the shared library
@@ -75,6 +77,11 @@ case_of 'the example with the static library' cargo build --quiet --example list
 listed static examples/streams/replay 8
 ! links "$CARGO_TARGET_DIR/debug/examples/listing"
 outcome 'the shared library is not linked' $?
+
+case_of 'the proxy is built' cargo build --quiet --example proxy
+counted 'the proxy' python3 -B "$top/scripts/checks/proxied.py" "$CARGO_TARGET_DIR/debug/examples/proxy"
+sed -n '/^fn append/,/^}/p' README.md > "$work/part"
+case_of 'the proxy of rust/README.md' python3 -B "$top/scripts/checks/is_part.py" "$work/part" examples/proxy.rs
 
 # refused NAME WORDS: a build fails, and says so in these words
 refused() {

@@ -23,8 +23,9 @@ for folder in "$@"; do
   fi
 done
 
-unproved_crate tests replay_bench shared_core_fields shared_core_json shared_core_json_reader stream_lines shared_core \
-  shared_core_stream shared_core_base shared_core_wire shared_core_codec shared_core_message shared_core_parts \
+unproved_crate tests edit_script replay_bench shared_core_fields shared_core_fields_writer shared_core_json \
+  shared_core_json_reader stream_lines shared_core shared_core_stream shared_core_base shared_core_wire \
+  shared_core_codec shared_core_message shared_core_parts \
   shared_core_runtime shared_core_state_commands shared_core_call_commands shared_core_notifications bytes hex json
 {
   echo '//! Tests.'
@@ -48,7 +49,7 @@ as_library() {
 }
 
 as_library readme_example streams anyhow
-as_library journal_ffi ffi
+as_library journal_ffi ffi journal_c_api
 as_library bench_ffi measures
 as_library journal_list list
 

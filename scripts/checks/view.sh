@@ -1,5 +1,5 @@
 #!/bin/sh
-# The page of journal_view: its maker, and the page in a headless Chromium, by keys and with adversarial payloads.
+# The page of journal_view: its maker, and the page in a headless Chromium, by mouse and keys, with adversarial payloads.
 #
 # It takes the proved journal. The browser is driven over a pipe, without a network.
 set -u
@@ -19,6 +19,7 @@ elif ! timeout 120 chromium --headless --no-sandbox --disable-gpu --user-data-di
   left_out 'the page in a browser' 'chromium does not start here'
 else
   counted 'the page in a browser' timeout 900 python3 view/tests/test_page.py
+  counted 'what moved, in a browser' timeout 900 python3 view/tests/test_moved.py
 fi
 
 finish

@@ -2,13 +2,14 @@
 /* The calls, what the header says of each, and how each is made: for hostile_calls.c. */
 
 enum call {
-    LIBRARY_VERSION, SCHEMA, TYPE_NAME, TYPE_CODE, NEXT, HEADER, FRAME, IS_WELL_FORMED, CANONICAL, MERGE,
-    JSON, PAYLOAD_OF_JSON, NOTIFICATION, HEADER_EQ, DIFFERENCE, VERDICT, CALLS
+    LIBRARY_VERSION, SCHEMA, TYPE_NAME, TYPE_CODE, NEXT, NEXT_WITHIN, HEADER, FRAME, IS_WELL_FORMED,
+    CANONICAL, MERGE, JSON, PAYLOAD_OF_JSON, FIELDS, PAYLOAD_OF_FIELDS, NOTIFICATION, HEADER_EQ, DIFFERENCE, VERDICT,
+    CALLS
 };
 
 enum error {
-    NO_ERROR, MALFORMED, OUT_OF_MEMORY, NO_ROOM, TOO_LONG, NO_ID, NO_RESULT, MALFORMED_SECOND,
-    UNKNOWN_VERSION, UNKNOWN_SCHEMA, UNKNOWN_TYPE, ERRORS
+    NO_ERROR, MALFORMED, OUT_OF_MEMORY, NO_ROOM, TOO_LONG, NO_ID, NO_RESULT, NOT_CANONICAL,
+    MALFORMED_SECOND, UNKNOWN_VERSION, UNKNOWN_SCHEMA, UNKNOWN_TYPE, ERRORS
 };
 
 static const int64_t error_numbers[ERRORS] = {
@@ -19,6 +20,7 @@ static const int64_t error_numbers[ERRORS] = {
     JOURNAL_TOO_LONG,
     JOURNAL_NO_ID,
     JOURNAL_NO_RESULT,
+    JOURNAL_NOT_CANONICAL,
     JOURNAL_MALFORMED_SECOND,
     JOURNAL_UNKNOWN_VERSION,
     JOURNAL_UNKNOWN_SCHEMA,
@@ -29,39 +31,47 @@ static const struct {
     const char *name;
     int inputs;
     size_t numbers;
+    size_t entry;
     int writes;
     unsigned errors;
     int kinds;
 } listed[CALLS] = {
-    [LIBRARY_VERSION] = {"journal_library_version", 0, 0, 1, 0, 1},
-    [SCHEMA] = {"journal_schema", 0, 0, 0, 1u << UNKNOWN_VERSION | 1u << UNKNOWN_TYPE, 1},
-    [TYPE_NAME] = {"journal_type_name", 0, 0, 1, 1u << UNKNOWN_TYPE, 1},
-    [TYPE_CODE] = {"journal_type_code", 1, 0, 0, 1u << UNKNOWN_TYPE, 1},
-    [NEXT] = {"journal_next", 1, JOURNAL_ITEM_NUMBERS, 0, 1u << UNKNOWN_VERSION | 1u << NO_ROOM, 4},
-    [HEADER] = {"journal_header", 0, 0, 1, 1u << UNKNOWN_VERSION | 1u << UNKNOWN_TYPE, 1},
-    [FRAME] = {"journal_frame", 1, 0, 1, 1u << UNKNOWN_VERSION | 1u << UNKNOWN_TYPE | 1u << OUT_OF_MEMORY | 1u <<
+    [LIBRARY_VERSION] = {"journal_library_version", 0, 0, 0, 1, 0, 1},
+    [SCHEMA] = {"journal_schema", 0, 0, 0, 0, 1u << UNKNOWN_VERSION | 1u << UNKNOWN_TYPE, 1},
+    [TYPE_NAME] = {"journal_type_name", 0, 0, 0, 1, 1u << UNKNOWN_TYPE, 1},
+    [TYPE_CODE] = {"journal_type_code", 1, 0, 0, 0, 1u << UNKNOWN_TYPE, 1},
+    [NEXT] = {"journal_next", 1, JOURNAL_ITEM_NUMBERS, 0, 0, 1u << UNKNOWN_VERSION | 1u << NO_ROOM, 4},
+    [NEXT_WITHIN] = {"journal_next_within", 1, JOURNAL_ITEM_NUMBERS, 0, 0, 1u << UNKNOWN_VERSION | 1u << NO_ROOM | 1u <<
+        TOO_LONG, 4},
+    [HEADER] = {"journal_header", 0, 0, 0, 1, 1u << UNKNOWN_VERSION | 1u << UNKNOWN_TYPE, 1},
+    [FRAME] = {"journal_frame", 1, 0, 0, 1, 1u << UNKNOWN_VERSION | 1u << UNKNOWN_TYPE | 1u << OUT_OF_MEMORY | 1u <<
         MALFORMED | 1u << TOO_LONG, 1},
-    [IS_WELL_FORMED] = {"journal_is_well_formed", 1, 0, 0, 1u << UNKNOWN_SCHEMA, 2},
-    [CANONICAL] = {"journal_canonical", 1, 0, 1, 1u << UNKNOWN_SCHEMA | 1u << OUT_OF_MEMORY | 1u << MALFORMED | 1u <<
+    [IS_WELL_FORMED] = {"journal_is_well_formed", 1, 0, 0, 0, 1u << UNKNOWN_SCHEMA, 2},
+    [CANONICAL] = {"journal_canonical", 1, 0, 0, 1, 1u << UNKNOWN_SCHEMA | 1u << OUT_OF_MEMORY | 1u << MALFORMED | 1u <<
         TOO_LONG, 1},
-    [MERGE] = {"journal_merge", 2, 0, 1, 1u << UNKNOWN_SCHEMA | 1u << OUT_OF_MEMORY | 1u << MALFORMED | 1u <<
+    [MERGE] = {"journal_merge", 2, 0, 0, 1, 1u << UNKNOWN_SCHEMA | 1u << OUT_OF_MEMORY | 1u << MALFORMED | 1u <<
         MALFORMED_SECOND | 1u << TOO_LONG, 1},
-    [JSON] = {"journal_json", 1, 0, 1, 1u << UNKNOWN_SCHEMA | 1u << OUT_OF_MEMORY | 1u << MALFORMED | 1u << TOO_LONG,
+    [JSON] = {"journal_json", 1, 0, 0, 1, 1u << UNKNOWN_SCHEMA | 1u << OUT_OF_MEMORY | 1u << MALFORMED | 1u << TOO_LONG,
         1},
-    [PAYLOAD_OF_JSON] = {"journal_payload_of_json", 1, JOURNAL_READ_NUMBERS, 1, 1u << UNKNOWN_SCHEMA | 1u << NO_ROOM |
-        1u << OUT_OF_MEMORY | 1u << TOO_LONG, 9},
-    [NOTIFICATION] = {"journal_notification", 1, JOURNAL_NOTIFICATION_NUMBERS, 1, 1u << UNKNOWN_TYPE | 1u << NO_ROOM |
-        1u << OUT_OF_MEMORY | 1u << MALFORMED | 1u << NO_ID | 1u << NO_RESULT | 1u << TOO_LONG, 15},
-    [HEADER_EQ] = {"journal_header_eq", 2, 0, 0, 1u << UNKNOWN_TYPE | 1u << OUT_OF_MEMORY | 1u << MALFORMED | 1u <<
+    [PAYLOAD_OF_JSON] = {"journal_payload_of_json", 1, JOURNAL_READ_NUMBERS, 0, 1, 1u << UNKNOWN_SCHEMA | 1u << NO_ROOM
+        | 1u << OUT_OF_MEMORY | 1u << TOO_LONG, 9},
+    [FIELDS] = {"journal_fields", 1, 0, JOURNAL_FIELD_NUMBERS, 0, 1u << UNKNOWN_SCHEMA | 1u << MALFORMED | 1u <<
+        NOT_CANONICAL, 1},
+    [PAYLOAD_OF_FIELDS] = {"journal_payload_of_fields", 2, JOURNAL_WRITING_NUMBERS, 0, 1, 1u << UNKNOWN_SCHEMA | 1u <<
+        NO_ROOM | 1u << OUT_OF_MEMORY | 1u << TOO_LONG, 10},
+    [NOTIFICATION] = {"journal_notification", 1, JOURNAL_NOTIFICATION_NUMBERS, 0, 1, 1u << UNKNOWN_TYPE | 1u << NO_ROOM
+        | 1u << OUT_OF_MEMORY | 1u << MALFORMED | 1u << NO_ID | 1u << NO_RESULT | 1u << TOO_LONG, 15},
+    [HEADER_EQ] = {"journal_header_eq", 2, 0, 0, 0, 1u << UNKNOWN_TYPE | 1u << OUT_OF_MEMORY | 1u << MALFORMED | 1u <<
         MALFORMED_SECOND, 2},
-    [DIFFERENCE] = {"journal_difference", 2, 0, 1, 1u << UNKNOWN_TYPE | 1u << OUT_OF_MEMORY | 1u << MALFORMED | 1u <<
+    [DIFFERENCE] = {"journal_difference", 2, 0, 0, 1, 1u << UNKNOWN_TYPE | 1u << OUT_OF_MEMORY | 1u << MALFORMED | 1u <<
         MALFORMED_SECOND, 1},
-    [VERDICT] = {"journal_verdict", 2, JOURNAL_VERDICT_NUMBERS, 1, 1u << UNKNOWN_VERSION | 1u << NO_ROOM | 1u <<
+    [VERDICT] = {"journal_verdict", 2, JOURNAL_VERDICT_NUMBERS, 0, 1, 1u << UNKNOWN_VERSION | 1u << NO_ROOM | 1u <<
         OUT_OF_MEMORY, 7},
 };
 
 static int64_t make(const struct request *r, const struct slice *slices) {
     const struct slice *first = &slices[FIRST], *second = &slices[SECOND], *out = &slices[OUT];
+    const void *table = second->at;
     void *numbers = slices[NUMBERS].at;
     size_t count = slices[NUMBERS].length / 8;
 
@@ -76,6 +86,8 @@ static int64_t make(const struct request *r, const struct slice *slices) {
         return journal_type_code(first->at, first->length);
     case NEXT:
         return journal_next(r->version, first->at, first->length, numbers, count);
+    case NEXT_WITHIN:
+        return journal_next_within(r->version, r->limit, first->at, first->length, numbers, count);
     case HEADER:
         return journal_header(r->version, r->code, r->payload_length, out->at, out->length);
     case FRAME:
@@ -90,6 +102,11 @@ static int64_t make(const struct request *r, const struct slice *slices) {
         return journal_json(r->schema, first->at, first->length, out->at, out->length);
     case PAYLOAD_OF_JSON:
         return journal_payload_of_json(r->schema, first->at, first->length, numbers, count, out->at, out->length);
+    case FIELDS:
+        return journal_fields(r->schema, first->at, first->length, numbers, count / JOURNAL_FIELD_NUMBERS);
+    case PAYLOAD_OF_FIELDS:
+        return journal_payload_of_fields(r->schema, table, second->length / sizeof(struct journal_field), first->at,
+                                         first->length, numbers, count, out->at, out->length);
     case NOTIFICATION:
         return journal_notification(r->code, first->at, first->length, numbers, count, out->at, out->length);
     case HEADER_EQ:

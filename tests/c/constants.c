@@ -63,7 +63,7 @@ static void field_is(const char *name, uint64_t found, uint64_t expected) {
 static void refusals(void) {
     const uint8_t cut[] = {0x12}, headers[] = {0x22, 6, 0x12, 1, 'v', 0x0A, 1, 'k'};
     const uint8_t input[] = {0x04, 0, 0, 0, 0, 0, 0, 0};
-    const uint8_t no_id[] = {0x22, 0}, no_result[] = {0x08, 1};
+    const uint8_t no_id[] = {0x22, 0}, no_result[] = {0x08, 1}, default_name[] = {0x0A, 0};
     struct journal_item item;
     struct journal_notification found;
     int64_t unknown = journal_schema(4, 0x0400);
@@ -86,6 +86,7 @@ static void refusals(void) {
        JOURNAL_KIND_OF_ERROR(JOURNAL_MALFORMED) == JOURNAL_MALFORMED && JOURNAL_KIND_OF_ERROR(15) == 15, 1);
     IS(JOURNAL_NO_ID, journal_notification(0x8002, no_id, sizeof no_id, &found, 4, NULL, 0));
     IS(JOURNAL_NO_RESULT, journal_notification(0x8002, no_result, sizeof no_result, &found, 4, NULL, 0));
+    IS(JOURNAL_NOT_CANONICAL, journal_fields(33, default_name, sizeof default_name, NULL, 0));
 }
 
 static void numbers_of_the_protocol(void) {
@@ -236,6 +237,73 @@ static void readings(void) {
     FIELD(found.after, 99);
 }
 
+/* The fields of a StartMessage: bytes, a number, a state with a key, and a bool; and of others an enum, a text and
+   numbers of 32 bits. */
+static void fields(void) {
+    const uint8_t start[] = {0x0A, 1, 'i', 0x22, 3, 0x0A, 1, 'k', 0x28, 1, 0x40, 9};
+    const uint8_t future[] = {0x0A, 1, 7, 0x1A, 1, 's', 0x28, 1};
+    struct journal_field table[8] = {{9, 9, 9, 9, 9, 9}};
+    const uint64_t *numbers = (const uint64_t *)table;
+
+    FIELD((uint64_t)journal_fields(10, start, sizeof start, table, 8), 5);
+    IS(JOURNAL_FIELD_BYTES, table[0].kind);
+    IS(JOURNAL_FIELD_MESSAGE, table[1].kind);
+    IS(JOURNAL_FIELD_BOOL, table[3].kind);
+    IS(JOURNAL_FIELD_UINT64, table[4].kind);
+    FIELD(table[1].level, 0);
+    FIELD(table[1].number, 4);
+    FIELD(table[1].kind, 7);
+    FIELD(table[1].value, 6);
+    FIELD(table[1].offset, 5);
+    FIELD(table[1].length, 3);
+    FIELD(table[2].level, 1);
+    FIELD(table[4].value, 9);
+    /* an entry begins after so many numbers as a struct has: the second one is of field 4 */
+    IS(JOURNAL_FIELD_NUMBERS, numbers[1 + 6] == 4 ? 6 : 0);
+    FIELD((uint64_t)journal_fields(7, future, sizeof future, table, 8), 3);
+    IS(JOURNAL_FIELD_UINT32, table[0].kind);
+    IS(JOURNAL_FIELD_STRING, table[1].kind);
+    IS(JOURNAL_FIELD_ENUM, table[2].kind);
+}
+
+/* Tables of two fields, of which the second one may not come in all but the first. */
+static void writings(void) {
+    static const struct { const char *name; uint32_t schema; struct journal_field fields[2]; uint64_t kind; } rows[] = {
+        {"JOURNAL_WRITTEN", 33, {{0, 4, 7, 4, 0, 0}, {1, 1, 5, 0, 0, 1}}, JOURNAL_WRITTEN},
+        {"JOURNAL_ENTRY_UNKNOWN_FIELD", 33, {{0, 4, 7, 4, 0, 0}, {0, 99, 5, 0, 0, 1}}, JOURNAL_ENTRY_UNKNOWN_FIELD},
+        {"JOURNAL_ENTRY_OUT_OF_ORDER", 33, {{0, 4, 7, 4, 0, 0}, {0, 1, 5, 0, 0, 1}}, JOURNAL_ENTRY_OUT_OF_ORDER},
+        {"JOURNAL_ENTRY_SEVERAL_MEMBERS", 15, {{0, 14, 6, 0, 0, 1}, {0, 15, 7, 2, 0, 0}},
+         JOURNAL_ENTRY_SEVERAL_MEMBERS},
+        {"JOURNAL_ENTRY_WRONG_KIND", 33, {{0, 4, 7, 4, 0, 0}, {1, 1, 6, 0, 0, 1}}, JOURNAL_ENTRY_WRONG_KIND},
+        {"JOURNAL_ENTRY_OUT_OF_RANGE", 7, {{0, 1, 1, 5, 0, 0}, {0, 5, 4, 1u << 31, 0, 0}}, JOURNAL_ENTRY_OUT_OF_RANGE},
+        {"JOURNAL_ENTRY_NOT_UTF8", 33, {{0, 4, 7, 4, 0, 0}, {1, 1, 5, 0, 1, 1}}, JOURNAL_ENTRY_NOT_UTF8},
+        {"JOURNAL_ENTRY_OUT_OF_BOUNDS", 33, {{0, 4, 7, 4, 0, 0}, {1, 1, 5, 0, 1, 2}}, JOURNAL_ENTRY_OUT_OF_BOUNDS},
+        {"JOURNAL_ENTRY_WRONG_LEVEL", 33, {{0, 4, 7, 4, 0, 0}, {2, 1, 5, 0, 0, 1}}, JOURNAL_ENTRY_WRONG_LEVEL},
+    };
+    const uint8_t bytes[] = {'k', 0xFF};
+    struct { struct journal_writing writing; uint64_t after; } found = {{0, 0}, 99};
+    struct journal_field deep[101];
+    size_t room = 0;
+
+    while (journal_payload_of_fields(33, NULL, 0, NULL, 0, &found.writing, room, NULL, 0) < 0) {
+        room++;
+    }
+    IS(JOURNAL_WRITING_NUMBERS, room);
+    for (size_t i = 0; i < COUNT(rows); i++) {
+        journal_payload_of_fields(rows[i].schema, rows[i].fields, 2, bytes, sizeof bytes, &found.writing, 3, NULL, 0);
+        is(rows[i].name, (long long)rows[i].kind, (long long)found.writing.kind);
+        FIELD(found.writing.kind, i);
+        FIELD(found.writing.index, i > 0);
+    }
+    for (size_t i = 0; i < COUNT(deep); i++) {
+        deep[i] = (struct journal_field){i, 4, 7, 7, 0, 0};
+    }
+    journal_payload_of_fields(7, deep, COUNT(deep), NULL, 0, &found.writing, 3, NULL, 0);
+    IS(JOURNAL_ENTRY_TOO_DEEP, found.writing.kind);
+    FIELD(found.writing.index, 100);
+    FIELD(found.after, 99);
+}
+
 static void types(void) {
     TYPE(START, "Start");
     TYPE(SUSPENSION, "Suspension");
@@ -303,6 +371,8 @@ int main(void) {
     notifications();
     verdicts();
     readings();
+    fields();
+    writings();
     types();
     other_schemas();
     return failed;

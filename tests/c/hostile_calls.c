@@ -3,11 +3,11 @@
  *
  * Each call is handed random slices and numbers, among them slices of no length that are null. A slice ends at a page
  * that nothing may touch, or begins after one, and has guard bytes at its other side. A call is made again with room of
- * every size from none to what is needed, with too few numbers and with too many, and with each of its allocations
- * failing in turn. After each call
+ * every size from none to what is needed, with too few numbers and with too many, with tables of several sizes, and
+ * with each of its allocations failing in turn. After each call
  *
  * - what is read is unchanged, and so are the guards and what is to be written, but for the bytes of the result
- *   where there is room;
+ *   or the entries of the table where there is room;
  * - the result is one that the header lists, and the same whatever the room;
  * - a failed allocation is JOURNAL_OUT_OF_MEMORY, and a call without a failed one never returns that; a call that does
  *   not list it allocates nothing, nor does journal_canonical of a canonical payload;
@@ -35,7 +35,7 @@
 #include <unistd.h>
 
 #define GUARD 64
-#define MOST_INPUT 4096
+#define MOST_INPUT 8192
 #define REGION (1 << 18)
 #define POOL 8
 #define POOLED 120
@@ -103,6 +103,7 @@ struct request {
     uint16_t code;
     uint32_t schema;
     uint32_t payload_length;
+    uint32_t limit;
     uint32_t ignore_payloads;
     struct source source[2];
 };
@@ -137,6 +138,7 @@ struct work {
     struct slice slices[PLACES];
     uint64_t numbers[JOURNAL_ITEM_NUMBERS];
     uint8_t written[REGION];
+    uint8_t table[REGION];
     uint16_t codes[MOST_NAMED];
     size_t named;
     struct { uint8_t length, bytes[POOLED]; } pool[JOURNAL_SCHEMAS][POOL];
@@ -321,6 +323,38 @@ static void put_json(struct work *work, struct source *source, uint32_t schema) 
     }
 }
 
+/* A table for a schema, and what its entries point to: the fields of a canonical payload, as they are, with some other
+   numbers, or with two entries exchanged; or any numbers. */
+static void put_table(struct work *work, struct source *bytes, struct source *table, uint32_t schema) {
+    struct journal_field fields[MOST_INPUT / sizeof(struct journal_field)], moved;
+    uint64_t *numbers = (uint64_t *)(void *)fields;
+    const size_t most = sizeof fields / sizeof *fields;
+    struct source payload;
+    int64_t length, entries;
+    uint32_t count, place;
+
+    payload.length = 0;
+    put_payload(work, &payload, schema);
+    length = journal_canonical(schema, payload.bytes, payload.length, bytes->bytes, MOST_INPUT);
+    bytes->length = length < 0 || length > MOST_INPUT ? 0 : (size_t)length;
+    entries = journal_fields(schema, bytes->bytes, bytes->length, fields, most);
+    count = entries < 0 ? 0 : (uint64_t)entries < most ? (uint32_t)entries : (uint32_t)most;
+    if (count == 0) {
+        put_any(work, table, below(work, 4) * sizeof *fields);
+        return;
+    }
+    for (uint32_t changes = below(work, 3); changes > 0; changes--) {
+        numbers[below(work, count * JOURNAL_FIELD_NUMBERS)] = any_number(work);
+    }
+    if (one_of(work, 6)) {
+        place = below(work, count);
+        moved = fields[0];
+        fields[0] = fields[place];
+        fields[place] = moved;
+    }
+    put(table, fields, count * sizeof *fields);
+}
+
 static uint16_t any_code(struct work *work) {
     return one_of(work, 6) ? (uint16_t)any(work) : work->codes[below(work, (uint32_t)work->named)];
 }
@@ -427,11 +461,11 @@ static int stands(const struct slice *slice, size_t from) {
 /* Which of its kinds the result of a call is that is no error. */
 static int kind_of(int call, int64_t result, const uint64_t *numbers) {
     switch (call) {
-    case NEXT: return result > 0 ? JOURNAL_SKIPPED + 1 : (int)numbers[0];
+    case NEXT: case NEXT_WITHIN: return result > 0 ? JOURNAL_SKIPPED + 1 : (int)numbers[0];
     case IS_WELL_FORMED: case HEADER_EQ: return (int)result;
     /* the first number is the kind of its id, and the last that of its result */
     case NOTIFICATION: return (int)(5 * numbers[0] + numbers[3]);
-    case VERDICT: case PAYLOAD_OF_JSON: return (int)numbers[0];
+    case VERDICT: case PAYLOAD_OF_JSON: case PAYLOAD_OF_FIELDS: return (int)numbers[0];
     default: return 0;
     }
 }
@@ -463,7 +497,11 @@ static int64_t called(struct work *work, const struct request *request, size_t r
 
     if (result >= 0) {
         written = listed[call].writes && (uint64_t)result <= room ? (size_t)result : 0;
-        numbers = call == NEXT && result > 0 ? 0 : listed[call].numbers;
+        numbers = (call == NEXT || call == NEXT_WITHIN) && result > 0 ? 0 : listed[call].numbers;
+        if (listed[call].entry > 0) {
+            size_t fit = numbers_room / listed[call].entry;
+            numbers = listed[call].entry * ((uint64_t)result < fit ? (size_t)result : fit);
+        }
     } else if (error_of(result) == ERRORS || !(listed[call].errors & BIT(error_of(result)))) {
         wrong(work, request, "an error that the header does not list", result);
     } else {
@@ -496,8 +534,8 @@ static int64_t called(struct work *work, const struct request *request, size_t r
         wrong(work, request, "bytes that are not the result's were written", result);
     }
     if (numbers > 0) {
-        memcpy(work->numbers, work->slices[NUMBERS].at, 8 * numbers);
-        digest(work, work->numbers, 8 * numbers);
+        memcpy(listed[call].entry > 0 ? (void *)work->table : work->numbers, work->slices[NUMBERS].at, 8 * numbers);
+        digest(work, work->slices[NUMBERS].at, 8 * numbers);
     }
     if (result >= 0) {
         int kind = kind_of(call, result, work->numbers);
@@ -536,6 +574,27 @@ static void again(struct work *work, const struct request *request, int64_t resu
     }
 }
 
+/* Makes a call that writes a table again, with room for any number of its entries: the result is the same, and so are
+   the entries that fit. */
+static void again_with_tables(struct work *work, const struct request *request, int64_t result) {
+    static __thread uint8_t entries[REGION];
+    size_t entry = listed[request->call].entry, count = (size_t)result;
+
+    for (int turn = 0; turn < 6; turn++) {
+        size_t room = turn == 0 ? count : turn == 1 ? count + 3 : below(work, (uint32_t)count + 1);
+        size_t fit = room < count ? room : count;
+
+        if (called(work, request, 0, entry * room, 0) != result) {
+            wrong(work, request, "another result than before", result);
+        }
+        if (turn == 0) {
+            memcpy(entries, work->table, 8 * entry * count);
+        } else if (memcmp(entries, work->table, 8 * entry * fit) != 0) {
+            wrong(work, request, "other entries in a table of another size", result);
+        }
+    }
+}
+
 static void make_request(struct work *work, struct request *request) {
     request->call = (int)below(work, CALLS);
     request->version = any_version(work);
@@ -545,6 +604,7 @@ static void make_request(struct work *work, struct request *request) {
         request->schema = (uint32_t)any(work);
     }
     request->payload_length = (uint32_t)any(work);
+    request->limit = one_of(work, 2) ? UINT32_MAX : below(work, 40);
     request->ignore_payloads = one_of(work, 2) ? 0 : (uint32_t)any(work) % 3;
     request->source[0].length = request->source[1].length = 0;
     switch (request->call) {
@@ -557,6 +617,7 @@ static void make_request(struct work *work, struct request *request) {
         }
         break;
     case NEXT:
+    case NEXT_WITHIN:
         put_stream(work, &request->source[0], 0);
         break;
     case VERDICT:
@@ -582,6 +643,9 @@ static void make_request(struct work *work, struct request *request) {
         break;
     case PAYLOAD_OF_JSON:
         put_json(work, &request->source[0], request->schema);
+        break;
+    case PAYLOAD_OF_FIELDS:
+        put_table(work, &request->source[0], &request->source[1], request->schema);
         break;
     default:
         if (listed[request->call].inputs > 0) {
@@ -684,6 +748,50 @@ static void put_text_of(struct request *request, int kind) {
     }
 }
 
+static void put_field(struct source *table, uint64_t level, uint64_t number, uint64_t kind, uint64_t value,
+                      uint64_t offset, uint64_t length) {
+    const struct journal_field field = {level, number, kind, value, offset, length};
+    put(table, &field, sizeof field);
+}
+
+/* A table that is written as this kind for the schema of the request, which is set where the fields are of another
+   one. What it points to is a call and a byte that is not UTF-8. */
+static void put_table_of(struct request *request, int kind) {
+    struct source *table = &request->source[1];
+
+    PUT(&request->source[0], A_CALL "\xFF");
+    table->length = 0;
+    switch (kind) {
+    case JOURNAL_ENTRY_SEVERAL_MEMBERS:
+        request->schema = PROPOSAL_SCHEMA;
+        put_field(table, 0, 14, JOURNAL_FIELD_BYTES, 0, 0, 1);
+        put_field(table, 0, 15, JOURNAL_FIELD_MESSAGE, JOURNAL_SCHEMA_FAILURE, 0, 0);
+        return;
+    case JOURNAL_ENTRY_OUT_OF_RANGE:
+        request->schema = FUTURE_SCHEMA;
+        put_field(table, 0, 1, JOURNAL_FIELD_UINT32, (uint64_t)UINT32_MAX + 1, 0, 0);
+        return;
+    case JOURNAL_ENTRY_TOO_DEEP:
+        request->schema = FUTURE_SCHEMA;
+        for (uint64_t level = 0; level <= 100; level++) {
+            put_field(table, level, 4, JOURNAL_FIELD_MESSAGE, FUTURE_SCHEMA, 0, 0);
+        }
+        return;
+    default:
+        put_field(table, 0, 4, JOURNAL_FIELD_MESSAGE, JOURNAL_SCHEMA_HEADER, 0, 0);
+        break;
+    }
+    switch (kind) {
+    case JOURNAL_ENTRY_UNKNOWN_FIELD: put_field(table, 1, 99, JOURNAL_FIELD_STRING, 0, 0, 0); break;
+    case JOURNAL_ENTRY_OUT_OF_ORDER: put_field(table, 0, 1, JOURNAL_FIELD_STRING, 0, 0, 0); break;
+    case JOURNAL_ENTRY_WRONG_KIND: put_field(table, 1, 1, JOURNAL_FIELD_BYTES, 0, 0, 0); break;
+    case JOURNAL_ENTRY_NOT_UTF8: put_field(table, 1, 1, JOURNAL_FIELD_STRING, 0, sizeof A_CALL - 1, 1); break;
+    case JOURNAL_ENTRY_OUT_OF_BOUNDS: put_field(table, 1, 1, JOURNAL_FIELD_STRING, 0, sizeof A_CALL, 1); break;
+    case JOURNAL_ENTRY_WRONG_LEVEL: put_field(table, 2, 1, JOURNAL_FIELD_STRING, 0, 0, 0); break;
+    default: put_field(table, 1, 1, JOURNAL_FIELD_STRING, 0, 4, 1); break;
+    }
+}
+
 /* Changes a request so that its result is of a kind, or this error if there is one. What is looked at after what the
    error is about may be wrong too. */
 static void make_wanted(struct work *work, struct request *request, int kind, enum error error) {
@@ -692,6 +800,7 @@ static void make_wanted(struct work *work, struct request *request, int kind, en
 
     request->version = JOURNAL_FIRST_VERSION + below(work, JOURNAL_LAST_VERSION - JOURNAL_FIRST_VERSION + 1);
     request->schema = CALL_SCHEMA;
+    request->limit = UINT32_MAX;
     request->code = call == NOTIFICATION ? (uint16_t)(0x8000 + below(work, 0x7C00)) : CALL_COMMAND;
     first->length = second->length = 0;
     if (listed[call].inputs > 0) {
@@ -702,6 +811,7 @@ static void make_wanted(struct work *work, struct request *request, int kind, en
         PUT(first, "CallCommand");
         break;
     case NEXT:
+    case NEXT_WITHIN:
         first->length = 0;
         if (kind == JOURNAL_MESSAGE) {
             put_message(first, CALL_COMMAND, A_CALL, sizeof A_CALL - 1);
@@ -723,11 +833,17 @@ static void make_wanted(struct work *work, struct request *request, int kind, en
     case PAYLOAD_OF_JSON:
         put_text_of(request, kind);
         break;
+    case PAYLOAD_OF_FIELDS:
+        put_table_of(request, kind);
+        break;
     default:
         break;
     }
     if (error == MALFORMED || (call == IS_WELL_FORMED && !error && kind == 0)) {
         put_byte(first, 0x07);
+    }
+    if (error == NOT_CANONICAL) {
+        PUT(first, "\x0A\x00");
     }
     if (error == MALFORMED_SECOND || (error == MALFORMED && listed[call].inputs > 1 && one_of(work, 2))) {
         put_byte(second, 0x07);
@@ -799,6 +915,9 @@ static void try_case(struct work *work, struct request *request) {
         }
         again(work, request, result, below(work, (uint32_t)needed), numbers);
         again(work, request, result, 0, numbers);
+    }
+    if (listed[call].entry > 0 && result >= 0) {
+        again_with_tables(work, request, result);
     }
     if (numbers > 0) {
         int64_t refused = called(work, request, room, below(work, (uint32_t)numbers), 0);

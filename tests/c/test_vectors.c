@@ -2,8 +2,8 @@
  * Checks the test vectors on the standard input by the calls of pendratsoa.h: test_vectors SCHEMAS < LINES
  *
  * SCHEMAS is a file with the names of the schemas, one a line, in the order of their numbers. conformance/README.md
- * says what a line is; a line of the kind `record` has no call. Each stream is also read byte by byte, and each JSON is
- * read as the canonical payload. The last line is 'N passed, M failed'.
+ * says what a line is; a line of the kind `record` has no call. Each stream is also read byte by byte, each JSON is
+ * read as the canonical payload, and fields are written as the payload again. The last line is 'N passed, M failed'.
  */
 #define _POSIX_C_SOURCE 200809L
 #include <pendratsoa.h>
@@ -192,6 +192,51 @@ static void frame(void) {
     free(data.bytes);
 }
 
+/* Whether the fields of a payload are written as the payload. */
+static int is_written_again(uint32_t schema, const struct buffer *payload, const struct journal_field *table,
+                            size_t count) {
+    struct journal_writing writing = {99, 99};
+    int64_t length = WRITTEN(journal_payload_of_fields(schema, table, count, payload->bytes, payload->length, &writing,
+                                                       JOURNAL_WRITING_NUMBERS, written.bytes, written.room));
+
+    return length == (int64_t)payload->length && writing.kind == JOURNAL_WRITTEN && writing.index == 0 &&
+           (length == 0 || memcmp(written.bytes, payload->bytes, (size_t)length) == 0);
+}
+
+/* The fields of a payload, six numbers each; in a table of exactly their count, and before in one of no room. */
+static void fields(void) {
+    uint32_t schema = next_schema();
+    struct buffer data = next_bytes();
+    int64_t count = journal_fields(schema, data.bytes, data.length, NULL, 0);
+    struct journal_field *table = calloc(data.length + 1, sizeof *table);
+    char text[160];
+
+    if (table == NULL) {
+        fail("out of memory");
+    }
+    if (count == JOURNAL_NOT_CANONICAL) {
+        append_text(&found, "not_canonical");
+    } else if (count < 0) {
+        say_written(count);
+    } else if ((uint64_t)count > data.length ||
+               journal_fields(schema, data.bytes, data.length, table, (size_t)count) != count) {
+        append_text(&found, "more entries than bytes, or another count");
+    } else if (count == 0) {
+        append_text(&found, "-");
+    }
+    for (int64_t i = 0; i < count; i++) {
+        snprintf(text, sizeof text,
+                 "%s%" PRIu64 " %" PRIu64 " %" PRIu64 " %" PRIu64 " %" PRIu64 " %" PRIu64, i == 0 ? "" : ", ",
+                 table[i].level, table[i].number, table[i].kind, table[i].value, table[i].offset, table[i].length);
+        append_text(&found, text);
+    }
+    if (count >= 0 && !is_written_again(schema, &data, table, (size_t)count)) {
+        append_text(&found, ", which are written as another payload");
+    }
+    free(table);
+    free(data.bytes);
+}
+
 /* Appends an item to a listing. */
 static void list_item(struct buffer *listing, const struct journal_item *item) {
     char text[64];
@@ -326,8 +371,8 @@ static void read_json(void) {
 static const struct {
     const char *kind;
     void (*check)(void);
-} checks[] = {{"payload", payload}, {"merge", merge}, {"frame", frame},   {"stream", stream},
-              {"compare", compare}, {"json", json},   {"read", read_json}};
+} checks[] = {{"payload", payload}, {"merge", merge}, {"frame", frame},    {"stream", stream},
+              {"compare", compare}, {"json", json},   {"read", read_json}, {"fields", fields}};
 
 /* Checks a line: 1 if it passed, 0 if it failed, and -1 if it is not checked. */
 static int check_line(char *line) {

@@ -30,6 +30,7 @@ NAMES = (
     "row_table",
     "lists",
     "bindings",
+    "typed_messages",
     "calls",
     "records",
     "numbered",
@@ -39,6 +40,7 @@ NAMES = (
     "enum_names",
     "comparisons",
     "record_vectors",
+    "field_vectors",
     "long_vectors",
     "json_readings",
     "random_vectors",
@@ -51,6 +53,7 @@ NAMES = (
     "call_pages",
     "man_pages",
     "completions",
+    "versions",
     "attributes",
 )
 
@@ -133,7 +136,15 @@ def bracketed(elements):
         if rows[-1] and len(f"      {rows[-1]} {word}") > WIDTH:
             rows.append("")
         rows[-1] = f"{rows[-1]} {word}".lstrip()
-    return "(\n" + "".join(f"      {row}\n" for row in rows) + "    )"
+    lines = []
+    for row in rows:
+        # an element that is a list itself may be too long for a line
+        while len(f"    {row}") > WIDTH:
+            cut = row.rindex(" ∷ ", 0, WIDTH - 6) + 2
+            lines.append(f"      {row[:cut]}")
+            row = f"  {row[cut:].lstrip()}"
+        lines.append(f"      {row}")
+    return "(\n" + "".join(f"{line}\n" for line in lines) + "    )"
 
 
 def laid_out(texts):

@@ -6,10 +6,11 @@ import re
 import textwrap
 
 from . import ROOT, laid_out, missing  # noqa: F401
-from .calls_data import BITS, PATH, calls, camel, comment, described, entries, errors, kinds, library_version
+from .calls_data import BITS, PATH, calls, camel, comment, constants, described, entries, errors, kinds
 from .calls_data import paragraphs, returned_errors, structs
 from .bindings import snake
 from .proto import schemas, typed
+from .versions import library_version
 
 ABOUT = "The calls for C, in each language that has them."
 SOURCE = PATH
@@ -40,12 +41,15 @@ def block(texts):
 def c_parameters(call):
     """The parameters of a call in C, as a type and a name each."""
     found = [f"uint{BITS[name]}_t {name}" for name in call.takes]
+    found += [f"const struct journal_{call.entries} *{call.entries}s", "size_t count"] if call.entries else []
     for name in call.reads:
         found += [f"const uint8_t *{name}", f"size_t {'length' if name == 'bytes' else name + '_length'}"]
     if call.flag:
         found.append(f"uint32_t {call.flag}")
     if call.numbers:
         found += [f"struct journal_{call.numbers} *{call.numbers}", f"size_t {call.numbers}_room"]
+    if call.table:
+        found += [f"struct journal_{call.table} *{call.table}s", "size_t room"]
     if call.writes:
         found += ["uint8_t *out", "size_t room"]
     return found
@@ -64,10 +68,10 @@ def c_definition(name, value, said, width):
 
 
 def c_kinds(entry):
-    values = entry["values"]
-    width = max(len(f"#define JOURNAL_{name} {number}") for number, (name, _) in enumerate(values))
+    values = list(constants(entry))
+    width = max(len(f"#define JOURNAL_{name} {number}") for number, name, _, _ in values)
     return block(paragraphs(entry["comment"])) + "".join(
-        c_definition(name, number, said, width) for number, (name, said) in enumerate(values)
+        c_definition(name, number, said, width) for number, name, _, said in values
     )
 
 
@@ -76,9 +80,15 @@ def c_struct(entry):
     width = max(len(field) for field, _ in entry["fields"]) + 1
     fields = "".join(f"    uint64_t {field + ';':{width}} /* {said} */\n" for field, said in entry["fields"])
     count = f"#define JOURNAL_{entry['constant']} {len(entry['fields'])}\n"
+    room = "; the room for a table is a count of structs" if is_table(entry) else ", and the room for one is their count"
     return block(paragraphs(entry["comment"])) + f"struct journal_{name} {{\n{fields}}};\n\n" + block(
-        [f"How many numbers that are: a struct journal_{name} is as an array of them, and the room for one is their count."]
+        [f"How many numbers that are: a struct journal_{name} is as an array of them{room}."]
     ) + count
+
+
+def is_table(entry):
+    """Whether calls write tables of a struct."""
+    return any(call.table == entry["struct"] for call in calls())
 
 
 def c_versions(said):
@@ -107,13 +117,14 @@ PREAMBLE = """\
  *
  * Memory. The caller owns all of it, before, during and after a call. A call reads the `const` slices, writes the
  * others, and keeps no pointer; nothing that it allocates outlives it, and nothing has to be freed. Every pointer comes
- * with a count of elements, that to a struct with the count of its numbers; if the count is 0 it may be null. What a
- * call writes overlaps nothing else of that call.
+ * with a count of elements, that to a struct with the count of its numbers, that to a table with the count of its
+ * structs; if the count is 0 it may be null. What a call writes overlaps nothing else of that call.
  *
  * Results. A call returns a number that is not negative, or one of the errors below. One that writes bytes returns how
  * many they are, and writes them if `room` is at least as much; if it is less, the slice is unchanged, and the call can
- * be repeated with enough room. After an error all that a call could write is unchanged. Texts are UTF-8 and have no
- * zero byte at the end.
+ * be repeated with enough room. One that writes a table returns how many entries there are, and writes the first ones,
+ * as many as `room`. After an error all that a call could write is unchanged. Texts are UTF-8 and have no zero byte at
+ * the end.
  *
  * Threads. Calls share nothing: any number of threads may make them at once.
  */
@@ -178,6 +189,7 @@ FFI = "crates/journal_ffi/src"
 
 FFI_MODULES = {
     "commands": "The calls that compare two commands of a type, given by their payloads.",
+    "fields": "The calls between payloads and tables of their fields.",
     "frames": "The calls that make headers and frames.",
     "items": "The call that reads streams.",
     "journals": "The call that compares two journals.",
@@ -192,7 +204,8 @@ FFI_ROOT = """\
 //!
 //! Each call returns a number that is not negative, or an error's number, which is negative. One that writes bytes
 //! returns how many they are, and writes them if and only if the slice has room for all of them; an error leaves each
-//! slice unchanged. No call keeps its arguments, or leaves anything to free. A struct of C is a slice of its numbers.
+//! slice unchanged. No call keeps its arguments, or leaves anything to free. A struct of C is a slice of its numbers; a
+//! table is a slice of entries, of which a call writes the first ones, as many as there is room for.
 #![tactic(auto)]
 
 """
@@ -213,17 +226,23 @@ def definitions():
 def ffi_parameters(call):
     found = ["alloc: Global"] if call.allocates else []
     found += [f"{name}: u{BITS[name]}" for name in call.takes]
+    found += [f"{call.entries}s: &[{rattle_struct(call.entries).rpartition('::')[2]}]"] if call.entries else []
     found += [f"{name}: &[u8]" for name in call.reads]
     found += [f"{call.flag}: u32"] if call.flag else []
     found += [f"{call.numbers}: &mut [u64]"] if call.numbers else []
+    found += [f"{call.table}s: &mut [{rattle_struct(call.table).rpartition('::')[2]}]"] if call.table else []
     return found + (["out: &mut [u8]"] if call.writes else [])
+
+
+def rattle_struct(name):
+    """The struct of journal_c_api that is an entry of a table."""
+    return structs()[name]["rattle"]
 
 
 def ffi_function(call):
     arguments = [parameter.partition(":")[0] for parameter in ffi_parameters(call)]
     arguments = [f"{name} != 0" if name == call.flag else name for name in arguments]
-    contract = call.contract.replace("VERSION", library_version())
-    plain = contract if re.fullmatch(r"\S+", contract) else f"({contract})"
+    plain = call.contract if re.fullmatch(r"\S+", call.contract) else f"({call.contract})"
     return (
         commented(comment(call), "/// ")
         + f'#[unsafe(no_mangle)]\npub extern "C" fn {call.symbol()}({", ".join(ffi_parameters(call))}) -> i64\n'
@@ -248,6 +267,8 @@ def ffi_module(module, found):
     uses = f"use journal_c_api::{does[0]};" if len(does) == 1 else f"use journal_c_api::{{{', '.join(does)}}};"
     used = [uses, "use journal_c_api::outcome::outcome_of;"]
     used += ["use std::alloc::Global;"] if any(call.allocates for call in found) else []
+    structures = {name for call in found for name in (call.entries, call.table) if name}
+    used += sorted(f"use journal_c_api::{rattle_struct(name)};" for name in structures)
     return f"//! {FFI_MODULES[module]}\n\n" + "\n".join(imports) + "\n\n" + "\n".join(sorted(used)) + "\n" + text
 
 
@@ -301,14 +322,15 @@ def quoted(word):
 
 def numbered(entry):
     """The kinds that a binding shows, with their numbers."""
-    return [(number, name) for number, (name, _) in enumerate(entry["values"]) if number >= entry.get("from", 0)]
+    return [(number, name) for number, _, name, _ in constants(entry) if number >= entry.get("from", 0)]
 
 
 def shapes(call):
     """What a call takes, in a word for each parameter or slice."""
-    found = [f"u{BITS[name]}" for name in call.takes] + ["slice" for _ in call.reads]
+    found = [f"u{BITS[name]}" for name in call.takes]
+    found += ["slice" for _ in call.reads] + (["slice"] if call.entries else [])
     found += ["u32"] if call.flag else []
-    return found + (["slice"] if call.numbers else []) + (["slice"] if call.writes else [])
+    return found + ["slice" for is_there in (call.numbers, call.table, call.writes) if is_there]
 
 
 # Ruby.
@@ -321,7 +343,8 @@ def ruby():
         said = entry.get("what", " ".join(entry["comment"]))
         text += "\n" + commented([said], "  # ")
         names = " ".join(name.lower() for _, name in numbered(entry))
-        text += filled(f"{entry['ruby']} = %i[{names}].freeze", "  ", "    ") + "\n"
+        made = f"[nil, *%i[{names}]].freeze" if entry.get("first") else f"%i[{names}].freeze"
+        text += filled(f"{entry['ruby']} = {made}", "  ", "    ") + "\n"
     hidden = [entry["ruby"] for entry in kinds() if not entry["python"]]
     text += "".join(f"  private_constant :{name}\n" for name in hidden)
     text += "\n  # How many numbers each struct has, and of which words each call has a parameter: the bits of a number, or a slice.\n"
@@ -333,7 +356,7 @@ def ruby():
     rows = [f"    {error['number']} => [:{class_name(error)}, %i[{' '.join(error['about'])}]]" for error in returned_errors()]
     text += ",\n".join(rows) + "\n  }.freeze\n"
     hidden = [entry["constant"] for entry in structs().values()] + ["CALLS", "ERRORS"]
-    return text + "  private_constant " + ", ".join(f":{name}" for name in hidden) + "\nend\n"
+    return text + filled("private_constant " + ", ".join(f":{name}" for name in hidden), "  ", "    ") + "\nend\n"
 
 
 # Node.
@@ -341,7 +364,8 @@ def ruby():
 def node():
     text = "// What the library for C declares: the kinds that calls write, how many numbers each struct has, and the errors.\n"
     for entry in kinds():
-        names = "".join(f"  '{camel(name, False, with_capitals=False)}',\n" for name, _ in entry["values"])
+        names = "  undefined,\n" * entry.get("first", 0)
+        names += "".join(f"  '{camel(name, False, with_capitals=False)}',\n" for name, _ in entry["values"])
         text += f"\n/** {' '.join(entry['comment'])} */\nexport const {entry['node']} = [\n{names}];\n"
     for entry in structs().values():
         text += f"\n/** The indices of the numbers of a {entry['struct']}, and how many there are. */\n"
@@ -367,15 +391,22 @@ def node_calls():
     for call in calls():
         given = [f"arguments->{name}" for name in call.takes]
         parameters = [name.upper() for name in call.takes]
+        if call.entries:
+            given += ["(void *)arguments->fields", f"arguments->fields_count / JOURNAL_{structs()[call.entries]['constant']}"]
+            parameters.append("FIELDS")
         for name in call.reads:
             place = "second" if name in SECONDS else "first"
             given += [f"arguments->{place}.bytes", f"arguments->{place}.length"]
-            parameters.append("CHUNK" if name == "bytes" else name.upper())
+            parameters.append("CHUNK" if name == "bytes" and not call.entries else name.upper())
         if call.flag:
             given.append("arguments->ignore_payloads")
             parameters.append(call.flag.upper())
         if call.numbers:
             given += ["(void *)arguments->numbers", "arguments->numbers_room"]
+            parameters.append("NUMBERS")
+        if call.table:
+            room = f"arguments->numbers_room / JOURNAL_{structs()[call.table]['constant']}"
+            given += ["(void *)arguments->numbers", room]
             parameters.append("NUMBERS")
         if call.writes:
             given += ["arguments->out.bytes", "arguments->out.length"]
@@ -402,7 +433,6 @@ GO_HEAD = '''// Code generated by tools/generate.py. DO NOT EDIT.
 package pendratsoa
 
 /*
-#cgo pkg-config: pendratsoa
 #include <pendratsoa.h>
 */
 import "C"
@@ -422,10 +452,14 @@ GO_REST = '''// What follows are the calls for C in the types of Go, a slice for
 // pointer, and what the pointers lead to holds none, as the rules of cgo want it.
 
 func pointer(slice []byte) *C.uint8_t {
+	return (*C.uint8_t)(address(slice))
+}
+
+func address[Element any](slice []Element) unsafe.Pointer {
 	if len(slice) == 0 {
 		return nil
 	}
-	return (*C.uint8_t)(&slice[0])
+	return unsafe.Pointer(&slice[0])
 }
 
 func count[Element any](slice []Element) C.size_t {
@@ -449,11 +483,12 @@ def go_constants(values):
 
 def go_kinds(entry):
     kind, _, is_public = entry["go"]
-    names = [(go_name(entry, name), name, said) for name, said in entry["values"]]
+    names = [(go_name(entry, name), constant, said) for _, constant, name, said in constants(entry)]
     shown = names[entry.get("from", 0) :]
     hidden = names[: entry.get("from", 0)]
     said = entry.get("what", " ".join(entry["comment"]))
     if not is_public:
+        said = " ".join(entry["comment"])
         return f"// {said}\n".replace(said, filled(said, "", "// ", WIDTH - 3)) + go_constants(
             [(name, f"C.JOURNAL_{constant}") for name, constant, _ in names]
         ) + "\n"
@@ -470,9 +505,22 @@ def go_kinds(entry):
     return text + f")\n\n// The names of the kinds, from the first on.\nvar {variable} = []string{{\n{listed}}}\n\n"
 
 
+def go_table(name):
+    """The type of a table of these structs."""
+    return f"[][{camel(structs()[name]['constant'], False)}]uint64"
+
+
+def go_entries(name):
+    """A table of these structs as C takes it."""
+    return [f"(*C.struct_journal_{name})(address({name}s))", f"count({name}s)"]
+
+
 def go_call(call):
     parameters = [(camel(name, False), f"uint{BITS[name]}") for name in call.takes]
     given = [f"C.uint{BITS[name]}_t({camel(name, False)})" for name in call.takes]
+    if call.entries:
+        parameters.append((f"{call.entries}s", go_table(call.entries)))
+        given += go_entries(call.entries)
     for name in call.reads:
         parameters.append((name, "[]byte"))
         given += [f"pointer({name})", f"count({name})"]
@@ -483,6 +531,9 @@ def go_call(call):
         parameters.append((call.numbers, f"*[{structs()[call.numbers]['constant'].lower()}]uint64".replace(
             structs()[call.numbers]["constant"].lower(), camel(structs()[call.numbers]["constant"], False))))
         given += [f"(*C.struct_journal_{call.numbers})(unsafe.Pointer({call.numbers}))", f"C.size_t(len({call.numbers}))"]
+    if call.table:
+        parameters.append((f"{call.table}s", go_table(call.table)))
+        given += go_entries(call.table)
     if call.writes:
         parameters.append(("out", "[]byte"))
         given += ["pointer(out)", "count(out)"]
@@ -515,7 +566,7 @@ def go():
 # Rust.
 
 # The kinds that are public enums of Rust, which are hand-written.
-RUST_ENUMS = ("reading", "verdict")
+RUST_ENUMS = ("reading", "writing", "verdict")
 
 RUST_HEAD = """\
 //! What the header declares: its calls, each with a safe function over slices, the numbers that they write, and their
@@ -524,7 +575,7 @@ RUST_HEAD = """\
 //! Each safe function here gives its call the pointer and the length of every slice. So what the header requires of its
 //! callers holds: a slice that is written is exclusively borrowed, and overlaps no other.
 
-use super::{count, written, About, Refusal, Result};
+use super::{appended, count, written, About, Refusal, Result};
 
 """
 
@@ -533,8 +584,8 @@ def rust():
     text = RUST_HEAD
     for entry in kinds():
         is_enum = entry["kinds"] in RUST_ENUMS
-        shown = [name for name, _ in entry["values"]][: entry.get("from", 0) if is_enum else None]
-        text += "".join(f"pub(crate) const {name}: u64 = {number};\n" for number, name in enumerate(shown))
+        shown = list(constants(entry))[: entry.get("from", 0) if is_enum else None]
+        text += "".join(f"pub(crate) const {name}: u64 = {number};\n" for number, name, _, _ in shown)
     text += "\n"
     text += "/// The calls as the header declares them.\nmod c {\n    extern \"C\" {\n"
     for call in calls():
@@ -558,24 +609,42 @@ def rust_about(error):
 
 def rust_raw(call):
     found = [f"{name}: u{BITS[name]}" for name in call.takes]
+    found += [f"{call.entries}s: *const [u64; {numbers_of(call.entries)}]", "count: usize"] if call.entries else []
     for name in call.reads:
         found += [f"{name}: *const u8", f"{'length' if name == 'bytes' else name + '_length'}: usize"]
     found += [f"{call.flag}: u32"] if call.flag else []
     found += [f"{call.numbers}: *mut u64", f"{call.numbers}_room: usize"] if call.numbers else []
+    found += [f"{call.table}s: *mut [u64; {numbers_of(call.table)}]", "room: usize"] if call.table else []
     return found + (["out: *mut u8", "room: usize"] if call.writes else [])
 
 
+# The calls of Rust whose bytes are appended to a vector of the caller's.
+RUST_APPENDED = ("frame", "payload_of_fields")
+
+
+def numbers_of(name):
+    """How many numbers a struct has."""
+    return len(structs()[name]["fields"])
+
+
 def rust_call(call):
-    parameters = [f"{name}: u{BITS[name]}" for name in call.takes] + [f"{name}: &[u8]" for name in call.reads]
+    parameters = [f"{name}: u{BITS[name]}" for name in call.takes]
     given = list(call.takes)
+    if call.entries:
+        parameters.append(f"{call.entries}s: &[[u64; {numbers_of(call.entries)}]]")
+        given += [f"{call.entries}s.as_ptr()", f"{call.entries}s.len()"]
+    parameters += [f"{name}: &[u8]" for name in call.reads]
     for name in call.reads:
         given += [f"{name}.as_ptr()", f"{name}.len()"]
     if call.flag:
         parameters.append(f"{call.flag}: bool")
         given.append(f"u32::from({call.flag})")
     if call.numbers:
-        parameters.append(f"{call.numbers}: &mut [u64; {len(structs()[call.numbers]['fields'])}]")
+        parameters.append(f"{call.numbers}: &mut [u64; {numbers_of(call.numbers)}]")
         given += [f"{call.numbers}.as_mut_ptr()", f"{call.numbers}.len()"]
+    if call.table:
+        parameters.append(f"{call.table}s: &mut [[u64; {numbers_of(call.table)}]]")
+        given += [f"{call.table}s.as_mut_ptr()", f"{call.table}s.len()"]
     is_fixed = call.writes and call.writes is not True
     if is_fixed:
         parameters.append(f"out: &mut [u8; {call.writes}]")
@@ -584,13 +653,17 @@ def rust_call(call):
     if call.writes and not is_fixed:
         times, more = call.room
         lengths = [f"{name}.len()" if times == 1 else f"{times} * {name}.len()" for name in call.reads] if times else []
+        lengths += [f"{numbers_of(call.entries)} * {call.entries}s.len()"] if call.entries else []
         guess = " + ".join([*lengths, *([str(more)] if more or not lengths else [])])
         made = f"c::{call.symbol()}({', '.join([*given, 'out', 'room'])})"
+        is_appended = call.call in RUST_APPENDED
+        if is_appended:
+            parameters.append("out: &mut Vec<u8>")
         body = (
             "    // SAFETY: each pointer comes with the length of its slice, and the call writes at most `room` bytes and\n"
-            f"    // returns how many they are\n    unsafe {{ written({guess}, |out, room| {made}) }}\n"
+            f"    // returns how many they are\n    unsafe {{ {'appended(out, ' if is_appended else 'written('}{guess}, |out, room| {made}) }}\n"
         )
-        result = "Vec<u8>"
+        result = "usize" if is_appended else "Vec<u8>"
     else:
         body = f"    {safety}    count(unsafe {{ c::{call.symbol()}({', '.join(given)}) }})\n"
         result = "usize"
@@ -606,23 +679,28 @@ def listed():
     text += filled(", ".join(["NO_ERROR", *names, "ERRORS"]), "enum error {\n    ", "    ") + "\n};\n\n"
     text += "static const int64_t error_numbers[ERRORS] = {\n    0,\n" + "".join(f"    JOURNAL_{name},\n" for name in names) + "};\n\n"
     text += (
-        "static const struct {\n    const char *name;\n    int inputs;\n    size_t numbers;\n    int writes;\n"
+        "static const struct {\n    const char *name;\n    int inputs;\n    size_t numbers;\n    size_t entry;\n    int writes;\n"
         "    unsigned errors;\n    int kinds;\n} listed[CALLS] = {\n"
     )
     for call in calls():
         bits = " | ".join(f"1u << {name}" for name in call.error_names()) or "0"
         numbers = f"JOURNAL_{structs()[call.numbers]['constant']}" if call.numbers else 0
-        row = f"[{call.call.upper()}] = {{\"{call.symbol()}\", {len(call.reads)}, {numbers}, {int(bool(call.writes))}, {bits}, {kinds_of(call)}}},"
+        entry = f"JOURNAL_{structs()[call.table]['constant']}" if call.table else 0
+        inputs = len(call.reads) + (1 if call.entries else 0)
+        row = f"[{call.call.upper()}] = {{\"{call.symbol()}\", {inputs}, {numbers}, {entry}, {int(bool(call.writes))}, {bits}, {kinds_of(call)}}},"
         text += filled(row, "    ", "        ") + "\n"
     text += "};\n\nstatic int64_t make(const struct request *r, const struct slice *slices) {\n"
     text += "    const struct slice *first = &slices[FIRST], *second = &slices[SECOND], *out = &slices[OUT];\n"
-    text += "    void *numbers = slices[NUMBERS].at;\n    size_t count = slices[NUMBERS].length / 8;\n\n    switch (r->call) {\n"
+    text += "    const void *table = second->at;\n    void *numbers = slices[NUMBERS].at;\n    size_t count = slices[NUMBERS].length / 8;\n\n    switch (r->call) {\n"
     for call in calls():
         given = [f"r->{name}" for name in call.takes]
+        # a table is the second input
+        given += ["table", f"second->length / sizeof(struct journal_{call.entries})"] if call.entries else []
         for place, _ in zip(("first", "second"), call.reads):
             given += [f"{place}->at", f"{place}->length"]
         given += [f"r->{call.flag}"] if call.flag else []
         given += ["numbers", "count"] if call.numbers else []
+        given += ["numbers", f"count / JOURNAL_{structs()[call.table]['constant']}"] if call.table else []
         given += ["out->at", "out->length"] if call.writes else []
         start = f"        return {call.symbol()}("
         text += f"    case {call.call.upper()}:\n" + filled(", ".join(given), start, " " * len(start)) + ");\n"

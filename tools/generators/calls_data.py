@@ -6,11 +6,12 @@ import re
 from typing import Dict, List, Optional
 
 from . import ROOT
+from .versions import library_version
 
 PATH = "proto/calls.json"
 
 # The numbers that calls take, with their bits in C; the flag comes after the slices.
-BITS = {"version": 32, "code": 16, "schema": 32, "payload_length": 32}
+BITS = {"version": 32, "code": 16, "schema": 32, "payload_length": 32, "limit": 32}
 
 LANGUAGES = ("Python", "Rust", "Go", "Ruby", "TypeScript")
 
@@ -26,9 +27,13 @@ class Call:
     comment: List[str]
     errors: List[str]
     takes: List[str] = dataclasses.field(default_factory=list)
+    # the struct of which it reads a table
+    entries: Optional[str] = None
     reads: List[str] = dataclasses.field(default_factory=list)
     flag: Optional[str] = None
     numbers: Optional[str] = None
+    # the struct of which it writes a table, whose room is a count of these
+    table: Optional[str] = None
     # how many bytes it writes if that is always the same number, or True
     writes: object = False
     # the room for them that is tried first: a multiple of the bytes that it reads, and more
@@ -81,12 +86,25 @@ def entries(kind):
 
 @functools.lru_cache(maxsize=None)
 def calls():
-    return [Call(**entry) for entry in entries("call")]
+    return [Call(**versioned(entry)) for entry in entries("call")]
+
+
+def versioned(entry):
+    """An entry with the version in its texts, where they say VERSION."""
+    texts = json.dumps(entry)
+    return json.loads(re.sub(r"\bVERSION\b", library_version(), texts))
 
 
 def kinds():
     """The lists of kinds that calls write."""
     return entries("kinds")
+
+
+def constants(entry):
+    """The kinds of a list: the number of each, its name in C without `JOURNAL_`, its name elsewhere, and its meaning."""
+    begin = entry.get("from", 0)
+    for number, (name, said) in enumerate(entry["values"], entry.get("first", 0)):
+        yield number, entry.get("prefix", "") + name if number >= begin else name, name, said
 
 
 def structs():
@@ -101,13 +119,6 @@ def errors():
 def returned_errors():
     """The errors that calls return, without the kinds that are none."""
     return [error for error in errors() if error["about"] is not None]
-
-
-@functools.lru_cache(maxsize=None)
-def library_version():
-    """The version of the library, as journal_c_api has it."""
-    text = (ROOT / "crates/journal_c_api/src/names.rt").read_text(encoding="utf-8")
-    return re.search(r'LIBRARY_VERSION: &str = "(.*)"', text)[1]
 
 
 def paragraphs(lines):

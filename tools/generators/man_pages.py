@@ -5,7 +5,7 @@ import re
 import textwrap
 
 from . import ROOT, missing, programs  # noqa: F401
-from .programs import version
+from .versions import library_version
 
 ABOUT = "The man pages of the programs and of the library for C."
 SOURCE = "proto/programs.toml, docs/PROGRAMS.md, docs/C.md and include/pendratsoa.h"
@@ -107,7 +107,7 @@ def title(name, text):
 
 def page(name, number, *sections):
     """A man page, of sections with their names; those without a text are left out."""
-    head = f'.TH {name.upper()} {number} {DATE} "pendratsoa {version()}"\n.nh\n.ad l\n'
+    head = f'.TH {name.upper()} {number} {DATE} "pendratsoa {library_version()}"\n.nh\n.ad l\n'
     text = "".join(f".SH {title}\n{text}" for title, text in sections if text)
     # a heading begins a paragraph by itself
     return head + re.sub(r"^(\.S[HS] .*\n)\.PP\n", r"\1", text, flags=re.M)

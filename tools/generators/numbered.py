@@ -203,7 +203,7 @@ def with_numbers(path, text, name, patterns):
 
 
 def in_order(text):
-    """The record Future with its fields merged, measured and written in the order of their numbers."""
+    """The record Future with its fields declared, merged, measured and written in the order of their numbers."""
     numbers = {
         field.name: field.number for message in messages() if message.name == "Future" for field in fields_of(message)
     }
@@ -224,6 +224,11 @@ def in_order(text):
         calls = sorted((re.sub(r"^    (let end = )?|;$", "", line) for line in lines), key=number, reverse=True)
         return "\n".join([*(f"    let end = {call};" for call in calls[:-1]), f"    {calls[-1]}"])
 
+    def declared(lines):
+        fields = re.findall(r"((?:    ///.*\n)*    pub (\w+): .*\n)", "\n".join([*lines, ""]))
+        return "".join(text for text, _ in sorted(fields, key=lambda field: numbers[field[1]]))[:-1]
+
+    sorted_lines("pub struct Future {\n", "\n}", declared)
     sorted_lines("match field.number {\n", "\n        _ => {}", forward)
     sorted_lines("{ FieldsFit (table tables.future) (future_parts future.now) }\n{\n", "\n}", forward)
     sorted_lines("(drop end out.old) }\n{\n", "\n}", backward)

@@ -20,6 +20,8 @@ def direction(message):
 def field_entry(field):
     """What the page knows of a field."""
     entry = {"kind": field.message or field.kind}
+    if field.presence == "repeated":
+        entry["list"] = True
     if field.not_compared:
         entry["compared"] = False
     if field.payload:

@@ -65,3 +65,17 @@ def unknown(least, *names):
 def code(type_name):
     """The code of a type."""
     return next(message.code for message in typed() if message.type_name() == type_name)
+
+
+def struct(name, rows):
+    """A struct as it is printed."""
+    return f"{name} {{ {', '.join(rows)} }}" if rows else name
+
+
+def absent(row):
+    """What is printed of a row that is not present."""
+    if isinstance(row, OneOf) or row.presence in ("optional", "message"):
+        return "None"
+    if row.presence == "repeated":
+        return "[]"
+    return {"bool": "false", "text": '""', "bytes": 'b""'}.get(row.kind, "0")

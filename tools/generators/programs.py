@@ -2,12 +2,12 @@
 description of the programs."""
 import functools
 import pathlib
-import re
 import tomllib
 
 from . import ROOT, laid_out, missing  # noqa: F401
 from .proto import typed
 from .record_vectors import LAST_VERSION
+from .versions import library_version
 
 ABOUT = "The definitions of the programs' command lines."
 SOURCE = "proto/programs.toml"
@@ -20,8 +20,6 @@ JOURNAL = "journal"
 VERSIONS = [str(number) for number in range(5, LAST_VERSION + 1)]
 
 KEYS = {"help", "page", "value", "values", "completed", "default", "repeated", "required"}
-
-HEADER = "include/pendratsoa.h"
 
 
 class Argument:
@@ -190,11 +188,6 @@ def program(name):
     return next(each for each in programs() if each.name == name)
 
 
-def version():
-    """The version of the library and of the programs."""
-    return re.search(r'^#define JOURNAL_LIBRARY_VERSION "(.*)"$', (ROOT / HEADER).read_text(encoding="utf-8"), re.M)[1]
-
-
 def definitions(crate):
     """The file with the definitions of a crate's command lines."""
     own = [each for each in programs() if each.crate == crate]
@@ -206,7 +199,7 @@ def definitions(crate):
         "//! The definitions of the command lines.\n\n"
         f"use clap::{{{', '.join(clap)}}};\nuse command_line::{{{', '.join(helpers)}}};\n"
         "use shared_core_base::version::Version;\nuse std::alloc::{AllocError, Global};\n\n"
-        f"const VERSION: &str = {quoted(version())};\n\n{code}"
+        f"const VERSION: &str = {quoted(library_version())};\n\n{code}"
     ).replace("use clap::{Command};", "use clap::Command;")
 
 

@@ -61,7 +61,21 @@ def printed(kind, payload):
         message.ParseFromString(payload)
     except Exception:
         return None
-    return json_format.MessageToDict(message, use_integers_for_enums=True)
+    return in_rows(message.DESCRIPTOR, json_format.MessageToDict(message, use_integers_for_enums=True))
+
+
+def in_rows(kind, shown):
+    """What protobuf prints of a message, a member of a oneof at the least number of that, where the schema has it."""
+    def place(field):
+        return min(member.number for member in (field.containing_oneof.fields if field.containing_oneof else [field]))
+
+    def value(field):
+        held = shown[field.json_name]
+        if field.message_type is None:
+            return held
+        return [in_rows(field.message_type, one) for one in held] if isinstance(held, list) else in_rows(field.message_type, held)
+
+    return {field.json_name: value(field) for field in sorted(kind.fields, key=place) if field.json_name in shown}
 
 
 def frame(code, payload, flag=0):

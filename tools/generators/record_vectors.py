@@ -7,11 +7,14 @@ the value as Rust's derived Debug prints it, made of the same names and values. 
 the same values, where the message is that of a type: at version 8, and where an earlier version writes it otherwise at
 each; a type's code is read from conformance/frames.txt. Nothing of this project's own code takes part.
 """
+import functools
 import re
 import subprocess
 
 from . import ROOT
+from .payloads import absent, struct
 from .proto import PROTO, OneOf, camel, description, messages, without_protoc
+from .renumbered import Renumbering
 
 ABOUT = "Test vectors of each message, by protoc."
 SOURCE = "proto/journal.proto, by protoc"
@@ -88,29 +91,21 @@ class Values:
         return " ".join(texts), struct(message.name, rows)
 
 
-def struct(name, rows):
-    """A struct as it is printed."""
-    return f"{name} {{ {', '.join(rows)} }}" if rows else name
-
-
-def absent(row):
-    """What is printed of a row that is not present."""
-    if isinstance(row, OneOf) or row.presence in ("optional", "message"):
-        return "None"
-    if row.presence == "repeated":
-        return "[]"
-    return {"bool": "false", "text": '""', "bytes": 'b""'}.get(row.kind, "0")
+@functools.cache
+def same_numbers():
+    return Renumbering(description(), description())
 
 
 def encoded(name, text):
-    """The bytes that protoc makes of a text."""
+    """The bytes that protoc makes of a text, in the order of the rows: protoc writes a member of a oneof at its own
+    number, where the library has the oneof at its least one."""
     made = subprocess.run(
         ["protoc", f"--proto_path={PROTO.parent}", f"--encode={description().package}.{name}", PROTO.name],
         input=text.encode(),
         stdout=subprocess.PIPE,
         check=True,
     )
-    return made.stdout
+    return same_numbers().payload(name, made.stdout, True)
 
 
 def values(message, table):

@@ -20,8 +20,10 @@ pub struct Rounds {
 /// The buffer that a round encodes a message into.
 #[derive(Clone, Copy, Debug, PartialEq, Eq)]
 pub enum Buffer {
-    /// A new one each.
+    /// A new one each, as `Bytes`.
     New,
+    /// A new one each, as a `Vec`.
+    Owned,
     /// That of the round before, cleared.
     Reused,
     /// That of the round before, cleared, with spare room that is initialized.
@@ -97,6 +99,7 @@ impl<'a> MessageVisitor for Framing<'a> {
         let message = M::decode(self.alloc, payload)?;
         match self.rounds.buffer {
             Buffer::New => encode_new(self.alloc, self.encoder, &message, self.rounds.count),
+            Buffer::Owned => encode_owned(self.alloc, self.encoder, &message, self.rounds.count),
             Buffer::Reused => encode_reused(self.alloc, self.encoder, &message, self.rounds.count),
             Buffer::Spare => encode_spare(self.alloc, self.encoder, &message, self.rounds.count),
             Buffer::Shared => encode_shared(self.alloc, self.encoder, &message, self.rounds.count),
@@ -115,6 +118,22 @@ fn encode_new<M: RestateEncodableMessage>(
         encoder.encode(alloc, message)?;
     }
     Ok(encoder.encode(alloc, message)?)
+}
+
+/// The same, but the buffers are a `Vec` each.
+fn encode_owned<M: RestateEncodableMessage>(
+    alloc: Global,
+    encoder: Encoder,
+    message: &M,
+    rounds: usize,
+) -> Result<Bytes, CallError> {
+    for _round in 1..rounds {
+        encoder.encode_to_vec(alloc, message)?;
+    }
+    let Ok(frame) = Bytes::from_vec(encoder.encode_to_vec(alloc, message)?) else {
+        return Err(CallError::OutOfMemory);
+    };
+    Ok(frame)
 }
 
 /// The same, but all rounds have one buffer, which is cleared before each.

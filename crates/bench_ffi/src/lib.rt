@@ -90,6 +90,23 @@ pub extern "C" fn measure_frame(
     outcome_of(frames::write_frame(alloc, version, code, payload, rounds, out))
 }
 
+/// As `measure_frame`, but each round's frame is a `Vec` of its own, which needs one allocation.
+#[unsafe(no_mangle)]
+pub extern "C" fn measure_frame_vec(
+    alloc: Global,
+    version: u32,
+    code: u16,
+    payload: &[u8],
+    rounds: usize,
+    out: &mut [u8],
+) -> i64 {
+    let rounds = Rounds {
+        count: rounds,
+        buffer: Buffer::Owned,
+    };
+    outcome_of(frames::write_frame(alloc, version, code, payload, rounds, out))
+}
+
 /// As `measure_frame`, but all rounds share one buffer, which is cleared before each: only the first, and a suspension
 /// before V7, allocates.
 #[unsafe(no_mangle)]

@@ -48,4 +48,4 @@ trouble_of options item = if options.strict then wrong_of options item else None
 -- For the bytes that were read, the lines of their items are written, as far as the result says.
 abbrev pub IsDumped : Options → Result Report PrintError → List ℕ → List ℕ → Option (List ℕ) → Type 0
 IsDumped options result read written left = ArePrinted (line_of options) (rest_line options) (IsLong options)
-    (trouble_of options) options.version result read written left
+    (trouble_of options) options.version options.limit result read written left

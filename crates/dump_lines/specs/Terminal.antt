@@ -23,5 +23,5 @@ last_line is_terminal options = if is_terminal then shown_rest_line options else
 -- of a terminal.
 abbrev pub IsShown : Options → Result Report PrintError → List ℕ → List ℕ → Option (List ℕ) → Type 0
 IsShown options result read written left =
-    ArePrinted (line_of options) (shown_rest_line options) (IsLong options) (trouble_of options) options.version result
-    read written left
+    ArePrinted (line_of options) (shown_rest_line options) (IsLong options) (trouble_of options) options.version
+    options.limit result read written left

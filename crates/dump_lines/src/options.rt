@@ -7,6 +7,8 @@ use shared_core_base::version::Version;
 pub struct Options<'a> {
     /// The version of the protocol.
     pub version: Version,
+    /// The greatest length of a payload that is taken; `u32::MAX` is no limit.
+    pub limit: u32,
     /// The codes whose items are printed; none for all items.
     pub codes: &'a [u16],
     /// Whether payloads are printed.

@@ -20,9 +20,10 @@ const CHUNK: usize = 65536;
 ///
 /// It reads at most 65,536 bytes at a time, and ends as `print_lines` says. `TooLong` comes only if payloads are
 /// printed and one of the items after the written lines is a selected message whose canonical payload has more bytes
-/// than 32 bits can count. If the options are strict, the report has the first item whose code is no type's, or which
-/// is a selected message whose payload is not well-formed for its type at the version. The canonicalizer is called for
-/// each printed payload that is not canonical.
+/// than 32 bits can count, and `MessageTooLong` at the first message that is longer than the limit of the options. If
+/// the options are strict, the report has the first item whose code is no type's, or which is a selected message whose
+/// payload is not well-formed for its type at the version. The canonicalizer is called for each printed payload that is
+/// not canonical.
 pub fn dump<C: Canonicalizer, R: Read, W: Write>(
     alloc: Global,
     options: &Options<'_>,
@@ -41,7 +42,15 @@ pub fn dump<C: Canonicalizer, R: Read, W: Write>(
         canonicalizer,
         is_terminal: false,
     };
-    print_lines(alloc, options.version, &printer, input, output, CHUNK)
+    print_lines(
+        alloc,
+        options.version,
+        options.limit,
+        &printer,
+        input,
+        output,
+        CHUNK,
+    )
 }
 
 /// Dumps a stream as `dump` does, but for the last line, which is without the bytes in no item if there are more of
@@ -64,5 +73,13 @@ pub fn dump_on_terminal<C: Canonicalizer, R: Read, W: Write>(
         canonicalizer,
         is_terminal: true,
     };
-    print_lines(alloc, options.version, &printer, input, output, CHUNK)
+    print_lines(
+        alloc,
+        options.version,
+        options.limit,
+        &printer,
+        input,
+        output,
+        CHUNK,
+    )
 }

@@ -6,13 +6,19 @@ use command_line::{flag, operand, option};
 use shared_core_base::version::Version;
 use std::alloc::{AllocError, Global};
 
-const VERSION: &str = "0.1.0";
+const VERSION: &str = "0.2.0";
 
 /// The definition of `journal dump`, which help and errors show by this name.
 pub fn dump<'a>(alloc: Global, name: &'a str) -> Result<Command<'a>, AllocError> {
     Command::new(alloc, name)
         .version(VERSION)
         .about("Prints a stream of the protocol as JSON, one object a line for each of its items.")
+        .arg(option(
+            alloc,
+            "max-message",
+            "SIZE",
+            "Ends with an error at a message whose payload has more than this number of bytes",
+        ))?
         .arg(flag(alloc, "no-payload", "Leaves out what is in messages"))?
         .arg(flag(
             alloc,

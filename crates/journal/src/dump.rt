@@ -80,6 +80,7 @@ fn run_parsed(call: &Call<'_>, parsed: &Arguments<'_>, input: Input) -> ExitCode
 {
     let options = Options {
         version: parsed.version,
+        limit: parsed.limit,
         codes: parsed.codes.as_slice(),
         payloads: parsed.payloads,
         texts: parsed.texts,

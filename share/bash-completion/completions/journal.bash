@@ -15,9 +15,10 @@ _journal() {
 _journal_dump() {
     local word=${COMP_WORDS[COMP_CWORD]}
     case ${COMP_WORDS[COMP_CWORD - 1]} in
+        --max-message) mapfile -t COMPREPLY < <(compgen -W '' -- "$word") ;;
         --protocol) mapfile -t COMPREPLY < <(compgen -W '5 6 7 8 9' -- "$word") ;;
         --type) mapfile -t COMPREPLY < <(compgen -W 'Start Suspension Error End ProposeRunCompletion AwaitingOn ProposeRunCompletionAck GetStateEphemeralCommand GetStateEphemeralNotification InputCommand OutputCommand GetLazyStateCommand SetStateCommand ClearStateCommand ClearAllStateCommand GetLazyStateKeysCommand GetEagerStateCommand GetEagerStateKeysCommand GetPromiseCommand PeekPromiseCommand CompletePromiseCommand SleepCommand CallCommand OneWayCallCommand SendSignalCommand RunCommand AttachInvocationCommand GetInvocationOutputCommand CompleteAwakeableCommand GetLazyStateCompletionNotification GetLazyStateKeysCompletionNotification GetPromiseCompletionNotification PeekPromiseCompletionNotification CompletePromiseCompletionNotification SleepCompletionNotification CallCompletionNotification CallInvocationIdCompletionNotification RunCompletionNotification AttachInvocationCompletionNotification GetInvocationOutputCompletionNotification SignalNotification' -- "$word") ;;
-        *) [[ $word != -* ]] || mapfile -t COMPREPLY < <(compgen -W '--no-payload --pretty --protocol --strict --text --type --help --version' -- "$word") ;;
+        *) [[ $word != -* ]] || mapfile -t COMPREPLY < <(compgen -W '--max-message --no-payload --pretty --protocol --strict --text --type --help --version' -- "$word") ;;
     esac
 }
 _journal_make() {

@@ -19,6 +19,8 @@ pub struct Arguments<'a> {
     pub path: &'a str,
     /// The version of the protocol.
     pub version: Version,
+    /// The greatest length of a payload that is taken.
+    pub limit: u32,
     /// The codes of the selected types; none for all.
     pub codes: Vec<u16>,
     /// Whether payloads are printed.
@@ -63,6 +65,14 @@ fn code_within(name: &str) -> Option<u16> {
     digits.parse().ok()
 }
 
+/// The greatest length of a payload; without a text there is no limit.
+fn limit_of(text: Option<&str>) -> Option<u32> {
+    match text {
+        Some(text) => text.parse().ok(),
+        None => Some(u32::MAX),
+    }
+}
+
 /// Parses the arguments. The error is an invalid argument, or a request for the help or the version.
 pub fn parse_arguments<'a>(
     alloc: Global,
@@ -83,9 +93,16 @@ pub fn parse_arguments<'a>(
             codes.push(code)?;
         }
     }
+    let Some(limit) = limit_of(matches.get_str("max-message")) else {
+        return Err(command.error(
+            ErrorKind::InvalidValue,
+            "--max-message takes a number of bytes, from 0 to 4294967295",
+        )?);
+    };
     Ok(Arguments {
         path: matches.get_str("file").unwrap_or("-"),
         version: protocol_of(&matches),
+        limit,
         codes,
         payloads: !matches.get_flag("no-payload"),
         texts: matches.get_flag("text"),

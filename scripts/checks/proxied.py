@@ -1,0 +1,74 @@
+#!/usr/bin/env python3
+"""proxied.py COMMAND..: a proxy passes journals on over sockets of this machine.
+
+The command is one of the examples named proxy, which takes a version, a host and a port after these words, prints the
+port at which it listens, and adds 1 to each state that is set. The journals have flags that no encoder sets, lengths longer than
+they need to be, custom entries and unknown types, and come in chunks of any size.
+"""
+import random
+import socket
+import subprocess
+import sys
+import threading
+
+# what is passed on as it came: an input, a custom entry and a code that no type has, with all of their flags
+KEPT = bytes.fromhex("0400123400000009" "72070a05696e707574" "fc01ffff00000001ff" "0008a5a500000000")
+SKIPPED = bytes.fromhex("0008a5a500000003" "000403")
+END = bytes.fromhex("0003000000000000")
+
+# a state that is set to 1, with lengths in more bytes than they need; and to 2, in its one encoding
+SET = bytes.fromhex("040300000000000a" "0a81000a1a040a810031")
+TWO = bytes.fromhex("0403000000000008" "0a010a1a030a0132")
+
+# version, what is sent, what is passed on, and whether the journal is whole
+JOURNALS = (
+    (8, KEPT + SET + END, KEPT + TWO + END, True),
+    (9, SET + SKIPPED + SET + KEPT[:17], TWO + SKIPPED + TWO + KEPT[:17], True),
+    (8, (KEPT + SET) * 5000, (KEPT + TWO) * 5000, True),
+    (8, b"", b"", True),
+    (8, KEPT + SET + KEPT[:11], KEPT + TWO, False),
+)
+
+
+def received(server, found):
+    """Appends what one connection of the server sends."""
+    connection, _ = server.accept()
+    with connection:
+        while data := connection.recv(4096):
+            found += data
+
+
+def passed_on(command, version, journal):
+    """What the proxy sends for a journal, its status, and what it says."""
+    found = bytearray()
+    with socket.create_server(("127.0.0.1", 0)) as server:
+        reader = threading.Thread(target=received, args=(server, found), daemon=True)
+        reader.start()
+        words = [*command, str(version), *map(str, server.getsockname())]
+        with subprocess.Popen(words, stdout=subprocess.PIPE, stderr=subprocess.PIPE, text=True) as process:
+            with socket.create_connection(("127.0.0.1", int(process.stdout.readline()))) as source:
+                source.setsockopt(socket.IPPROTO_TCP, socket.TCP_NODELAY, 1)
+                while journal:
+                    size = random.choice((1, 7, 8, 9, 1000, 100000))
+                    source.sendall(journal[:size])
+                    journal = journal[size:]
+            _, said = process.communicate(timeout=60)
+        reader.join(60)
+    return bytes(found), process.returncode, said
+
+
+def main(command):
+    passed = failed = 0
+    for version, journal, wanted, is_whole in JOURNALS:
+        found, status, said = passed_on(command, version, journal)
+        if found == wanted and (status == 0) == is_whole and (said == "") == is_whole:
+            passed += 1
+        else:
+            failed += 1
+            print(f"failed: version {version}, {len(journal)} bytes: status {status}, {len(found)} bytes: {said}")
+    print(f"{passed} passed, {failed} failed")
+    return 1 if failed else 0
+
+
+if __name__ == "__main__":
+    sys.exit(main(sys.argv[1:]))
