@@ -54,11 +54,11 @@ class Lister:
         version: int = 8,
     ) -> list[str]:
         """Lists a stream in chunks of these sizes, and returns the lines. Beyond what the program needs for an empty
-        stream it has a mebibyte, 160 bytes for each chunk of the most bytes that it has to hold, and a multiple of
-        these bytes: twice if they are joined."""
+        stream it has a mebibyte and twice the most bytes that it has to hold, whatever the size of chunks, and as many
+        again if they are joined."""
         expected = listing(stream, version)
         for size in sizes:
-            bound = self.need + 1024 + (held * times + (held // size + 1) * 160) // 1024
+            bound = self.need + 1024 + held * (times + 1) // 1024
             ended = self.listed(stream, size, version, bound)
             is_right = ended.status == 0 and not ended.err and ended.out == expected
             shown = f"status {ended.status}\n{checks.beginning(ended.err)}{checks.difference(expected, ended.out)}"

@@ -1,10 +1,11 @@
 /* Makes one allocation of a program fail: the one whose number, from 1, is in REFUSE (0: none). When the program ends,
    the number of its allocations goes to file descriptor 3. It is loaded by LD_PRELOAD, or, with WRAPPED, linked
-   into a program that has an allocator of its own (--wrap=malloc --wrap=realloc), where it does nothing without
-   REFUSE. */
+   into a program that has an allocator of its own (--wrap=malloc --wrap=realloc --wrap=free), where it does nothing
+   without REFUSE or MOST. With MOST it is the most bytes that were allocated at once that go there. */
 #define _GNU_SOURCE
 #include <dlfcn.h>
 #include <errno.h>
+#include <malloc.h>
 #include <stddef.h>
 #include <stdio.h>
 #include <stdlib.h>
@@ -30,15 +31,48 @@ static int fails_now(void)
 
 void *__real_malloc(size_t size);
 void *__real_realloc(void *block, size_t size);
+void __real_free(void *block);
+
+/* The bytes that are allocated now, and the most that were at once. */
+static long held, most;
+
+/* What glibc's malloc takes for a block, whichever allocator this is. */
+static long taken_by(void *block)
+{
+    long size = block ? ((long)malloc_usable_size(block) + 8 + 15) / 16 * 16 : 0;
+    return block && size < 32 ? 32 : size;
+}
+
+/* Counts a block in place of one that took `before` bytes. */
+static void *counted(void *block, long before)
+{
+    held += taken_by(block) - before;
+    if (held > most)
+        most = held;
+    return block;
+}
 
 void *__wrap_malloc(size_t size)
 {
-    return fails_now() ? NULL : __real_malloc(size);
+    return fails_now() ? NULL : counted(__real_malloc(size), 0);
 }
 
 void *__wrap_realloc(void *block, size_t size)
 {
-    return fails_now() ? NULL : __real_realloc(block, size);
+    if (fails_now())
+        return NULL;
+    long before = taken_by(block);
+    /* it may be copied, and is then there twice */
+    if (held + (long)size > most)
+        most = held + (long)size;
+    void *moved = __real_realloc(block, size);
+    return moved ? counted(moved, before) : NULL;
+}
+
+void __wrap_free(void *block)
+{
+    held -= taken_by(block);
+    __real_free(block);
 }
 
 #else
@@ -96,12 +130,15 @@ int posix_memalign(void **block, size_t alignment, size_t size)
 
 __attribute__((destructor)) static void say_allocations(void)
 {
+    long said = allocations;
 #ifdef WRAPPED
-    if (!getenv("REFUSE"))
+    if (getenv("MOST"))
+        said = most;
+    else if (!getenv("REFUSE"))
         return;
 #endif
     char text[32];
-    int length = snprintf(text, sizeof text, "%ld\n", allocations);
+    int length = snprintf(text, sizeof text, "%ld\n", said);
     if (length > 0 && write(3, text, (size_t)length) < 0)
         _exit(127);
 }

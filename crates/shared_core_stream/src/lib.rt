@@ -4,3 +4,4 @@
 pub mod encoding;
 pub mod laws;
 mod pending_bytes;
+mod shared_chunks;

@@ -1,38 +1,42 @@
 //! The bytes that have come and that no item has taken.
 
-ghost use Rattle.std.specs.Prelude.{◌≡◌, ◌+◌, ◌^◌, ◌<◌, ◌≤◌, ◌++◌, [], length};
-ghost use Rattle.std.specs.Prelude.{take, drop, All, IfOk, IfErr, IsOk, OnOk, OnErr};
-ghost use Rattle.std.specs.List.{concat};
-ghost use Rattle.shared_core_stream.specs.Segments.{AreSegments};
+ghost use Rattle.std.specs.Prelude.{◌≡◌, ◌+◌, ◌^◌, ◌<◌, ◌≤◌, ◌↔◌, ◌++◌, [], length, IsTrue};
+ghost use Rattle.std.specs.Prelude.{take, drop, IfOk, IfErr, IsOk, OnOk, OnErr};
 
-use bytes::{Buf, Bytes};
+use crate::shared_chunks::SharedChunks;
+use bytes::{Buf, Bytes, BytesMut};
 use shared_core_base::header::MessageHeader;
 use std::alloc::{AllocError, AllocFailed, Global};
-use std::collections::VecDeque;
 use std::marker::Model;
 
-/// A queue of shared segments. A contract sees their bytes as one list.
+/// A chunk of fewer bytes is gathered if it comes after shared bytes.
 ///
-/// The front segment is a field of its own, since nearly all work is on it. It is empty only if there is no other, and
-/// no other is ever empty: a used segment is dropped.
+/// What keeps a chunk, its place and its count of owners, takes at most 160 bytes.
+const SHARED_FROM: usize = 256;
+
+/// A chunk of fewer bytes is gathered if it comes after gathered bytes, since these would become a chunk too, of a
+/// single byte perhaps.
+const SHARED_FROM_AFTER_BLOCK: usize = 1024;
+
+/// The room in which small chunks are gathered, in bytes.
+const BLOCK_SIZE: usize = 4096;
+
+/// A queue of shared chunks, and after them a block of its own in which small ones are gathered. A contract sees their
+/// bytes as one list.
 #[derive(Drop)]
 pub struct PendingBytes {
-    alloc: Global,
-    front: Bytes,
-    after: VecDeque<Bytes>,
-    len: usize,
+    chunks: SharedChunks,
+    block: BytesMut,
 }
 
 impl Model for PendingBytes {
-    ghost use Rattle.std.specs.Prelude.{List, ℕ, ◌++◌};
-    ghost use Rattle.std.specs.List.{concat};
-    ghost use Rattle.shared_core_stream.specs.Segments.{AreSegments};
+    ghost use Rattle.std.specs.Prelude.{List, ℕ, ◌++◌, ◌<◌, ◌^◌, length};
 
     ghost Value = { List ℕ };
 
-    ghost view = { λ pending. pending.front ++ concat pending.after.items };
+    ghost view = { λ pending. pending.chunks ++ pending.block.items };
 
-    ghost invariant = { λ pending. AreSegments pending.front pending.after.items pending.len };
+    ghost invariant = { λ pending. length (pending.chunks ++ pending.block.items) < 2 ^ 64 };
 }
 
 impl PendingBytes {
@@ -41,10 +45,8 @@ impl PendingBytes {
         ensures { result ≡ [] }
     {
         PendingBytes {
-            alloc,
-            front: Bytes::new(),
-            after: VecDeque::new(alloc),
-            len: 0,
+            chunks: SharedChunks::new(alloc),
+            block: BytesMut::new(alloc),
         }
     }
 
@@ -52,27 +54,33 @@ impl PendingBytes {
     pub fn len(&self) -> usize
         ensures { result ≡ length self.now }
     {
-        self.len
+        self.chunks.len() + self.block.len()
     }
 
-    /// The allocator of the segments.
+    /// Whether there are `count` bytes.
+    #[inline(always)]
+    pub fn has(&self, count: usize) -> bool
+        ensures { IsTrue result ↔ (count ≤ length self.now) }
+    {
+        // nearly always the shared chunks have them all
+        count <= self.chunks.len() || count <= self.len()
+    }
+
+    /// The allocator.
     pub fn alloc(&self) -> Global {
-        self.alloc
+        self.chunks.alloc()
     }
 
     /// Appends a copy of the bytes.
     pub fn copy_to(&self, bytes: &mut Vec<u8>) -> Result<(), AllocError>
         ensures { OnOk result (bytes.new.items ≡ bytes.old.items ++ self.now) }
     {
-        bytes.extend_from_slice(self.front.as_slice())?;
-        for i in 0..self.after.len() {
-            bytes.extend_from_slice(self.after[i].as_slice())?;
-        }
-        Ok(())
+        self.chunks.copy_to(bytes)?;
+        bytes.extend_from_slice(self.block.as_slice())
     }
 
-    /// Appends a chunk, without copying it. An empty chunk is not kept. Allocates only if a chunk that is not empty
-    /// comes after other bytes.
+    /// Appends a chunk, without copying it unless it is a small one after other bytes. An empty chunk is not kept.
+    /// Allocates only if a chunk that is not empty comes after other bytes.
     pub fn push(&mut self, chunk: Bytes) -> Result<(), AllocFailed<Bytes>>
         requires { length self.old + length chunk < 2 ^ 64 }
         ensures ok { OnOk result (self.new ≡ self.old ++ chunk) }
@@ -83,15 +91,21 @@ impl PendingBytes {
         if chunk.is_empty() {
             return Ok(());
         }
-        let len = self.len + chunk.len();
-        if self.front.is_empty() {
-            self.front = chunk;
-            self.len = len;
-            return Ok(());
+        let shared_from = if self.block.is_empty() {
+            SHARED_FROM
+        } else {
+            SHARED_FROM_AFTER_BLOCK
+        };
+        if chunk.len() < shared_from && self.len() > 0 {
+            return match gather(&mut self.chunks, &mut self.block, chunk.as_slice()) {
+                Ok(()) => Ok(()),
+                Err(_) => Err(AllocFailed { value: chunk }),
+            };
         }
-        self.after.push_back(chunk)?;
-        self.len = len;
-        Ok(())
+        match share_block(&mut self.chunks, &mut self.block) {
+            Ok(()) => self.chunks.push(chunk),
+            Err(_) => Err(AllocFailed { value: chunk }),
+        }
     }
 
     /// Takes the first eight bytes, a header's.
@@ -100,20 +114,15 @@ impl PendingBytes {
         ensures head { result ≡ take 8 self.old }
         ensures rest { self.new ≡ drop 8 self.old }
     {
-        // nearly always the front segment has them all
-        if let Some(head) = self.front.as_slice().first_chunk::<8>() {
-            let head = *head;
-            self.front.advance(MessageHeader::SIZE);
-            self.len -= MessageHeader::SIZE;
-            drop_used_up(&mut self.front, &mut self.after);
-            return head;
+        if MessageHeader::SIZE <= self.chunks.len() {
+            return self.chunks.take_head();
         }
         let mut head = [0; 8];
         self.copy_to_slice(&mut head);
         head
     }
 
-    /// Takes the first `count` bytes: cut from the front segment where it has them all, otherwise joined in one copy.
+    /// Takes the first `count` bytes: cut from the chunk or the block that has them all, otherwise joined in one copy.
     /// An `Err` takes nothing.
     #[inline(always)]
     pub fn split_to(&mut self, count: usize) -> Result<Bytes, AllocError>
@@ -122,95 +131,95 @@ impl PendingBytes {
         ensures rest { OnOk result (self.new ≡ drop count self.old) }
         ensures err { OnErr result (self.new ≡ self.old) }
     {
-        if self.front.len() < count {
-            let bytes = self.joined(count)?;
-            self.advance(count);
+        if self.chunks.len() < count {
+            // taken apart, so that what the other way returns need not be in memory
+            let bytes = split_both_to(&mut self.chunks, &mut self.block, count)?;
             return Ok(bytes);
         }
-        let bytes = self.front.split_to(count)?;
-        self.len -= count;
-        drop_used_up(&mut self.front, &mut self.after);
-        Ok(bytes)
-    }
-
-    /// A copy of the first `count` bytes, of which the front segment has a part.
-    fn joined(&self, count: usize) -> Result<Bytes, AllocError>
-        requires { count ≤ length self.now }
-        ensures { IfOk result (λ bytes. bytes ≡ take count self.now) }
-    {
-        let mut bytes = Vec::with_capacity(self.alloc, count)?;
-        let part = count.min(self.front.len());
-        bytes.extend_from_slice(&self.front.as_slice()[..part])?;
-        let mut wanted = count - part;
-        for i in 0..self.after.len() {
-            if wanted == 0 {
-                break;
-            }
-            let segment = self.after[i].as_slice();
-            let part = wanted.min(segment.len());
-            append(&mut bytes, &segment[..part])?;
-            wanted -= part;
-        }
-        Ok(Bytes::from_vec(bytes)?)
-    }
-
-    /// Takes up to `count` bytes of the front segment, and returns how many.
-    fn advance_front(&mut self, count: usize) -> usize
-        requires { (0 < count) × (count ≤ length self.old) }
-        ensures count { (0 < result) × (result ≤ count) }
-        ensures rest { self.new ≡ drop result self.old }
-    {
-        let taken = count.min(self.front.len());
-        self.front.advance(taken);
-        self.len -= taken;
-        drop_used_up(&mut self.front, &mut self.after);
-        taken
+        self.chunks.split_to(count)
     }
 }
 
-/// Appends bytes. For a single byte, as in a stream that comes byte by byte, a call of `memcpy` would cost more than
-/// the rest.
-#[inline(always)]
-fn append(bytes: &mut Vec<u8>, part: &[u8]) -> Result<(), AllocError>
-    ensures { OnOk result (bytes.new.items ≡ bytes.old.items ++ part.now) }
+/// Takes the first `count` bytes, of which not all are shared: cut from the block if none are, otherwise joined in one
+/// copy. An `Err` takes nothing.
+fn split_both_to(
+    chunks: &mut SharedChunks,
+    block: &mut BytesMut,
+    count: usize,
+) -> Result<Bytes, AllocError>
+    requires { (length chunks.old < count) × (count ≤ length (chunks.old ++ block.old.items)) }
+    ensures front { IfOk result (λ bytes. bytes ≡ take count (chunks.old ++ block.old.items)) }
+    ensures rest { OnOk result (chunks.new ++ block.new.items ≡ drop count (chunks.old ++ block.old.items)) }
+    ensures err { OnErr result ((chunks.new ≡ chunks.old) × (block.new.items ≡ block.old.items)) }
 {
-    if part.len() == 1 {
-        bytes.push(part[0])?;
-        return Ok(());
+    let shared = chunks.len();
+    if shared == 0 {
+        return block.freeze_to(count);
     }
-    bytes.extend_from_slice(part)
+    let gathered = count - shared;
+    let bytes = joined(chunks, &block.as_slice()[..gathered], count)?;
+    chunks.advance(shared);
+    block.advance(gathered);
+    Ok(bytes)
 }
 
-/// Replaces a used front segment by the next one.
-fn drop_used_up(front: &mut Bytes, after: &mut VecDeque<Bytes>)
-    requires { All (λ segment. 0 < length segment) after.old.items }
-    ensures segments { AreSegments front.new after.new.items (length (front.old ++ concat after.old.items)) }
-    ensures same { front.new ++ concat after.new.items ≡ front.old ++ concat after.old.items }
+/// A copy of the shared chunks and of what is gathered after them, together this many bytes.
+fn joined(chunks: &SharedChunks, gathered: &[u8], len: usize) -> Result<Bytes, AllocError>
+    ensures { IfOk result (λ bytes. bytes ≡ chunks.now ++ gathered.now) }
 {
-    if !front.is_empty() {
-        return;
+    let mut bytes = Vec::with_capacity(chunks.alloc(), len)?;
+    chunks.copy_to(&mut bytes)?;
+    bytes.extend_from_slice(gathered)?;
+    Ok(Bytes::from_vec(bytes)?)
+}
+
+/// Moves what is gathered to the shared chunks, in an allocation of its own size, so that the block can be filled anew.
+/// An `Err` moves nothing.
+fn share_block(chunks: &mut SharedChunks, block: &mut BytesMut) -> Result<(), AllocError>
+    requires { length (chunks.old ++ block.old.items) < 2 ^ 64 }
+    ensures same { chunks.new ++ block.new.items ≡ chunks.old ++ block.old.items }
+    ensures shared { OnOk result (block.new.items ≡ []) }
+{
+    if !block.is_empty() {
+        // and a place for the chunk that comes after it: if that were rejected, two small ones could be in a row
+        chunks.reserve(2)?;
+        let gathered = Bytes::copy_from_slice(chunks.alloc(), block.as_slice())?;
+        chunks.push(gathered)?;
     }
-    *front = match after.pop_front() {
-        Some(next) => next,
-        None => Bytes::new(),
-    };
+    block.clear();
+    Ok(())
+}
+
+/// Appends a copy of a small chunk to the block. An `Err` appends nothing.
+fn gather(chunks: &mut SharedChunks, block: &mut BytesMut, chunk: &[u8]) -> Result<(), AllocError>
+    requires { length (chunks.old ++ block.old.items) < 2 ^ 64 }
+    ensures ok { OnOk result (chunks.new ++ block.new.items ≡ (chunks.old ++ block.old.items) ++ chunk.now) }
+    ensures err { OnErr result (chunks.new ++ block.new.items ≡ chunks.old ++ block.old.items) }
+{
+    if block.capacity() - block.len() < chunk.len() {
+        share_block(chunks, block)?;
+        block.reserve(BLOCK_SIZE)?;
+    }
+    block.extend_from_slice(chunk)
 }
 
 impl Buf for PendingBytes {
     ghost unread = { λ bytes. bytes };
 
     fn remaining(&self) -> usize {
-        self.len
+        self.len()
     }
 
     fn chunk(&self) -> &[u8] {
-        self.front.as_slice()
+        if self.chunks.len() == 0 {
+            return self.block.as_slice();
+        }
+        self.chunks.chunk()
     }
 
     fn advance(&mut self, count: usize) {
-        let mut left = count;
-        while left > 0 {
-            left -= self.advance_front(left);
-        }
+        let shared = count.min(self.chunks.len());
+        self.chunks.advance(shared);
+        self.block.advance(count - shared);
     }
 }

@@ -48,7 +48,7 @@ fn hold_head(head: &mut Option<[u8; 8]>, pending: &mut PendingBytes) -> Option<[
     if let Some(bytes) = *head {
         return Some(bytes);
     }
-    if pending.len() < MessageHeader::SIZE {
+    if !pending.has(MessageHeader::SIZE) {
         return None;
     }
     let bytes = pending.take_head();
@@ -70,7 +70,7 @@ fn take_payload(
     ensures rejected { OnErr result
         ((count ≤ length pending.old) × (head.new ≡ head.old) × (pending.new ≡ pending.old)) }
 {
-    if pending.len() < count {
+    if !pending.has(count) {
         return Ok(None);
     }
     let payload = pending.split_to(count)?;
@@ -150,7 +150,9 @@ impl Decoder {
         Some(u64::from_be_bytes(head))
     }
 
-    /// Appends a chunk of the stream, of any length, to the pending bytes, without copying it.
+    /// Appends a chunk of the stream, of any length, to the pending bytes, without copying it. Only one of fewer than
+    /// 256 bytes that comes after pending ones is copied, or of fewer than 1,024 after one that was copied, so that
+    /// pending bytes take at most twice their number and 64 KiB, besides what is used of the chunk that they begin in.
     ///
     /// An empty chunk is not kept and never rejected. A rejected chunk is returned in the error, and nothing has
     /// changed: `TooLong` only if the pending bytes would be more than 2^64 - 1, otherwise `OutOfMemory`.

@@ -1,8 +1,8 @@
 use Rattle.std.proofs.Common.{◌≡◌, ◌∙◌, ◌++◌, ap, arith, rules, length, min, take, inl, inr}
 use Rattle.shared_core_stream.proofs.Segments.{copied_next, copied_all}
-use Rattle.shared_core_stream.proofs.pending_bytes.PendingBytes.joined.Goals as goal
-use Rattle.shared_core_stream.proofs.pending_bytes.PendingBytes.joined.Goals.{else-loop-i-test}
-use Rattle.shared_core_stream.proofs.pending_bytes.PendingBytes.joined.Goals.{then-loop-i-test+then-wanted-eq0}
+use Rattle.shared_core_stream.proofs.shared_chunks.SharedChunks.joined.Goals as goal
+use Rattle.shared_core_stream.proofs.shared_chunks.SharedChunks.joined.Goals.{else-loop-i-test}
+use Rattle.shared_core_stream.proofs.shared_chunks.SharedChunks.joined.Goals.{then-loop-i-test+then-wanted-eq0}
 
 pub loop-i-preserved : goal.loop-i-preserved
 loop-i-preserved c =

@@ -1,6 +1,6 @@
 use Rattle.std.proofs.Common.{◌≡◌, ◌++◌, rules}
 use Rattle.shared_core_stream.proofs.Segments.{copied_more}
-use Rattle.shared_core_stream.proofs.pending_bytes.PendingBytes.copy_to.Goals as goal
+use Rattle.shared_core_stream.proofs.shared_chunks.SharedChunks.copy_to.Goals as goal
 
 pub loop-i-preserved : goal.loop-i-preserved
 loop-i-preserved c =

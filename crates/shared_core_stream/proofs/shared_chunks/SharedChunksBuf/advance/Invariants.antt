@@ -1,5 +1,5 @@
 use Rattle.std.proofs.Common.{◌≡◌, ◌≤◌, length, drop}
-use Rattle.shared_core_stream.proofs.pending_bytes.PendingBytesBuf.advance.Given as goal
+use Rattle.shared_core_stream.proofs.shared_chunks.SharedChunksBuf.advance.Given as goal
 
 abbrev pub invariant-loop-left : goal.invariant-loop-left
 invariant-loop-left l = (l.left ≤ length l.self) × (drop l.left l.self ≡ drop l.fn.count l.fn.self)

@@ -1,7 +1,7 @@
 use Rattle.std.proofs.Common.{ap, ◌∙◌, ◌++◌, ◌<◌, length, rules}
 use Rattle.std.specs.List.{concat}
 use Rattle.shared_core_stream.proofs.Segments.{segments_push, joined_push}
-use Rattle.shared_core_stream.proofs.pending_bytes.PendingBytes.push.Goals as goal
+use Rattle.shared_core_stream.proofs.shared_chunks.SharedChunks.push.Goals as goal
 
 pub invariant_of-self-2 : goal.invariant_of-self-2
 invariant_of-self-2 c =

@@ -1,6 +1,6 @@
 use Rattle.std.proofs.Common.{◌≡◌, ◌-◌, ◌++◌, length, take}
 use Rattle.std.specs.List.{concat}
-use Rattle.shared_core_stream.proofs.pending_bytes.PendingBytes.joined.Given as goal
+use Rattle.shared_core_stream.proofs.shared_chunks.SharedChunks.joined.Given as goal
 
 abbrev pub invariant-loop-i : goal.invariant-loop-i
 invariant-loop-i l =

@@ -1,6 +1,6 @@
 use Rattle.std.proofs.Common.{◌≡◌, ◌++◌, take}
 use Rattle.std.specs.List.{concat}
-use Rattle.shared_core_stream.proofs.pending_bytes.PendingBytes.copy_to.Given as goal
+use Rattle.shared_core_stream.proofs.shared_chunks.SharedChunks.copy_to.Given as goal
 
 abbrev pub invariant-loop-i : goal.invariant-loop-i
 invariant-loop-i l = l.bytes.items ≡ l.fn.bytes.items ++ (l.self-inside.front ++ concat
