@@ -39,7 +39,7 @@ record_field rows r = found_field r.number r.value (field_numbered rows r.number
 
 -- ---- the field of a number of a row
 
-abbrev own_kind : Row → ℕ → Kind × Bool
+abbrev pub own_kind : Row → ℕ → Kind × Bool
 own_kind (Plain m k) n = (k, false)
 own_kind (Optional m k) n = (k, false)
 own_kind (Repeated m k) n = (k, true)
@@ -61,7 +61,7 @@ member_own (m ∷ members) n h = by_test (member_own members n) (eqb n m.0) h
     by_test later true g = refl
     by_test later false g = later g
 
-row_own : (row : Row) (n : ℕ) → includes (numbers row) n ≡ true → field_in_row row n ≡ Some (own_kind row n)
+pub row_own : (row : Row) (n : ℕ) → includes (numbers row) n ≡ true → field_in_row row n ≡ Some (own_kind row n)
 row_own (Plain m k) n h = one_own (eqb n m) (k, false) h
 row_own (Optional m k) n h = one_own (eqb n m) (k, false) h
 row_own (Repeated m k) n h = one_own (eqb n m) (k, true) h
@@ -72,7 +72,7 @@ finds_own : (all : List Row) (row : Row) (rows : List Row) → AreLeft all (row 
 finds_own all row rows a n h = a.finds n (own_kind row n) (ap (λ o. option_or o (field_numbered rows n))
     (row_own row n h))
 
-own_number : (n : ℕ) → includes (n ∷ []) n ≡ true
+pub own_number : (n : ℕ) → includes (n ∷ []) n ≡ true
 own_number n = rw (eq-eqb n n refl) refl
 
 -- ---- single parts

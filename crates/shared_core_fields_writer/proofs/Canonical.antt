@@ -71,7 +71,7 @@ total_is (r ∷ rs) h =
 -- ---- records that come
 
 -- Bytes are records that may come where these rows are left.
-record Records (depth : ℕ) (left : List Row) (bytes : List ℕ) : Type 0 where
+pub record Records (depth : ℕ) (left : List Row) (bytes : List ℕ) : Type 0 where
   rs : List FieldRecord
   is : bytes ≡ record_list_bytes rs
   encodes : list_all encodable rs ≡ true
@@ -143,7 +143,7 @@ row_lacks (Optional m k) n h = rw (or_split (eqb n m) false h).0 refl
 row_lacks (Repeated m k) n h = rw (or_split (eqb n m) false h).0 refl
 row_lacks (OneOf members) n h = member_lacks members n h
 
-next_has : (left : List Row) (n : ℕ) (next : Next) → next_field left n ≡ Some next → includes (all_numbers left) n ≡
+pub next_has : (left : List Row) (n : ℕ) (next : Next) → next_field left n ≡ Some next → includes (all_numbers left) n ≡
     true
 next_has [] n next e = absurd cc
 next_has (row ∷ left) n next e = includes-append (numbers row) (all_numbers left) n ∙ by_row (next_has left n next)
@@ -155,7 +155,7 @@ next_has (row ∷ left) n next e = includes-append (numbers row) (all_numbers le
     by_row later None i g = ap (λ b. includes (numbers row) n || b) (later g) ∙ or-true (includes (numbers row) n)
     by_row later (Some f) i g = ap (λ b. b || includes (all_numbers left) n) (row_has row n f i)
 
-one_of : (p : ℕ → Bool) (ns : List ℕ) (n : ℕ) → list_all p ns ≡ true → includes ns n ≡ true → p n ≡ true
+pub one_of : (p : ℕ → Bool) (ns : List ℕ) (n : ℕ) → list_all p ns ≡ true → includes ns n ≡ true → p n ≡ true
 one_of p [] n h i = absurd cc
 one_of p (m ∷ ns) n h i = by_test (one_of p ns n (and_split _ _ h).1) (eqb n m) refl i
   where
@@ -163,19 +163,19 @@ one_of p (m ∷ ns) n h i = by_test (one_of p ns n (and_split _ _ h).1) (eqb n m
     by_test later true e g = ap p (eqb-true _ _ e) ∙ (and_split _ _ h).0
     by_test later false e g = later g
 
-record Good (left : List Row) : Type 0 where
-  fields : list_all is_field_number (all_numbers left) ≡ true
-  distinct : are_distinct (all_numbers left) ≡ true
-  possible : list_all may_be_empty left ≡ true
+pub record Good (left : List Row) : Type 0 where
+  pub fields : list_all is_field_number (all_numbers left) ≡ true
+  pub distinct : are_distinct (all_numbers left) ≡ true
+  pub possible : list_all may_be_empty left ≡ true
 
-good_later : (row : Row) (left : List Row) → Good (row ∷ left) → Good left
+pub good_later : (row : Row) (left : List Row) → Good (row ∷ left) → Good left
 good_later row left g = record {
   fields = (and_split _ _ (sym (list_all-append is_field_number (numbers row) (all_numbers left)) ∙ g.fields)).1;
   distinct = distinct_back (numbers row) (all_numbers left) g.distinct;
   possible = (and_split _ _ g.possible).1;
 }
 
-all_good : (s : ℕ) → Good (table s)
+pub all_good : (s : ℕ) → Good (table s)
 all_good s = record {
   fields = (and_split _ _ (are_schemas s)).0;
   distinct = (and_split _ _ (are_schemas s)).1;
@@ -196,13 +196,13 @@ plain_single (Optional m k) n f h i t j = refl
 plain_single (Repeated m k) n f h i t j = refl
 plain_single (OneOf members) n f h i t j = refl
 
-record Found (left : List Row) (n : ℕ) (next : Next) : Type 0 where
-  own : is_field_number n ≡ true
-  good : Good next.rows
-  widen : (m : ℕ) (x : Next) → next_field next.rows m ≡ Some x → next_field left m ≡ Some x
-  single : (t : ℕ) → next.field.0 ≡ Message t → next.is_plain ≡ false
+pub record Found (left : List Row) (n : ℕ) (next : Next) : Type 0 where
+  pub own : is_field_number n ≡ true
+  pub good : Good next.rows
+  pub widen : (m : ℕ) (x : Next) → next_field next.rows m ≡ Some x → next_field left m ≡ Some x
+  pub single : (t : ℕ) → next.field.0 ≡ Message t → next.is_plain ≡ false
 
-widen_one : (row : Row) (left : List Row) → Good (row ∷ left) → (m : ℕ) (x : Next) → next_field left m ≡ Some x →
+pub widen_one : (row : Row) (left : List Row) → Good (row ∷ left) → (m : ℕ) (x : Next) → next_field left m ≡ Some x →
     next_field
     (row ∷ left) m ≡ Some x
 widen_one row left g m x e = ap (found_or row left (next_field left m)) (row_lacks row m (by_test (includes (numbers
@@ -214,7 +214,7 @@ widen_one row left g m x e = ap (found_or row left (next_field left m)) (row_lac
     by_test true i = absurd (let none : includes (all_numbers left) m ≡ false = distinct_other (numbers row)
         (all_numbers left) m g.distinct i in let some = next_has left m x e in cc)
 
-step : (left : List Row) (n : ℕ) (next : Next) → Good left → next_field left n ≡ Some next → Found left n next
+pub step : (left : List Row) (n : ℕ) (next : Next) → Good left → next_field left n ≡ Some next → Found left n next
 step [] n next g e = absurd cc
 step (row ∷ left) n next g e = by_row (step left n next (good_later row left g)) (field_in_row row n) refl e
   where
@@ -288,9 +288,9 @@ widen depth left n next bytes f x = by_records x.rs x.is x.encodes x.comes
 -- ---- what entries give
 
 module _ (bytes : List ℕ) (e : FieldEntry) where
-  record IsNumber (k : Kind) (v : ℕ) : Type 0 where
-    short : ltb v 18446744073709551616 ≡ true
-    written : is_written_number k v ≡ true
+  pub record IsNumber (k : Kind) (v : ℕ) : Type 0 where
+    pub short : ltb v 18446744073709551616 ≡ true
+    pub written : is_written_number k v ≡ true
 
   number_is : (k : Kind) (v : ℕ) → number_given k e ≡ Ok (Number v) → IsNumber k v
   number_is k v = by_test (ltb e.value 18446744073709551616 && is_written_number k e.value) refl
@@ -328,14 +328,14 @@ module _ (bytes : List ℕ) (e : FieldEntry) where
   value_number ByteString v w = absurd (no_bytes (content bytes e) v w)
   value_number (Message s) v w = absurd (no_message (eqb e.value s) s v w)
 
-  of_kind : (k : Kind) (g : Given) → given bytes k e ≡ Ok g → value_given bytes k e ≡ Ok g
+  pub of_kind : (k : Kind) (g : Given) → given bytes k e ≡ Ok g → value_given bytes k e ≡ Ok g
   of_kind k g = by_test (eqb e.kind (kind_number k))
     where
       by_test : (b : Bool) → cond b (value_given bytes k e) (Err WrongKind) ≡ Ok g → value_given bytes k e ≡ Ok g
       by_test true w = w
       by_test false w = absurd cc
 
-  number_of : (k : Kind) (v : ℕ) → given bytes k e ≡ Ok (Number v) → IsNumber k v
+  pub number_of : (k : Kind) (v : ℕ) → given bytes k e ≡ Ok (Number v) → IsNumber k v
   number_of k v w = value_number k v (of_kind k (Number v) w)
 
   number_content : (k : Kind) (c : List ℕ) → number_given k e ≡ Ok (Content c) → ⊥
@@ -368,8 +368,8 @@ module _ (bytes : List ℕ) (e : FieldEntry) where
   value_content nested ByteString c w = refl
   value_content nested (Message s) c w = absurd (message_content (eqb e.value s) s c w)
 
-  content_of : (nested : NestedAcceptance) (k : Kind) (c : List ℕ) → given bytes k e ≡ Ok (Content c) → accepts_bytes
-      nested
+  pub content_of : (nested : NestedAcceptance) (k : Kind) (c : List ℕ) → given bytes k e ≡ Ok (Content c) →
+      accepts_bytes nested
       k c ≡ true
   content_of nested k c w = value_content nested k c (of_kind k (Content c) w)
 
@@ -405,10 +405,10 @@ module _ (bytes : List ℕ) (e : FieldEntry) where
   value_opens ByteString t w = absurd (bytes_opens (content bytes e) t w)
   value_opens (Message s) t w = ap Message (message_opens (eqb e.value s) s t w)
 
-  opens_of : (k : Kind) (t : ℕ) → given bytes k e ≡ Ok (Opens t) → k ≡ Message t
+  pub opens_of : (k : Kind) (t : ℕ) → given bytes k e ≡ Ok (Opens t) → k ≡ Message t
   opens_of k t w = value_opens k t (of_kind k (Opens t) w)
 
-  u32_low : (g : Given) → given bytes U32 e ≡ Ok g → e.value < 2 ^ 32
+  pub u32_low : (g : Given) → given bytes U32 e ≡ Ok g → e.value < 2 ^ 32
   u32_low g w = by_test (ltb e.value 18446744073709551616 && ltb e.value 4294967296) refl (of_kind U32 g w)
     where
       by_test : (b : Bool) → (ltb e.value 18446744073709551616 && ltb e.value 4294967296) ≡ b → cond b (Ok (Number
@@ -431,8 +431,8 @@ field_written nested plain (Text, true) w p h d = h
 field_written nested plain (ByteString, true) w p h d = h
 field_written nested plain (Message s, true) w p h d = h
 
-not_packed : (nested : NestedAcceptance) (f : Kind × Bool) (c : List ℕ) → accepts_bytes nested f.0 c ≡ true → is_packed
-    f ≡
+pub not_packed : (nested : NestedAcceptance) (f : Kind × Bool) (c : List ℕ) → accepts_bytes nested f.0 c ≡ true →
+    is_packed f ≡
     false
 not_packed nested (U32, r) c h = absurd cc
 not_packed nested (U64, r) c h = absurd cc
@@ -453,7 +453,7 @@ run_written nested plain (Text, r) run p h = absurd cc
 run_written nested plain (ByteString, r) run p h = absurd cc
 run_written nested plain (Message s, r) run p h = absurd cc
 
-packed_kind : (f : Kind × Bool) → is_packed f ≡ true → f.0 ≡ U32
+pub packed_kind : (f : Kind × Bool) → is_packed f ≡ true → f.0 ≡ U32
 packed_kind (U32, r) p = refl
 packed_kind (U64, r) p = absurd cc
 packed_kind (Boolean, r) p = absurd cc
@@ -467,8 +467,8 @@ packed_kind (Message s, r) p = absurd cc
 low_varint : (v : ℕ) → v < 2 ^ 32 → IsLow (shortest_varint v) v
 low_varint v h = record { is = shortest_is v (omega (arith, h)); tight = omega arith; low = h }
 
-run_low : (bytes : List ℕ) (s : ℕ) (left : List Row) (n level depth : ℕ) (es : List FieldEntry) (out : List ℕ) → walk
-    bytes s
+pub run_low : (bytes : List ℕ) (s : ℕ) (left : List Row) (n level depth : ℕ) (es : List FieldEntry) (out : List ℕ) →
+    walk bytes s
     left (Some n) Numbers level depth es ≡ Ok out → IsSequence IsLow (varints (run_numbers level n es)) (run_numbers
     level n
     es)
@@ -499,8 +499,8 @@ run_low bytes s left n level depth (e ∷ es) out w = by_test (run_low bytes s l
     by_test later false i = refl
     by_test later true i = by_given later i (given bytes U32 e) refl
 
-run_is_written : (v : ℕ) (ns : List ℕ) → v < 2 ^ 32 → IsSequence IsLow (varints ns) ns → is_written_run (varints (v ∷
-    ns)) ≡
+pub run_is_written : (v : ℕ) (ns : List ℕ) → v < 2 ^ 32 → IsSequence IsLow (varints ns) ns → is_written_run (varints (v
+    ∷ ns)) ≡
     true
 run_is_written v ns h q =
     let some = varint_pos (shortest_varint v) v (shortest_is v (omega (arith, h))) in
@@ -514,14 +514,14 @@ run_is_written v ns h q =
 
 -- ---- one entry and those after it
 
-onto_split : (a : List ℕ) (w : Walked) (out : List ℕ) → onto a w ≡ Ok out → (rest : List ℕ) × (w ≡ Ok rest) × (out ≡ a
-    ++
+pub onto_split : (a : List ℕ) (w : Walked) (out : List ℕ) → onto a w ≡ Ok out → (rest : List ℕ) × (w ≡ Ok rest) × (out ≡
+    a ++
     rest)
 onto_split a (Ok more) out e = (more, refl, let same : a ++ more ≡ out = cc in sym same)
 onto_split a (Err x) out e = absurd cc
 
-nested_canonical : (below t : ℕ) (content : List ℕ) → Records below (table t) content → is_canonical_message (suc below)
-    t
+pub nested_canonical : (below t : ℕ) (content : List ℕ) → Records below (table t) content → is_canonical_message (suc
+    below) t
     content ≡ true
 unfolding is_canonical_message
 nested_canonical below t content x =
@@ -648,7 +648,7 @@ module _ (bytes : List ℕ) (left : List Row) (depth : ℕ) (e : FieldEntry) (ou
   by_value (Ok (Content c)) k w = by_content c k (next.is_plain && eqb (length c) 0) refl w
   by_value (Ok (Opens t)) k w = by_message t depth refl k w
 
-found_is : (all left : List Row) (last : Option ℕ) (n : ℕ) (next : Next) → field_next all left last n ≡ Ok next →
+pub found_is : (all left : List Row) (last : Option ℕ) (n : ℕ) (next : Next) → field_next all left last n ≡ Ok next →
     next_field
     left n ≡ Some next
 found_is all left last n next = by_short (ltb n 4294967296)
@@ -726,7 +726,7 @@ module _ (bytes : List ℕ) (s : ℕ) (left : List Row) (last : Option ℕ) (lev
   by_below more true w = let same : [] ≡ out = cc in subst (Records depth left) same (none depth left)
   by_below more false w = by_deeper more (ltb level e.level) w
 
-records_of : (bytes : List ℕ) (s : ℕ) (left : List Row) (last : Option ℕ) (more : More) (level depth : ℕ)
+pub records_of : (bytes : List ℕ) (s : ℕ) (left : List Row) (last : Option ℕ) (more : More) (level depth : ℕ)
     (es : List FieldEntry) (out : List ℕ) → walk bytes s left last more level depth es ≡ Ok out → length out < 2 ^ 64 →
     Good
     left → Records depth left out
@@ -741,11 +741,11 @@ records_of bytes s left last more level depth (e ∷ es) out w z g =
 
 -- ---- whole tables
 
-record Short (w : Walked) (out : List ℕ) : Type 0 where
-  is : w ≡ Ok out
-  short : length out < 4294967296
+pub record Short (w : Walked) (out : List ℕ) : Type 0 where
+  pub is : w ≡ Ok out
+  pub short : length out < 4294967296
 
-short_is : (w : Walked) (out : List ℕ) → short_enough w ≡ Ok out → Short w out
+pub short_is : (w : Walked) (out : List ℕ) → short_enough w ≡ Ok out → Short w out
 short_is (Err x) out e = absurd cc
 short_is (Ok bs) out e = by_test (ltb (length bs) 4294967296) refl e
   where
@@ -757,7 +757,7 @@ short_is (Ok bs) out e = by_test (ltb (length bs) 4294967296) refl e
         let same : bs ≡ out = cc in
         record { is = u; short = subst (λ (xs : List ℕ). length xs < 4294967296) same (ltb-true _ _ i) }
 
-all_bytes : (xs : List ℕ) → ((i d : ℕ) → i < length xs → get_or xs i d < 256) → (i : ℕ) → get_or xs i 0 < 256
+pub all_bytes : (xs : List ℕ) → ((i d : ℕ) → i < length xs → get_or xs i d < 256) → (i : ℕ) → get_or xs i 0 < 256
 all_bytes [] h i = omega arith
 all_bytes (x ∷ xs) h zero = h 0 0 (omega arith)
 all_bytes (x ∷ xs) h (suc i) = all_bytes xs (λ j d l. h (suc j) d (omega (arith, l))) i

@@ -50,47 +50,50 @@ appends_error (Err y) x w old new left a e =
 
 -- ---- a message's length, put before its bytes
 
-pub content_put : (n place : ℕ) (old out content new after : List ℕ) → out ≡ old ++ key_bytes n 2 → place ≡ length out →
-    after ≡ out ++ content → new ≡ take place after ++ (shortest_varint (length after - place) ++ drop place after)
-    → new ≡ old ++ length_record n content
-content_put n place old out content new after k p a e =
-    let size : length after - place ≡ length content = omega (arith, p, ap length a, length-append out content) in
-    let front : take place after ≡ out = ap (λ (i : ℕ). take i after) p ∙ ap (λ (xs : List ℕ). take (length out) xs) a
-    ∙ take-append_seam out content in
-    let back : drop place after ≡ content = ap (λ (i : ℕ). drop i after) p ∙ ap (λ (xs : List ℕ). drop (length out) xs)
-    a
-    ∙ drop-append_seam out content in
-    e ∙ ap (λ (xs : List ℕ). xs ++ (shortest_varint (length after - place) ++ drop place after)) (front ∙ k)
-    ∙ ap (λ (m : ℕ). (old ++ key_bytes n 2) ++ (shortest_varint m ++ drop place after)) size
+-- `begun` has the key, and the bytes that leave room for the length
+pub content_put : (n place end : ℕ) (old out room begun content new after : List ℕ) → out ≡ old ++ key_bytes n 2 → place
+    ≡ length out → begun ≡ out ++ room → end ≡ length begun → after ≡ begun ++ content → new ≡ take place after ++
+    (shortest_varint (length after - end) ++ drop end after) → new ≡ old ++ length_record n content
+content_put n place end old out room begun content new after k p b q a e =
+    let size : length after - end ≡ length content = omega (arith, q, ap length a, length-append begun content) in
+    let whole : after ≡ out ++ (room ++ content) = a ∙ ap (λ (xs : List ℕ). xs ++ content) b ∙ append_assoc out room
+    content in
+    let front : take place after ≡ out = ap (λ (i : ℕ). take i after) p ∙ ap (λ (xs : List ℕ). take (length out) xs)
+    whole
+    ∙ take-append_seam out (room ++ content) in
+    let back : drop end after ≡ content = ap (λ (i : ℕ). drop i after) q ∙ ap
+    (λ (xs : List ℕ). drop (length begun) xs) a ∙ drop-append_seam begun content in
+    e ∙ ap (λ (xs : List ℕ). xs ++ (shortest_varint (length after - end) ++ drop end after)) (front ∙ k)
+    ∙ ap (λ (m : ℕ). (old ++ key_bytes n 2) ++ (shortest_varint m ++ drop end after)) size
     ∙ ap (λ (xs : List ℕ). (old ++ key_bytes n 2) ++ (shortest_varint (length content) ++ xs)) back
     ∙ append_assoc old (key_bytes n 2) (shortest_varint (length content) ++ content)
 
-pub message_put : (n place : ℕ) (old out new after : List ℕ) (inner next : Walked) → out ≡ old ++ key_bytes n 2 → place
-    ≡
-    length out → onto out inner ≡ Ok after → new ≡ take place after ++ (shortest_varint (length after - place) ++ drop
-    place
-    after) → onto old (nested_onto n inner next) ≡ onto new next
-message_put n place old out new after (Err x) next k p i e = absurd cc
-message_put n place old out new after (Ok content) next k p i e =
-    let same : out ++ content ≡ after = cc in
+pub message_put : (n place end : ℕ) (old out room begun new after : List ℕ) (inner next : Walked) → out ≡ old ++
+    key_bytes n 2 → place ≡ length out → begun ≡ out ++ room → end ≡ length begun → onto begun inner ≡ Ok after → new ≡
+    take place after ++ (shortest_varint (length after - end) ++ drop end after) → onto old (nested_onto n inner next) ≡
+    onto new next
+message_put n place end old out room begun new after (Err x) next k p b q i e = absurd cc
+message_put n place end old out room begun new after (Ok content) next k p b q i e =
+    let same : begun ++ content ≡ after = cc in
     onto_more old (length_record n content) next
-    ∙ ap (λ (xs : List ℕ). onto xs next) (sym (content_put n place old out content new after k p (sym same) e))
+    ∙ ap (λ (xs : List ℕ). onto xs next) (sym (content_put n place end old out room begun content new after k p b q
+    (sym same) e))
 
 pub nested_error : (n : ℕ) (inner next : Walked) (x : Reason) (m : ℕ) → inner ≡ Err (x, m) → nested_onto n inner next ≡
     Err
     (x, m)
 nested_error n inner next x m e = ap (λ (w : Walked). nested_onto n w next) e
 
-pub run_put : (n value place : ℕ) (run old out first new after : List ℕ) (w next : Walked) → out ≡ old ++ key_bytes n 2
-    →
-    place ≡ length out → first ≡ out ++ shortest_varint value → after ≡ first ++ varints run
-    → new ≡ take place after ++ (shortest_varint (length after - place) ++ drop place after) → w ≡ next
-    → onto old (onto (length_record n (varints (value ∷ run))) w) ≡ onto new next
-run_put n value place run old out first new after w next k p f a e s =
-    let whole : after ≡ out ++ varints (value ∷ run) = a ∙ ap (λ (xs : List ℕ). xs ++ varints run) f ∙ append_assoc out
-    (shortest_varint value) (varints run) in
+pub run_put : (n value place end : ℕ) (run old out room begun first new after : List ℕ) (w next : Walked) → out ≡ old ++
+    key_bytes n 2 → place ≡ length out → begun ≡ out ++ room → end ≡ length begun → first ≡ begun ++ shortest_varint
+    value → after ≡ first ++ varints run → new ≡ take place after ++ (shortest_varint (length after - end) ++ drop end
+    after) → w ≡ next → onto old (onto (length_record n (varints (value ∷ run))) w) ≡ onto new next
+run_put n value place end run old out room begun first new after w next k p b q f a e s =
+    let whole : after ≡ begun ++ varints (value ∷ run) = a ∙ ap (λ (xs : List ℕ). xs ++ varints run) f ∙ append_assoc
+    begun (shortest_varint value) (varints run) in
     onto_more old (length_record n (varints (value ∷ run))) w
-    ∙ ap (λ (xs : List ℕ). onto xs w) (sym (content_put n place old out (varints (value ∷ run)) new after k p whole e))
+    ∙ ap (λ (xs : List ℕ). onto xs w) (sym (content_put n place end old out room begun (varints (value ∷ run)) new after
+    k p b q whole e))
     ∙ ap (onto new) s
 
 pub run_error : (bytes : List ℕ) (w next : Walked) (x : Reason) (m : ℕ) → w ≡ Err (x, m) → onto bytes w ≡ Err (x, m)

@@ -1,8 +1,8 @@
 -- Varints appended, and put before what is there.
 use Rattle.std.proofs.Common.{◌≡◌, length, ℕ, zero, suc, ◌+◌, ◌/◌, ◌%◌, ◌<◌, ◌≤◌, List, [], ◌∷◌, ◌++◌, refl, sym, ap}
-use Rattle.std.proofs.Common.{◌∙◌}
-use Rattle.std.proofs.Common.{append_assoc, subst, take, drop, arith}
-use Rattle.std.specs.List.{insert}
+use Rattle.std.proofs.Common.{◌∙◌, ◌-◌, max, append_assoc, take, drop, arith, length-append, length-drop}
+use Rattle.std.proofs.Common.{length-take-le}
+use Rattle.std.proofs.lemmas.List.{drop-drop}
 use Rattle.shared_core_wire.specs.Encoding.{shortest_varint}
 use Rattle.shared_core_wire.proofs.Shortest.{shortest_small, shortest_large}
 
@@ -15,35 +15,60 @@ more_varint out new n h e =
 pub last_varint : (out new : List ℕ) (n : ℕ) → n < 128 → new ≡ out ++ n ∷ [] → new ≡ out ++ shortest_varint n
 last_varint out new n h e = e ∙ ap (λ (xs : List ℕ). out ++ xs) (sym (shortest_small n h))
 
--- ---- a varint put at a place
+-- ---- a varint put in the place of bytes
 
-abbrev put : List ℕ → ℕ → List ℕ → List ℕ
-put out at bytes = take at out ++ (bytes ++ drop at out)
+pub more_put : (out new : List ℕ) (at end n : ℕ) → 128 ≤ n → take (at + 1) new ≡ take at out ++ (n % 128 + 128) ∷ [] →
+    drop (max (at + 1) end) new ≡ drop (max at end) out → take (at + 1) new ++ (shortest_varint (n / 128) ++ drop
+    (max (at + 1) end) new) ≡ take at out ++ (shortest_varint n ++ drop (max at end) out)
+more_put out new at end n h t d =
+    ap (λ (xs : List ℕ). xs ++ (shortest_varint (n / 128) ++ drop (max (at + 1) end) new)) t
+    ∙ append_assoc (take at out) ((n % 128 + 128) ∷ []) (shortest_varint (n / 128) ++ drop (max (at + 1) end) new)
+    ∙ ap (λ (xs : List ℕ). take at out ++ ((n % 128 + 128) ∷ (shortest_varint (n / 128) ++ xs))) d
+    ∙ ap (λ (bytes : List ℕ). take at out ++ (bytes ++ drop (max at end) out)) (sym (shortest_large n h))
 
-inserted : (out : List ℕ) (at b : ℕ) (bytes : List ℕ) → at ≤ length out → put (insert out at b) (suc at) bytes ≡ put out
-    at
-    (b ∷ bytes)
-inserted out zero b bytes h = refl
-inserted [] (suc at) b bytes h = absurd (omega arith)
-inserted (x ∷ out) (suc at) b bytes h = ap (λ (xs : List ℕ). x ∷ xs) (inserted out at b bytes (omega arith))
+pub last_put : (out mid new : List ℕ) (at end n : ℕ) → n < 128 → take (at + 1) mid ≡ take at out ++ n ∷ [] → drop
+    (max (at + 1) end) mid ≡ drop (max at end) out → new ≡ take (at + 1) mid ++ drop (max (at + 1) end) mid → new ≡ take
+    at out ++ (shortest_varint n ++ drop (max at end) out)
+last_put out mid new at end n h t d e =
+    e ∙ ap (λ (xs : List ℕ). xs ++ drop (max (at + 1) end) mid) t
+    ∙ append_assoc (take at out) (n ∷ []) (drop (max (at + 1) end) mid)
+    ∙ ap (λ (xs : List ℕ). take at out ++ (n ∷ xs)) d
+    ∙ ap (λ (bytes : List ℕ). take at out ++ (bytes ++ drop (max at end) out)) (sym (shortest_small n h))
 
-pub more_put : (out new : List ℕ) (at n : ℕ) → 128 ≤ n → at ≤ length out → new ≡ insert out at (n % 128 + 128) → put new
-    (at + 1) (shortest_varint (n / 128)) ≡ put out at (shortest_varint n)
-more_put out new at n h l e =
-    let later : at + 1 ≡ suc at = omega arith in
-    ap (λ (i : ℕ). put new i (shortest_varint (n / 128))) later
-    ∙ ap (λ (xs : List ℕ). put xs (suc at) (shortest_varint (n / 128))) e ∙ inserted out at (n % 128 + 128)
-    (shortest_varint (n / 128)) l
-    ∙ ap (λ (bytes : List ℕ). put out at bytes) (sym (shortest_large n h))
+-- ---- bytes removed
 
-pub last_put : (out new : List ℕ) (at n : ℕ) → n < 128 → new ≡ insert out at n → new ≡ put out at (shortest_varint n)
-last_put out new at n h e = e ∙ ap (λ (bytes : List ℕ). put out at bytes) (sym (shortest_small n h))
+take_again : (at : ℕ) (xs ys : List ℕ) → at ≤ length xs → take at (take at xs ++ ys) ≡ take at xs
+take_again zero xs ys h = refl
+take_again (suc at) [] ys h = absurd (omega (arith, h))
+take_again (suc at) (x ∷ xs) ys h = ap (λ (zs : List ℕ). x ∷ zs) (take_again at xs ys (omega (arith, h)))
 
-room : (out : List ℕ) (at b : ℕ) → at ≤ length out → at + 1 ≤ length (insert out at b)
-room out zero b h = omega arith
-room [] (suc at) b h = absurd (omega arith)
-room (x ∷ out) (suc at) b h =
-    let later : at + 1 ≤ length (insert out at b) = room out at b (omega arith) in omega (arith, later)
+drop_past : (at more : ℕ) (xs ys : List ℕ) → at ≤ length xs → drop (at + more) (take at xs ++ ys) ≡ drop more ys
+drop_past zero more xs ys h =
+    let none : 0 + more ≡ more = omega arith in
+    ap (λ (n : ℕ). drop n ys) none
+drop_past (suc at) more [] ys h = absurd (omega (arith, h))
+drop_past (suc at) more (x ∷ xs) ys h =
+    let later : suc at + more ≡ suc (at + more) = omega arith in
+    ap (λ (n : ℕ). drop n (x ∷ (take at xs ++ ys))) later ∙ drop_past at more xs ys (omega (arith, h))
 
-pub longer : (out new : List ℕ) (at b : ℕ) → at ≤ length out → new ≡ insert out at b → at + 1 ≤ length new
-longer out new at b h e = subst (λ (xs : List ℕ). at + 1 ≤ length xs) (sym e) (room out at b h)
+pub record Removed (xs new : List ℕ) (at more : ℕ) : Type 0 where
+  pub room : at + (more - 1) ≤ length new
+  pub before : take at new ≡ take at xs
+  pub after : drop (at + (more - 1)) new ≡ drop (at + more) xs
+
+pub removed : (xs new : List ℕ) (at more : ℕ) → 0 < more → at + more ≤ length xs → new ≡ take at xs ++ drop (at + 1) xs
+    → Removed xs new at more
+removed xs new at more p h e =
+    let inside : at ≤ length xs = omega (arith, h) in
+    let front : length (take at xs) ≡ at = length-take-le at xs inside in
+    let size : length new ≡ length (take at xs) + length (drop (at + 1) xs) = ap length e ∙ length-append (take at xs)
+    (drop (at + 1) xs) in
+    let back : length (drop (at + 1) xs) ≡ length xs - (at + 1) = length-drop (at + 1) xs in
+    let there : at + 1 + (more - 1) ≡ at + more = omega (arith, p) in
+    record {
+      room = omega (arith, size, front, back, h, p);
+      before = ap (take at) e ∙ take_again at xs (drop (at + 1) xs) inside;
+      after =
+          ap (drop (at + (more - 1))) e ∙ drop_past at (more - 1) xs (drop (at + 1) xs) inside
+          ∙ drop-drop (more - 1) (at + 1) xs ∙ ap (λ (n : ℕ). drop n xs) there;
+    }

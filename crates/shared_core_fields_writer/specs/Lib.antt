@@ -1,3 +1,4 @@
 pub mod Errors
 pub mod Given
 pub mod Walk
+pub mod Tables

@@ -22,11 +22,22 @@ use shared_core_codec::canonical::NextField;
 use shared_core_codec::rows::{Found, Kind, rows_of};
 use shared_core_fields::table::FieldEntry;
 
-/// The entries of a table, and the bytes that they point to.
+/// The entries of a table, the bytes that they point to, and how long the content of their messages and runs was
+/// measured to be, by their index: then room is left for that many, and otherwise for less than 128 bytes.
 #[derive(Clone, Copy)]
 pub(crate) struct Source<'a> {
     pub entries: &'a [FieldEntry],
     pub bytes: &'a [u8],
+    pub lengths: &'a [u64],
+}
+
+/// The length that the content of the entry at an index was measured to have, or 0.
+fn measured(source: &Source<'_>, index: usize) -> u64 {
+    if index < source.lengths.len() {
+        source.lengths[index]
+    } else {
+        0
+    }
 }
 
 /// Appends the records of the entries of a message, which are at a level; messages may be nested `depth` deep in it.
@@ -105,16 +116,18 @@ fn append_field(
             }
             append_key(out, number, LENGTH)?;
             let place = out.len();
+            append_varint(out, measured(source, *at))?;
+            let end = out.len();
             *at += 1;
             append_message(out, at, source, inner, entry.level + 1, depth - 1)?;
-            put_length(out, place)?;
+            put_length(out, place, end)?;
         }
     }
     Ok(())
 }
 
 /// Whether a field is a repeated uint32, which is packed.
-fn is_packed(field: Found) -> bool
+pub(crate) fn is_packed(field: Found) -> bool
     ensures { result ≡ is_packed (found_view field) }
 {
     match field.kind {
@@ -146,15 +159,17 @@ fn append_run(
 {
     append_key(out, number, LENGTH)?;
     let place = out.len();
+    append_varint(out, measured(source, *at))?;
+    let end = out.len();
     append_varint(out, value)?;
     *at += 1;
     append_numbers(out, at, source, number, level)?;
-    put_length(out, place)?;
+    put_length(out, place, end)?;
     Ok(())
 }
 
 /// Whether an entry at a level is of the number of a field.
-fn is_number_of(entry: &FieldEntry, number: u32, level: u64) -> bool
+pub(crate) fn is_number_of(entry: &FieldEntry, number: u32, level: u64) -> bool
     ensures { result ≡ (nat_eq entry.now.level level && nat_eq entry.now.number number) }
 {
     entry.level == level && entry.number == u64::from(number)

@@ -63,14 +63,16 @@ pub append_field-returns-in_ok-put_length-in-Message-clause-appended :
     goal.append_field-returns-in_ok-put_length-in-Message-clause-appended
 append_field-returns-in_ok-put_length-in-Message-clause-appended t c s rows last f =
     let place : c.len-place.result ≡ length c.append_key.new.out.items = search rules in
+    let end : c.len-end.result ≡ length c.append_varint.new.out.items = search rules in
     let inner = c.in_ok-append_message-in-Message.ensures in
     ap (onto c.args.out.now.items) (field_message c.args.source.now.bytes.now s rows last c.args.number
     c.args.entry.now.level c.args.depth _ _ (entries_from c.args.source.now c.append_message.new.at) c.args.entry.now
     (next_view c.args.next) c.requires.entry refl c.requires.number f c.in-Message.inner
     (omega (arith, c.if-depth-eq0.false)) (rw c.in-Message.is at c.in_ok-value.ensures) inner.rest)
-    ∙ message_put c.args.number c.len-place.result c.args.out.now.items c.append_key.new.out.items
-    c.put_length.new.out.items c.append_message.new.out.items _ _ c.in_ok-append_key-in-Message.ensures place
-    inner.appended c.in_ok-put_length-in-Message.ensures
+    ∙ message_put c.args.number c.len-place.result c.len-end.result c.args.out.now.items c.append_key.new.out.items _
+    c.append_varint.new.out.items c.put_length.new.out.items c.append_message.new.out.items _ _
+    c.in_ok-append_key-in-Message.ensures place c.in_ok-append_varint-in-Message.ensures end inner.appended
+    c.in_ok-put_length-in-Message.ensures
 
 pub append_field-returns-in_ok-put_length-in-Message-clause-rest :
     goal.append_field-returns-in_ok-put_length-in-Message-clause-rest

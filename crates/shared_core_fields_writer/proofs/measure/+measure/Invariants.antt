@@ -1,0 +1,14 @@
+use Rattle.std.proofs.Common.{◌+◌, ◌*◌, ◌-◌, ◌≤◌, length}
+use Rattle.shared_core_fields_writer.proofs.measure.+measure.Given as goal
+
+abbrev pub decreases-measure_message : goal.decreases-measure_message
+decreases-measure_message l = 2 * l.depth + 1
+
+abbrev pub decreases-measure_field : goal.decreases-measure_field
+decreases-measure_field l = 2 * l.depth
+
+abbrev pub invariant-measure_message-loop-at : goal.invariant-measure_message-loop-at
+invariant-measure_message-loop-at l = (l.initial.at ≤ l.at) × (l.at ≤ length l.source.entries.now)
+
+abbrev pub decreases-measure_message-loop-at : goal.decreases-measure_message-loop-at
+decreases-measure_message-loop-at l = length l.source.entries.now - l.at
