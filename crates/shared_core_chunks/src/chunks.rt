@@ -1,0 +1,156 @@
+//! The chunks of frames.
+
+ghost use Rattle.std.specs.Prelude.{◌≡◌, ◌++◌, [], length, OnOk, OnErr, IfOk, MatchOption};
+ghost use Rattle.shared_core_wire.specs.Encoding.{shortest_varint, key_bytes};
+ghost use Rattle.std.specs.List.{concat};
+
+use bytes::{Bytes, BytesMut};
+use shared_core_codec::write::write_length;
+use std::alloc::{AllocError, Global};
+use std::collections::VecDeque;
+use std::marker::Model;
+
+/// The number of bytes from which on a `bytes` field is shared, and not copied.
+pub const SHARED_LEN: usize = 4096;
+
+/// The most bytes of the key and the length of a record.
+const HEAD: usize = 20;
+
+/// The bytes of frames, in chunks: long `bytes` fields, which are shared, and between them what is small. A clause sees
+/// the bytes of all of them.
+#[derive(Drop)]
+pub struct FrameChunks {
+    alloc: Global,
+    /// The first chunks.
+    chunks: VecDeque<Bytes>,
+    /// What is small and comes after them.
+    pub(crate) tail: BytesMut,
+}
+
+impl Model for FrameChunks {
+    ghost use Rattle.std.specs.Prelude.{ℕ, List, ◌++◌};
+    ghost use Rattle.std.specs.List.{concat};
+
+    ghost Value = { List ℕ };
+
+    ghost view = { λ frames. concat frames.chunks.items ++ frames.tail.items };
+}
+
+impl FrameChunks {
+    /// Returns no chunks. Does not allocate.
+    pub fn new(alloc: Global) -> FrameChunks
+        ensures { result ≡ [] }
+    {
+        FrameChunks {
+            alloc,
+            chunks: VecDeque::new(alloc),
+            tail: BytesMut::new(alloc),
+        }
+    }
+
+    /// The allocator of the chunks.
+    pub(crate) fn alloc(&self) -> Global {
+        self.alloc
+    }
+
+    /// Takes the first chunk, or `None` if there is no byte left. After an error nothing is taken.
+    #[tactic(auto, using(crate::proofs::Joining::first_chunk, crate::proofs::Joining::small_chunk))]
+    pub fn pop(&mut self) -> Result<Option<Bytes>, AllocError>
+        ensures ok { IfOk result (λ found. MatchOption found ((self.old ≡ []) × (self.new ≡ []))
+            (λ chunk. self.old ≡ chunk ++ self.new)) }
+        ensures err { OnErr result (self.new ≡ self.old) }
+    {
+        if let Some(chunk) = self.chunks.pop_front() {
+            return Ok(Some(chunk));
+        }
+        if self.tail.is_empty() {
+            return Ok(None);
+        }
+        let count = self.tail.len();
+        Ok(Some(self.tail.freeze_to(count)?))
+    }
+
+    /// Drops all chunks. The room of what was small and is in no chunk yet stays.
+    pub fn clear(&mut self)
+        ensures { self.new ≡ [] }
+    {
+        self.chunks.clear();
+        self.tail.clear();
+    }
+
+    /// Appends bytes, which are copied. After an error nothing is appended.
+    #[tactic(auto, using(crate::proofs::Joining::after_tail))]
+    pub(crate) fn put(&mut self, bytes: &[u8]) -> Result<(), AllocError>
+        ensures ok { OnOk result (self.new ≡ self.old ++ bytes.now) }
+        ensures err { OnErr result (self.new ≡ self.old) }
+    {
+        self.tail.extend_from_slice(bytes)
+    }
+
+    /// Appends the key and the length of a length-delimited record.
+    #[tactic(auto, using(shared_core_wire::proofs::Shortest::ten_bytes, crate::proofs::Joining::whole_head))]
+    pub(crate) fn put_length(&mut self, number: u32, len: usize) -> Result<(), AllocError>
+        ensures ok { OnOk result (self.new ≡ self.old ++ (key_bytes number 2 ++ shortest_varint len)) }
+        ensures err { OnErr result (self.new ≡ self.old) }
+    {
+        let mut head = [0u8; HEAD];
+        let start = write_length(&mut head, HEAD, number, len);
+        self.put(&head[start..])
+    }
+
+    /// Appends a `bytes` field's content: shared, if it is long.
+    pub(crate) fn put_content(&mut self, content: &Bytes) -> Result<(), AllocError>
+        ensures ok { OnOk result (self.new ≡ self.old ++ content.now) }
+        ensures err { OnErr result (self.new ≡ self.old) }
+    {
+        if content.len() < SHARED_LEN {
+            return self.put(content.as_slice());
+        }
+        self.share(content)
+    }
+
+    /// Appends bytes, which are shared.
+    #[tactic(auto, using(crate::proofs::Joining::after_shared))]
+    fn share(&mut self, content: &Bytes) -> Result<(), AllocError>
+        ensures ok { OnOk result (self.new ≡ self.old ++ content.now) }
+        ensures err { OnErr result (self.new ≡ self.old) }
+    {
+        let shared = content.clone()?;
+        freeze_tail(&mut self.chunks, &mut self.tail)?;
+        self.chunks.reserve(1)?;
+        self.chunks.push_back_reserved(shared);
+        Ok(())
+    }
+
+    /// Appends all of others, or nothing after an error.
+    #[tactic(auto, using(crate::proofs::Joining::after_all))]
+    pub(crate) fn append(&mut self, frame: FrameChunks) -> Result<(), AllocError>
+        ensures ok { OnOk result (self.new ≡ self.old ++ frame) }
+        ensures err { OnErr result (self.new ≡ self.old) }
+    {
+        let FrameChunks {
+            alloc: _,
+            mut chunks,
+            mut tail,
+        } = frame;
+        freeze_tail(&mut chunks, &mut tail)?;
+        freeze_tail(&mut self.chunks, &mut self.tail)?;
+        self.chunks.append(&mut chunks)
+    }
+}
+
+/// Makes a chunk of what is small. After an error all is as it was.
+#[tactic(auto, using(crate::proofs::Joining::tail_pushed, crate::proofs::Joining::none_left))]
+fn freeze_tail(chunks: &mut VecDeque<Bytes>, tail: &mut BytesMut) -> Result<(), AllocError>
+    ensures same { concat chunks.new.items ++ tail.new.items ≡ concat chunks.old.items ++ tail.old.items }
+    ensures empty { OnOk result (tail.new.items ≡ []) }
+{
+    if tail.is_empty() {
+        return Ok(());
+    }
+    chunks.reserve(1)?;
+    let count = tail.len();
+    let chunk = tail.freeze_to(count)?;
+    chunks.push_back_reserved(chunk);
+    Ok(())
+}
