@@ -6,12 +6,13 @@ use Rattle.shared_core_base.specs.declared.version.Version.{Version}
 use Rattle.shared_core_base.specs.MessageType.{debug_name_of}
 use Rattle.shared_core_stream.specs.declared.encoding.item.Item.{Item}
 use Rattle.shared_core_stream.specs.declared.encoding.item.Item.TheVariants.{Message, Unknown, Skipped}
+use Rattle.shared_core_stream.specs.Errors.{message_too_long_text}
 use Rattle.stream_lines.specs.declared.report.Report.{Report}
 use Rattle.stream_lines.specs.declared.error.PrintError.{PrintError}
 use Rattle.stream_lines.specs.declared.error.PrintError.TheVariants as print_error
 use Rattle.stream_lines.specs.Printing.{ArePrinted}
 use Rattle.journal_list.specs.declared.error.ListError.{ListError}
-use Rattle.journal_list.specs.declared.error.ListError.TheVariants.{Input, Output, OutOfMemory}
+use Rattle.journal_list.specs.declared.error.ListError.TheVariants.{Input, Output, OutOfMemory, MessageTooLong}
 
 -- What follows a message's length: a mark if its header requests an acknowledgement.
 abbrev pub ack_text : Option Bool → List ℕ
@@ -38,17 +39,19 @@ IsPrintedAs (Ok done) printed = (report : Report) × (printed ≡ Ok report)
 IsPrintedAs (Err Input) printed = printed ≡ Err print_error.Input
 IsPrintedAs (Err Output) printed = printed ≡ Err print_error.Output
 IsPrintedAs (Err OutOfMemory) printed = printed ≡ Err print_error.OutOfMemory
+IsPrintedAs (Err (MessageTooLong message)) printed = printed ≡ Err (print_error.MessageTooLong message)
 
--- For the bytes that were read, the lines of their items are written, as far as the result says; no item is too long
--- for its line.
-abbrev pub IsListed : Version → Result (Unit {0}) ListError → List ℕ → List ℕ → Option (List ℕ) → Type 0
-IsListed version result read written left =
+-- For the bytes that were read, the lines of their items are written, as far as the result says, with this limit on the
+-- length of a payload; no item is too long for its line.
+abbrev pub IsListed : Version → ℕ → Result (Unit {0}) ListError → List ℕ → List ℕ → Option (List ℕ) → Type 0
+IsListed version limit result read written left =
     (printed : Result Report PrintError) × IsPrintedAs result printed
-    × ArePrinted (λ at word. line_of) (λ at rest. rest_line (length rest)) (λ item. ⊥) (λ item. None) version
-    4294967295 printed read written left
+    × ArePrinted (λ at word. line_of) (λ at rest. rest_line (length rest)) (λ item. ⊥) (λ item. None) version limit
+    printed read written left
 
 -- The text of an error.
 abbrev pub error_text : ListError → List ℕ
 error_text Input = codes "input failed"
 error_text Output = codes "output failed"
 error_text OutOfMemory = codes "out of memory"
+error_text (MessageTooLong message) = message_too_long_text message

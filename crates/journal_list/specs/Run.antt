@@ -1,9 +1,10 @@
 -- How a run of the program ends, and what it prints and returns then.
-use Rattle.std.specs.Prelude.{ℕ, List, [], codes, Result, Ok, Err, ⊤}
+use Rattle.std.specs.Prelude.{ℕ, List, [], ◌++◌, codes, Result, Ok, Err, ⊤}
 use Rattle.command_line.specs.declared.arguments.ArgumentsError.{ArgumentsError}
 use Rattle.command_line.specs.declared.arguments.ArgumentsError.TheVariants as arguments_error
 use Rattle.journal_list.specs.declared.error.ListError.{ListError}
-use Rattle.journal_list.specs.declared.error.ListError.TheVariants.{Input, Output, OutOfMemory}
+use Rattle.journal_list.specs.declared.error.ListError.TheVariants.{Input, OutOfMemory}
+use Rattle.journal_list.specs.Listing.{error_text}
 use Rattle.journal_list.specs.declared.run.Outcome.{Outcome}
 use Rattle.journal_list.specs.declared.run.Outcome.TheVariants.{Rejected, Listed}
 
@@ -26,9 +27,7 @@ IfListed (Listed listing) fact = fact listing
 abbrev pub message_of : Outcome → List ℕ
 message_of Rejected = codes "usage: journal_list [1..65536] [v9]\n"
 message_of (Listed (Ok _)) = []
-message_of (Listed (Err Input)) = codes "journal_list: input failed\n"
-message_of (Listed (Err Output)) = codes "journal_list: output failed\n"
-message_of (Listed (Err OutOfMemory)) = codes "journal_list: out of memory\n"
+message_of (Listed (Err error)) = codes "journal_list: " ++ (error_text error ++ codes "\n")
 
 -- The exit status: 0 after a whole listing, 1 after a failure, 2 for rejected arguments.
 abbrev pub status_of : Outcome → ℕ

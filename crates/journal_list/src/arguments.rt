@@ -7,7 +7,7 @@ use crate::definitions;
 use crate::options::options;
 use clap::Error;
 use clap::error::ErrorKind;
-use command_line::protocol_of;
+use command_line::{max_message_of, protocol_of};
 use shared_core_base::version::Version;
 use std::alloc::Global;
 
@@ -20,6 +20,8 @@ pub struct Arguments<'a> {
     pub version: Version,
     /// The number of bytes that are read at a time.
     pub chunk_size: usize,
+    /// The greatest length of a payload that is taken.
+    pub limit: u32,
 }
 
 /// Whether arguments after the program's name may be meant as a number of bytes and `v9`: none is an option, and the
@@ -98,6 +100,7 @@ pub fn parse_arguments<'a>(alloc: Global, arguments: &'a [String]) -> Result<Arg
             "the version is said by v9 or by --protocol, and not by both",
         )?);
     }
+    let limit = max_message_of(&mut command, &matches)?;
     let version = if found.version == Version::V9 {
         found.version
     } else {
@@ -112,5 +115,6 @@ pub fn parse_arguments<'a>(alloc: Global, arguments: &'a [String]) -> Result<Arg
         path: path.unwrap_or("-"),
         version,
         chunk_size: found.chunk_size,
+        limit,
     })
 }

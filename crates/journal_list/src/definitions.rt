@@ -15,11 +15,20 @@ pub fn list<'a>(alloc: Global, name: &'a str) -> Result<Command<'a>, AllocError>
         .about("Lists a stream of the protocol, a line for each of its items.")
         .arg(option(
             alloc,
-            "protocol",
-            "VERSION",
-            "The version of the protocol of the stream, which is 8 without it",
-        )
-        .value_parser(Version::supported_numbers()))?
+            "max-message",
+            "SIZE",
+            "Ends with an error at a message whose payload has\nmore than this number of bytes",
+        ))?
+        .arg(
+            option(
+                alloc,
+                "protocol",
+                "VERSION",
+                "The version of the protocol of the stream, which is\n8 without it [possible values: 5, 6, 7, 8, 9]",
+            )
+            .value_parser(Version::supported_numbers())
+            .hide_possible_values(true),
+        )?
         .arg(operand(
             alloc,
             "file",

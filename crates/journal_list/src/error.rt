@@ -1,6 +1,7 @@
 //! The error of `list_at`.
 
 use command_line::ArgumentsError;
+use shared_core_stream::encoding::MessageTooLong;
 use std::error::Error;
 use std::fmt;
 
@@ -13,6 +14,8 @@ pub enum ListError {
     Output,
     /// A chunk, a payload or a line could not be allocated.
     OutOfMemory,
+    /// A message is longer than the limit.
+    MessageTooLong(MessageTooLong),
 }
 
 impl fmt::Display for ListError {
@@ -22,11 +25,12 @@ impl fmt::Display for ListError {
     ghost output = { λ error. Some (error_text error) };
 
     fn fmt<W: fmt::Write>(&self, f: &mut fmt::Formatter<W>) -> fmt::Result {
-        f.write_str(match self {
-            ListError::Input => "input failed",
-            ListError::Output => "output failed",
-            ListError::OutOfMemory => "out of memory",
-        })
+        match self {
+            ListError::Input => f.write_str("input failed"),
+            ListError::Output => f.write_str("output failed"),
+            ListError::OutOfMemory => f.write_str("out of memory"),
+            ListError::MessageTooLong(message) => write!(f, "{message}"),
+        }
     }
 }
 

@@ -15,7 +15,7 @@ use std::alloc::{AllocError, Global};
 use std::io::{Read, Write};
 use stream_lines::{LinePrinter, PrintError, Trouble, print_lines};
 
-/// The listing of a V8 stream, as `list_at` writes it.
+/// The listing of a V8 stream, as `list_at` writes it without a limit.
 pub fn list<R: Read, W: Write>(
     alloc: Global,
     input: &mut R,
@@ -27,9 +27,9 @@ pub fn list<R: Read, W: Write>(
     ensures { (read : List ℕ) × (written : List ℕ)
         × Consumes (R.remaining input.old) (R.remaining input.new) read
         × Appends (W.contents output.old) (W.contents output.new) written
-        × IsListed V8 result read written (R.remaining input.new) }
+        × IsListed V8 4294967295 result read written (R.remaining input.new) }
 {
-    list_at(alloc, Version::V8, input, output, chunk_size)
+    list_at(alloc, Version::V8, u32::MAX, input, output, chunk_size)
 }
 
 /// Writes a line for each item of a stream of a version, of at least V5, and at its end the count of the bytes that are
@@ -38,10 +38,12 @@ pub fn list<R: Read, W: Write>(
 /// It reads at most `chunk_size` bytes at a time, from 1 to 65,536, and writes the lines of the items that a chunk
 /// completes before it reads the next. `Ok` comes only if the reader has no byte left, and then all is written. After
 /// `Input` the lines of all items of what was read are written; after `Output` a prefix of these lines, or of all if
-/// the input had ended; after `OutOfMemory` the lines of the first items.
+/// the input had ended; after `OutOfMemory` the lines of the first items. `MessageTooLong` comes after the lines of the
+/// items before the first message whose payload is longer than the limit; a limit of `u32::MAX` is none.
 pub fn list_at<R: Read, W: Write>(
     alloc: Global,
     version: Version,
+    limit: u32,
     input: &mut R,
     output: &mut W,
     chunk_size: usize,
@@ -52,25 +54,16 @@ pub fn list_at<R: Read, W: Write>(
     ensures { (read : List ℕ) × (written : List ℕ)
         × Consumes (R.remaining input.old) (R.remaining input.new) read
         × Appends (W.contents output.old) (W.contents output.new) written
-        × IsListed version result read written (R.remaining input.new) }
+        × IsListed version limit result read written (R.remaining input.new) }
 {
-    // a listing has no limit, so that no message is too long
-    match print_lines(
-        alloc,
-        version,
-        u32::MAX,
-        &Listing,
-        input,
-        output,
-        chunk_size,
-    ) {
+    match print_lines(alloc, version, limit, &Listing, input, output, chunk_size) {
         Ok(_) => Ok(()),
         Err(PrintError::Input) => Err(ListError::Input),
         Err(PrintError::Output) => Err(ListError::Output),
         Err(PrintError::OutOfMemory) => Err(ListError::OutOfMemory),
         // no item is too long for its line
         Err(PrintError::TooLong) => unreachable!(),
-        Err(PrintError::MessageTooLong(_)) => unreachable!(),
+        Err(PrintError::MessageTooLong(message)) => Err(ListError::MessageTooLong(message)),
     }
 }
 

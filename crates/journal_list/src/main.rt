@@ -14,7 +14,7 @@ use crate::arguments::{Arguments, are_bare, parse_arguments};
 use crate::error::ListError;
 use crate::list::list_at;
 use crate::options::options;
-use crate::run::{Outcome, exit_code, message, run};
+use crate::run::{Outcome, exit_code, run};
 use clap::error::ErrorKind;
 use command_line::{
     Input, Pipe, Progress, Watched, fail, input_size, open, read_arguments, report,
@@ -28,7 +28,7 @@ const PROGRAM: &str = "journal_list";
 fn end(rt: &HostRuntime, outcome: Outcome, output: &Pipe<Stdout>) -> ExitCode {
     if !output.is_broken() {
         // there is nothing to do if the standard error fails too
-        let _ = eprint!(rt; "{}", message(&outcome));
+        let _ = eprint!(rt; "{outcome}");
     }
     exit_code(&outcome)
 }
@@ -53,6 +53,7 @@ fn run_parsed(rt: &HostRuntime, parsed: &Arguments<'_>, input: Input) -> ExitCod
     let listed = list_at(
         rt.alloc(),
         parsed.version,
+        parsed.limit,
         &mut input,
         &mut output,
         parsed.chunk_size,

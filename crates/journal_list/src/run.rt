@@ -6,12 +6,13 @@ ghost use Rattle.std.specs.Process.{exit_status};
 ghost use Rattle.shared_core_base.specs.declared.version.Version.{Version as AnyVersion};
 ghost use Rattle.journal_list.specs.Listing.{IsListed};
 ghost use Rattle.journal_list.specs.Options.{AreOptions};
-ghost use Rattle.journal_list.specs.Run.{message_of, status_of, IsRejected, IfListed};
+ghost use Rattle.journal_list.specs.Run.{status_of, IsRejected, IfListed};
 
 use crate::error::ListError;
 use crate::list::list_at;
 use crate::options::options;
 use std::alloc::Global;
+use std::fmt;
 use std::io::{Read, Write};
 use std::process::ExitCode;
 
@@ -43,26 +44,29 @@ pub fn run<R: Read, W: Write>(
         × (read : List ℕ) × (written : List ℕ)
         × Consumes (R.remaining input.old) (R.remaining input.new) read
         × Appends (W.contents output.old) (W.contents output.new) written
-        × IsListed version listing read written (R.remaining input.new)) }
+        × IsListed version 4294967295 listing read written (R.remaining input.new)) }
 {
     let Some((version, chunk_size)) = options(words) else {
         return Outcome::Rejected;
     };
-    Outcome::Listed(list_at(alloc, version, input, output, chunk_size))
+    Outcome::Listed(list_at(alloc, version, u32::MAX, input, output, chunk_size))
 }
 
-/// The line for the standard error, empty after a whole listing.
+/// Prints the line for the standard error, or nothing after a whole listing.
 // The usage names a chunk size and `v9` alone, and stays so, since the contract names it. It is printed only for
 // arguments that can be meant so; of all others clap prints what is wrong, and the whole usage.
-pub fn message(outcome: &Outcome) -> &'static str
-    ensures { result.now ≡ message_of outcome.now }
-{
-    match outcome {
-        Outcome::Rejected => "usage: journal_list [1..65536] [v9]\n",
-        Outcome::Listed(Ok(())) => "",
-        Outcome::Listed(Err(ListError::Input)) => "journal_list: input failed\n",
-        Outcome::Listed(Err(ListError::Output)) => "journal_list: output failed\n",
-        Outcome::Listed(Err(ListError::OutOfMemory)) => "journal_list: out of memory\n",
+impl fmt::Display for Outcome {
+    ghost use Rattle.std.specs.Prelude.{Some};
+    ghost use Rattle.journal_list.specs.Run.{message_of};
+
+    ghost output = { λ outcome. Some (message_of outcome) };
+
+    fn fmt<W: fmt::Write>(&self, f: &mut fmt::Formatter<W>) -> fmt::Result {
+        match self {
+            Outcome::Rejected => f.write_str("usage: journal_list [1..65536] [v9]\n"),
+            Outcome::Listed(Ok(())) => Ok(()),
+            Outcome::Listed(Err(error)) => writeln!(f, "journal_list: {error}"),
+        }
     }
 }
 
