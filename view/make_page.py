@@ -193,6 +193,22 @@ def compare(words, paths):
     return verdict
 
 
+def script_of(words, paths):
+    """The differences that journal diff --all finds, in order: of each its change, and how many commands of both
+    journals come before it. None where it has none, or more than it looks for."""
+    diff = subprocess.run(
+        [*words, "--all", "--json", "--", *paths], stdin=subprocess.DEVNULL, capture_output=True, encoding="utf-8",
+        errors="replace",
+    )  # fmt: skip
+    if diff.returncode not in (0, 1):
+        return None
+    whole, *entries = map(json.loads, diff.stdout.splitlines())
+    if not whole["isLeast"]:
+        return None
+    members = ("change", "recorded", "replayed")
+    return [{name: entry[name] for name in members} for entry in entries if entry["change"] != "same"]
+
+
 def messages_of(version):
     """The types with their directions and their messages at a version, and the messages with their fields."""
     protocol = json.loads((HERE / "protocol.json").read_text(encoding="utf-8"))
@@ -301,11 +317,14 @@ def run(arguments):
             else read_stream([journal, "dump", *protocol], path, source, most)
             for path, source, is_lines in zip(paths, sources, of_dumps)
         ]
-        verdict = None
+        verdict = script = None
         if len(paths) == 2 and not any(of_dumps):
             options = [*protocol, *(["--ignore-payloads"] if arguments.ignore_payloads else [])]
             verdict = compare([journal, "diff", *options], sources)
-    text = page(journals, verdict, arguments.protocol, arguments.ignore_payloads)
+            # it has all commands, and so has to have the page
+            if all(one["items"] == one["shown"] for one in journals):
+                script = script_of([journal, "diff", *options], sources)
+    text = page(journals, verdict, arguments.protocol, arguments.ignore_payloads, script)
     if arguments.output == "-":
         put(text)
     else:

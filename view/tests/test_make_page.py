@@ -143,6 +143,34 @@ class Verdicts(unittest.TestCase):
             self.assertIsNone(make_page.verdict_of(text))
 
 
+class Scripts(unittest.TestCase):
+    """What journal diff --all --json prints, as the page takes it."""
+
+    def script(self, status, *lines):
+        """The differences of a program that prints these lines and ends so."""
+        code = f"import sys; print({chr(10).join(lines)!r}); sys.exit({status})"
+        return make_page.script_of([sys.executable, "-c", code], ["recorded", "replayed"])
+
+    def test_the_differences_between_what_is_the_same(self):
+        lines = (
+            '{"sentence":"x","isLeast":true,"same":3,"inserted":1,"removed":0,"changed":0}',
+            '{"change":"same","count":1,"recorded":0,"replayed":0}',
+            '{"change":"inserted","type":"SetStateCommand","recorded":1,"recordedAt":16,"replayed":1,"replayedAt":16}',
+            '{"change":"same","count":2,"recorded":1,"recordedAt":16,"replayed":2,"replayedAt":32}',
+        )
+        self.assertEqual(self.script(1, *lines), [{"change": "inserted", "recorded": 1, "replayed": 1}])
+
+    def test_more_differences_than_were_looked_for(self):
+        self.assertIsNone(self.script(1, '{"sentence":"x","isLeast":false,"same":0}'))
+
+    def test_no_verdict(self):
+        self.assertIsNone(self.script(2))
+
+    def test_of_two_streams(self):
+        page = page_of(STREAMS / "recorded", STREAMS / "replayed_other_handler").read_text()
+        self.assertIn('"script":[{"change":"changed","recorded":2,"replayed":2}]', page)
+
+
 class Endings(unittest.TestCase):
     def test_the_page_is_named(self):
         path = WORK / "named.html"

@@ -4,12 +4,15 @@ use Rattle.shared_core_base.specs.declared.version.Version.{Version}
 use Rattle.replay_bench.specs.declared.verdicts.Comparison.{Comparison}
 use Rattle.replay_bench.specs.declared.verdicts.BenchError.TheVariants.{OutOfMemory}
 use Rattle.replay_bench.specs.declared.verdicts.ReaderError.TheVariants.{Bench}
+use Rattle.replay_bench.specs.declared.aligned.AlignedComparison.{AlignedComparison}
+use Rattle.replay_bench.specs.Holding.{IsAligned}
 use Rattle.replay_bench.specs.Verdicts.{ComparesKnown, IsComparison}
 use Rattle.diff_lines.specs.declared.journals.DiffError.{DiffError}
 use Rattle.diff_lines.specs.declared.journals.DiffError.TheVariants.{NoVerdict, Faulty, Output}
 use Rattle.diff_lines.specs.declared.journals.Findings.{Findings}
 use Rattle.diff_lines.specs.declared.journals.Form.{Form}
 use Rattle.diff_lines.specs.declared.passed_over.Trouble.{Trouble}
+use Rattle.diff_lines.specs.Moved.{ReportsAligned, ReportsMoved, alignment_limit}
 use Rattle.diff_lines.specs.PassedOver.{strict_trouble}
 use Rattle.diff_lines.specs.Verdicts.{Reports, ReportsFound, ReportsWithColors, WritesWithColors}
 
@@ -73,3 +76,21 @@ reported_text version ignore is_strict form a b findings start items slice text 
     let is : slice ≡ text = slice_is ∙ items_is ∙ ap (λ (xs : List ℕ). xs ++ text) start_is in
     reported_with_colors version ignore is_strict form a b findings text result written reports
     (subst (λ (xs : List ℕ). WritesWithColors findings xs result written) is painted)
+
+-- what moved is reported of the two journals
+pub reported_moved : (version : Version) (ignore is_strict : Bool) (form : Form) (is_colored : Bool)
+    (a b : Option (List ℕ)) (found : AlignedComparison) (result : Result Findings DiffError) (written : List ℕ)
+    → IsAligned version ignore is_strict alignment_limit a b found
+    → strict_trouble is_strict found.comparison.recorded found.comparison.replayed ≡ None
+    → ReportsAligned ignore form is_colored found result written
+    → ReportsMoved version ignore is_strict form is_colored a b result written
+reported_moved version ignore is_strict form is_colored a b found (Ok findings) written aligned none reports =
+    (found, record { aligned = aligned; trouble_is = none }, reports)
+reported_moved version ignore is_strict form is_colored a b found (Err Output) written aligned none reports =
+    (found, record { aligned = aligned; trouble_is = none }, reports)
+reported_moved version ignore is_strict form is_colored a b found (Err (Faulty trouble)) written aligned none reports =
+    absurd reports
+reported_moved version ignore is_strict form is_colored a b found (Err (NoVerdict why)) written aligned none reports = (
+  subst (λ w. ComparesKnown version ignore a b (Err w)) (sym reports.0) (out_of_memory version ignore a b),
+  reports.1,
+)

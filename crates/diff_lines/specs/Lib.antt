@@ -1,5 +1,9 @@
 pub mod Colors
+pub mod Entries
+pub mod EntryLines
 pub mod Json
+pub mod Moved
 pub mod PassedOver
+pub mod Sentences
 pub mod Shown
 pub mod Verdicts

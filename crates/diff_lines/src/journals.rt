@@ -4,15 +4,19 @@ ghost use Rattle.std.specs.Prelude.{◌≡◌, ◌≤◌, ◌++◌, ℕ, List, I
 ghost use Rattle.std.specs.Io.KnownBytes.{Appends};
 ghost use Rattle.std.specs.String.{string_bytes};
 ghost use Rattle.shared_core_base.specs.Version.{version_number};
+ghost use Rattle.diff_lines.specs.Moved.{IsFormText, IsShownForm, ReportsAligned, ReportsMoved};
 ghost use Rattle.diff_lines.specs.Verdicts.{Reports, ReportsFound, ReportsWithColors, WritesWithColors, IsWritten};
 ghost use Rattle.diff_lines.specs.Verdicts.{commands_word, found_line, is_same, terminal_line, verdict_line};
 
 use crate::colors::with_colors;
+use crate::entry_json::aligned_json;
+use crate::entry_lines::aligned_text;
 use crate::json_line::json_line;
 use crate::passed_over::{Trouble, strict_trouble};
 use crate::shown::shown_text;
 use replay_bench::{
-    BenchError, Comparison, FieldDifference, ReaderError, Survey, Verdict, survey_readers,
+    AlignedComparison, BenchError, Comparison, FieldDifference, ReaderError, Survey, Verdict,
+    align_readers, survey_readers,
 };
 use shared_core_base::version::Version;
 use std::alloc::{AllocError, Global};
@@ -23,6 +27,10 @@ use stream_lines::output::{OutputFailed, write_whole};
 
 /// The number of bytes that are read at a time.
 const CHUNK_SIZE: usize = 65536;
+
+/// How many commands may have moved between two journals where the fewest of them are found. The search holds a cell
+/// of 40 bytes for each pair of them.
+pub const ALIGNMENT_LIMIT: u32 = 1000;
 
 /// How a verdict is written.
 #[derive(Debug, Clone, Copy, PartialEq, Eq, Drop)]
@@ -137,6 +145,104 @@ pub fn diff<A: Read + Drop, B: Read + Drop, W: Write>(
     report(alloc, found, form, output)
 }
 
+/// Compares two journals as `diff` does, and writes what moved between them: a sentence first, and then a line for each
+/// run of commands that are the same and for each command that was removed, inserted or changed. As JSON the first line
+/// is that of the whole alignment, and the sentence a member of it.
+///
+/// Where more than `ALIGNMENT_LIMIT` commands moved the journals are compared index by index, and the sentence says so.
+#[tactic(auto, using(crate::proofs::Reporting::reported_moved))]
+pub fn diff_all<A: Read + Drop, B: Read + Drop, W: Write>(
+    alloc: Global,
+    version: Version,
+    recorded: A,
+    replayed: B,
+    ignore_payloads: bool,
+    is_strict: bool,
+    form: Form,
+    is_colored: bool,
+    output: &mut W,
+) -> Result<Findings, DiffError>
+    requires { 5 ≤ version_number version }
+    ensures { (written : List ℕ)
+        × Appends (W.contents output.old) (W.contents output.new) written
+        × ReportsMoved version ignore_payloads is_strict form is_colored
+        (A.remaining recorded) (B.remaining replayed) result written }
+{
+    let found = align_readers(
+        alloc,
+        version,
+        recorded,
+        replayed,
+        CHUNK_SIZE,
+        ignore_payloads,
+        is_strict,
+        ALIGNMENT_LIMIT,
+    )?;
+    if let Some(trouble) = strict_trouble(
+        is_strict,
+        &found.comparison.recorded,
+        &found.comparison.replayed,
+    ) {
+        return Err(DiffError::Faulty(trouble));
+    }
+    report_moved(alloc, &found, ignore_payloads, form, is_colored, output)
+}
+
+/// Writes what moved between two journals, and returns what was found.
+fn report_moved<W: Write>(
+    alloc: Global,
+    found: &AlignedComparison,
+    ignore_payloads: bool,
+    form: Form,
+    is_colored: bool,
+    output: &mut W,
+) -> Result<Findings, DiffError>
+    ensures { (written : List ℕ)
+        × Appends (W.contents output.old) (W.contents output.new) written
+        × ReportsAligned ignore_payloads form is_colored found.now result written }
+{
+    let text = shown_form(alloc, found, ignore_payloads, form, is_colored)?;
+    write_text(output, text.as_slice())?;
+    Ok(Findings {
+        is_same: is_same(&found.comparison.verdict),
+        recorded: found.comparison.recorded,
+        replayed: found.comparison.replayed,
+    })
+}
+
+/// What moved between two journals in a form, with colors or without.
+fn shown_form(
+    alloc: Global,
+    found: &AlignedComparison,
+    ignore_payloads: bool,
+    form: Form,
+    is_colored: bool,
+) -> Result<Vec<u8>, AllocError>
+    ensures { IfOk result (λ shown. IsShownForm ignore_payloads form is_colored found.now shown.items) }
+{
+    let text = form_text(alloc, found, ignore_payloads, form)?;
+    if is_colored {
+        return with_colors(alloc, text.as_slice());
+    }
+    Ok(text)
+}
+
+/// What moved between two journals in a form.
+fn form_text(
+    alloc: Global,
+    found: &AlignedComparison,
+    ignore_payloads: bool,
+    form: Form,
+) -> Result<Vec<u8>, AllocError>
+    ensures { IfOk result (λ text. IsFormText ignore_payloads form found.now text.items) }
+{
+    match form {
+        Form::Text => aligned_text(alloc, found, ignore_payloads, ALIGNMENT_LIMIT, false),
+        Form::Terminal => aligned_text(alloc, found, ignore_payloads, ALIGNMENT_LIMIT, true),
+        Form::Json => aligned_json(alloc, found, ignore_payloads, ALIGNMENT_LIMIT),
+    }
+}
+
 /// The same with the verdict in colors: its text is made whole, then painted, and then written.
 #[tactic(auto, using(crate::proofs::Reporting::reported_text, crate::proofs::Reporting::out_of_memory))]
 pub fn diff_with_colors<A: Read + Drop, B: Read + Drop, W: Write>(
@@ -249,7 +355,7 @@ fn is_same(verdict: &Verdict) -> bool
 }
 
 /// `command` or `commands`, by their number.
-fn commands_word(count: u64) -> &'static str
+pub(crate) fn commands_word(count: u128) -> &'static str
     ensures { result.now ≡ commands_word count }
 {
     if count == 1 { "command" } else { "commands" }
@@ -261,7 +367,7 @@ fn line_of(alloc: Global, verdict: &Verdict) -> Result<String, AllocError>
 {
     match verdict {
         Verdict::Same(count) => {
-            let word = commands_word(*count);
+            let word = commands_word(*count as u128);
             format!(in alloc; "same, {count} {word}\n")
         }
         Verdict::RecordedEnded(index) => { format!(in alloc; "recorded ends at command {index}\n") }

@@ -117,7 +117,7 @@ fn write_mismatch(
 }
 
 /// Writes the fields in which two commands differ, as a member.
-fn write_fields(fields: &[FieldDifference], out: &mut Writer) -> Result<(), AllocError>
+pub(crate) fn write_fields(fields: &[FieldDifference], out: &mut Writer) -> Result<(), AllocError>
     ensures tokens { OnOk result (out.new.tokens ++ end_object ∷ [] ≡ out.old.tokens
         ++ members_tokens (fields_members fields.now)) }
     ensures before { out.new.before ≡ out.old.before }
@@ -163,7 +163,7 @@ fn write_kind(out: &mut Writer, kind: &str) -> Result<(), AllocError>
 }
 
 /// Writes a text as a member.
-fn write_text(out: &mut Writer, name: &str, text: &str) -> Result<(), AllocError>
+pub(crate) fn write_text(out: &mut Writer, name: &str, text: &str) -> Result<(), AllocError>
     ensures tokens { OnOk result (out.new.tokens ≡ out.old.tokens
         ++ (key name.now ∷ token.string text.now ∷ [])) }
     ensures before { out.new.before ≡ out.old.before }
@@ -173,7 +173,7 @@ fn write_text(out: &mut Writer, name: &str, text: &str) -> Result<(), AllocError
 }
 
 /// Writes a number as a member.
-fn write_number(out: &mut Writer, name: &str, number: u64) -> Result<(), AllocError>
+pub(crate) fn write_number(out: &mut Writer, name: &str, number: u64) -> Result<(), AllocError>
     ensures tokens { OnOk result (out.new.tokens ≡ out.old.tokens
         ++ (key name.now ∷ token.number (decimal number) ∷ [])) }
     ensures before { out.new.before ≡ out.old.before }
@@ -183,7 +183,7 @@ fn write_number(out: &mut Writer, name: &str, number: u64) -> Result<(), AllocEr
 }
 
 /// Writes an offset as a member, if there is one.
-fn write_offset(
+pub(crate) fn write_offset(
     alloc: Global,
     out: &mut Writer,
     name: &str,
@@ -203,7 +203,7 @@ fn write_offset(
 
 /// Writes a number of 128 bits.
 #[tactic(auto, using(crate::proofs::Decimals::wide_is_number))]
-fn write_wide(alloc: Global, out: &mut Writer, number: u128) -> Result<(), AllocError>
+pub(crate) fn write_wide(alloc: Global, out: &mut Writer, number: u128) -> Result<(), AllocError>
     ensures tokens { OnOk result (out.new.tokens ≡ out.old.tokens ++ token.number (decimal number) ∷ []) }
     ensures before { out.new.before ≡ out.old.before }
 {

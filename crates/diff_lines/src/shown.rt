@@ -26,7 +26,7 @@ pub fn shown_text(
 
 /// The lines of fields, as they end the text of a mismatch.
 #[tactic(auto, using(crate::proofs::ShownLines::one_more))]
-fn plain_lines(alloc: Global, fields: &[FieldDifference]) -> Result<String, AllocError>
+pub(crate) fn plain_lines(alloc: Global, fields: &[FieldDifference]) -> Result<String, AllocError>
     ensures { IfOk result (λ lines. string_bytes lines ≡ flat_map plain_line fields.now) }
 {
     let mut lines = String::new(alloc);
@@ -48,7 +48,7 @@ fn push_plain_line(lines: &mut String, field: &FieldDifference) -> Result<(), Al
 
 /// The lines of fields, as a terminal shows them.
 #[tactic(auto, using(crate::proofs::ShownLines::one_more))]
-fn shown_lines(alloc: Global, fields: &[FieldDifference]) -> Result<String, AllocError>
+pub(crate) fn shown_lines(alloc: Global, fields: &[FieldDifference]) -> Result<String, AllocError>
     ensures { IfOk result (λ lines. string_bytes lines ≡ flat_map shown_line fields.now) }
 {
     let mut lines = String::new(alloc);

@@ -12,112 +12,136 @@ const VERSION: &str = "0.2.0";
 pub fn dump<'a>(alloc: Global, name: &'a str) -> Result<Command<'a>, AllocError> {
     Command::new(alloc, name)
         .version(VERSION)
-        .about("Prints a stream of the protocol as JSON, one object a line for each of its items.")
+        .about("Prints a stream as JSON, one object a line for each of its items.")
         .arg(option(
             alloc,
             "max-message",
             "SIZE",
-            "Ends with an error at a message whose payload has more than this number of bytes",
+            "Ends with an error at a message whose payload has\nmore than this number of bytes",
         ))?
         .arg(flag(alloc, "no-payload", "Leaves out what is in messages"))?
         .arg(flag(
             alloc,
             "pretty",
-            "Prints each object on several lines, indented, for people to read",
+            "Prints each object on several lines, indented, for\npeople to read",
         ))?
         .arg(
             option(
                 alloc,
                 "protocol",
                 "VERSION",
-                "The version of the protocol of the stream",
+                "The version of the protocol of the stream\n[default: 8] [possible values: 5, 6, 7, 8, 9]",
             )
             .value_parser(Version::supported_numbers())
-            .default_value("8"),
+            .hide_possible_values(true)
+            .default_value("8")
+            .hide_default_value(true),
         )?
         .arg(flag(
             alloc,
             "strict",
-            "Ends with status 2 if there is an unknown code, a malformed payload or a rest",
+            "Ends with status 2 if there is an unknown code, a\nmalformed payload or a rest",
         ))?
         .arg(flag(
             alloc,
             "text",
-            "Prints bytes that are UTF-8 as an object with their text, and not in base64",
+            "Prints bytes that are UTF-8 as an object with their\ntext, and not in base64",
         ))?
         .arg(option(
             alloc,
             "type",
             "NAME",
-            "Shows messages of this type alone, or of several, with commas between",
+            "Shows messages of this type alone, or of several,\nwith commas between",
         )
         .action(ArgAction::Append))?
-        .arg(operand(
-            alloc,
-            "file",
-            "FILE",
-            "The stream: a file, or - for the standard input",
+        .arg(
+            operand(
+                alloc,
+                "file",
+                "FILE",
+                "The stream: a file, or - for the standard input [default: -]",
+            )
+            .default_value("-")
+            .hide_default_value(true),
         )
-        .default_value("-"))
 }
 
 /// The definition of `journal make`, which help and errors show by this name.
 pub fn make<'a>(alloc: Global, name: &'a str) -> Result<Command<'a>, AllocError> {
     Command::new(alloc, name)
         .version(VERSION)
-        .about("Makes a stream of the protocol of JSON, one object a line for each of its items.")
+        .about("Makes a stream of JSON, one object a line for each of its items.")
         .arg(
             option(
                 alloc,
                 "protocol",
                 "VERSION",
-                "The version of the protocol of the stream",
+                "The version of the protocol of the stream\n[default: 8] [possible values: 5, 6, 7, 8, 9]",
             )
             .value_parser(Version::supported_numbers())
-            .default_value("8"),
+            .hide_possible_values(true)
+            .default_value("8")
+            .hide_default_value(true),
         )?
-        .arg(operand(
-            alloc,
-            "file",
-            "FILE",
-            "The lines: a file, or - for the standard input",
+        .arg(
+            operand(
+                alloc,
+                "file",
+                "FILE",
+                "The lines: a file, or - for the standard input [default: -]",
+            )
+            .default_value("-")
+            .hide_default_value(true),
         )
-        .default_value("-"))
 }
 
 /// The definition of `journal diff`, which help and errors show by this name.
 pub fn diff<'a>(alloc: Global, name: &'a str) -> Result<Command<'a>, AllocError> {
     Command::new(alloc, name)
         .version(VERSION)
-        .about(
-            "Compares two journals, command by command. Ends with 0 where they are the same, 1 where they differ, and 2 where there is trouble.",
+        .about("Compares two journals, command by command.")
+        .after_help(
+            "Ends with 0 where they are the same, 1 where they differ, and 2 where there is\ntrouble.",
         )
+        .arg(flag(
+            alloc,
+            "all",
+            "Says what moved: which commands were inserted,\nremoved or changed",
+        ))?
         .arg(flag(alloc, "ignore-payloads", "Compares all but payloads"))?
         .arg(flag(
             alloc,
             "strict",
-            "Unknown headers, malformed payloads and bytes after the last whole item are trouble",
+            "Unknown headers, malformed payloads and bytes after\nthe last whole item are trouble",
         ))?
-        .arg(flag(alloc, "json", "Prints the verdict as a line of JSON"))?
+        .arg(flag(
+            alloc,
+            "json",
+            "Prints the verdict as a line of JSON, or with --all\nlines",
+        ))?
         .arg(
             option(
                 alloc,
                 "color",
                 "WHEN",
-                "When the output has colors: auto is on a terminal, unless NO_COLOR is set",
+                "When the output has colors: auto is on a terminal,\nunless NO_COLOR is set\n[default: auto] [possible values: auto, always,\nnever]",
             )
             .value_parser(&["auto", "always", "never"][..])
-            .default_value("auto"),
+            .hide_possible_values(true)
+            .default_value("auto")
+            .hide_default_value(true),
         )?
         .arg(
             option(
                 alloc,
                 "protocol",
                 "VERSION",
-                "The version of the protocol of both journals",
+                "The version of the protocol of both journals\n[default: 8] [possible values: 5, 6, 7, 8, 9]",
             )
             .value_parser(Version::supported_numbers())
-            .default_value("8"),
+            .hide_possible_values(true)
+            .default_value("8")
+            .hide_default_value(true),
         )?
         .arg(operand(
             alloc,
@@ -141,7 +165,7 @@ pub fn journal<'a>(alloc: Global) -> Result<Command<'a>, AllocError> {
         .version(VERSION)
         .about("Prints, makes and compares journals of the protocol.")
         .after_help(
-            "A stream as a listing: the program journal_list. A journal as a page, or two side by side: scripts/run.sh journal view, in the sources.",
+            "A stream as a listing: the program journal_list. A journal as a page, or two\nside by side: scripts/run.sh journal view, in the sources.",
         )
         .subcommand_required(true)
         .arg_required_else_help(true)

@@ -11,7 +11,8 @@ use crate::diff::arguments::{Arguments, parse_arguments};
 use crate::diff::inputs::{Inputs, closed_side, open_both};
 use command_line::{Escapes, Escaping, Pipe, Progress, Watched, has_color};
 use diff_lines::{
-    DiffError, Findings, Form, diff, diff_with_colors, no_item_note, rest_note, unknown_note,
+    DiffError, Findings, Form, diff, diff_all, diff_with_colors, no_item_note, rest_note,
+    unknown_note,
 };
 use replay_bench::{ReaderError, Side};
 use shared_core_base::version::Version;
@@ -79,7 +80,20 @@ fn run_parsed(call: &Call<'_>, parsed: &Arguments<'_>, inputs: Inputs) -> ExitCo
         Escapes::Json,
         is_terminal && parsed.is_json,
     ));
-    let found = if !parsed.is_json && has_color(call.rt, parsed.color) {
+    let is_colored = !parsed.is_json && has_color(call.rt, parsed.color);
+    let found = if parsed.is_all {
+        diff_all(
+            call.rt.alloc(),
+            parsed.version,
+            recorded,
+            replayed,
+            parsed.ignore_payloads,
+            parsed.is_strict,
+            form,
+            is_colored,
+            &mut output,
+        )
+    } else if is_colored {
         diff_with_colors(
             call.rt.alloc(),
             parsed.version,

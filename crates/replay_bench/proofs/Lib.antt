@@ -1,3 +1,4 @@
+pub mod Agreement
 pub mod Alignments
 pub mod Surveys
 pub mod Fronts
@@ -7,5 +8,6 @@ pub mod Pairs
 pub mod Places
 pub mod Readings
 pub mod Seen
+pub mod Stops
 pub mod Endings
 pub mod OneOutcome

@@ -247,7 +247,7 @@ are_commands [] = tt
 are_commands (item ∷ items) = with_command (command_of item) (commands_among items) (item_command item)
     (are_commands items)
 
-one_journal : (version : Version) (stream : List ℕ) (a b : List RawMessage) → IsJournal version stream a → IsJournal
+pub one_journal : (version : Version) (stream : List ℕ) (a b : List RawMessage) → IsJournal version stream a → IsJournal
     version stream b → a ≡ b
 one_journal version stream a b f g =
     f.among ∙ ap commands_among (split_is_unique version stream f.items g.items f.rest g.rest f.split g.split).0 ∙ sym

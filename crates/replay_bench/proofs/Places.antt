@@ -1,5 +1,5 @@
 -- The place of a command in its journal.
-use Rattle.std.proofs.Common.{◌≡◌, ℕ, ◌+◌, Bool, List, [], ◌∷◌, ◌++◌, Option, Some, None, length, refl, sym, ap, ◌∙◌}
+use Rattle.std.proofs.Common.{◌≡◌, ℕ, ◌+◌, Bool, List, [], ◌∷◌, ◌++◌, Option, Some, None, length, sym, ap, ◌∙◌}
 use Rattle.std.proofs.Common.{subst, append_assoc, length-append}
 use Rattle.std.specs.Prelude.{IsTrue}
 use Rattle.shared_core_base.specs.declared.version.Version.{Version}

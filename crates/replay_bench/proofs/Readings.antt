@@ -3,7 +3,7 @@ use Rattle.std.proofs.Common.{◌≡◌, ℕ, ◌+◌, ◌≤◌, ◌<◌, ◌^�
 use Rattle.std.proofs.Common.{Some, None, refl, sym, ap, ◌∙◌, subst, arith, length-append, append-nil}
 use Rattle.std.specs.Prelude.{is_some}
 use Rattle.std.specs.Io.KnownBytes.{Consumes, IsAtEnd}
-use Rattle.std.proofs.KnownBytes.{Consumes-nil, Consumes-trans}
+use Rattle.std.proofs.KnownBytes.{Consumes-trans}
 use Rattle.shared_core_base.specs.declared.version.Version.{Version}
 use Rattle.shared_core_base.specs.declared.command_type.CommandType.{CommandType}
 use Rattle.shared_core_base.specs.CommandType.{command_type_of}
@@ -11,7 +11,7 @@ use Rattle.shared_core_stream.specs.declared.encoding.item.Item.{Item}
 use Rattle.shared_core_stream.specs.declared.encoding.item.Item.TheVariants.{Message, Unknown, Skipped}
 use Rattle.shared_core_stream.specs.declared.encoding.raw_message.RawMessage.{RawMessage}
 use Rattle.shared_core_stream.specs.Items.{IsItemsThen, NoItemBegins, SplitsInto, TakesItem}
-use Rattle.shared_core_stream.proofs.Items.{then_more, then_start, then_takes}
+use Rattle.shared_core_stream.proofs.Items.{then_more, then_takes}
 use Rattle.stream_lines.specs.Printing.{items_size}
 use Rattle.stream_lines.proofs.Progress.{then_long}
 use Rattle.replay_bench.specs.declared.survey.Survey.{Survey}
@@ -24,7 +24,7 @@ use Rattle.replay_bench.specs.declared.verdicts.BenchError.{BenchError}
 use Rattle.replay_bench.specs.declared.verdicts.BenchError.TheVariants.{Malformed, TooLong, OutOfMemory}
 use Rattle.replay_bench.specs.Journals.{command_of, if_command}
 use Rattle.replay_bench.specs.Taking.{GivesChunk, KeepsLength, MayReject, RejectsLength, known_length}
-use Rattle.replay_bench.specs.Reading.{HasItems, HasRead, HasReadOn, IsKnownLast, IsKnownSurvey, IsNew}
+use Rattle.replay_bench.specs.Reading.{HasItems, HasRead, HasReadOn, IsKnownLast, IsKnownSurvey}
 use Rattle.replay_bench.proofs.Lengths.{chunk_too_long, too_long_before}
 
 -- ---- items and commands

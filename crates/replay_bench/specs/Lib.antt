@@ -8,3 +8,5 @@ pub mod Fields
 pub mod Verdicts
 pub mod Texts
 pub mod Alignments
+pub mod Held
+pub mod Holding

@@ -17,6 +17,7 @@ use Rattle.replay_bench.specs.declared.verdicts.Side.{Side}
 use Rattle.replay_bench.specs.declared.verdicts.Side.TheVariants.{Recorded, Replayed}
 use Rattle.replay_bench.specs.declared.fields.FieldDifference.{FieldDifference}
 use Rattle.replay_bench.specs.declared.mismatches.Found.{Found}
+use Rattle.replay_bench.specs.declared.comparison.Stopped.{Stopped}
 use Rattle.replay_bench.specs.declared.verdicts.Comparison.{Comparison}
 use Rattle.replay_bench.specs.declared.verdicts.Verdict.{Verdict}
 use Rattle.replay_bench.specs.declared.verdicts.Verdict.TheVariants.{Same, RecordedEnded, ReplayedEnded, TypeMismatch}
@@ -152,10 +153,10 @@ ComparesKnown version ignore (Some recorded) (Some replayed) result = ComparesRe
     result
 ComparesKnown version ignore recorded replayed result = Unit {0}
 
--- A result without the fields that come with its verdict.
-abbrev pub without_fields : Result Found ReaderError → Result Verdict ReaderError
-without_fields (Ok found) = Ok found.verdict
-without_fields (Err error) = Err error
+-- The verdict of a comparison that stopped.
+abbrev pub verdict_alone : Result Stopped ReaderError → Result Verdict ReaderError
+verdict_alone (Ok stopped) = Ok stopped.found.verdict
+verdict_alone (Err error) = Err error
 
 -- The fields that come with a verdict on two journals: if its commands differ, those in which they do; otherwise none.
 abbrev pub HasFieldsOn : Version → Option (List ℕ) → Option (List ℕ) → Verdict → List FieldDifference → Type 0
@@ -198,6 +199,14 @@ replayed_seen (RecordedEnded index) = index + 1
 replayed_seen (ReplayedEnded index) = index
 replayed_seen (TypeMismatch index text) = index + 1
 replayed_seen (HeaderMismatch index text) = index + 1
+
+-- The index at which a verdict has stopped in both journals: all commands before are alike.
+abbrev pub stopped_index : Verdict → ℕ
+stopped_index (Same count) = count
+stopped_index (RecordedEnded index) = index
+stopped_index (ReplayedEnded index) = index
+stopped_index (TypeMismatch index text) = index
+stopped_index (HeaderMismatch index text) = index
 
 -- Two journals, as far as their bytes are known, have this verdict, these fields in which its commands differ, these
 -- surveys, and at these offsets the last commands that the verdict has seen.

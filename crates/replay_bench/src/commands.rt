@@ -4,12 +4,14 @@
 //! early verdict holds for all that was not read. Counting the bytes decides `TooLong`, and keeps an index small enough
 //! for the texts, since a command takes eight bytes at least.
 
-ghost use Rattle.std.specs.Prelude.{◌≡◌, ◌+◌, ◌≤◌, ◌<◌, ◌^◌, ◌++◌, ℕ, Bool, List, Option, []};
+ghost use Rattle.std.specs.Prelude.{◌≡◌, ◌+◌, ◌≤◌, ◌<◌, ◌^◌, ◌++◌, ◌∷◌, ℕ, Bool, List, Option, []};
 ghost use Rattle.std.specs.Prelude.{is_none, is_some, if◌then◌else◌};
 ghost use Rattle.std.specs.Prelude.{length, IfErr, IfOk, IfSome, MatchOption, OnOk, IsErrOf, None};
 ghost use Rattle.std.specs.Io.KnownBytes.{prepend_known};
+ghost use Rattle.std.specs.List.{All};
 ghost use Rattle.shared_core_base.specs.Version.{version_number};
 ghost use Rattle.shared_core_stream.specs.Items.{NoItemBegins};
+ghost use Rattle.replay_bench.specs.Held.{HasAfter, HasOffsets, IsHeld};
 ghost use Rattle.replay_bench.specs.Journals.{command_of, IsCommand};
 ghost use Rattle.replay_bench.specs.Reading.{HasItems, HasRead, HasReadOn, HasReadSome, IsKnownSurvey, IsNew};
 ghost use Rattle.replay_bench.specs.Taking.{known_length, HasNoCommand, LeadsTo};
@@ -23,6 +25,27 @@ use shared_core::CommandType;
 use shared_core::encoding::{Decoder, Item, PushError, RawMessage};
 use shared_core::version::Version;
 use std::alloc::{AllocError, Global};
+
+/// Commands of a journal, in a row.
+#[derive(Debug, PartialEq, Drop)]
+pub struct HeldCommands {
+    /// The commands.
+    pub commands: Vec<RawMessage>,
+    /// The offset of each in the journal, in bytes.
+    pub offsets: Vec<Option<u128>>,
+}
+
+impl HeldCommands {
+    /// Appends a command that has this offset.
+    fn push(&mut self, command: RawMessage, offset: Option<u128>) -> Result<(), AllocError>
+        ensures commands { OnOk result (self.new.commands.items ≡ self.old.commands.items ++ command ∷ []) }
+        ensures offsets { OnOk result (self.new.offsets.items ≡ self.old.offsets.items ++ offset ∷ []) }
+    {
+        self.commands.push(command)?;
+        self.offsets.push(offset)?;
+        Ok(())
+    }
+}
 
 /// The commands of a journal that comes in chunks, one after the other. Of the journal it holds the chunks that no item
 /// has used up.
@@ -126,6 +149,51 @@ impl<S: Source> Commands<S> {
         ensures { result ≡ self.now.survey.last_command }
     {
         self.survey.last_command
+    }
+
+    /// Reads a journal to its end, unless it has ended, and returns the commands from the next one on, with their
+    /// offsets, and the survey of all of it.
+    pub(crate) fn hold(
+        mut self,
+        alloc: Global,
+        next: Option<RawMessage>,
+    ) -> Result<(HeldCommands, Survey), ReaderError>
+        requires fits { self.taken < 2 ^ 64 }
+        requires same { self.decoder.version ≡ self.version }
+        requires command { IfSome next IsCommand }
+        requires read { (is_strict : Bool) × (first : Option (List ℕ))
+            × HasReadOn self.version is_strict first (is_none next)
+            (S.coming self.source) self.decoder.bytes self.taken self.survey }
+        ensures survey { IfOk result (λ held. (is_strict : Bool) (first : Option (List ℕ))
+            → HasReadOn self.version is_strict first (is_none next)
+            (S.coming self.source) self.decoder.bytes self.taken self.survey
+            → IsKnownSurvey self.version is_strict first held.1) }
+        ensures held { IfOk result (λ held. (first : Option (List ℕ)) (index : ℕ)
+            → IsHeld self.version first index [] next (prepend_known self.decoder.bytes (S.coming self.source))
+            → IfSome first (λ journal. HasAfter self.version journal index held.0.commands.items)) }
+        ensures commands { IfOk result (λ held. All IsCommand held.0.commands.items) }
+        ensures offsets { IfOk result (λ held. (is_strict : Bool) (first : Option (List ℕ))
+            → HasReadOn self.version is_strict first (is_none next)
+            (S.coming self.source) self.decoder.bytes self.taken self.survey
+            → HasOffsets self.version first self.survey.commands held.0.offsets.items) }
+        ensures long { IfOk result (λ held.
+            length held.0.offsets.items ≡ length held.0.commands.items) }
+        ensures rejected { IfErr result (λ error. (is_strict : Bool) (first : Option (List ℕ))
+            → HasReadOn self.version is_strict first (is_none next)
+            (S.coming self.source) self.decoder.bytes self.taken self.survey
+            → MayReject self.side S.may_fail (known_length 0 first) error) }
+    {
+        let mut held = HeldCommands {
+            commands: Vec::new(alloc),
+            offsets: Vec::new(alloc),
+        };
+        let mut next = next;
+        while let Some(command) = next {
+            held.push(command, self.last_command())?;
+            next = self.next_command()?;
+        }
+        let survey = self.survey.with_rest(self.decoder.pending());
+        Ok((held, survey))
     }
 
     /// Reads a journal that has not ended to its end, and returns the survey of all of it.

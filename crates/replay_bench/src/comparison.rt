@@ -1,12 +1,15 @@
 //! Two journals compared, command by command.
 
 ghost use Rattle.std.specs.Prelude.{◌≡◌, ◌≤◌, ℕ, List, Some, IfOk, IsTrue};
+ghost use Rattle.std.specs.Io.KnownBytes.{prepend_known};
 ghost use Rattle.std.specs.List.{concat};
 ghost use Rattle.shared_core_base.specs.Version.{version_number};
 ghost use Rattle.replay_bench.specs.declared.verdicts.Side.TheVariants.{Recorded, Replayed};
 ghost use Rattle.replay_bench.specs.Reading.{IsNew, IsReading};
-ghost use Rattle.replay_bench.specs.Verdicts.{Compares, ComparesKnown, HasFieldsOn, MayFailOn, Surveys, without_fields};
+ghost use Rattle.replay_bench.specs.Held.{IsStopped};
+ghost use Rattle.replay_bench.specs.Verdicts.{Compares, ComparesKnown, HasFieldsOn, MayFailOn, Surveys, verdict_alone};
 ghost use Rattle.replay_bench.specs.Verdicts.{recorded_ended, recorded_seen, replayed_ended, replayed_seen};
+ghost use Rattle.replay_bench.specs.Verdicts.{stopped_index};
 
 use crate::commands::Commands;
 use crate::mismatches::{Found, Pair, compare_commands};
@@ -14,6 +17,7 @@ use crate::reader_chunks::ReaderChunks;
 use crate::sources::{SliceChunks, Source};
 use crate::verdicts::{BenchError, Comparison, ReaderError, Side, Verdict};
 use bytes::Bytes;
+use shared_core::encoding::RawMessage;
 use shared_core::version::Version;
 use std::alloc::Global;
 use std::io::Read;
@@ -88,7 +92,7 @@ pub fn compare_sources<A: Source, B: Source>(
 {
     let mut recorded = Commands::new(alloc, version, Side::Recorded, recorded, false);
     let mut replayed = Commands::new(alloc, version, Side::Replayed, replayed, false);
-    let found = find_verdict(
+    let stopped = find_verdict(
         alloc,
         version,
         &mut recorded,
@@ -96,36 +100,51 @@ pub fn compare_sources<A: Source, B: Source>(
         ignore_payload_equality,
         false,
     )?;
-    Ok(found.verdict)
+    Ok(stopped.found.verdict)
+}
+
+/// A verdict, and the commands at which it stopped: the next one of each journal that has not ended.
+#[derive(Drop)]
+pub(crate) struct Stopped {
+    pub found: Found,
+    pub recorded: Option<RawMessage>,
+    pub replayed: Option<RawMessage>,
 }
 
 /// Compares the commands of two journals of which nothing was read yet. If `is_listed`, the fields in which two of them
 /// differ come with the verdict.
-fn find_verdict<A: Source, B: Source>(
+pub(crate) fn find_verdict<A: Source, B: Source>(
     alloc: Global,
     version: Version,
     recorded: &mut Commands<A>,
     replayed: &mut Commands<B>,
     ignore_payload_equality: bool,
     is_listed: bool,
-) -> Result<Found, ReaderError>
+) -> Result<Stopped, ReaderError>
     requires recorded { IsNew version Recorded recorded.old.side recorded.old.version
         recorded.old.decoder.version recorded.old.decoder.bytes recorded.old.taken recorded.old.survey }
     requires replayed { IsNew version Replayed replayed.old.side replayed.old.version
         replayed.old.decoder.version replayed.old.decoder.bytes replayed.old.taken replayed.old.survey }
     ensures compared { ComparesKnown version ignore_payload_equality
-        (A.coming recorded.old.source) (B.coming replayed.old.source) (without_fields result) }
+        (A.coming recorded.old.source) (B.coming replayed.old.source) (verdict_alone result) }
     ensures failed { MayFailOn A.may_fail B.may_fail result }
-    ensures fields { IfOk result (λ found. IsTrue is_listed → HasFieldsOn version
-        (A.coming recorded.old.source) (B.coming replayed.old.source) found.verdict found.fields.items) }
-    ensures recorded { IfOk result (λ found. IsReading version Recorded recorded.old.survey.is_strict
-        (A.coming recorded.old.source) (recorded_ended found.verdict) (recorded_seen found.verdict)
+    ensures fields { IfOk result (λ stopped. IsTrue is_listed → HasFieldsOn version
+        (A.coming recorded.old.source) (B.coming replayed.old.source)
+        stopped.found.verdict stopped.found.fields.items) }
+    ensures recorded { IfOk result (λ stopped. IsReading version Recorded recorded.old.survey.is_strict
+        (A.coming recorded.old.source) (recorded_ended stopped.found.verdict) (recorded_seen stopped.found.verdict)
         recorded.new.side recorded.new.version recorded.new.decoder.version
         (A.coming recorded.new.source) recorded.new.decoder.bytes recorded.new.taken recorded.new.survey) }
-    ensures replayed { IfOk result (λ found. IsReading version Replayed replayed.old.survey.is_strict
-        (B.coming replayed.old.source) (replayed_ended found.verdict) (replayed_seen found.verdict)
+    ensures replayed { IfOk result (λ stopped. IsReading version Replayed replayed.old.survey.is_strict
+        (B.coming replayed.old.source) (replayed_ended stopped.found.verdict) (replayed_seen stopped.found.verdict)
         replayed.new.side replayed.new.version replayed.new.decoder.version
         (B.coming replayed.new.source) replayed.new.decoder.bytes replayed.new.taken replayed.new.survey) }
+    ensures stopped { IfOk result (λ stopped. IsStopped version (A.coming recorded.old.source)
+        (stopped_index stopped.found.verdict) (recorded_ended stopped.found.verdict) stopped.recorded
+        (prepend_known recorded.new.decoder.bytes (A.coming recorded.new.source))) }
+    ensures other_stopped { IfOk result (λ stopped. IsStopped version (B.coming replayed.old.source)
+        (stopped_index stopped.found.verdict) (replayed_ended stopped.found.verdict) stopped.replayed
+        (prepend_known replayed.new.decoder.bytes (B.coming replayed.new.source))) }
 {
     let mut index: u64 = 0;
     loop {
@@ -133,20 +152,32 @@ fn find_verdict<A: Source, B: Source>(
         let replayed_command = replayed.next_command()?;
         let Some(recorded_command) = recorded_command else {
             if replayed_command.is_some() {
-                return Ok(Found {
-                    verdict: Verdict::RecordedEnded(index),
-                    fields: Vec::new(alloc),
+                return Ok(Stopped {
+                    found: Found {
+                        verdict: Verdict::RecordedEnded(index),
+                        fields: Vec::new(alloc),
+                    },
+                    recorded: None,
+                    replayed: replayed_command,
                 });
             }
-            return Ok(Found {
-                verdict: Verdict::Same(index),
-                fields: Vec::new(alloc),
+            return Ok(Stopped {
+                found: Found {
+                    verdict: Verdict::Same(index),
+                    fields: Vec::new(alloc),
+                },
+                recorded: None,
+                replayed: None,
             });
         };
         let Some(replayed_command) = replayed_command else {
-            return Ok(Found {
-                verdict: Verdict::ReplayedEnded(index),
-                fields: Vec::new(alloc),
+            return Ok(Stopped {
+                found: Found {
+                    verdict: Verdict::ReplayedEnded(index),
+                    fields: Vec::new(alloc),
+                },
+                recorded: Some(recorded_command),
+                replayed: None,
             });
         };
         let pair = Pair {
@@ -159,7 +190,11 @@ fn find_verdict<A: Source, B: Source>(
         };
         let found = compare_commands(pair)?;
         if let Some(found) = found {
-            return Ok(found);
+            return Ok(Stopped {
+                found,
+                recorded: Some(recorded_command),
+                replayed: Some(replayed_command),
+            });
         }
         index += 1;
     }
@@ -213,7 +248,7 @@ pub fn survey_sources<A: Source, B: Source>(
 {
     let mut recorded = Commands::new(alloc, version, Side::Recorded, recorded, is_strict);
     let mut replayed = Commands::new(alloc, version, Side::Replayed, replayed, is_strict);
-    let found = find_verdict(
+    let stopped = find_verdict(
         alloc,
         version,
         &mut recorded,
@@ -223,11 +258,11 @@ pub fn survey_sources<A: Source, B: Source>(
     )?;
     let recorded_at = recorded.last_command();
     let replayed_at = replayed.last_command();
-    let recorded = recorded.finish(found.verdict.has_recorded_ended())?;
-    let replayed = replayed.finish(found.verdict.has_replayed_ended())?;
+    let recorded = recorded.finish(stopped.found.verdict.has_recorded_ended())?;
+    let replayed = replayed.finish(stopped.found.verdict.has_replayed_ended())?;
     Ok(Comparison {
-        verdict: found.verdict,
-        fields: found.fields,
+        verdict: stopped.found.verdict,
+        fields: stopped.found.fields,
         recorded,
         replayed,
         recorded_at,

@@ -2,6 +2,7 @@
 //! `shared_core`, over its public calls and their contracts alone.
 #![tactic(auto)]
 
+mod aligned;
 mod alignment;
 mod commands;
 mod comparison;
@@ -14,7 +15,9 @@ mod sources;
 mod survey;
 mod verdicts;
 
-pub use crate::alignment::align_commands;
+pub use crate::aligned::{AlignedComparison, align_readers, align_sources};
+pub use crate::alignment::{align_commands, changed_fields};
+pub use crate::commands::HeldCommands;
 pub use crate::comparison::{
     compare_journals, compare_readers, compare_sources, survey_readers, survey_sources,
 };

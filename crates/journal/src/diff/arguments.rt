@@ -19,6 +19,8 @@ pub struct Arguments<'a> {
     pub replayed: &'a str,
     /// The version of the protocol of both journals.
     pub version: Version,
+    /// Whether all that moved is printed.
+    pub is_all: bool,
     /// Whether payloads are left out of the comparison.
     pub ignore_payloads: bool,
     /// Whether what is passed over may be an error.
@@ -58,6 +60,7 @@ pub fn parse_arguments<'a>(
         recorded,
         replayed,
         version: protocol_of(&matches),
+        is_all: matches.get_flag("all"),
         ignore_payloads: matches.get_flag("ignore-payloads"),
         is_strict: matches.get_flag("strict"),
         is_json: matches.get_flag("json"),

@@ -7,6 +7,7 @@ use Rattle.replay_bench.proofs.Lengths.{keeps_on}
 use Rattle.replay_bench.proofs.Places.{after_more, command_is_at, fields_found}
 use Rattle.replay_bench.proofs.Readings.{on_more}
 use Rattle.replay_bench.proofs.Seen.{found_seen, none_where_not_some, some_where_not_none}
+use Rattle.replay_bench.proofs.Stops.{stops, stops_at, stops_at_end, stops_where_none}
 use Rattle.replay_bench.proofs.comparison.find_verdict.Goals as goal
 
 pub returns-then-is_some-clause-compared : goal.returns-then-is_some-clause-compared
@@ -262,3 +263,65 @@ returns-in_default-clause-replayed g c =
       read_on = reads _ _ inv.other_read;
       counted = omega (arith, commands, inv.other_commands);
     }
+
+pub returns-in_default-clause-stopped : goal.returns-in_default-clause-stopped
+returns-in_default-clause-stopped g c =
+    let inv = c.loop-recorded_command.invariant in
+    let none = rw (c.in_default.is, inv.version) at c.in_ok-recorded_command.ensures.taken in
+    stops_at_end c.args.version _ _ _ _ inv.after none
+
+pub returns-then-is_some-clause-stopped : goal.returns-then-is_some-clause-stopped
+returns-then-is_some-clause-stopped g c =
+    let inv = c.loop-recorded_command.invariant in
+    let none = rw (c.in_default.is, inv.version) at c.in_ok-recorded_command.ensures.taken in
+    stops_at_end c.args.version _ _ _ _ inv.after none
+
+pub returns-in_default-replayed_command-clause-stopped : goal.returns-in_default-replayed_command-clause-stopped
+returns-in_default-replayed_command-clause-stopped g c =
+    let inv = c.loop-recorded_command.invariant in
+    let one = rw (c.in-Some.is, inv.version) at c.in_ok-recorded_command.ensures.taken in
+    let command = rw c.in-Some.is at c.in_ok-recorded_command.ensures.command in
+    stops_at c.args.version _ _ _ _ _ inv.after one command
+
+pub returns-in-Some-found-clause-stopped : goal.returns-in-Some-found-clause-stopped
+returns-in-Some-found-clause-stopped g c =
+    let inv = c.loop-recorded_command.invariant in
+    let one = rw (c.in-Some.is, inv.version) at c.in_ok-recorded_command.ensures.taken in
+    let command = rw c.in-Some.is at c.in_ok-recorded_command.ensures.command in
+    let found = is_found c.args.version _ _ _ _ _ _ (rw c.in-Some-found.is at c.in_ok-found.ensures) in
+    let seen = found_seen _ _ c.in-Some.recorded_command c.in-Some-replayed_command.replayed_command
+    c.in-Some-found.found.verdict found.0 in
+    rw (seen.recorded_goes, seen.stopped) (stops_at c.args.version _ _ _ _ _ inv.after one command)
+
+pub returns-in_default-clause-other_stopped : goal.returns-in_default-clause-other_stopped
+returns-in_default-clause-other_stopped g c =
+    let inv = c.loop-recorded_command.invariant in
+    let some = none_where_not_some c.in_ok-replayed_command.replayed_command
+    (sym c.is_some.ensures ∙ c.if-is_some.false) in
+    let next = rw (inv.other_version) at c.in_ok-replayed_command.ensures.taken in
+    stops_where_none c.args.version _ _ _ _ _ some inv.other_after next
+
+pub returns-then-is_some-clause-other_stopped : goal.returns-then-is_some-clause-other_stopped
+returns-then-is_some-clause-other_stopped g c =
+    let inv = c.loop-recorded_command.invariant in
+    let some = some_where_not_none c.in_ok-replayed_command.replayed_command
+    (sym c.is_some.ensures ∙ c.if-is_some.true) in
+    let next = rw (inv.other_version) at c.in_ok-replayed_command.ensures.taken in
+    stops c.args.version _ _ _ _ _ _ inv.other_after next c.in_ok-replayed_command.ensures.command some
+
+pub returns-in_default-replayed_command-clause-other_stopped :
+    goal.returns-in_default-replayed_command-clause-other_stopped
+returns-in_default-replayed_command-clause-other_stopped g c =
+    let inv = c.loop-recorded_command.invariant in
+    let none = rw (c.in_default-replayed_command.is, inv.other_version) at c.in_ok-replayed_command.ensures.taken in
+    stops_at_end c.args.version _ _ _ _ inv.other_after none
+
+pub returns-in-Some-found-clause-other_stopped : goal.returns-in-Some-found-clause-other_stopped
+returns-in-Some-found-clause-other_stopped g c =
+    let inv = c.loop-recorded_command.invariant in
+    let other = rw (c.in-Some-replayed_command.is, inv.other_version) at c.in_ok-replayed_command.ensures.taken in
+    let command = rw c.in-Some-replayed_command.is at c.in_ok-replayed_command.ensures.command in
+    let found = is_found c.args.version _ _ _ _ _ _ (rw c.in-Some-found.is at c.in_ok-found.ensures) in
+    let seen = found_seen _ _ c.in-Some.recorded_command c.in-Some-replayed_command.replayed_command
+    c.in-Some-found.found.verdict found.0 in
+    rw (seen.replayed_goes, seen.stopped) (stops_at c.args.version _ _ _ _ _ inv.other_after other command)

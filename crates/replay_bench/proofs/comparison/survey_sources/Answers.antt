@@ -7,14 +7,14 @@ use Rattle.replay_bench.proofs.comparison.survey_sources.Goals as goal
 pub returns-clause-compared : goal.returns-clause-compared
 returns-clause-compared g c =
     let v = c.args.version in
-    let verdict = c.in_ok-found.found.verdict in
-    let recorded = c.in_ok-found.ensures.recorded in
-    let replayed = c.in_ok-found.ensures.replayed in
+    let verdict = c.in_ok-stopped.stopped.found.verdict in
+    let recorded = c.in_ok-stopped.ensures.recorded in
+    let replayed = c.in_ok-stopped.ensures.replayed in
     let recorded_is = ap g.A.Source.coming c.new-recorded.ensures.source in
     let replayed_is = ap g.B.Source.coming c.new-replayed.ensures.source in
     record {
-      verdict = rw (c.new-recorded.ensures.source, c.new-replayed.ensures.source) at c.in_ok-found.ensures.compared;
-      fields = rw (c.new-recorded.ensures.source, c.new-replayed.ensures.source) at c.in_ok-found.ensures.fields refl;
+      verdict = rw (c.new-recorded.ensures.source, c.new-replayed.ensures.source) at c.in_ok-stopped.ensures.compared;
+      fields = rw (c.new-recorded.ensures.source, c.new-replayed.ensures.source) at c.in_ok-stopped.ensures.fields refl;
       recorded_survey = finished v _ c.args.is_strict _ (g.A.Source.coming c.args.recorded) _ _ (recorded_ended verdict)
           _ _ _ _ c.in_ok-recorded.recorded
           recorded.noted_is c.new-recorded.ensures.strict recorded_is c.has_recorded_ended.ensures recorded.read_on

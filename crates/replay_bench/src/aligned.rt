@@ -1,0 +1,114 @@
+//! Two journals compared, and aligned from the first difference on.
+
+ghost use Rattle.std.specs.Prelude.{◌≤◌};
+ghost use Rattle.shared_core_base.specs.Version.{version_number};
+ghost use Rattle.replay_bench.specs.Holding.{AlignsKnown};
+ghost use Rattle.replay_bench.specs.Verdicts.{MayFailOn};
+
+use crate::alignment::align_commands;
+use crate::commands::{Commands, HeldCommands};
+use crate::comparison::find_verdict;
+use crate::reader_chunks::ReaderChunks;
+use crate::sources::Source;
+use crate::verdicts::{Comparison, ReaderError, Side};
+use edit_script::Alignment;
+use shared_core::version::Version;
+use std::alloc::Global;
+use std::io::Read;
+
+/// Two journals, compared, surveyed, and aligned.
+#[derive(Debug, PartialEq, Drop)]
+pub struct AlignedComparison {
+    /// How they compare, and what they have.
+    pub comparison: Comparison,
+    /// The recorded commands from the index of the verdict on. All before are the same as the replayed ones.
+    pub recorded: HeldCommands,
+    /// The replayed commands from there on.
+    pub replayed: HeldCommands,
+    /// The differences of these commands, whose indices begin at that of the verdict.
+    pub alignment: Alignment,
+}
+
+/// Compares and surveys two journals that readers give, as `survey_readers` does, and aligns their commands, as
+/// `align_commands` does with this limit.
+///
+/// The commands before the index of the verdict are the same, one by one, and are not held. Those from there on are,
+/// with the chunks that their payloads share, and are aligned when both journals were read to their ends.
+pub fn align_readers<A: Read + Drop, B: Read + Drop>(
+    alloc: Global,
+    version: Version,
+    recorded: A,
+    replayed: B,
+    chunk_size: usize,
+    ignore_payload_equality: bool,
+    is_strict: bool,
+    limit: u32,
+) -> Result<AlignedComparison, ReaderError>
+    requires version { 5 ≤ version_number version }
+    requires chunk_size { 1 ≤ chunk_size }
+    ensures { AlignsKnown version ignore_payload_equality is_strict limit
+        (A.remaining recorded) (B.remaining replayed) result }
+{
+    let recorded = ReaderChunks::new(alloc, recorded, chunk_size)?;
+    let replayed = ReaderChunks::new(alloc, replayed, chunk_size)?;
+    align_sources(
+        alloc,
+        version,
+        recorded,
+        replayed,
+        ignore_payload_equality,
+        is_strict,
+        limit,
+    )
+}
+
+/// Compares, surveys and aligns two journals of any sources, as `align_readers` does.
+pub fn align_sources<A: Source, B: Source>(
+    alloc: Global,
+    version: Version,
+    recorded: A,
+    replayed: B,
+    ignore_payload_equality: bool,
+    is_strict: bool,
+    limit: u32,
+) -> Result<AlignedComparison, ReaderError>
+    requires { 5 ≤ version_number version }
+    ensures aligned { AlignsKnown version ignore_payload_equality is_strict limit
+        (A.coming recorded) (B.coming replayed) result }
+    ensures failed { MayFailOn A.may_fail B.may_fail result }
+{
+    let mut recorded = Commands::new(alloc, version, Side::Recorded, recorded, is_strict);
+    let mut replayed = Commands::new(alloc, version, Side::Replayed, replayed, is_strict);
+    let stopped = find_verdict(
+        alloc,
+        version,
+        &mut recorded,
+        &mut replayed,
+        ignore_payload_equality,
+        true,
+    )?;
+    let recorded_at = recorded.last_command();
+    let replayed_at = replayed.last_command();
+    let (recorded_held, recorded) = recorded.hold(alloc, stopped.recorded)?;
+    let (replayed_held, replayed) = replayed.hold(alloc, stopped.replayed)?;
+    let alignment = align_commands(
+        alloc,
+        recorded_held.commands.as_slice(),
+        replayed_held.commands.as_slice(),
+        ignore_payload_equality,
+        limit,
+    )?;
+    Ok(AlignedComparison {
+        comparison: Comparison {
+            verdict: stopped.found.verdict,
+            fields: stopped.found.fields,
+            recorded,
+            replayed,
+            recorded_at,
+            replayed_at,
+        },
+        recorded: recorded_held,
+        replayed: replayed_held,
+        alignment,
+    })
+}
