@@ -141,6 +141,12 @@ mod c {
             payload_length: usize,
             rounds: usize,
         ) -> i64;
+        pub fn measure_fields(
+            schema: u32,
+            payload: *const u8,
+            payload_length: usize,
+            rounds: usize,
+        ) -> i64;
     }
 }
 
@@ -237,6 +243,12 @@ pub fn is_well_formed_in_rounds(
 ) -> Result<usize, Refusal> {
     // SAFETY: the length is that of the slice, which is only read
     count(unsafe { c::measure_well_formed(schema as u32, payload.as_ptr(), payload.len(), rounds) })
+}
+
+/// The sum of what the fields of a payload hold, which is checked and read this many times.
+pub fn fields(schema: usize, payload: &[u8], rounds: usize) -> Result<usize, Refusal> {
+    // SAFETY: the length is that of the slice, which is only read
+    count(unsafe { c::measure_fields(schema as u32, payload.as_ptr(), payload.len(), rounds) })
 }
 
 /// The canonical payload of what a payload means.

@@ -362,6 +362,20 @@ fn count_same<R: PartialEq>(first: &R, second: &R, rounds: usize) -> usize {
     count
 }
 
+/// Decodes a payload to its record this many times, and drops it; returns how often it did.
+pub fn decode_in_rounds(schema: usize, payload: &Bytes, rounds: usize) -> Result<usize, Refusal> {
+    with_schema!(
+        schema,
+        Record => {
+            for _ in 0..rounds {
+                black_box(Record::decode(payload.clone())?);
+            }
+            Ok(rounds)
+        },
+        _ => Err(Refusal::Unknown),
+    )
+}
+
 /// The canonical payload of what a payload means.
 pub fn canonical(schema: usize, payload: &[u8]) -> Result<Vec<u8>, Refusal> {
     let payload = Bytes::copy_from_slice(payload);

@@ -66,22 +66,38 @@ static int64_t canonical(uint32_t schema, const uint8_t *payload, size_t length,
     return needed;
 }
 
-/*
- * Prints the text field of this number where it is the next of a canonical payload, otherwise no text. Returns the position after it. The
- * canonical encoding of a payload has the fields in order, and the length of a text in the fewest groups of seven bits.
- */
-static const uint8_t *print_text(const uint8_t *at, const uint8_t *end, int number) {
-    size_t length = 0;
+/* The numbers of the fields that name the service and the handler of a call, and of a one-way call. */
+static const uint64_t call_names[] = {1, 2};
+static const uint64_t one_way_call_names[] = {1, 2};
+
+/* Reads the varint at a position, and moves the position after it. */
+static uint64_t varint(const uint8_t **at) {
+    uint64_t number = 0;
     int shift = 0;
 
+    do {
+        number |= (uint64_t)(**at & 0x7F) << shift;
+        shift += 7;
+    } while (*(*at)++ & 0x80);
+    return number;
+}
+
+/*
+ * Prints the text field of this number in a canonical payload, or no text. A record is a key, which is 8 times the number
+ * of its field, and a number; or 2 more, with a length and that number of bytes after it.
+ */
+static void print_text(const uint8_t *at, const uint8_t *end, uint64_t number) {
     fputs(" \"", stdout);
-    if (at < end && *at == 8 * number + 2) {
-        at++;
-        do {
-            length |= (size_t)(*at & 0x7F) << shift;
-            shift += 7;
-        } while (*at++ & 0x80);
+    while (at < end) {
+        uint64_t key = varint(&at), length = varint(&at);
+
+        if ((key & 7) == 0) {
+            continue;
+        }
         for (; length > 0; length--, at++) {
+            if (key >> 3 != number) {
+                continue;
+            }
             if (*at < ' ' || *at > '~' || *at == '"' || *at == '\\') {
                 printf("\\x%02x", *at);
             } else {
@@ -90,22 +106,21 @@ static const uint8_t *print_text(const uint8_t *at, const uint8_t *end, int numb
         }
     }
     putchar('"');
-    return at;
 }
 
-/* Prints the names of the service and of the handler of a call, its first two fields. Returns 0, or an error. */
-static int64_t print_call(uint32_t schema, const uint8_t *payload, size_t length, struct buffer *buffer) {
+/* Prints the names of the service and of the handler of a call, at these numbers. Returns 0, or an error. */
+static int64_t print_call(uint32_t schema, const uint64_t numbers[2], const uint8_t *payload, size_t length,
+                          struct buffer *buffer) {
     int64_t needed = canonical(schema, payload, length, buffer);
 
     if (needed == JOURNAL_MALFORMED) {
         fputs(" malformed", stdout);
     } else if (needed < 0) {
         return needed;
-    } else if (needed == 0) {
-        fputs(" \"\" \"\"", stdout);
     } else {
-        const uint8_t *end = buffer->bytes + needed;
-        print_text(print_text(buffer->bytes, end, 1), end, 2);
+        for (int i = 0; i < 2; i++) {
+            print_text(buffer->bytes, buffer->bytes + (needed > 0 ? needed : 0), numbers[i]);
+        }
     }
     return 0;
 }
@@ -142,7 +157,8 @@ static int64_t print_item(uint32_t version, const uint8_t *bytes, const struct j
         fputs(" ack", stdout);
     }
     if (code == code_of("CallCommand") || code == code_of("OneWayCallCommand")) {
-        error = print_call((uint32_t)journal_schema(version, code), payload, length, buffer);
+        const uint64_t *numbers = code == code_of("CallCommand") ? call_names : one_way_call_names;
+        error = print_call((uint32_t)journal_schema(version, code), numbers, payload, length, buffer);
     }
     putchar('\n');
     return error;

@@ -35,9 +35,14 @@ library=$prefix/lib/libpendratsoa.so
 
 exported_names
 
-# The program of the page, by pkg-config where it is there; the page has every call's errors.
-awk '/^```c$/ { is_code = 1; next } /^```$/ { is_code = 0 } is_code' docs/C.md > "$work/page.c"
-sed -n 's/^It prints `\(.*\)`\..*/\1/p' docs/C.md > "$work/wanted"
+# The programs of the page, by pkg-config where it is there; the page has every call's errors.
+for number in 1 2; do
+  awk -v number=$number '/^```c$/ { is_code = ++count == number; next } /^```$/ { is_code = 0 } is_code' docs/C.md \
+    > "$work/page_$number.c"
+  sed -n 's/^It prints `\(.*\)`\..*/\1/p' docs/C.md | sed -n "${number}p" > "$work/wanted_$number"
+done
+cp "$work/page_1.c" "$work/page.c"
+cp "$work/wanted_1" "$work/wanted"
 if command -v pkg-config > /dev/null; then
   # the folder has another name by then, which pkg-config can say without quotes
   plain=$work/plain
@@ -47,6 +52,11 @@ if command -v pkg-config > /dev/null; then
     $(PKG_CONFIG_PATH=$plain/lib/pkgconfig pkg-config --cflags --libs pendratsoa) -o "$work/page"
   LD_LIBRARY_PATH=$prefix/lib "$work/page" > "$work/out" 2> "$work/err"
   same 'what it prints' "$work/wanted" "$work/out"
+  # shellcheck disable=SC2046 # the flags are split
+  case_of 'the structs of docs/C.md' cc -std=c99 -Wall -Wextra -Wpedantic -Wconversion -Werror "$work/page_2.c" \
+    $(PKG_CONFIG_PATH=$plain/lib/pkgconfig pkg-config --cflags --libs pendratsoa) -o "$work/page_2"
+  LD_LIBRARY_PATH=$prefix/lib "$work/page_2" > "$work/out" 2> "$work/err"
+  same 'what they print' "$work/wanted_2" "$work/out"
   # shellcheck disable=SC2046 # the flags are split
   case_of 'the program of docs/C.md, linked statically' cc -static "$work/page.c" \
     $(PKG_CONFIG_PATH=$plain/lib/pkgconfig pkg-config --static --cflags --libs pendratsoa) -o "$work/page"
@@ -85,7 +95,27 @@ same 'the refusals of docs/C.md' "$work/wanted" "$work/out"
 constants
 test_vectors conformance/*.txt conformance/json/*.txt
 
-# The example in C, without a warning of any compiler that is there, and with each library.
+# The structs of messages: with sanitizers, where the compiler has them
+echo 'int main(void) { return 0; }' > "$work/nothing.c"
+sanitized='-O1 -g -fsanitize=address,undefined -fno-sanitize-recover=undefined'
+for compiler in cc clang; do
+  # shellcheck disable=SC2086 # the flags are split
+  if $compiler $sanitized "$work/nothing.c" -o "$work/nothing" 2> "$err" && "$work/nothing"; then
+    found=$compiler
+    break
+  fi
+done
+if [ -n "${found-}" ]; then
+  # shellcheck disable=SC2086 # the flags are split
+  message_structs 1000000 $sanitized
+else
+  without 'the structs of messages with sanitizers' 'compiler that has them'
+  message_structs 1000000
+fi
+later_library
+message_example "$prefix/lib/libpendratsoa.a" "$library"
+
+# The examples in C, without a warning of any compiler that is there, and the listing with each library.
 example=examples/c/listing.c
 strict='-Wall -Wextra -Wpedantic -Wconversion -Werror -O2'
 for compiler in 'cc -std=c99' 'cc -std=c17' 'c++ -x c++ -std=c++11' 'clang -std=c99' 'clang++ -x c++ -std=c++17'; do
@@ -93,8 +123,10 @@ for compiler in 'cc -std=c99' 'cc -std=c17' 'c++ -x c++ -std=c++11' 'clang -std=
     without "$compiler $example" "${compiler%% *}"
     continue
   fi
-  # shellcheck disable=SC2086 # the flags are split
-  case_of "$compiler $example" $compiler $strict -I "$prefix/include" -c $example -o "$work/listing.o"
+  for file in $example examples/c/messages.c tests/c/test_messages.c; do
+    # shellcheck disable=SC2086 # the flags are split
+    case_of "$compiler $file" $compiler $strict -I "$prefix/include" -c $file -o "$work/example.o"
+  done
 done
 # shellcheck disable=SC2086 # the flags are split
 case_of 'the listing with the static library' cc -std=c99 $strict -I "$prefix/include" $example \
@@ -131,15 +163,11 @@ grep -qx 'CallCommand 27 "Greeter" "greet"' "$work/out"
 outcome 'the names of a call' $?
 listed 'an unknown type' examples/streams/unknown_type 9
 # names whose lengths take two and three bytes as varints
-{
-  printf '\004\015\000\000\000\000\116\357\012\310\001'
-  awk 'BEGIN { while (i++ < 200) printf "a" }'
-  printf '\022\240\234\001'
-  awk 'BEGIN { while (i++ < 20000) printf "b" }'
-} > "$work/long"
+python3 -B scripts/checks/write_stream.py names 20000 7 > "$work/long"
 listed 'long names' "$work/long" 8
-awk 'BEGIN { while (i++ < 200) a = a "a"; for (i = 0; i < 20000; i++) b = b "b"
-  printf "CallCommand 20207 \"%s\" \"%s\"\nrest 0\n", a, b }' > "$work/wanted"
+awk -v length_of_call=$(($(wc -c < "$work/long") - 8)) 'BEGIN { while (i++ < 200) a = a "a"
+  for (i = 0; i < 20000; i++) b = b "b"
+  printf "CallCommand %d \"%s\" \"%s\"\nrest 0\n", length_of_call, a, b }' > "$work/wanted"
 same 'the names of a call with long names' "$work/wanted" "$work/out"
 for kind in random mixed skipped; do
   python3 -B scripts/checks/write_stream.py $kind 200000 7 > "$work/$kind"

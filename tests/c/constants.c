@@ -12,6 +12,8 @@
 #include <stdlib.h>
 #include <string.h>
 
+#include "numbers.h"
+
 #define COUNT(array) (sizeof(array) / sizeof *(array))
 
 /* A constant is the number that is expected. */
@@ -20,8 +22,9 @@
 #define FIELD(field, expected) field_is(#field, field, expected)
 /* The code of a type that has this name, and the number of its schema. */
 #define TYPE(name, text) \
-    (IS(JOURNAL_##name, journal_type_code((const uint8_t *)text, sizeof text - 1)), \
-     IS(JOURNAL_SCHEMA_##name, journal_schema(9, JOURNAL_##name)))
+    IS(JOURNAL_##name, journal_type_code((const uint8_t *)text, sizeof text - 1)); \
+    IS(JOURNAL_SCHEMA_##name, journal_schema(9, JOURNAL_##name));
+#define OTHER(name, number) IS(JOURNAL_SCHEMA_##name, number);
 
 /* The command that sets "a" to nothing, the same of "b", a call, and a command that is malformed. */
 #define SET_A 0x04, 0x03, 0, 0, 0, 0, 0, 3, 0x0A, 1, 'a'
@@ -125,10 +128,10 @@ static void items(void) {
     IS(JOURNAL_ITEM_NUMBERS, room);
     item = found.item;
     FIELD(item.kind, 0);
-    FIELD(item.word, 0x0005800000000005);
+    FIELD(item.word, 0x0005800000000000 + sizeof proposal - 8);
     FIELD(item.code, 5);
     FIELD(item.ack, 1);
-    FIELD(item.size, 13);
+    FIELD(item.size, sizeof proposal);
     FIELD(item.payload, 8);
     IS(JOURNAL_MESSAGE, item.kind);
     journal_next(8, unknown, sizeof unknown, &found.item, 7);
@@ -237,48 +240,64 @@ static void readings(void) {
     FIELD(found.after, 99);
 }
 
+/* The entry of a field of the message itself in a table of eight, of which the last one has no field. */
+static const struct journal_field *field_of(const struct journal_field *table, uint64_t number) {
+    size_t i = 0;
+
+    while (i < 7 && (table[i].level != 0 || table[i].number != number)) {
+        i++;
+    }
+    return &table[i];
+}
+
 /* The fields of a StartMessage: bytes, a number, a state with a key, and a bool; and of others an enum, a text and
    numbers of 32 bits. */
 static void fields(void) {
     const uint8_t start[] = {0x0A, 1, 'i', 0x22, 3, 0x0A, 1, 'k', 0x28, 1, 0x40, 9};
     const uint8_t future[] = {0x0A, 1, 7, 0x1A, 1, 's', 0x28, 1};
+    const uint8_t entry[] = {0x0A, 1, 'k'};
     struct journal_field table[8] = {{9, 9, 9, 9, 9, 9}};
-    const uint64_t *numbers = (const uint64_t *)table;
+    const struct journal_field *state;
 
     FIELD((uint64_t)journal_fields(10, start, sizeof start, table, 8), 5);
-    IS(JOURNAL_FIELD_BYTES, table[0].kind);
-    IS(JOURNAL_FIELD_MESSAGE, table[1].kind);
-    IS(JOURNAL_FIELD_BOOL, table[3].kind);
-    IS(JOURNAL_FIELD_UINT64, table[4].kind);
-    FIELD(table[1].level, 0);
-    FIELD(table[1].number, 4);
-    FIELD(table[1].kind, 7);
-    FIELD(table[1].value, 6);
-    FIELD(table[1].offset, 5);
-    FIELD(table[1].length, 3);
-    FIELD(table[2].level, 1);
-    FIELD(table[4].value, 9);
-    /* an entry begins after so many numbers as a struct has: the second one is of field 4 */
-    IS(JOURNAL_FIELD_NUMBERS, numbers[1 + 6] == 4 ? 6 : 0);
+    IS(JOURNAL_FIELD_BYTES, field_of(table, FIELD_START_ID)->kind);
+    IS(JOURNAL_FIELD_BOOL, field_of(table, FIELD_START_PARTIAL_STATE)->kind);
+    IS(JOURNAL_FIELD_UINT64, field_of(table, FIELD_START_DURATION_SINCE_LAST_STORED_ENTRY)->kind);
+    FIELD(field_of(table, FIELD_START_DURATION_SINCE_LAST_STORED_ENTRY)->value, 9);
+    state = field_of(table, FIELD_START_STATE_MAP);
+    IS(JOURNAL_FIELD_MESSAGE, state->kind);
+    FIELD(state->level, 0);
+    FIELD(state->kind, 7);
+    FIELD(state->value, JOURNAL_SCHEMA_STATE_ENTRY);
+    FIELD(state->length, sizeof entry);
+    FIELD((uint64_t)memcmp(start + state->offset, entry, sizeof entry), 0);
+    FIELD(state[1].level, 1);
+    /* an entry begins after so many numbers as a struct has */
+    IS(JOURNAL_FIELD_NUMBERS, ((const uint64_t *)state)[6] == 1 ? 6 : 0);
     FIELD((uint64_t)journal_fields(7, future, sizeof future, table, 8), 3);
-    IS(JOURNAL_FIELD_UINT32, table[0].kind);
-    IS(JOURNAL_FIELD_STRING, table[1].kind);
-    IS(JOURNAL_FIELD_ENUM, table[2].kind);
+    IS(JOURNAL_FIELD_UINT32, field_of(table, FIELD_FUTURE_WAITING_COMPLETIONS)->kind);
+    IS(JOURNAL_FIELD_STRING, field_of(table, FIELD_FUTURE_WAITING_NAMED_SIGNALS)->kind);
+    IS(JOURNAL_FIELD_ENUM, field_of(table, FIELD_FUTURE_COMBINATOR_TYPE)->kind);
 }
 
 /* Tables of two fields, of which the second one may not come in all but the first. */
 static void writings(void) {
+#define A_HEADER {0, FIELD_CALL_COMMAND_HEADERS, 7, 4, 0, 0}
+#define ITS_KEY(level, kind, offset, length) {level, FIELD_HEADER_KEY, kind, 0, offset, length}
+#define KEY {0, FIELD_CALL_COMMAND_KEY, 5, 0, 0, 1}
+#define ROW(name, schema, ...) {#name, schema, {__VA_ARGS__}, name}
     static const struct { const char *name; uint32_t schema; struct journal_field fields[2]; uint64_t kind; } rows[] = {
-        {"JOURNAL_WRITTEN", 33, {{0, 4, 7, 4, 0, 0}, {1, 1, 5, 0, 0, 1}}, JOURNAL_WRITTEN},
-        {"JOURNAL_ENTRY_UNKNOWN_FIELD", 33, {{0, 4, 7, 4, 0, 0}, {0, 99, 5, 0, 0, 1}}, JOURNAL_ENTRY_UNKNOWN_FIELD},
-        {"JOURNAL_ENTRY_OUT_OF_ORDER", 33, {{0, 4, 7, 4, 0, 0}, {0, 1, 5, 0, 0, 1}}, JOURNAL_ENTRY_OUT_OF_ORDER},
-        {"JOURNAL_ENTRY_SEVERAL_MEMBERS", 15, {{0, 14, 6, 0, 0, 1}, {0, 15, 7, 2, 0, 0}},
-         JOURNAL_ENTRY_SEVERAL_MEMBERS},
-        {"JOURNAL_ENTRY_WRONG_KIND", 33, {{0, 4, 7, 4, 0, 0}, {1, 1, 6, 0, 0, 1}}, JOURNAL_ENTRY_WRONG_KIND},
-        {"JOURNAL_ENTRY_OUT_OF_RANGE", 7, {{0, 1, 1, 5, 0, 0}, {0, 5, 4, 1u << 31, 0, 0}}, JOURNAL_ENTRY_OUT_OF_RANGE},
-        {"JOURNAL_ENTRY_NOT_UTF8", 33, {{0, 4, 7, 4, 0, 0}, {1, 1, 5, 0, 1, 1}}, JOURNAL_ENTRY_NOT_UTF8},
-        {"JOURNAL_ENTRY_OUT_OF_BOUNDS", 33, {{0, 4, 7, 4, 0, 0}, {1, 1, 5, 0, 1, 2}}, JOURNAL_ENTRY_OUT_OF_BOUNDS},
-        {"JOURNAL_ENTRY_WRONG_LEVEL", 33, {{0, 4, 7, 4, 0, 0}, {2, 1, 5, 0, 0, 1}}, JOURNAL_ENTRY_WRONG_LEVEL},
+        ROW(JOURNAL_WRITTEN, 33, A_HEADER, ITS_KEY(1, 5, 0, 1)),
+        ROW(JOURNAL_ENTRY_UNKNOWN_FIELD, 33, A_HEADER, {0, 1u << 29, 5, 0, 0, 1}),
+        ROW(JOURNAL_ENTRY_OUT_OF_ORDER, 33, KEY, KEY),
+        ROW(JOURNAL_ENTRY_SEVERAL_MEMBERS, 15, {0, FIELD_PROPOSE_RUN_COMPLETION_VALUE, 6, 0, 0, 1},
+            {0, FIELD_PROPOSE_RUN_COMPLETION_FAILURE, 7, 2, 0, 0}),
+        ROW(JOURNAL_ENTRY_WRONG_KIND, 33, A_HEADER, ITS_KEY(1, 6, 0, 1)),
+        ROW(JOURNAL_ENTRY_OUT_OF_RANGE, 7, {0, FIELD_FUTURE_NESTED_FUTURES, 7, 7, 0, 0},
+            {1, FIELD_FUTURE_COMBINATOR_TYPE, 4, 1u << 31, 0, 0}),
+        ROW(JOURNAL_ENTRY_NOT_UTF8, 33, A_HEADER, ITS_KEY(1, 5, 1, 1)),
+        ROW(JOURNAL_ENTRY_OUT_OF_BOUNDS, 33, A_HEADER, ITS_KEY(1, 5, 1, 2)),
+        ROW(JOURNAL_ENTRY_WRONG_LEVEL, 33, A_HEADER, ITS_KEY(2, 5, 0, 1)),
     };
     const uint8_t bytes[] = {'k', 0xFF};
     struct { struct journal_writing writing; uint64_t after; } found = {{0, 0}, 99};
@@ -296,7 +315,7 @@ static void writings(void) {
         FIELD(found.writing.index, i > 0);
     }
     for (size_t i = 0; i < COUNT(deep); i++) {
-        deep[i] = (struct journal_field){i, 4, 7, 7, 0, 0};
+        deep[i] = (struct journal_field){i, FIELD_FUTURE_NESTED_FUTURES, 7, 7, 0, 0};
     }
     journal_payload_of_fields(7, deep, COUNT(deep), NULL, 0, &found.writing, 3, NULL, 0);
     IS(JOURNAL_ENTRY_TOO_DEEP, found.writing.kind);
@@ -305,63 +324,12 @@ static void writings(void) {
 }
 
 static void types(void) {
-    TYPE(START, "Start");
-    TYPE(SUSPENSION, "Suspension");
-    TYPE(ERROR, "Error");
-    TYPE(END, "End");
-    TYPE(PROPOSE_RUN_COMPLETION, "ProposeRunCompletion");
-    TYPE(AWAITING_ON, "AwaitingOn");
-    TYPE(PROPOSE_RUN_COMPLETION_ACK, "ProposeRunCompletionAck");
-    TYPE(GET_STATE_EPHEMERAL_COMMAND, "GetStateEphemeralCommand");
-    TYPE(GET_STATE_EPHEMERAL_NOTIFICATION, "GetStateEphemeralNotification");
-    TYPE(INPUT_COMMAND, "InputCommand");
-    TYPE(OUTPUT_COMMAND, "OutputCommand");
-    TYPE(GET_LAZY_STATE_COMMAND, "GetLazyStateCommand");
-    TYPE(SET_STATE_COMMAND, "SetStateCommand");
-    TYPE(CLEAR_STATE_COMMAND, "ClearStateCommand");
-    TYPE(CLEAR_ALL_STATE_COMMAND, "ClearAllStateCommand");
-    TYPE(GET_LAZY_STATE_KEYS_COMMAND, "GetLazyStateKeysCommand");
-    TYPE(GET_EAGER_STATE_COMMAND, "GetEagerStateCommand");
-    TYPE(GET_EAGER_STATE_KEYS_COMMAND, "GetEagerStateKeysCommand");
-    TYPE(GET_PROMISE_COMMAND, "GetPromiseCommand");
-    TYPE(PEEK_PROMISE_COMMAND, "PeekPromiseCommand");
-    TYPE(COMPLETE_PROMISE_COMMAND, "CompletePromiseCommand");
-    TYPE(SLEEP_COMMAND, "SleepCommand");
-    TYPE(CALL_COMMAND, "CallCommand");
-    TYPE(ONE_WAY_CALL_COMMAND, "OneWayCallCommand");
-    TYPE(SEND_SIGNAL_COMMAND, "SendSignalCommand");
-    TYPE(RUN_COMMAND, "RunCommand");
-    TYPE(ATTACH_INVOCATION_COMMAND, "AttachInvocationCommand");
-    TYPE(GET_INVOCATION_OUTPUT_COMMAND, "GetInvocationOutputCommand");
-    TYPE(COMPLETE_AWAKEABLE_COMMAND, "CompleteAwakeableCommand");
-    TYPE(GET_LAZY_STATE_COMPLETION_NOTIFICATION, "GetLazyStateCompletionNotification");
-    TYPE(GET_LAZY_STATE_KEYS_COMPLETION_NOTIFICATION, "GetLazyStateKeysCompletionNotification");
-    TYPE(GET_PROMISE_COMPLETION_NOTIFICATION, "GetPromiseCompletionNotification");
-    TYPE(PEEK_PROMISE_COMPLETION_NOTIFICATION, "PeekPromiseCompletionNotification");
-    TYPE(COMPLETE_PROMISE_COMPLETION_NOTIFICATION, "CompletePromiseCompletionNotification");
-    TYPE(SLEEP_COMPLETION_NOTIFICATION, "SleepCompletionNotification");
-    TYPE(CALL_COMPLETION_NOTIFICATION, "CallCompletionNotification");
-    TYPE(CALL_INVOCATION_ID_COMPLETION_NOTIFICATION, "CallInvocationIdCompletionNotification");
-    TYPE(RUN_COMPLETION_NOTIFICATION, "RunCompletionNotification");
-    TYPE(ATTACH_INVOCATION_COMPLETION_NOTIFICATION, "AttachInvocationCompletionNotification");
-    TYPE(GET_INVOCATION_OUTPUT_COMPLETION_NOTIFICATION, "GetInvocationOutputCompletionNotification");
-    TYPE(SIGNAL_NOTIFICATION, "SignalNotification");
+    EACH_TYPE(TYPE)
 }
 
 /* The schemas of no type, or of one at earlier versions. */
 static void other_schemas(void) {
-    IS(JOURNAL_SCHEMA_VOID, 0);
-    IS(JOURNAL_SCHEMA_VALUE, 1);
-    IS(JOURNAL_SCHEMA_FAILURE, 2);
-    IS(JOURNAL_SCHEMA_FAILURE_METADATA, 3);
-    IS(JOURNAL_SCHEMA_HEADER, 4);
-    IS(JOURNAL_SCHEMA_STATE_KEYS, 5);
-    IS(JOURNAL_SCHEMA_STATE_ENTRY, 6);
-    IS(JOURNAL_SCHEMA_FUTURE, 7);
-    IS(JOURNAL_SCHEMA_WORKFLOW_TARGET, 8);
-    IS(JOURNAL_SCHEMA_IDEMPOTENT_REQUEST_TARGET, 9);
-    IS(JOURNAL_SCHEMA_SUSPENSION_V6, 12);
-    IS(JOURNAL_SCHEMA_NOTIFICATION_TEMPLATE, 52);
+    EACH_OTHER_SCHEMA(OTHER)
 }
 
 int main(void) {

@@ -109,6 +109,7 @@ struct request {
 };
 
 #include "calls.h"
+#include "numbers.h"
 
 #define BIT(error) (1u << (error))
 
@@ -674,7 +675,8 @@ static void put_text(struct source *source, const char *text, size_t length) {
 #define A_CALL "\x22\x06\x0A\x01k\x12\x01v"
 #define NO_PAYLOAD "\x07"
 
-/* Appends a message of a payload to a stream. */
+/* Appends a message of a payload, which are literal bytes, to a stream. */
+#define PUT_MESSAGE(stream, code, payload) put_message(stream, code, payload, sizeof(payload) - 1)
 static void put_message(struct source *stream, uint16_t code, const char *payload, size_t length) {
     const uint8_t header[8] = {(uint8_t)(code >> 8), (uint8_t)code, 0, 0, 0, 0, 0, (uint8_t)length};
     put(stream, header, sizeof header);
@@ -687,29 +689,30 @@ static void put_journals(struct work *work, struct source *sources, int kind) {
 
     recorded->length = replayed->length = 0;
     for (uint32_t count = below(work, 3); count > 0; count--) {
-        put_message(recorded, CALL_COMMAND, A_CALL, sizeof A_CALL - 1);
+        PUT_MESSAGE(recorded, CALL_COMMAND, A_CALL);
     }
     *replayed = *recorded;
     if (kind == JOURNAL_BAD_RECORDED) {
-        put_message(recorded, SET_STATE_COMMAND, NO_PAYLOAD, 1);
+        PUT_MESSAGE(recorded, SET_STATE_COMMAND, NO_PAYLOAD);
     } else if (kind != JOURNAL_RECORDED_ENDED) {
-        put_message(recorded, SET_STATE_COMMAND, "\x0A\x01k", 3);
+        PUT_MESSAGE(recorded, SET_STATE_COMMAND, "\x0A\x01k");
     }
     switch (kind) {
     case JOURNAL_REPLAYED_ENDED: break;
-    case JOURNAL_TYPE_MISMATCH: put_message(replayed, CALL_COMMAND, A_CALL, sizeof A_CALL - 1); break;
-    case JOURNAL_HEADER_MISMATCH: put_message(replayed, SET_STATE_COMMAND, "\x0A\x01l", 3); break;
-    case JOURNAL_BAD_REPLAYED: put_message(replayed, SET_STATE_COMMAND, NO_PAYLOAD, 1); break;
-    default: put_message(replayed, SET_STATE_COMMAND, "\x0A\x01k", 3); break;
+    case JOURNAL_TYPE_MISMATCH: PUT_MESSAGE(replayed, CALL_COMMAND, A_CALL); break;
+    case JOURNAL_HEADER_MISMATCH: PUT_MESSAGE(replayed, SET_STATE_COMMAND, "\x0A\x01l"); break;
+    case JOURNAL_BAD_REPLAYED: PUT_MESSAGE(replayed, SET_STATE_COMMAND, NO_PAYLOAD); break;
+    default: PUT_MESSAGE(replayed, SET_STATE_COMMAND, "\x0A\x01k"); break;
     }
 }
 
 /* A notification with an id and a result of these kinds, or without where there is no such kind. */
 static void put_notification(struct source *source, int id, int result) {
+#define BYTES(text) {text, sizeof(text) - 1}
     static const struct { const char *bytes; size_t length; }
-        ids[] = {{"\x08\x01", 2}, {"\x10\x11", 2}, {"\x1A\x04stop", 6}},
-        results[] = {{"\x22\x00", 2}, {"\x2A\x03\x0A\x01x", 5}, {"\x32\x02\x08\x05", 4}, {"\x82\x01\x03inv", 6},
-                     {"\x8A\x01\x03\x0A\x01k", 6}};
+        ids[] = {BYTES("\x08\x01"), BYTES("\x10\x11"), BYTES("\x1A\x04stop")},
+        results[] = {BYTES("\x22\x00"), BYTES("\x2A\x03\x0A\x01x"), BYTES("\x32\x02\x08\x05"),
+                     BYTES("\x82\x01\x03inv"), BYTES("\x8A\x01\x03\x0A\x01k")};
     source->length = 0;
     if (id < 3) {
         put(source, ids[id].bytes, ids[id].length);
@@ -764,31 +767,34 @@ static void put_table_of(struct request *request, int kind) {
     switch (kind) {
     case JOURNAL_ENTRY_SEVERAL_MEMBERS:
         request->schema = PROPOSAL_SCHEMA;
-        put_field(table, 0, 14, JOURNAL_FIELD_BYTES, 0, 0, 1);
-        put_field(table, 0, 15, JOURNAL_FIELD_MESSAGE, JOURNAL_SCHEMA_FAILURE, 0, 0);
+        put_field(table, 0, FIELD_PROPOSE_RUN_COMPLETION_VALUE, JOURNAL_FIELD_BYTES, 0, 0, 1);
+        put_field(table, 0, FIELD_PROPOSE_RUN_COMPLETION_FAILURE, JOURNAL_FIELD_MESSAGE, JOURNAL_SCHEMA_FAILURE, 0, 0);
         return;
     case JOURNAL_ENTRY_OUT_OF_RANGE:
         request->schema = FUTURE_SCHEMA;
-        put_field(table, 0, 1, JOURNAL_FIELD_UINT32, (uint64_t)UINT32_MAX + 1, 0, 0);
+        put_field(table, 0, FIELD_FUTURE_WAITING_COMPLETIONS, JOURNAL_FIELD_UINT32, (uint64_t)UINT32_MAX + 1, 0, 0);
         return;
     case JOURNAL_ENTRY_TOO_DEEP:
         request->schema = FUTURE_SCHEMA;
         for (uint64_t level = 0; level <= 100; level++) {
-            put_field(table, level, 4, JOURNAL_FIELD_MESSAGE, FUTURE_SCHEMA, 0, 0);
+            put_field(table, level, FIELD_FUTURE_NESTED_FUTURES, JOURNAL_FIELD_MESSAGE, FUTURE_SCHEMA, 0, 0);
         }
         return;
+    case JOURNAL_ENTRY_OUT_OF_ORDER:
+        put_field(table, 0, FIELD_CALL_COMMAND_KEY, JOURNAL_FIELD_STRING, 0, 0, 0);
+        put_field(table, 0, FIELD_CALL_COMMAND_KEY, JOURNAL_FIELD_STRING, 0, 0, 0);
+        return;
     default:
-        put_field(table, 0, 4, JOURNAL_FIELD_MESSAGE, JOURNAL_SCHEMA_HEADER, 0, 0);
+        put_field(table, 0, FIELD_CALL_COMMAND_HEADERS, JOURNAL_FIELD_MESSAGE, JOURNAL_SCHEMA_HEADER, 0, 0);
         break;
     }
     switch (kind) {
-    case JOURNAL_ENTRY_UNKNOWN_FIELD: put_field(table, 1, 99, JOURNAL_FIELD_STRING, 0, 0, 0); break;
-    case JOURNAL_ENTRY_OUT_OF_ORDER: put_field(table, 0, 1, JOURNAL_FIELD_STRING, 0, 0, 0); break;
-    case JOURNAL_ENTRY_WRONG_KIND: put_field(table, 1, 1, JOURNAL_FIELD_BYTES, 0, 0, 0); break;
-    case JOURNAL_ENTRY_NOT_UTF8: put_field(table, 1, 1, JOURNAL_FIELD_STRING, 0, sizeof A_CALL - 1, 1); break;
-    case JOURNAL_ENTRY_OUT_OF_BOUNDS: put_field(table, 1, 1, JOURNAL_FIELD_STRING, 0, sizeof A_CALL, 1); break;
-    case JOURNAL_ENTRY_WRONG_LEVEL: put_field(table, 2, 1, JOURNAL_FIELD_STRING, 0, 0, 0); break;
-    default: put_field(table, 1, 1, JOURNAL_FIELD_STRING, 0, 4, 1); break;
+    case JOURNAL_ENTRY_UNKNOWN_FIELD: put_field(table, 1, UINT64_C(1) << 29, JOURNAL_FIELD_STRING, 0, 0, 0); break;
+    case JOURNAL_ENTRY_WRONG_KIND: put_field(table, 1, FIELD_HEADER_KEY, JOURNAL_FIELD_BYTES, 0, 0, 0); break;
+    case JOURNAL_ENTRY_NOT_UTF8: put_field(table, 1, FIELD_HEADER_KEY, JOURNAL_FIELD_STRING, 0, sizeof A_CALL - 1, 1); break;
+    case JOURNAL_ENTRY_OUT_OF_BOUNDS: put_field(table, 1, FIELD_HEADER_KEY, JOURNAL_FIELD_STRING, 0, sizeof A_CALL, 1); break;
+    case JOURNAL_ENTRY_WRONG_LEVEL: put_field(table, 2, FIELD_HEADER_KEY, JOURNAL_FIELD_STRING, 0, 0, 0); break;
+    default: put_field(table, 1, FIELD_HEADER_KEY, JOURNAL_FIELD_STRING, 0, sizeof A_CALL - 2, 1); break;
     }
 }
 

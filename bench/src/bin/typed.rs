@@ -1,16 +1,17 @@
 //! Measures the records of the crate for Rust beside prost's: decoded, two fields read, and encoded. A line is the
-//! record, the work, microseconds here and there, and how many times as fast the crate is.
+//! record, the work, microseconds of processor time here and there, and how many times as fast the crate is.
 
 use std::error::Error;
 use std::fs;
 use std::hint::black_box;
-use std::time::Instant;
 
 use pendratsoa::messages::{self, Record};
 use pendratsoa_bench::records;
 use prost::Message;
 
-const COUNT: u32 = 100_000;
+/// How often a work is done in a round, and how many rounds there are.
+const COUNT: u32 = 10_000;
+const ROUNDS: u32 = 50;
 
 fn main() -> Result<(), Box<dyn Error>> {
     let path = concat!(env!("CARGO_MANIFEST_DIR"), "/languages/messages.txt");
@@ -73,30 +74,50 @@ fn measure<'a, Ours: Record<'a>, Theirs: Message + Default>(
     if read(&ours) != read_theirs(&theirs) || ours.encode()? != theirs.encode_to_vec() {
         return Err(format!("{name} is not the same").into());
     }
-    let decoded = least(|| read(&Ours::decode(black_box(payload)).unwrap()));
-    let decoded_theirs = least(|| read_theirs(&Theirs::decode(black_box(payload)).unwrap()));
-    let encoded = least(|| black_box(&ours).encode().unwrap().len());
-    let encoded_theirs = least(|| black_box(&theirs).encode_to_vec().len());
-    for (work, here, there) in [
-        ("decode", decoded, decoded_theirs),
-        ("encode", encoded, encoded_theirs),
-    ] {
-        println!("rust {name} {work} {here:.3} {there:.3} {:.2}", there / here);
+    let decoded = least(
+        || read(&Ours::decode(black_box(payload)).unwrap()),
+        || read_theirs(&Theirs::decode(black_box(payload)).unwrap()),
+    );
+    let encoded = least(
+        || black_box(&ours).encode().unwrap().len(),
+        || black_box(&theirs).encode_to_vec().len(),
+    );
+    for (work, (here, there)) in [("decode", decoded), ("encode", encoded)] {
+        println!(
+            "rust {name} {work} {here:.3} {there:.3} {:.2}",
+            there / here
+        );
     }
     Ok(())
 }
 
-/// The microseconds that a work takes, in the fastest round.
-fn least(work: impl Fn() -> usize) -> f64 {
-    let mut least = f64::INFINITY;
-    for _ in 0..9 {
-        let start = Instant::now();
-        for _ in 0..COUNT {
-            black_box(work());
-        }
-        least = least.min(start.elapsed().as_secs_f64() / f64::from(COUNT) * 1e6);
+/// The microseconds that two works take, each in its fastest round. The rounds take turns.
+fn least(ours: impl Fn() -> usize, theirs: impl Fn() -> usize) -> (f64, f64) {
+    (0..ROUNDS).fold((f64::INFINITY, f64::INFINITY), |least, _| {
+        (least.0.min(round(&ours)), least.1.min(round(&theirs)))
+    })
+}
+
+/// The microseconds that a work takes in a round.
+fn round(work: impl Fn() -> usize) -> f64 {
+    let start = processor_time();
+    for _ in 0..COUNT {
+        black_box(work());
     }
-    least
+    (processor_time() - start) * 1e6 / f64::from(COUNT)
+}
+
+/// The seconds of processor time that the process has had.
+fn processor_time() -> f64 {
+    extern "C" {
+        fn clock_gettime(clock: i32, time: &mut [i64; 2]) -> i32;
+    }
+    const CLOCK_PROCESS_CPUTIME_ID: i32 = 2;
+    let mut time = [0; 2];
+    // SAFETY: it writes a struct of two numbers, which the C library of Linux has on 64 bits
+    let status = unsafe { clock_gettime(CLOCK_PROCESS_CPUTIME_ID, &mut time) };
+    assert_eq!(status, 0);
+    time[0] as f64 + time[1] as f64 / 1e9
 }
 
 fn bytes_of(digits: &str) -> Result<Vec<u8>, Box<dyn Error>> {

@@ -3,6 +3,7 @@
 #![tactic(auto)]
 
 mod commands;
+mod fields;
 mod frames;
 mod item_refs;
 mod messages;
@@ -163,4 +164,11 @@ pub extern "C" fn measure_frame_shared(
 #[unsafe(no_mangle)]
 pub extern "C" fn measure_well_formed(schema: u32, payload: &[u8], rounds: usize) -> i64 {
     outcome_of(payloads::is_well_formed(schema, payload, rounds))
+}
+
+/// As `journal_fields`, but a payload is checked and all of its fields are read this many times (0 counts as 1), and no
+/// table is written. Returns the sum of what they hold, numbers and the lengths of texts and bytes, modulo 2^32.
+#[unsafe(no_mangle)]
+pub extern "C" fn measure_fields(schema: u32, payload: &[u8], rounds: usize) -> i64 {
+    outcome_of(fields::sum(schema, payload, rounds))
 }

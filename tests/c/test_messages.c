@@ -1,0 +1,267 @@
+/*
+ * Checks the structs of pendratsoa_messages.h by the test vectors on the standard input: test_messages SCHEMAS < LINES
+ *
+ * SCHEMAS is a file with the names of the schemas, one a line, in the order of their numbers. Of each line of the kinds
+ * `payload`, `record`, `fields` and `json` the payload is read into its struct, and that is written as the canonical
+ * payload; a malformed one has to be rejected. Of a record the struct is printed too, by the names of its members. The
+ * arena begins with nothing, and grows by what it lacks. The last line is 'N passed, M failed'.
+ */
+#define _POSIX_C_SOURCE 200809L
+#include <pendratsoa_messages.h>
+
+#include <stdarg.h>
+#include <stdio.h>
+#include <stdlib.h>
+
+/* Bytes that grow. */
+struct buffer {
+    uint8_t *bytes;
+    size_t length, room;
+};
+
+static char *schema_names[JOURNAL_SCHEMAS];
+/* A record as it is printed. */
+static struct buffer printed;
+
+static void fail(const char *why) {
+    fprintf(stderr, "test_messages: %s\n", why);
+    exit(2);
+}
+
+static void reserve(struct buffer *buffer, size_t room) {
+    if (buffer->bytes == NULL || room > buffer->room) {
+        buffer->room = 2 * room + 1;
+        buffer->bytes = (uint8_t *)realloc(buffer->bytes, buffer->room);
+        if (buffer->bytes == NULL) {
+            fail("out of memory");
+        }
+    }
+}
+
+static void print_words(const char *words) {
+    reserve(&printed, printed.length + strlen(words));
+    memcpy(printed.bytes + printed.length, words, strlen(words));
+    printed.length += strlen(words);
+}
+
+static void print_number(uint64_t number) {
+    char text[32];
+
+    snprintf(text, sizeof text, "%llu", (unsigned long long)number);
+    print_words(text);
+}
+
+static void print_signed(int32_t number) {
+    char text[32];
+
+    snprintf(text, sizeof text, "%ld", (long)number);
+    print_words(text);
+}
+
+static void print_flag(bool flag) { print_words(flag ? "true" : "false"); }
+
+/* Texts and bytes of the vectors hold nothing that is written otherwise. */
+static void print_text(struct journal_slice slice) {
+    print_words("\"");
+    reserve(&printed, printed.length + slice.length);
+    if (slice.length > 0) {
+        memcpy(printed.bytes + printed.length, slice.at, slice.length);
+    }
+    printed.length += slice.length;
+    print_words("\"");
+}
+
+static void print_bytes(struct journal_slice slice) {
+    char text[8];
+
+    print_words("b\"");
+    for (size_t i = 0; i < slice.length; i++) {
+        snprintf(text, sizeof text, slice.at[i] < 0x20 || slice.at[i] > 0x7E ? "\\x%02x" : "%c", slice.at[i]);
+        print_words(text);
+    }
+    print_words("\"");
+}
+
+#include "records.h"
+
+#define PRINT_RECORD(name, schema) \
+    case JOURNAL_SCHEMA_##schema: \
+        print_##name(&record->name); \
+        return;
+#define READ_RECORD(name, schema) \
+    case JOURNAL_SCHEMA_##schema: \
+        return journal_read_##name(payload, length, &record->name, arena);
+#define WRITE_RECORD(name, schema) \
+    case JOURNAL_SCHEMA_##schema: \
+        return journal_write_##name(&record->name, arena, out, room);
+
+static void print_record(uint32_t schema, const union journal_record *record) {
+    switch (schema) { EACH_RECORD(PRINT_RECORD) }
+}
+
+static int64_t read_record(uint32_t schema, const uint8_t *payload, size_t length, union journal_record *record,
+                           struct journal_arena *arena) {
+    switch (schema) { EACH_RECORD(READ_RECORD) }
+    return JOURNAL_UNKNOWN_SCHEMA;
+}
+
+static int64_t write_record(uint32_t schema, const union journal_record *record, struct journal_arena *arena,
+                            uint8_t *out, size_t room) {
+    switch (schema) { EACH_RECORD(WRITE_RECORD) }
+    return JOURNAL_UNKNOWN_SCHEMA;
+}
+
+/* Reads a record into its struct, with an arena that has nothing, and gets what it lacks at most twice. */
+static int64_t read_growing(uint32_t schema, const struct buffer *payload, union journal_record *record,
+                            struct journal_arena *arena) {
+    size_t size = 0;
+
+    for (int tries = 0;; tries++) {
+        int64_t result;
+
+        *arena = journal_arena_of(size == 0 ? NULL : malloc(size), size);
+        result = read_record(schema, payload->bytes, payload->length, record, arena);
+        if (result != JOURNAL_NO_ROOM || tries == 2) {
+            return result;
+        }
+        size += arena->lacking;
+        free(arena->memory);
+    }
+}
+
+/* The payload of a record, in an arena of its own; NULL if that cannot be written. */
+static uint8_t *written(uint32_t schema, const union journal_record *record, int64_t *length) {
+    struct journal_arena arena = journal_arena_of(NULL, 0);
+    uint8_t *out = NULL;
+
+    *length = write_record(schema, record, &arena, NULL, 0);
+    if (*length == JOURNAL_NO_ROOM) {
+        arena = journal_arena_of(malloc(arena.lacking), arena.lacking);
+        *length = write_record(schema, record, &arena, NULL, 0);
+    }
+    if (*length >= 0) {
+        out = (uint8_t *)malloc((size_t)*length + 1);
+        if (out == NULL || write_record(schema, record, &arena, out, (size_t)*length) != *length) {
+            *length = -1;
+        }
+    }
+    free(arena.memory);
+    return out;
+}
+
+/* Whether a payload is read and written as the canonical payload of its schema, and as what is expected of a line. */
+static int is_right(uint32_t schema, const char *kind, const struct buffer *payload, const char *expected) {
+    union journal_record record;
+    struct journal_arena arena;
+    int64_t length, canonical = journal_canonical(schema, payload->bytes, payload->length, NULL, 0);
+    int64_t result = read_growing(schema, payload, &record, &arena);
+    uint8_t *out = NULL, *wanted = (uint8_t *)malloc(canonical < 0 ? 1 : (size_t)canonical + 1);
+    int is_malformed = strcmp(expected, "malformed") == 0, is_same = 0;
+
+    if (wanted == NULL) {
+        fail("out of memory");
+    }
+    if (result == 0 && canonical >= 0) {
+        journal_canonical(schema, payload->bytes, payload->length, wanted, (size_t)canonical);
+        out = written(schema, &record, &length);
+        is_same = length == canonical && memcmp(out, wanted, (size_t)length) == 0;
+        printed.length = 0;
+        print_record(schema, &record);
+        if (strcmp(kind, "record") == 0) {
+            is_same =
+                is_same && printed.length == strlen(expected) && memcmp(printed.bytes, expected, printed.length) == 0;
+        }
+    }
+    free(out);
+    free(wanted);
+    free(arena.memory);
+    return is_malformed ? result == JOURNAL_MALFORMED && canonical == JOURNAL_MALFORMED : is_same;
+}
+
+static uint32_t schema_of(const char *name) {
+    for (uint32_t schema = 0; name != NULL && schema < JOURNAL_SCHEMAS; schema++) {
+        if (strcmp(name, schema_names[schema]) == 0) {
+            return schema;
+        }
+    }
+    fail("a line names no schema");
+    return 0;
+}
+
+/* Checks a line: 1 if it passed, 0 if it failed, and -1 if it is not checked. */
+static int check_line(char *line) {
+    char *expected = strstr(line, " = "), *word;
+    const char *kind;
+    struct buffer payload = {NULL, 0, 0};
+    uint32_t schema;
+    unsigned byte;
+    int passed;
+
+    if (line[0] == '#' || expected == NULL) {
+        return -1;
+    }
+    *expected = '\0';
+    expected += strlen(" = ");
+    kind = strtok(line, " ");
+    if (strcmp(kind, "payload") != 0 && strcmp(kind, "record") != 0 && strcmp(kind, "fields") != 0 &&
+        strcmp(kind, "json") != 0) {
+        return -1;
+    }
+    schema = schema_of(strtok(NULL, " "));
+    word = strtok(NULL, " ");
+    reserve(&payload, strlen(word) / 2);
+    for (; sscanf(word, "%2x", &byte) == 1; word += 2) {
+        payload.bytes[payload.length++] = (uint8_t)byte;
+    }
+    passed = is_right(schema, kind, &payload, expected);
+    free(payload.bytes);
+    return passed;
+}
+
+static void read_schemas(const char *path) {
+    FILE *file = fopen(path, "r");
+    size_t room;
+
+    if (file == NULL) {
+        fail("the names of the schemas cannot be read");
+    }
+    for (uint32_t schema = 0; schema < JOURNAL_SCHEMAS; schema++) {
+        room = 0;
+        if (getline(&schema_names[schema], &room, file) < 0) {
+            fail("there are too few names of schemas");
+        }
+        schema_names[schema][strcspn(schema_names[schema], "\n")] = '\0';
+    }
+    fclose(file);
+}
+
+int main(int count, char **arguments) {
+    long passed = 0, failed = 0;
+    char *line = NULL;
+    size_t room = 0;
+
+    if (count != 2) {
+        fail("usage: test_messages SCHEMAS");
+    }
+    read_schemas(arguments[1]);
+    while (getline(&line, &room, stdin) >= 0) {
+        line[strcspn(line, "\n")] = '\0';
+        switch (check_line(line)) {
+        case 1:
+            passed++;
+            break;
+        case 0:
+            failed++;
+            printf("failed: %.300s: %.*s\n", line, (int)(printed.length < 300 ? printed.length : 300),
+                   (char *)printed.bytes);
+            break;
+        }
+    }
+    for (uint32_t schema = 0; schema < JOURNAL_SCHEMAS; schema++) {
+        free(schema_names[schema]);
+    }
+    free(line);
+    free(printed.bytes);
+    printf("%ld passed, %ld failed\n", passed, failed);
+    return failed > 0;
+}
