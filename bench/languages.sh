@@ -2,11 +2,12 @@
 # Measures the typed messages of each language beside what its users would pick: languages.sh [--no-install]
 #
 # A line is the language, the record, the work (a payload decoded and two fields read, or a record encoded),
-# microseconds of this library's package and of the other, and how many times as fast this one is. The others are
-# protobuf's own packages of Debian, prost, and for Node JSON.parse of the dump. Where one is missing it says 'not run'.
+# microseconds of this library's package and of the other, of processor time but in Go and Rust, and how many times as
+# fast this one is. The others are protobuf's own packages of Debian, prost, and for Node JSON.parse of the dump. Where
+# one is missing it says 'not run'. Python and Ruby are measured with their compiled modules, and without them as
+# python-ctypes and ruby-fiddle.
 set -u
 cd "$(dirname "$0")" || exit 1
-top=$(cd .. && pwd)
 
 sh build.sh "$@"
 case $? in
@@ -32,13 +33,21 @@ target/release/typed
 
 python=/usr/bin/python3
 if "$python" -c 'import google.protobuf' 2> /dev/null; then
-  PYTHONPATH=$top/python PYTHONDONTWRITEBYTECODE=1 "$python" languages/measure.py "$work"
+  cp -R ../python "$work/python"
+  (cd "$work/python" && "$python" setup.py --quiet build_ext --inplace > /dev/null 2>&1)
+  for way in '' 1; do
+    PENDRATSOA_PURE=$way PYTHONPATH=$work/python PYTHONDONTWRITEBYTECODE=1 "$python" languages/measure.py "$work"
+  done
 else
   without python 'there is no python3-protobuf'
 fi
 
 if ruby -e 'require "google/protobuf"' 2> /dev/null; then
-  RUBYLIB=$top/ruby/lib ruby languages/measure.rb "$work"
+  cp -R ../ruby "$work/ruby"
+  sh ../scripts/ruby.sh "$work/ruby" > /dev/null
+  for way in '' 1; do
+    PENDRATSOA_PURE=$way RUBYLIB=$work/ruby/lib ruby languages/measure.rb "$work"
+  done
 else
   without ruby 'there is no ruby-google-protobuf'
 fi

@@ -39,11 +39,11 @@ func TestItemsAreCopiedAsTheyCame(t *testing.T) {
 }
 
 func TestBytesOfItemsThatDidNotCome(t *testing.T) {
-	proposal := must(NewMessage(8, CodeProposeRunCompletion, unhex(t, "08810072")))(t)
+	proposal := must(NewMessage(8, CodeProposeRunCompletion, unhex(t, "088100")))(t)
 	for want, item := range map[string]Item{
-		"000580000000000408810072": proposal,
-		"0008000000000002":         UnknownCode{8, 8, 8<<48 | 2},
-		"00080000000000020003":     Skipped{Version: 9, Code: 8, Word: 8<<48 | 2, Payload: []byte{0, 3}},
+		"0005800000000003088100": proposal,
+		"0008000000000002":       UnknownCode{8, 8, 8<<48 | 2},
+		"00080000000000020003":   Skipped{Version: 9, Code: 8, Word: 8<<48 | 2, Payload: []byte{0, 3}},
 	} {
 		if !bytes.Equal(item.Bytes(), unhex(t, want)) {
 			t.Errorf("%v is %x", item, item.Bytes())
@@ -54,11 +54,46 @@ func TestBytesOfItemsThatDidNotCome(t *testing.T) {
 	}
 }
 
+func TestSuspensionsOfEachVersion(t *testing.T) {
+	v6, v7 := "08010a0202030804", "22120a010122080a010222030a010122030a0103"
+	flat, flattened := "0001000000000006"+"0a0401020304", "0001000000000006"+"0a0401020103"
+	for _, c := range []struct {
+		came    int
+		payload string
+		version int
+		want    string
+		err     error
+	}{
+		{6, v6, 6, flat, nil},
+		{6, v6, 5, flat, nil},
+		{5, v6, 6, flat, nil},
+		{6, v6, 7, "", ErrUnknown},
+		{5, v6, 9, "", ErrUnknown},
+		{6, v6, 10, "", ErrUnknown},
+		{6, "0a04", 6, "", ErrMalformed},
+		{7, v7, 7, "0001000000000014" + v7, nil},
+		{9, v7, 8, "0001000000000014" + v7, nil},
+		{9, v7, 6, flattened, nil},
+		{7, v7, 5, flattened, nil},
+	} {
+		message := Message{Version: c.came, Code: CodeSuspension, Payload: unhex(t, c.payload)}
+		want := unhex(t, c.want)
+		frame, err := message.Frame(c.version)
+		if !bytes.Equal(frame, want) || !errors.Is(err, c.err) {
+			t.Errorf("of version %d at %d: %x, %v", c.came, c.version, frame, err)
+		}
+		appended, err := message.AppendFrame([]byte{7}, c.version)
+		if !bytes.Equal(appended, append([]byte{7}, want...)) || !errors.Is(err, c.err) {
+			t.Errorf("of version %d at %d: %x, %v", c.came, c.version, appended, err)
+		}
+	}
+}
+
 func TestFramesWithADestination(t *testing.T) {
 	payload := unhex(t, "72070a05696e707574")
 	message := must(NewMessage(8, CodeInputCommand, payload))(t)
 	frame := unhex(t, input)
-	for _, room := range []int{0, 1, 17, 100} {
+	for _, room := range []int{0, 1, len(frame), 100} {
 		dst := append(make([]byte, 0, 1+room), 7)
 		found := must(message.AppendFrame(dst, 8))(t)
 		if !bytes.Equal(found, append([]byte{7}, frame...)) {

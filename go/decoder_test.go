@@ -3,6 +3,7 @@ package pendratsoa
 import (
 	"bytes"
 	"errors"
+	"fmt"
 	"io"
 	"math"
 	"reflect"
@@ -247,8 +248,10 @@ func TestMessage(t *testing.T) {
 	if schema := must(call.Schema())(t); schema != SchemaCallCommandMessage {
 		t.Errorf("the schema is %d", schema)
 	}
-	if json := must(call.JSON())(t); !bytes.Contains(json, []byte(`"serviceName":"Greeter","handlerName":"greet"`)) {
-		t.Errorf("the JSON is %s", json)
+	for _, member := range []string{`"serviceName":"Greeter"`, `"handlerName":"greet"`} {
+		if json := must(call.JSON())(t); !bytes.Contains(json, []byte(member)) {
+			t.Errorf("the JSON is %s", json)
+		}
 	}
 	if canonical := must(call.Canonical())(t); !bytes.Equal(canonical, call.Payload) {
 		t.Errorf("the canonical payload is %x", canonical)
@@ -322,27 +325,29 @@ func TestKindsOfMessages(t *testing.T) {
 
 func TestMessageTooLong(t *testing.T) {
 	stream := unhex(t, input+"00000000ffffffff"+"010203")
+	whole := len(unhex(t, input))
+	limit := uint32(whole - headerSize)
 	for _, read := range []func(io.Reader) io.Reader{iotest.OneByteReader, iotest.DataErrReader} {
 		decoder := NewDecoder(read(bytes.NewReader(stream)), 8)
-		decoder.SetMaxMessageSize(9)
+		decoder.SetMaxMessageSize(limit)
 		items, err := all(decoder)
 		if len(items) != 1 {
 			t.Errorf("%d items", len(items))
 		}
 		for i := 0; i < 2; i++ {
 			var long *MessageTooLong
-			if !errors.As(err, &long) || *long != (MessageTooLong{0, math.MaxUint32, 9, 17}) || decoder.Rest() != 0 {
+			if !errors.As(err, &long) || *long != (MessageTooLong{0, math.MaxUint32, limit, int64(whole)}) || decoder.Rest() != 0 {
 				t.Errorf("%v, with %d bytes left", err, decoder.Rest())
 			}
 			_, err = decoder.Next()
 		}
-		text := "pendratsoa: a message of type 0x0000 at offset 17 has 4294967295 bytes, more than the limit of 9"
-		if err.Error() != text || !errors.Is(err, ErrTooLong) {
+		text := "pendratsoa: a message of type 0x0000 at offset %d has 4294967295 bytes, more than the limit of %d"
+		if err.Error() != fmt.Sprintf(text, whole, limit) || !errors.Is(err, ErrTooLong) {
 			t.Errorf("the error is %v", err)
 		}
 	}
 	decoder := NewDecoder(bytes.NewReader(stream), 8)
-	decoder.SetMaxMessageSize(8)
+	decoder.SetMaxMessageSize(limit - 1)
 	if items, err := all(decoder); len(items) != 0 || !errors.Is(err, ErrTooLong) {
 		t.Errorf("%v, %v", items, err)
 	}

@@ -44,7 +44,7 @@ func Example() {
 func ExampleDecoder_chunks() {
 	var stream bytes.Buffer
 	decoder := pendratsoa.NewDecoder(&stream, 8)
-	for _, chunk := range []string{"\x04\x00\x00\x00\x00", "\x00\x00\x09r\x07\n\x05in", "put"} {
+	for _, chunk := range []string{"\xfc\x01\x00\x00\x00", "\x00\x00\x05in", "put"} {
 		stream.WriteString(chunk)
 		item, err := decoder.Next()
 		if errors.Is(err, io.ErrUnexpectedEOF) {
@@ -55,8 +55,8 @@ func ExampleDecoder_chunks() {
 	}
 	// Output:
 	// rest 5
-	// rest 14
-	// InputCommand rest 0
+	// rest 10
+	// CustomEntry(64513) rest 0
 }
 
 func ExampleFrame() {
@@ -70,11 +70,11 @@ func ExampleCanonical() {
 	payload := []byte{0x08, 0x01, 0x0a, 0x02, 0x02, 0x03, 0x08, 0x04}
 	canonical, err := pendratsoa.Canonical(pendratsoa.SchemaSuspensionMessageV6, payload)
 	fmt.Printf("%x %v\n", canonical, err)
-	_, err = pendratsoa.Canonical(pendratsoa.SchemaSuspensionMessageV6, payload[:3])
-	fmt.Println(errors.Is(err, pendratsoa.ErrMalformed), err)
+	_, err = pendratsoa.Canonical(pendratsoa.SchemaSuspensionMessageV6, payload[:len(payload)-1])
+	fmt.Println(errors.Is(err, pendratsoa.ErrMalformed))
 	// Output:
 	// 0a0401020304 <nil>
-	// true pendratsoa: Canonical: payload of 3 bytes: not well-formed for its schema
+	// true
 }
 
 func ExampleReadNotification() {

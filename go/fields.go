@@ -81,8 +81,10 @@ type fieldTable struct {
 	fields  []tableField
 	at      int
 	payload []byte
-	// texts is the payload as a text, of which all texts are parts, once there is one
-	texts string
+	// texts has all texts of the record, which are parts of it
+	texts strings.Builder
+	// room is what most tables fit into
+	room [fieldRoom]tableField
 }
 
 // has returns whether the next entry is of a level.
@@ -103,14 +105,23 @@ func (t *fieldTable) bytes(field *tableField) []byte {
 }
 
 func (t *fieldTable) text(field *tableField) string {
-	begin, length := field[fieldOffset], field[fieldLength]
-	if length == 0 {
-		return ""
+	begin := t.texts.Len()
+	if begin == 0 {
+		t.texts.Grow(t.textsToCome())
 	}
-	if t.texts == "" {
-		t.texts = string(t.payload)
+	t.texts.Write(t.bytes(field))
+	return t.texts.String()[begin:]
+}
+
+// textsToCome returns how many bytes the texts have from the last entry on.
+func (t *fieldTable) textsToCome() int {
+	length := uint64(0)
+	for i := t.at - 1; i < len(t.fields); i++ {
+		if t.fields[i][fieldKind] == kindOfFieldString {
+			length += t.fields[i][fieldLength]
+		}
 	}
-	return t.texts[begin : begin+length]
+	return int(length)
 }
 
 // unknown returns the error that a later library knows more fields.
@@ -118,14 +129,25 @@ func (t *fieldTable) unknown(record string) error {
 	return &Error{"UnmarshalBinary", "field of " + record, ErrUnexpected}
 }
 
-var tables = sync.Pool{New: func() any { return new([fieldRoom]tableField) }}
+var tables = sync.Pool{New: func() any { return new(fieldTable) }}
 
 // unmarshal reads a record from a payload.
 func unmarshal(record Record, payload []byte) error {
-	room := tables.Get().(*[fieldRoom]tableField)
-	defer tables.Put(room)
-	schema := record.Schema()
-	fields := room[:]
+	table := tables.Get().(*fieldTable)
+	err := table.find(record.Schema(), payload)
+	if err == nil {
+		err = record.read(table, 0)
+	}
+	// nothing of the record is kept
+	table.fields, table.at, table.payload = nil, 0, nil
+	table.texts.Reset()
+	tables.Put(table)
+	return err
+}
+
+// find finds the entries of a payload, or of its canonical encoding.
+func (t *fieldTable) find(schema int, payload []byte) error {
+	fields := t.room[:]
 	count := journalFields(uint32(schema), payload, fields)
 	if count == notCanonical {
 		canonical, err := Canonical(schema, payload)
@@ -142,8 +164,8 @@ func unmarshal(record Record, payload []byte) error {
 	if count < 0 {
 		return schemaError("UnmarshalBinary", count, schema, bytesText("payload", payload))
 	}
-	table := fieldTable{fields: fields[:count], payload: payload}
-	return record.read(&table, 0)
+	t.fields, t.payload = fields[:count], payload
+	return nil
 }
 
 // A fieldWriter is the table of a record, and the bytes that its entries are places in.
@@ -224,15 +246,11 @@ func frameOf(record Record, version int, code uint16) ([]byte, error) {
 
 // earlierFrame returns the frame of a record that a type has at earlier versions only.
 func earlierFrame(record Record, version int, code uint16) ([]byte, error) {
-	schema, err := Schema(version, code)
+	payload, err := marshal(record)
 	if err != nil {
 		return nil, err
 	}
-	if schema != record.Schema() {
-		return nil, &Error{"Frame", named("version", version), ErrUnknown}
-	}
-	message, err := NewMessageOf(version, code, record)
-	return message.Bytes(), err
+	return appendEarlierFrame("Frame", nil, version, code, record.Schema(), payload)
 }
 
 // pathOf returns what leads to the last of these entries, as "headers[2].key".

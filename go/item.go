@@ -193,15 +193,24 @@ func (m Message) Canonical() ([]byte, error) {
 }
 
 // Frame returns the message as a frame of a version, its own or another: a header, and the canonical payload after it.
-// The errors are those of the function Frame.
+// The errors are those of the function Frame, and ErrUnknown for a version that cannot have the payload: a suspension
+// before version 7 has no frame from 7 on, and one since then has a frame at each.
 func (m Message) Frame(version int) ([]byte, error) {
-	return Frame(version, m.Code, m.Payload)
+	frame, err := m.appendFrame("Frame", nil, version)
+	return frame[:len(frame):len(frame)], err
 }
 
-// AppendFrame appends the frame that Frame returns, and returns the extended slice. The errors are those of the function
-// AppendFrame.
+// AppendFrame appends the frame that Frame returns, and returns the extended slice, as append does. With an error, which
+// is one of those of Frame, it returns the slice as it was.
 func (m Message) AppendFrame(dst []byte, version int) ([]byte, error) {
-	return AppendFrame(dst, version, m.Code, m.Payload)
+	return m.appendFrame("AppendFrame", dst, version)
+}
+
+func (m Message) appendFrame(call string, dst []byte, version int) ([]byte, error) {
+	if schema, isEarlier := earlierSchema(m.Version, m.Code); isEarlier {
+		return appendEarlierFrame(call, dst, version, m.Code, schema, m.Payload)
+	}
+	return appendFrame(call, dst, version, m.Code, m.Payload)
 }
 
 // WriteFrame writes the frame that Frame returns. The errors are those of Frame and of the writer.

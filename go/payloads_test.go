@@ -2,6 +2,7 @@ package pendratsoa
 
 import (
 	"bytes"
+	"fmt"
 	"strings"
 	"testing"
 )
@@ -18,11 +19,11 @@ func TestPayloads(t *testing.T) {
 	if json := must(ToJSON(SchemaErrorMessage, unhex(t, "0801120178")))(t); string(json) != `{"code":1,"message":"x"}` {
 		t.Errorf("the JSON is %s", json)
 	}
-	if !must(IsWellFormed(SchemaErrorMessage, unhex(t, "0801")))(t) {
-		t.Error("0801 is well-formed")
+	if !must(IsWellFormed(SchemaSuspensionMessageV6, first))(t) {
+		t.Errorf("%x is well-formed", first)
 	}
-	if must(IsWellFormed(SchemaErrorMessage, unhex(t, "08")))(t) {
-		t.Error("08 is malformed")
+	if must(IsWellFormed(SchemaSuspensionMessageV6, first[:len(first)-1]))(t) {
+		t.Errorf("%x without its last byte is malformed", first)
 	}
 }
 
@@ -64,7 +65,7 @@ func TestMalformedPayloads(t *testing.T) {
 	_, err := Canonical(SchemaErrorMessage, bad)
 	wantError(t, err, ErrMalformed, "pendratsoa: Canonical: payload of 1 byte"+malformed)
 	_, err = ToJSON(SchemaErrorMessage, append(good, bad...))
-	wantError(t, err, ErrMalformed, "pendratsoa: ToJSON: payload of 4 bytes"+malformed)
+	wantError(t, err, ErrMalformed, fmt.Sprintf("pendratsoa: ToJSON: payload of %d bytes", len(good)+1)+malformed)
 	_, err = Merge(SchemaErrorMessage, bad, good)
 	wantError(t, err, ErrMalformed, "pendratsoa: Merge: first of 1 byte"+malformed)
 	_, err = Merge(SchemaErrorMessage, good, bad)

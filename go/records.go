@@ -86,7 +86,9 @@ func (r *Value) read(table *fieldTable, level uint64) error {
 }
 
 func (r *Value) write(writer *fieldWriter, level uint64) {
-	writer.bytes(level, 1, r.Content)
+	if len(r.Content) > 0 {
+		writer.bytes(level, 1, r.Content)
+	}
 }
 
 // Failure: a terminal failure.
@@ -137,8 +139,12 @@ func (r *Failure) read(table *fieldTable, level uint64) error {
 }
 
 func (r *Failure) write(writer *fieldWriter, level uint64) {
-	writer.number(level, 1, kindOfFieldUint32, uint64(r.Code))
-	writer.text(level, 2, r.Message)
+	if r.Code != 0 {
+		writer.number(level, 1, kindOfFieldUint32, uint64(r.Code))
+	}
+	if len(r.Message) > 0 {
+		writer.text(level, 2, r.Message)
+	}
 	for i := range r.Metadata {
 		writer.message(level, 3, SchemaFailureMetadata)
 		r.Metadata[i].write(writer, level+1)
@@ -186,8 +192,12 @@ func (r *FailureMetadata) read(table *fieldTable, level uint64) error {
 }
 
 func (r *FailureMetadata) write(writer *fieldWriter, level uint64) {
-	writer.text(level, 1, r.Key)
-	writer.text(level, 2, r.Value)
+	if len(r.Key) > 0 {
+		writer.text(level, 1, r.Key)
+	}
+	if len(r.Value) > 0 {
+		writer.text(level, 2, r.Value)
+	}
 }
 
 // HeaderRecord: a header of a request.
@@ -231,8 +241,12 @@ func (r *HeaderRecord) read(table *fieldTable, level uint64) error {
 }
 
 func (r *HeaderRecord) write(writer *fieldWriter, level uint64) {
-	writer.text(level, 1, r.Key)
-	writer.text(level, 2, r.Value)
+	if len(r.Key) > 0 {
+		writer.text(level, 1, r.Key)
+	}
+	if len(r.Value) > 0 {
+		writer.text(level, 2, r.Value)
+	}
 }
 
 // StateKeys: the keys of a state.
@@ -318,8 +332,12 @@ func (r *StateEntry) read(table *fieldTable, level uint64) error {
 }
 
 func (r *StateEntry) write(writer *fieldWriter, level uint64) {
-	writer.bytes(level, 1, r.Key)
-	writer.bytes(level, 2, r.Value)
+	if len(r.Key) > 0 {
+		writer.bytes(level, 1, r.Key)
+	}
+	if len(r.Value) > 0 {
+		writer.bytes(level, 2, r.Value)
+	}
 }
 
 // Future: what an await waits for: completions, signals, and further futures.
@@ -391,7 +409,9 @@ func (r *Future) write(writer *fieldWriter, level uint64) {
 		writer.message(level, 4, SchemaFuture)
 		r.NestedFutures[i].write(writer, level+1)
 	}
-	writer.number(level, 5, kindOfFieldEnum, uint64(r.CombinatorType))
+	if r.CombinatorType != 0 {
+		writer.number(level, 5, kindOfFieldEnum, uint64(r.CombinatorType))
+	}
 }
 
 // WorkflowTarget: an invocation, as the run of a workflow.
@@ -440,8 +460,12 @@ func (r *WorkflowTarget) read(table *fieldTable, level uint64) error {
 }
 
 func (r *WorkflowTarget) write(writer *fieldWriter, level uint64) {
-	writer.text(level, 1, r.WorkflowName)
-	writer.text(level, 2, r.WorkflowKey)
+	if len(r.WorkflowName) > 0 {
+		writer.text(level, 1, r.WorkflowName)
+	}
+	if len(r.WorkflowKey) > 0 {
+		writer.text(level, 2, r.WorkflowKey)
+	}
 	if r.Scope != nil {
 		writer.text(level, 3, *r.Scope)
 	}
@@ -502,12 +526,18 @@ func (r *IdempotentRequestTarget) read(table *fieldTable, level uint64) error {
 }
 
 func (r *IdempotentRequestTarget) write(writer *fieldWriter, level uint64) {
-	writer.text(level, 1, r.ServiceName)
+	if len(r.ServiceName) > 0 {
+		writer.text(level, 1, r.ServiceName)
+	}
 	if r.ServiceKey != nil {
 		writer.text(level, 2, *r.ServiceKey)
 	}
-	writer.text(level, 3, r.HandlerName)
-	writer.text(level, 4, r.IdempotencyKey)
+	if len(r.HandlerName) > 0 {
+		writer.text(level, 3, r.HandlerName)
+	}
+	if len(r.IdempotencyKey) > 0 {
+		writer.text(level, 4, r.IdempotencyKey)
+	}
 	if r.Scope != nil {
 		writer.text(level, 5, *r.Scope)
 	}
@@ -605,18 +635,34 @@ func (r *StartMessage) read(table *fieldTable, level uint64) error {
 }
 
 func (r *StartMessage) write(writer *fieldWriter, level uint64) {
-	writer.bytes(level, 1, r.ID)
-	writer.text(level, 2, r.DebugID)
-	writer.number(level, 3, kindOfFieldUint32, uint64(r.KnownEntries))
+	if len(r.ID) > 0 {
+		writer.bytes(level, 1, r.ID)
+	}
+	if len(r.DebugID) > 0 {
+		writer.text(level, 2, r.DebugID)
+	}
+	if r.KnownEntries != 0 {
+		writer.number(level, 3, kindOfFieldUint32, uint64(r.KnownEntries))
+	}
 	for i := range r.StateMap {
 		writer.message(level, 4, SchemaStateEntry)
 		r.StateMap[i].write(writer, level+1)
 	}
-	writer.flag(level, 5, r.PartialState)
-	writer.text(level, 6, r.Key)
-	writer.number(level, 7, kindOfFieldUint32, uint64(r.RetryCountSinceLastStoredEntry))
-	writer.number(level, 8, kindOfFieldUint64, r.DurationSinceLastStoredEntry)
-	writer.number(level, 9, kindOfFieldUint64, r.RandomSeed)
+	if r.PartialState {
+		writer.flag(level, 5, r.PartialState)
+	}
+	if len(r.Key) > 0 {
+		writer.text(level, 6, r.Key)
+	}
+	if r.RetryCountSinceLastStoredEntry != 0 {
+		writer.number(level, 7, kindOfFieldUint32, uint64(r.RetryCountSinceLastStoredEntry))
+	}
+	if r.DurationSinceLastStoredEntry != 0 {
+		writer.number(level, 8, kindOfFieldUint64, r.DurationSinceLastStoredEntry)
+	}
+	if r.RandomSeed != 0 {
+		writer.number(level, 9, kindOfFieldUint64, r.RandomSeed)
+	}
 	if r.Scope != nil {
 		writer.text(level, 10, *r.Scope)
 	}
@@ -815,9 +861,15 @@ func (r *ErrorMessage) read(table *fieldTable, level uint64) error {
 }
 
 func (r *ErrorMessage) write(writer *fieldWriter, level uint64) {
-	writer.number(level, 1, kindOfFieldUint32, uint64(r.Code))
-	writer.text(level, 2, r.Message)
-	writer.text(level, 3, r.Stacktrace)
+	if r.Code != 0 {
+		writer.number(level, 1, kindOfFieldUint32, uint64(r.Code))
+	}
+	if len(r.Message) > 0 {
+		writer.text(level, 2, r.Message)
+	}
+	if len(r.Stacktrace) > 0 {
+		writer.text(level, 3, r.Stacktrace)
+	}
 	if r.RelatedCommandIndex != nil {
 		writer.number(level, 4, kindOfFieldUint32, uint64(*r.RelatedCommandIndex))
 	}
@@ -830,7 +882,9 @@ func (r *ErrorMessage) write(writer *fieldWriter, level uint64) {
 	if r.NextRetryDelay != nil {
 		writer.number(level, 8, kindOfFieldUint64, *r.NextRetryDelay)
 	}
-	writer.number(level, 9, kindOfFieldEnum, uint64(r.Behavior))
+	if r.Behavior != 0 {
+		writer.number(level, 9, kindOfFieldEnum, uint64(r.Behavior))
+	}
 }
 
 // EndMessage: ends the invocation.
@@ -930,7 +984,9 @@ func (r *ProposeRunCompletionMessage) read(table *fieldTable, level uint64) erro
 }
 
 func (r *ProposeRunCompletionMessage) write(writer *fieldWriter, level uint64) {
-	writer.number(level, 1, kindOfFieldUint32, uint64(r.ResultCompletionID))
+	if r.ResultCompletionID != 0 {
+		writer.number(level, 1, kindOfFieldUint32, uint64(r.ResultCompletionID))
+	}
 	switch value := r.Result.(type) {
 	case ProposeRunCompletionMessageValue:
 		writer.bytes(level, 14, []byte(value))
@@ -995,7 +1051,9 @@ func (r *AwaitingOnMessage) write(writer *fieldWriter, level uint64) {
 		writer.message(level, 1, SchemaFuture)
 		r.AwaitingOn.write(writer, level+1)
 	}
-	writer.flag(level, 2, r.ExecutingSideEffects)
+	if r.ExecutingSideEffects {
+		writer.flag(level, 2, r.ExecutingSideEffects)
+	}
 }
 
 // ProposeRunCompletionAckMessage: says that the proposed result of a run was recorded.
@@ -1040,7 +1098,9 @@ func (r *ProposeRunCompletionAckMessage) read(table *fieldTable, level uint64) e
 }
 
 func (r *ProposeRunCompletionAckMessage) write(writer *fieldWriter, level uint64) {
-	writer.number(level, 1, kindOfFieldUint32, uint64(r.CompletionID))
+	if r.CompletionID != 0 {
+		writer.number(level, 1, kindOfFieldUint32, uint64(r.CompletionID))
+	}
 }
 
 // GetStateEphemeralCommandMessage: reads the value of a key, without recording it in the journal.
@@ -1089,8 +1149,12 @@ func (r *GetStateEphemeralCommandMessage) read(table *fieldTable, level uint64) 
 }
 
 func (r *GetStateEphemeralCommandMessage) write(writer *fieldWriter, level uint64) {
-	writer.bytes(level, 1, r.Key)
-	writer.number(level, 2, kindOfFieldUint32, uint64(r.CompletionID))
+	if len(r.Key) > 0 {
+		writer.bytes(level, 1, r.Key)
+	}
+	if r.CompletionID != 0 {
+		writer.number(level, 2, kindOfFieldUint32, uint64(r.CompletionID))
+	}
 }
 
 // GetStateEphemeralNotificationMessage: the value of a key that was read without recording it.
@@ -1157,7 +1221,9 @@ func (r *GetStateEphemeralNotificationMessage) read(table *fieldTable, level uin
 }
 
 func (r *GetStateEphemeralNotificationMessage) write(writer *fieldWriter, level uint64) {
-	writer.number(level, 1, kindOfFieldUint32, uint64(r.CompletionID))
+	if r.CompletionID != 0 {
+		writer.number(level, 1, kindOfFieldUint32, uint64(r.CompletionID))
+	}
 	switch value := r.Result.(type) {
 	case *Void:
 		if value != nil {
@@ -1232,7 +1298,9 @@ func (r *InputCommandMessage) write(writer *fieldWriter, level uint64) {
 		writer.message(level, 1, SchemaHeader)
 		r.Headers[i].write(writer, level+1)
 	}
-	writer.text(level, 12, r.Name)
+	if len(r.Name) > 0 {
+		writer.text(level, 12, r.Name)
+	}
 	if r.Value != nil {
 		writer.message(level, 14, SchemaValue)
 		r.Value.write(writer, level+1)
@@ -1303,7 +1371,9 @@ func (r *OutputCommandMessage) read(table *fieldTable, level uint64) error {
 }
 
 func (r *OutputCommandMessage) write(writer *fieldWriter, level uint64) {
-	writer.text(level, 12, r.Name)
+	if len(r.Name) > 0 {
+		writer.text(level, 12, r.Name)
+	}
 	switch value := r.Result.(type) {
 	case *Value:
 		if value != nil {
@@ -1368,9 +1438,15 @@ func (r *GetLazyStateCommandMessage) read(table *fieldTable, level uint64) error
 }
 
 func (r *GetLazyStateCommandMessage) write(writer *fieldWriter, level uint64) {
-	writer.bytes(level, 1, r.Key)
-	writer.number(level, 11, kindOfFieldUint32, uint64(r.ResultCompletionID))
-	writer.text(level, 12, r.Name)
+	if len(r.Key) > 0 {
+		writer.bytes(level, 1, r.Key)
+	}
+	if r.ResultCompletionID != 0 {
+		writer.number(level, 11, kindOfFieldUint32, uint64(r.ResultCompletionID))
+	}
+	if len(r.Name) > 0 {
+		writer.text(level, 12, r.Name)
+	}
 }
 
 // SetStateCommandMessage: sets the value of a key.
@@ -1426,12 +1502,16 @@ func (r *SetStateCommandMessage) read(table *fieldTable, level uint64) error {
 }
 
 func (r *SetStateCommandMessage) write(writer *fieldWriter, level uint64) {
-	writer.bytes(level, 1, r.Key)
+	if len(r.Key) > 0 {
+		writer.bytes(level, 1, r.Key)
+	}
 	if r.Value != nil {
 		writer.message(level, 3, SchemaValue)
 		r.Value.write(writer, level+1)
 	}
-	writer.text(level, 12, r.Name)
+	if len(r.Name) > 0 {
+		writer.text(level, 12, r.Name)
+	}
 }
 
 // ClearStateCommandMessage: clears a key.
@@ -1480,8 +1560,12 @@ func (r *ClearStateCommandMessage) read(table *fieldTable, level uint64) error {
 }
 
 func (r *ClearStateCommandMessage) write(writer *fieldWriter, level uint64) {
-	writer.bytes(level, 1, r.Key)
-	writer.text(level, 12, r.Name)
+	if len(r.Key) > 0 {
+		writer.bytes(level, 1, r.Key)
+	}
+	if len(r.Name) > 0 {
+		writer.text(level, 12, r.Name)
+	}
 }
 
 // ClearAllStateCommandMessage: clears all keys.
@@ -1526,7 +1610,9 @@ func (r *ClearAllStateCommandMessage) read(table *fieldTable, level uint64) erro
 }
 
 func (r *ClearAllStateCommandMessage) write(writer *fieldWriter, level uint64) {
-	writer.text(level, 12, r.Name)
+	if len(r.Name) > 0 {
+		writer.text(level, 12, r.Name)
+	}
 }
 
 // GetLazyStateKeysCommandMessage: reads all keys.
@@ -1575,8 +1661,12 @@ func (r *GetLazyStateKeysCommandMessage) read(table *fieldTable, level uint64) e
 }
 
 func (r *GetLazyStateKeysCommandMessage) write(writer *fieldWriter, level uint64) {
-	writer.number(level, 11, kindOfFieldUint32, uint64(r.ResultCompletionID))
-	writer.text(level, 12, r.Name)
+	if r.ResultCompletionID != 0 {
+		writer.number(level, 11, kindOfFieldUint32, uint64(r.ResultCompletionID))
+	}
+	if len(r.Name) > 0 {
+		writer.text(level, 12, r.Name)
+	}
 }
 
 // GetEagerStateCommandMessage: reads the value of a key from the state in the start message.
@@ -1647,8 +1737,12 @@ func (r *GetEagerStateCommandMessage) read(table *fieldTable, level uint64) erro
 }
 
 func (r *GetEagerStateCommandMessage) write(writer *fieldWriter, level uint64) {
-	writer.bytes(level, 1, r.Key)
-	writer.text(level, 12, r.Name)
+	if len(r.Key) > 0 {
+		writer.bytes(level, 1, r.Key)
+	}
+	if len(r.Name) > 0 {
+		writer.text(level, 12, r.Name)
+	}
 	switch value := r.Result.(type) {
 	case *Void:
 		if value != nil {
@@ -1712,7 +1806,9 @@ func (r *GetEagerStateKeysCommandMessage) read(table *fieldTable, level uint64) 
 }
 
 func (r *GetEagerStateKeysCommandMessage) write(writer *fieldWriter, level uint64) {
-	writer.text(level, 12, r.Name)
+	if len(r.Name) > 0 {
+		writer.text(level, 12, r.Name)
+	}
 	if r.Value != nil {
 		writer.message(level, 14, SchemaStateKeys)
 		r.Value.write(writer, level+1)
@@ -1769,9 +1865,15 @@ func (r *GetPromiseCommandMessage) read(table *fieldTable, level uint64) error {
 }
 
 func (r *GetPromiseCommandMessage) write(writer *fieldWriter, level uint64) {
-	writer.text(level, 1, r.Key)
-	writer.number(level, 11, kindOfFieldUint32, uint64(r.ResultCompletionID))
-	writer.text(level, 12, r.Name)
+	if len(r.Key) > 0 {
+		writer.text(level, 1, r.Key)
+	}
+	if r.ResultCompletionID != 0 {
+		writer.number(level, 11, kindOfFieldUint32, uint64(r.ResultCompletionID))
+	}
+	if len(r.Name) > 0 {
+		writer.text(level, 12, r.Name)
+	}
 }
 
 // PeekPromiseCommandMessage: reads the result of a promise, without awaiting it.
@@ -1824,9 +1926,15 @@ func (r *PeekPromiseCommandMessage) read(table *fieldTable, level uint64) error 
 }
 
 func (r *PeekPromiseCommandMessage) write(writer *fieldWriter, level uint64) {
-	writer.text(level, 1, r.Key)
-	writer.number(level, 11, kindOfFieldUint32, uint64(r.ResultCompletionID))
-	writer.text(level, 12, r.Name)
+	if len(r.Key) > 0 {
+		writer.text(level, 1, r.Key)
+	}
+	if r.ResultCompletionID != 0 {
+		writer.number(level, 11, kindOfFieldUint32, uint64(r.ResultCompletionID))
+	}
+	if len(r.Name) > 0 {
+		writer.text(level, 12, r.Name)
+	}
 }
 
 // CompletePromiseCommandMessage: completes a promise.
@@ -1901,7 +2009,9 @@ func (r *CompletePromiseCommandMessage) read(table *fieldTable, level uint64) er
 }
 
 func (r *CompletePromiseCommandMessage) write(writer *fieldWriter, level uint64) {
-	writer.text(level, 1, r.Key)
+	if len(r.Key) > 0 {
+		writer.text(level, 1, r.Key)
+	}
 	switch value := r.Completion.(type) {
 	case *Value:
 		if value != nil {
@@ -1914,8 +2024,12 @@ func (r *CompletePromiseCommandMessage) write(writer *fieldWriter, level uint64)
 			value.write(writer, level+1)
 		}
 	}
-	writer.number(level, 11, kindOfFieldUint32, uint64(r.ResultCompletionID))
-	writer.text(level, 12, r.Name)
+	if r.ResultCompletionID != 0 {
+		writer.number(level, 11, kindOfFieldUint32, uint64(r.ResultCompletionID))
+	}
+	if len(r.Name) > 0 {
+		writer.text(level, 12, r.Name)
+	}
 }
 
 // SleepCommandMessage: sleeps until a time.
@@ -1968,9 +2082,15 @@ func (r *SleepCommandMessage) read(table *fieldTable, level uint64) error {
 }
 
 func (r *SleepCommandMessage) write(writer *fieldWriter, level uint64) {
-	writer.number(level, 1, kindOfFieldUint64, r.WakeUpTime)
-	writer.number(level, 11, kindOfFieldUint32, uint64(r.ResultCompletionID))
-	writer.text(level, 12, r.Name)
+	if r.WakeUpTime != 0 {
+		writer.number(level, 1, kindOfFieldUint64, r.WakeUpTime)
+	}
+	if r.ResultCompletionID != 0 {
+		writer.number(level, 11, kindOfFieldUint32, uint64(r.ResultCompletionID))
+	}
+	if len(r.Name) > 0 {
+		writer.text(level, 12, r.Name)
+	}
 }
 
 // CallCommandMessage: calls a handler and awaits its result.
@@ -2061,14 +2181,22 @@ func (r *CallCommandMessage) read(table *fieldTable, level uint64) error {
 }
 
 func (r *CallCommandMessage) write(writer *fieldWriter, level uint64) {
-	writer.text(level, 1, r.ServiceName)
-	writer.text(level, 2, r.HandlerName)
-	writer.bytes(level, 3, r.Parameter)
+	if len(r.ServiceName) > 0 {
+		writer.text(level, 1, r.ServiceName)
+	}
+	if len(r.HandlerName) > 0 {
+		writer.text(level, 2, r.HandlerName)
+	}
+	if len(r.Parameter) > 0 {
+		writer.bytes(level, 3, r.Parameter)
+	}
 	for i := range r.Headers {
 		writer.message(level, 4, SchemaHeader)
 		r.Headers[i].write(writer, level+1)
 	}
-	writer.text(level, 5, r.Key)
+	if len(r.Key) > 0 {
+		writer.text(level, 5, r.Key)
+	}
 	if r.IdempotencyKey != nil {
 		writer.text(level, 6, *r.IdempotencyKey)
 	}
@@ -2078,9 +2206,15 @@ func (r *CallCommandMessage) write(writer *fieldWriter, level uint64) {
 	if r.LimitKey != nil {
 		writer.text(level, 8, *r.LimitKey)
 	}
-	writer.number(level, 10, kindOfFieldUint32, uint64(r.InvocationIDNotificationIdx))
-	writer.number(level, 11, kindOfFieldUint32, uint64(r.ResultCompletionID))
-	writer.text(level, 12, r.Name)
+	if r.InvocationIDNotificationIdx != 0 {
+		writer.number(level, 10, kindOfFieldUint32, uint64(r.InvocationIDNotificationIdx))
+	}
+	if r.ResultCompletionID != 0 {
+		writer.number(level, 11, kindOfFieldUint32, uint64(r.ResultCompletionID))
+	}
+	if len(r.Name) > 0 {
+		writer.text(level, 12, r.Name)
+	}
 }
 
 // OneWayCallCommandMessage: calls a handler without awaiting its result.
@@ -2171,15 +2305,25 @@ func (r *OneWayCallCommandMessage) read(table *fieldTable, level uint64) error {
 }
 
 func (r *OneWayCallCommandMessage) write(writer *fieldWriter, level uint64) {
-	writer.text(level, 1, r.ServiceName)
-	writer.text(level, 2, r.HandlerName)
-	writer.bytes(level, 3, r.Parameter)
-	writer.number(level, 4, kindOfFieldUint64, r.InvokeTime)
+	if len(r.ServiceName) > 0 {
+		writer.text(level, 1, r.ServiceName)
+	}
+	if len(r.HandlerName) > 0 {
+		writer.text(level, 2, r.HandlerName)
+	}
+	if len(r.Parameter) > 0 {
+		writer.bytes(level, 3, r.Parameter)
+	}
+	if r.InvokeTime != 0 {
+		writer.number(level, 4, kindOfFieldUint64, r.InvokeTime)
+	}
 	for i := range r.Headers {
 		writer.message(level, 5, SchemaHeader)
 		r.Headers[i].write(writer, level+1)
 	}
-	writer.text(level, 6, r.Key)
+	if len(r.Key) > 0 {
+		writer.text(level, 6, r.Key)
+	}
 	if r.IdempotencyKey != nil {
 		writer.text(level, 7, *r.IdempotencyKey)
 	}
@@ -2189,8 +2333,12 @@ func (r *OneWayCallCommandMessage) write(writer *fieldWriter, level uint64) {
 	if r.LimitKey != nil {
 		writer.text(level, 9, *r.LimitKey)
 	}
-	writer.number(level, 10, kindOfFieldUint32, uint64(r.InvocationIDNotificationIdx))
-	writer.text(level, 12, r.Name)
+	if r.InvocationIDNotificationIdx != 0 {
+		writer.number(level, 10, kindOfFieldUint32, uint64(r.InvocationIDNotificationIdx))
+	}
+	if len(r.Name) > 0 {
+		writer.text(level, 12, r.Name)
+	}
 }
 
 // SendSignalCommandMessage: sends a signal to an invocation.
@@ -2289,7 +2437,9 @@ func (r *SendSignalCommandMessage) read(table *fieldTable, level uint64) error {
 }
 
 func (r *SendSignalCommandMessage) write(writer *fieldWriter, level uint64) {
-	writer.text(level, 1, r.TargetInvocationID)
+	if len(r.TargetInvocationID) > 0 {
+		writer.text(level, 1, r.TargetInvocationID)
+	}
 	switch value := r.SignalID.(type) {
 	case SendSignalCommandMessageIdx:
 		writer.number(level, 2, kindOfFieldUint32, uint64(uint32(value)))
@@ -2313,7 +2463,9 @@ func (r *SendSignalCommandMessage) write(writer *fieldWriter, level uint64) {
 			value.write(writer, level+1)
 		}
 	}
-	writer.text(level, 12, r.EntryName)
+	if len(r.EntryName) > 0 {
+		writer.text(level, 12, r.EntryName)
+	}
 }
 
 // RunCommandMessage: runs a side effect, whose result is recorded.
@@ -2362,8 +2514,12 @@ func (r *RunCommandMessage) read(table *fieldTable, level uint64) error {
 }
 
 func (r *RunCommandMessage) write(writer *fieldWriter, level uint64) {
-	writer.number(level, 11, kindOfFieldUint32, uint64(r.ResultCompletionID))
-	writer.text(level, 12, r.Name)
+	if r.ResultCompletionID != 0 {
+		writer.number(level, 11, kindOfFieldUint32, uint64(r.ResultCompletionID))
+	}
+	if len(r.Name) > 0 {
+		writer.text(level, 12, r.Name)
+	}
 }
 
 // AttachInvocationCommandMessage: awaits the result of an invocation.
@@ -2455,8 +2611,12 @@ func (r *AttachInvocationCommandMessage) write(writer *fieldWriter, level uint64
 			value.write(writer, level+1)
 		}
 	}
-	writer.number(level, 11, kindOfFieldUint32, uint64(r.ResultCompletionID))
-	writer.text(level, 12, r.Name)
+	if r.ResultCompletionID != 0 {
+		writer.number(level, 11, kindOfFieldUint32, uint64(r.ResultCompletionID))
+	}
+	if len(r.Name) > 0 {
+		writer.text(level, 12, r.Name)
+	}
 }
 
 // GetInvocationOutputCommandMessage: reads the result of an invocation, without awaiting it.
@@ -2548,8 +2708,12 @@ func (r *GetInvocationOutputCommandMessage) write(writer *fieldWriter, level uin
 			value.write(writer, level+1)
 		}
 	}
-	writer.number(level, 11, kindOfFieldUint32, uint64(r.ResultCompletionID))
-	writer.text(level, 12, r.Name)
+	if r.ResultCompletionID != 0 {
+		writer.number(level, 11, kindOfFieldUint32, uint64(r.ResultCompletionID))
+	}
+	if len(r.Name) > 0 {
+		writer.text(level, 12, r.Name)
+	}
 }
 
 // CompleteAwakeableCommandMessage: completes an awakeable.
@@ -2620,7 +2784,9 @@ func (r *CompleteAwakeableCommandMessage) read(table *fieldTable, level uint64) 
 }
 
 func (r *CompleteAwakeableCommandMessage) write(writer *fieldWriter, level uint64) {
-	writer.text(level, 1, r.AwakeableID)
+	if len(r.AwakeableID) > 0 {
+		writer.text(level, 1, r.AwakeableID)
+	}
 	switch value := r.Result.(type) {
 	case *Value:
 		if value != nil {
@@ -2633,7 +2799,9 @@ func (r *CompleteAwakeableCommandMessage) write(writer *fieldWriter, level uint6
 			value.write(writer, level+1)
 		}
 	}
-	writer.text(level, 12, r.Name)
+	if len(r.Name) > 0 {
+		writer.text(level, 12, r.Name)
+	}
 }
 
 // GetLazyStateCompletionNotificationMessage: the value of a key that was read.
@@ -2700,7 +2868,9 @@ func (r *GetLazyStateCompletionNotificationMessage) read(table *fieldTable, leve
 }
 
 func (r *GetLazyStateCompletionNotificationMessage) write(writer *fieldWriter, level uint64) {
-	writer.number(level, 1, kindOfFieldUint32, uint64(r.CompletionID))
+	if r.CompletionID != 0 {
+		writer.number(level, 1, kindOfFieldUint32, uint64(r.CompletionID))
+	}
 	switch value := r.Result.(type) {
 	case *Void:
 		if value != nil {
@@ -2786,7 +2956,9 @@ func (r *GetPromiseCompletionNotificationMessage) read(table *fieldTable, level 
 }
 
 func (r *GetPromiseCompletionNotificationMessage) write(writer *fieldWriter, level uint64) {
-	writer.number(level, 1, kindOfFieldUint32, uint64(r.CompletionID))
+	if r.CompletionID != 0 {
+		writer.number(level, 1, kindOfFieldUint32, uint64(r.CompletionID))
+	}
 	switch value := r.Result.(type) {
 	case *Void:
 		if value != nil {
@@ -2877,7 +3049,9 @@ func (r *PeekPromiseCompletionNotificationMessage) read(table *fieldTable, level
 }
 
 func (r *PeekPromiseCompletionNotificationMessage) write(writer *fieldWriter, level uint64) {
-	writer.number(level, 1, kindOfFieldUint32, uint64(r.CompletionID))
+	if r.CompletionID != 0 {
+		writer.number(level, 1, kindOfFieldUint32, uint64(r.CompletionID))
+	}
 	switch value := r.Result.(type) {
 	case *Void:
 		if value != nil {
@@ -2968,7 +3142,9 @@ func (r *GetInvocationOutputCompletionNotificationMessage) read(table *fieldTabl
 }
 
 func (r *GetInvocationOutputCompletionNotificationMessage) write(writer *fieldWriter, level uint64) {
-	writer.number(level, 1, kindOfFieldUint32, uint64(r.CompletionID))
+	if r.CompletionID != 0 {
+		writer.number(level, 1, kindOfFieldUint32, uint64(r.CompletionID))
+	}
 	switch value := r.Result.(type) {
 	case *Void:
 		if value != nil {
@@ -3052,7 +3228,9 @@ func (r *CompletePromiseCompletionNotificationMessage) read(table *fieldTable, l
 }
 
 func (r *CompletePromiseCompletionNotificationMessage) write(writer *fieldWriter, level uint64) {
-	writer.number(level, 1, kindOfFieldUint32, uint64(r.CompletionID))
+	if r.CompletionID != 0 {
+		writer.number(level, 1, kindOfFieldUint32, uint64(r.CompletionID))
+	}
 	switch value := r.Result.(type) {
 	case *Void:
 		if value != nil {
@@ -3131,7 +3309,9 @@ func (r *CallCompletionNotificationMessage) read(table *fieldTable, level uint64
 }
 
 func (r *CallCompletionNotificationMessage) write(writer *fieldWriter, level uint64) {
-	writer.number(level, 1, kindOfFieldUint32, uint64(r.CompletionID))
+	if r.CompletionID != 0 {
+		writer.number(level, 1, kindOfFieldUint32, uint64(r.CompletionID))
+	}
 	switch value := r.Result.(type) {
 	case *Value:
 		if value != nil {
@@ -3210,7 +3390,9 @@ func (r *RunCompletionNotificationMessage) read(table *fieldTable, level uint64)
 }
 
 func (r *RunCompletionNotificationMessage) write(writer *fieldWriter, level uint64) {
-	writer.number(level, 1, kindOfFieldUint32, uint64(r.CompletionID))
+	if r.CompletionID != 0 {
+		writer.number(level, 1, kindOfFieldUint32, uint64(r.CompletionID))
+	}
 	switch value := r.Result.(type) {
 	case *Value:
 		if value != nil {
@@ -3289,7 +3471,9 @@ func (r *AttachInvocationCompletionNotificationMessage) read(table *fieldTable, 
 }
 
 func (r *AttachInvocationCompletionNotificationMessage) write(writer *fieldWriter, level uint64) {
-	writer.number(level, 1, kindOfFieldUint32, uint64(r.CompletionID))
+	if r.CompletionID != 0 {
+		writer.number(level, 1, kindOfFieldUint32, uint64(r.CompletionID))
+	}
 	switch value := r.Result.(type) {
 	case *Value:
 		if value != nil {
@@ -3353,7 +3537,9 @@ func (r *SleepCompletionNotificationMessage) read(table *fieldTable, level uint6
 }
 
 func (r *SleepCompletionNotificationMessage) write(writer *fieldWriter, level uint64) {
-	writer.number(level, 1, kindOfFieldUint32, uint64(r.CompletionID))
+	if r.CompletionID != 0 {
+		writer.number(level, 1, kindOfFieldUint32, uint64(r.CompletionID))
+	}
 	if r.Void != nil {
 		writer.message(level, 4, SchemaVoid)
 		r.Void.write(writer, level+1)
@@ -3409,7 +3595,9 @@ func (r *GetLazyStateKeysCompletionNotificationMessage) read(table *fieldTable, 
 }
 
 func (r *GetLazyStateKeysCompletionNotificationMessage) write(writer *fieldWriter, level uint64) {
-	writer.number(level, 1, kindOfFieldUint32, uint64(r.CompletionID))
+	if r.CompletionID != 0 {
+		writer.number(level, 1, kindOfFieldUint32, uint64(r.CompletionID))
+	}
 	if r.StateKeys != nil {
 		writer.message(level, 17, SchemaStateKeys)
 		r.StateKeys.write(writer, level+1)
@@ -3462,8 +3650,12 @@ func (r *CallInvocationIdCompletionNotificationMessage) read(table *fieldTable, 
 }
 
 func (r *CallInvocationIdCompletionNotificationMessage) write(writer *fieldWriter, level uint64) {
-	writer.number(level, 1, kindOfFieldUint32, uint64(r.CompletionID))
-	writer.text(level, 16, r.InvocationID)
+	if r.CompletionID != 0 {
+		writer.number(level, 1, kindOfFieldUint32, uint64(r.CompletionID))
+	}
+	if len(r.InvocationID) > 0 {
+		writer.text(level, 16, r.InvocationID)
+	}
 }
 
 // SignalNotificationMessage: a signal.

@@ -105,14 +105,42 @@ func TestFieldsThatCannotBeEncoded(t *testing.T) {
 }
 
 func TestMoreFieldsThanTheFirstRoom(t *testing.T) {
-	record := &StateKeys{Keys: make([][]byte, 10000)}
-	for i := range record.Keys {
-		record.Keys[i] = []byte{byte(i)}
+	for _, count := range []int{fieldRoom - 1, fieldRoom, fieldRoom + 1, 10000} {
+		record := &StateKeys{Keys: make([][]byte, count)}
+		for i := range record.Keys {
+			record.Keys[i] = []byte{byte(i)}
+		}
+		payload := must(record.MarshalBinary())(t)
+		var found StateKeys
+		if err := found.UnmarshalBinary(payload); err != nil || !reflect.DeepEqual(&found, record) {
+			t.Errorf("%d of %d, %v", len(found.Keys), count, err)
+		}
+	}
+}
+
+func TestTextsAreCopies(t *testing.T) {
+	empty, name := "", "\u00e4"
+	record := &CallCommandMessage{
+		IdempotencyKey: &empty, HandlerName: "greet", Name: name, Parameter: []byte("hello"),
+		Headers: []HeaderRecord{{Value: "v"}, {Key: "k"}},
 	}
 	payload := must(record.MarshalBinary())(t)
-	var found StateKeys
+	var found CallCommandMessage
 	if err := found.UnmarshalBinary(payload); err != nil || !reflect.DeepEqual(&found, record) {
-		t.Errorf("%d, %v", len(found.Keys), err)
+		t.Fatalf("%+v, %v", found, err)
+	}
+	// bytes are parts of the payload, texts are not
+	for i := range payload {
+		payload[i] = 'x'
+	}
+	record.Parameter = []byte("xxxxx")
+	if !reflect.DeepEqual(&found, record) {
+		t.Errorf("%+v", found)
+	}
+	// the next record has texts of its own
+	var next Failure
+	if err := next.UnmarshalBinary([]byte{0x12, 0x81, 0, 'm'}); err != nil || next.Message != "m" || found.HandlerName != "greet" {
+		t.Errorf("%+v, %v", next, err)
 	}
 }
 

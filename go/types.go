@@ -1,6 +1,9 @@
 package pendratsoa
 
-import "fmt"
+import (
+	"fmt"
+	"sync/atomic"
+)
 
 // LibraryVersion returns the version of the library, as "0.2.0".
 func LibraryVersion() (string, error) {
@@ -18,12 +21,24 @@ func Schema(version int, code uint16) (int, error) {
 	if err != nil {
 		return 0, err
 	}
+	known := &knownSchemas[(code^code>>5)%uint16(len(knownSchemas))]
+	key := uint64(number)<<32 | uint64(code)<<16
+	if found := known.Load(); found&0xffff != 0 && found&^0xffff == key {
+		return int(found&0xffff) - 1, nil
+	}
 	schema := journalSchema(number, code)
 	if schema < 0 {
 		return 0, versionAndCode(version, code).refusal("Schema", schema)
 	}
+	if schema < 0xffff {
+		known.Store(key | uint64(schema+1))
+	}
 	return int(schema), nil
 }
+
+// Schemas that the library returned, since a call of it takes longer than all else here: in each the version, the code,
+// and in the last 16 bits one more than the number of the schema, or 0 where there is none.
+var knownSchemas [256]atomic.Uint64
 
 // SchemaNamed returns the number of the schema that has a name, as "SleepCommandMessage". ErrUnknown if none has.
 func SchemaNamed(name string) (int, error) {
@@ -107,6 +122,37 @@ func appendFrame(call string, dst []byte, version int, code uint16, payload []by
 		return dst, given.refusal(call, result)
 	}
 	return extended, nil
+}
+
+// earlierSchema returns the schema of a type at a version, and whether the type has another one since.
+func earlierSchema(version int, code uint16) (schema int, isEarlier bool) {
+	schema, err := Schema(version, code)
+	if err != nil {
+		return 0, false
+	}
+	last, err := Schema(LastVersion, code)
+	return schema, err == nil && schema != last
+}
+
+// appendEarlierFrame appends the frame of a payload whose schema the type has at earlier versions only, and which Frame
+// would read by the later one. ErrUnknown if the version has another.
+func appendEarlierFrame(call string, dst []byte, version int, code uint16, schema int, payload []byte) ([]byte, error) {
+	found, err := Schema(version, code)
+	if err != nil {
+		return dst, err
+	}
+	if found != schema {
+		return dst, &Error{call, named("version", version), ErrUnknown}
+	}
+	canonical, err := Canonical(schema, payload)
+	if err != nil {
+		return dst, err
+	}
+	header, err := Header(version, code, len(canonical))
+	if err != nil {
+		return dst, err
+	}
+	return append(append(dst, header...), canonical...), nil
 }
 
 // versionAndCode returns the two arguments of a call that takes them.

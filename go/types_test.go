@@ -139,3 +139,17 @@ func TestFrameOfEachVersion(t *testing.T) {
 	_, err := Frame(8, CodeError, []byte{0x12})
 	wantError(t, err, ErrMalformed, "pendratsoa: Frame: payload of 1 byte: not well-formed for its schema")
 }
+
+func TestSchemasAreThoseOfTheLibrary(t *testing.T) {
+	for round := 0; round < 2; round++ {
+		for version := 0; version <= LastVersion+1; version++ {
+			for code := 0; code < 0x10000; code += 1 + code/0x500 {
+				want := journalSchema(uint32(version), uint16(code))
+				found, err := Schema(version, uint16(code))
+				if want < 0 && err == nil || want >= 0 && (err != nil || int64(found) != want) {
+					t.Fatalf("version %d, code %#x: %d, %v, and not %d", version, code, found, err, want)
+				}
+			}
+		}
+	}
+}

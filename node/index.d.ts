@@ -140,7 +140,8 @@ export class Message<T extends TypeName = TypeName> {
   /**
    * Its frame at a version, by default its own: a header, and after it the canonical payload.
    * @throws {Malformed}
-   * @throws {Unknown} a custom entry has no schema
+   * @throws {Unknown} a custom entry has no schema; the version cannot have the payload: a suspension before version 7
+   *   has no frame from 7 on, and one since then has a frame at each
    */
   frame(version?: number): Uint8Array;
 

@@ -13,9 +13,12 @@ Gem::Specification.new do |spec|
   # the shared library is there once `make ruby` has copied it beside the files, and the gem is then for its processor
   library = File.join(__dir__, "lib/pendratsoa/libpendratsoa.so")
   if File.exist?(library)
+    # with the module that scripts/ruby.sh has compiled for one version of Ruby; others do without it
     spec.platform = { 62 => "x86_64-linux", 183 => "aarch64-linux" }.fetch(File.binread(library, 2, 18).unpack1("S<"))
+  else
+    spec.extensions = ["ext/pendratsoa/extconf.rb"]
   end
   # a release has the licences too
-  spec.files = Dir["lib/**/*.{rb,so}", "sig/*.rbs", "README.md", "LICENSE", "LINKED.txt", base: __dir__].sort
+  spec.files = Dir["lib/**/*.{rb,so}", "ext/**/*.{rb,c,h}", "sig/*.rbs", "README.md", "LICENSE", "LINKED.txt", base: __dir__].sort
   spec.metadata["rubygems_mfa_required"] = "true"
 end

@@ -29,6 +29,7 @@ import sys
 import tarfile
 import tempfile
 import uuid
+import zipfile
 
 import linked
 import package
@@ -164,23 +165,42 @@ def deb(release: Release, machine: Machine) -> None:
 
 
 def wheel(release: Release, machine: Machine) -> None:
-    """The wheel for Python, with the library in it."""
+    """The wheel for Python, with the library and the compiled module in it."""
     library = package.shared_library(release.prefixes[machine.name])
     folder = release.copy("python", f"python-{machine.name}")
     # older tags than this one are names of their own
     minor = max(17, int(machine.glibc(library).split(".")[1]))
-    run("sh", "scripts/python.sh", folder, library, f"manylinux_2_{minor}_{machine.name}", PYTHONDONTWRITEBYTECODE="1")
+    compiler = {"CC": f"{machine.tools}gcc", "CFLAGS": f"-I{cpython_headers(release, machine)}"} if machine.tools else {}
+    words = ("scripts/python.sh", folder, library, f"manylinux_2_{minor}_{machine.name}")
+    run("sh", *words, PYTHONDONTWRITEBYTECODE="1", **compiler)
     made = list(folder.glob("dist/*.whl"))
     if not made:
         raise NotMade("no python3 has pip, setuptools and wheel")
+    with zipfile.ZipFile(made[0]) as packed:
+        if "pendratsoa/_compiled.abi3.so" not in packed.namelist():
+            raise NotMade("there are no headers of CPython, which Debian's python3-dev has")
     shutil.copyfile(made[0], release.out / made[0].name)
 
 
+def cpython_headers(release: Release, machine: Machine) -> pathlib.Path:
+    """A folder where the headers of Debian's CPython find the one that is of a processor. For what the module takes of it
+    that of this one will do: both have the same sizes, and the stable interface of CPython asks for no more."""
+    folder = release.work / "headers"
+    for header in pathlib.Path("/usr/include").glob(f"{MACHINES[0].triplet}/python3.*/pyconfig.h"):
+        target = folder / machine.triplet / header.parent.name / header.name
+        target.parent.mkdir(parents=True, exist_ok=True)
+        shutil.copyfile(header, target)
+    return folder
+
+
 def gem(release: Release, machine: Machine) -> None:
-    """The gem for Ruby, with the library in it."""
+    """The gem for Ruby, with the library in it, and the compiled module for Debian's Ruby."""
     needs("gem")
     folder = release.copy("ruby", f"ruby-{machine.name}")
     shutil.copyfile(package.shared_library(release.prefixes[machine.name]), folder / "lib/pendratsoa/libpendratsoa.so")
+    said = run("sh", "scripts/ruby.sh", folder, **({"CC": f"{machine.tools}gcc"} if machine.tools else {}))
+    if not list(folder.glob("lib/pendratsoa/*/compiled.so")):
+        raise NotMade(said.partition("since ")[2].strip())
     subprocess.run(["gem", "build", "--silent", "pendratsoa.gemspec"], cwd=folder, check=True)
     made = next(folder.glob("*.gem"))
     shutil.copyfile(made, release.out / made.name)

@@ -1,14 +1,15 @@
 // Measures the package for Go beside protobuf's own: measure FILE, which is messages.txt. A line is the record, the
-// work, microseconds here and there, and how many times as fast this package is.
+// work, microseconds of processor time here and there, and how many times as fast this package is.
 package main
 
 import (
 	"bytes"
 	"encoding/hex"
 	"fmt"
+	"math"
 	"os"
 	"strings"
-	"testing"
+	"syscall"
 
 	"google.golang.org/protobuf/proto"
 	"peer/pb"
@@ -108,25 +109,35 @@ func measure(name string, of peer, payload []byte) {
 	})
 }
 
+// How often a work is done in a round, and how many rounds there are.
+const (
+	count  = 20000
+	rounds = 40
+)
+
+// show prints the line of a work: of the fastest round here and there, which take turns.
 func show(name, work string, ours, theirs func()) {
-	first, second := least(ours), least(theirs)
+	first, second := round(ours), round(theirs)
+	for i := 1; i < rounds; i++ {
+		first, second = math.Min(first, round(ours)), math.Min(second, round(theirs))
+	}
 	fmt.Printf("go %s %s %.3f %.3f %.2f\n", name, work, first, second, second/first)
 }
 
-// least returns the microseconds that a work takes, in the fastest of some rounds.
-func least(work func()) float64 {
-	least := 0.0
-	for round := 0; round < 5; round++ {
-		result := testing.Benchmark(func(b *testing.B) {
-			for i := 0; i < b.N; i++ {
-				work()
-			}
-		})
-		if time := float64(result.T.Nanoseconds()) / float64(result.N) / 1000; round == 0 || time < least {
-			least = time
-		}
+// round returns the microseconds that a work takes in a round, with what the collector takes of it.
+func round(work func()) float64 {
+	start := processorTime()
+	for i := 0; i < count; i++ {
+		work()
 	}
-	return least
+	return (processorTime() - start) / count
+}
+
+// processorTime returns the microseconds of processor time that the process has had.
+func processorTime() float64 {
+	var usage syscall.Rusage
+	check(syscall.Getrusage(syscall.RUSAGE_SELF, &usage))
+	return float64(usage.Utime.Nano()+usage.Stime.Nano()) / 1000
 }
 
 func check(err error) {

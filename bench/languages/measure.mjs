@@ -31,14 +31,16 @@ const READS = {
 const COUNT = 20000;
 let sum = 0;
 
+/** Microseconds of processor time, since the machine may be busy. */
 function measured(work) {
   let least = Infinity;
   for (let round = 0; round < 9; round += 1) {
-    const start = process.hrtime.bigint();
+    const start = process.cpuUsage();
     for (let i = 0; i < COUNT; i += 1) {
       sum += work();
     }
-    least = Math.min(least, Number(process.hrtime.bigint() - start) / COUNT / 1000);
+    const { user, system } = process.cpuUsage(start);
+    least = Math.min(least, (user + system) / COUNT);
   }
   return least;
 }

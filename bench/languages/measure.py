@@ -5,12 +5,13 @@ A line is the record, the work, microseconds here and there, and how many times 
 
 import pathlib
 import sys
+import time
 import timeit
 
 sys.path.insert(0, sys.argv[1])
 
 import journal_pb2  # noqa: E402
-from pendratsoa import messages  # noqa: E402
+from pendratsoa import COMPILED, messages  # noqa: E402
 
 READS = {
     "SetStateCommandMessage": (lambda one: (one.key, one.value.content), lambda one: (one.key, one.value.content)),
@@ -21,10 +22,12 @@ READS = {
     ),
 }
 COUNT = 20000
+LANGUAGE = "python" if COMPILED else "python-ctypes"
 
 
 def measured(work):
-    return min(timeit.repeat(work, number=COUNT, repeat=9)) / COUNT * 1e6
+    # of processor time, since the machine may be busy
+    return min(timeit.repeat(work, timer=time.process_time, number=COUNT, repeat=9)) / COUNT * 1e6
 
 
 def main():
@@ -42,7 +45,7 @@ def main():
             ("encode", ours.encode, theirs.SerializeToString),
         ):
             first, second = measured(first), measured(second)
-            print(f"python {name} {work} {first:.2f} {second:.2f} {second / first:.2f}")
+            print(f"{LANGUAGE} {name} {work} {first:.2f} {second:.2f} {second / first:.2f}")
 
 
 if __name__ == "__main__":

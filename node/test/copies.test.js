@@ -17,8 +17,8 @@ const FAITHFUL = [
   [9, '0008a5a500000002 0003 fc01000000000000'],
 ];
 
-const PAYLOAD = hex('72070a05696e707574');
-const FRAME = joined(hex('0400000000000009'), PAYLOAD);
+const FRAME = hex('0400000000000009 72070a05696e707574');
+const PAYLOAD = FRAME.slice(8);
 
 test('items are copied as they came', async () => {
   for (const [version, digits] of FAITHFUL) {
@@ -49,14 +49,53 @@ test('a message that is made has the header of its type', () => {
 
 test('frames with a destination', () => {
   const message = new Message(8, 0x0400, PAYLOAD);
-  for (const room of [0, 16, 17, 30]) {
+  const size = FRAME.length;
+  for (const room of [0, size - 1, size, 2 * size]) {
     const out = new Uint8Array(room).fill(7);
-    assert.equal(message.frameInto(out), 17);
-    assert.equal(frameInto(9, 0x0400, PAYLOAD, out), 17);
-    const wanted = room < 17 ? new Uint8Array(room).fill(7) : joined(FRAME, new Uint8Array(room - 17).fill(7));
+    assert.equal(message.frameInto(out), size);
+    assert.equal(frameInto(9, 0x0400, PAYLOAD, out), size);
+    const wanted = room < size ? new Uint8Array(room).fill(7) : joined(FRAME, new Uint8Array(room - size).fill(7));
     assert.deepEqual(out, wanted);
   }
   assert.throws(() => frameInto(8, 0x0400, PAYLOAD.slice(0, 3), new Uint8Array(30)), Malformed);
+  assert.throws(() => message.frameInto([]), TypeError);
+});
+
+// Suspensions that came at a version, and their frames at another: the digits, or the error that it has none.
+const V6 = '08010a0202030804';
+const V7 = '22120a010122080a010222030a010122030a0103';
+const SUSPENSIONS = [
+  [6, V6, 6, '0001000000000006 0a0401020304'],
+  [6, V6, 5, '0001000000000006 0a0401020304'],
+  [5, V6, 6, '0001000000000006 0a0401020304'],
+  [6, V6, 7, Unknown],
+  [5, V6, 9, Unknown],
+  [6, V6, 10, Unknown],
+  [6, '0a04', 6, Malformed],
+  [7, V7, 7, `0001000000000014 ${V7}`],
+  [9, V7, 8, `0001000000000014 ${V7}`],
+  [9, V7, 6, '0001000000000006 0a0401020103'],
+  [7, V7, 5, '0001000000000006 0a0401020103'],
+];
+
+test('suspensions of each version', () => {
+  for (const [came, payload, version, wanted] of SUSPENSIONS) {
+    const message = new Message(came, 1, hex(payload));
+    const out = new Uint8Array(30).fill(7);
+    if (typeof wanted === 'function') {
+      assert.throws(() => message.frame(version), wanted);
+      assert.throws(() => message.frameInto(out, version), wanted);
+      assert.deepEqual(out, new Uint8Array(30).fill(7));
+    } else {
+      const frame = hex(wanted);
+      assert.deepEqual(message.frame(version), frame);
+      assert.equal(message.frameInto(out, version), frame.length);
+      assert.deepEqual(out, joined(frame, new Uint8Array(30 - frame.length).fill(7)));
+      assert.equal(message.frameInto(out.subarray(0, 13), version), frame.length);
+    }
+  }
+  const message = new Message(6, 1, hex(''));
+  assert.throws(() => message.frame(8), { message: 'frame: there is no SuspensionMessageV6 at version 8' });
   assert.throws(() => message.frameInto([]), TypeError);
 });
 
@@ -65,7 +104,8 @@ test('items as texts and as JSON', () => {
   stream.feed(hex(FAITHFUL[0][1]));
   const made = [new Skipped(9, 8, 3n, hex('00ff')), new Message(8, 8, hex('')), new Message(8, 5, hex(''), true)];
   const found = [...stream, ...made];
-  const lines = ['InputCommand 9', 'SetStateCommand 11', 'CustomEntry(64513) 1', 'unknown 0x8', 'End 0'];
+  const [input, set] = found.map((item) => item.payload?.length);
+  const lines = [`InputCommand ${input}`, `SetStateCommand ${set}`, 'CustomEntry(64513) 1', 'unknown 0x8', 'End 0'];
   assert.deepEqual(found.map(String), [...lines, 'skipped 0x8 2', 'code 0x8 0', 'ProposeRunCompletion 0 ack']);
   const json = JSON.parse(JSON.stringify(found));
   const fields = { kind: 'message', version: 8, requiresAck: false, payload: '/w==' };

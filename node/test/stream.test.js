@@ -174,7 +174,7 @@ test('a payload that is changed or transferred', () => {
   const stream = new Stream();
   stream.feed(joined(INPUT, INPUT, INPUT));
   const [first, second, third] = stream;
-  assert.equal(first.payload.buffer.byteLength, 9);
+  assert.equal(first.payload.buffer.byteLength, first.payload.length);
   first.payload.fill(0xff);
   detach(second.payload);
   assert.deepEqual(third, ITEMS[0]);
@@ -347,13 +347,16 @@ test('the examples are listed as their listings are', () => {
 
 test('a message that is longer than the limit ends the stream', async () => {
   const endless = hex('00000000ffffffff 010203');
-  const stream = new Stream(8, { maxMessageSize: 9 });
+  const limit = INPUT.length - 8;
+  const stream = new Stream(8, { maxMessageSize: limit });
   stream.feed(joined(INPUT, endless));
   const found = [];
   const error = {
     name: 'TooLong',
     argument: 'maxMessageSize',
-    message: 'Stream: a message of type 0x0000 at offset 17 has 4294967295 bytes, more than the limit of 9',
+    message:
+      `Stream: a message of type 0x0000 at offset ${INPUT.length} has 4294967295 bytes, ` +
+      `more than the limit of ${limit}`,
   };
   for (let i = 0; i < 2; i += 1) {
     assert.throws(() => {
@@ -366,7 +369,7 @@ test('a message that is longer than the limit ends the stream', async () => {
   assert.deepEqual(found, ITEMS.slice(0, 1));
   assert.throws(() => stream.feed(INPUT), error);
   assert.throws(() => stream.finish(), error);
-  await assert.rejects(collect(items([INPUT], 8, { maxMessageSize: 8 })), TooLong);
+  await assert.rejects(collect(items([INPUT], 8, { maxMessageSize: limit - 1 })), TooLong);
   const open = new Stream();
   open.feed(endless);
   assert.deepEqual([...open], []);

@@ -10,7 +10,8 @@ What a call rejects is an exception below `JournalError`, whose text names the a
 schema is given by its number or by the name of its record, as "SleepCommandMessage". All may be called from any thread.
 
 The library is the file that PENDRATSOA_LIBRARY names, or else that which is installed with this package, or else what
-the system finds as libpendratsoa.so.0.
+the system finds as libpendratsoa.so.0. COMPILED says whether the compiled module reads and writes records; it is not
+used where PENDRATSOA_PURE is set.
 """
 
 from ._calls import (
@@ -48,12 +49,14 @@ from ._errors import (
     TooLong,
     Unknown,
 )
+from ._fast import COMPILED
 from ._items import Item, Message, Skipped, UnknownCode
 from ._protocol import SCHEMA_NAMES, TypeCode
 from ._request import SCHEMAS, BytesLike, Schema
 from ._stream import Stream
 
 __all__ = [
+    "COMPILED",
     "FIRST_VERSION",
     "LAST_VERSION",
     "SCHEMAS",

@@ -12,7 +12,7 @@ from . import _calls, _codec
 from ._calls import Notification
 from ._errors import JournalError, Unknown
 from ._protocol import COMMAND_CODES, NOTIFICATION_CODES
-from ._records import MessageRecord, schema_of
+from ._records import MessageRecord, earlier_frame, earlier_schema, schema_of
 from ._request import BytesLike, Request, shown
 from .messages import RECORDS, AnyMessage, TypeName
 
@@ -131,13 +131,23 @@ class Message(_AsItCame):
         """Its frame at a version, or at its own: the header, and after it the canonical payload.
 
         The header is that of `header`: whether it requests an acknowledgement depends on the type and the version, and
-        not on `requires_ack`.
+        not on `requires_ack`. A payload of its own version's schema is `Unknown` at a version that cannot have it: a
+        suspension before version 7 has no frame from 7 on, and one since then has a frame at each.
         """
-        return _calls.frame(self.version if version is None else version, self.code, self.payload)
+        version = self.version if version is None else version
+        schema = earlier_schema(self.version, self.code)
+        if schema is None:
+            return _calls.frame(version, self.code, self.payload)
+        return earlier_frame("frame", version, self.code, schema, self.payload)
 
     def append_frame(self, out: bytearray, version: Optional[int] = None) -> int:
         """Appends its frame, as `frame` returns it, and returns its length. After an error `out` is as it was."""
-        return _calls.append_frame(out, self.version if version is None else version, self.code, self.payload)
+        version = self.version if version is None else version
+        schema = earlier_schema(self.version, self.code)
+        if schema is None:
+            return _calls.append_frame(out, version, self.code, self.payload)
+        frame = earlier_frame("append_frame", version, self.code, schema, self.payload)
+        return Request("append_frame").extended(out, frame)
 
     def write_frame(self, file: Writable, version: Optional[int] = None) -> None:
         """Writes its frame, as `frame` returns it, by one call of `file.write`."""

@@ -8,14 +8,18 @@ import functools
 import threading
 from array import array
 from enum import IntEnum
-from typing import Any, Callable, ClassVar, Dict, List, NamedTuple, NoReturn, Optional, Tuple, Type, TypeVar
+from typing import TYPE_CHECKING, Any, Callable, ClassVar, Dict, List, NamedTuple, NoReturn, Optional, Tuple, Type, TypeVar
 
 from . import _calls
 from ._declared import FIELD_NUMBERS as NUMBERS
-from ._declared import WRITING_NUMBERS, FieldReason
+from ._declared import LAST_VERSION, WRITING_NUMBERS, FieldReason
 from ._errors import ERRORS, FieldError, JournalError, NotCanonical, Unknown
 from ._library import library
+from ._protocol import SCHEMA_NAMES
 from ._request import BytesLike, Request
+
+if TYPE_CHECKING:
+    from ._compiled import RecordCodec
 
 # the room that is tried first: for entries, and for bytes
 ENTRIES = 64
@@ -64,9 +68,16 @@ class Record:
 
     _by_number: ClassVar[Dict[int, Row]]
 
+    # what the compiled module has for it, where that is in use
+    _compiled: ClassVar[Optional[RecordCodec]] = None
+
     @classmethod
     def decode(cls: Type[R], payload: BytesLike) -> R:
         """The record that a payload means, in any encoding. `Malformed` if it is not well-formed."""
+        if cls._compiled is not None:
+            made: Optional[R] = cls._compiled.decode(payload)
+            if made is not None:
+                return made
         schema = cls.SCHEMA
         data = payload if type(payload) is bytes else Request("decode", payload=payload).data("payload")[0]
         count = library.journal_fields(schema, data, len(data), _scratch.table, ENTRIES)
@@ -80,6 +91,10 @@ class Record:
     def encode(self) -> bytes:
         """Its canonical payload. A `FieldError` names the field that a value is wrong for; a value of another type is a
         `TypeError`."""
+        if self._compiled is not None:
+            payload = self._compiled.encode(self)
+            if payload is not None:
+                return payload
         schema = self.SCHEMA
         writer = Writer(type(self))
         size = WRITERS[schema](self, 0, writer, 0)
@@ -111,9 +126,7 @@ class MessageRecord(Record):
         payload = self.encode()
         if self.BEFORE_VERSION is None:
             return _calls.frame(version, self.CODE, payload)
-        if _calls.schema(version, self.CODE) != self.SCHEMA:
-            raise Unknown(f"frame: there is no {type(self).__name__} at version {version}", call="frame")
-        return _calls.header(version, self.CODE, len(payload)) + payload
+        return earlier_frame("frame", version, self.CODE, self.SCHEMA, payload)
 
 
 def described(record: Type[Record], rows: Tuple[Row, ...]) -> None:
@@ -125,6 +138,24 @@ def described(record: Type[Record], rows: Tuple[Row, ...]) -> None:
 def schema_of(version: int, code: int) -> int:
     """The schema of a type at a version, which is asked once."""
     return _calls.schema(version, code)
+
+
+def earlier_schema(version: int, code: int) -> Optional[int]:
+    """The schema of a type at a version, if the type has another one since. What is no version or no type has none."""
+    try:
+        schema = schema_of(version, code)
+        return None if schema == schema_of(LAST_VERSION, code) else schema
+    except (TypeError, Unknown):
+        return None
+
+
+def earlier_frame(call: str, version: int, code: int, schema: int, payload: bytes) -> bytes:
+    """The frame at a version of a payload whose schema the type has at earlier versions only: `frame` of the library
+    would read it by the later one. `Unknown` if the version has another."""
+    if _calls.schema(version, code) != schema:
+        raise Unknown(f"{call}: there is no {SCHEMA_NAMES[schema]} at version {version}", call=call)
+    found = _calls.canonical(schema, payload)
+    return _calls.header(version, code, len(found)) + found
 
 
 class _Scratch(threading.local):

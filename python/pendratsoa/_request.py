@@ -168,8 +168,7 @@ class Request:
 
     def appended(self, out: bytearray, function: Callable[..., int], *parameters: Any) -> int:
         """Appends the bytes that a function writes, and returns their number. An error leaves `out` as it was."""
-        if not isinstance(out, bytearray):
-            raise TypeError(f"{self.call}: out must be a bytearray, not {type(out).__name__}")
+        self._check_out(out)
         begin = len(out)
         needed = 200 + self.size * 3 // 2
         while True:
@@ -184,6 +183,12 @@ class Request:
                 raise self._refused(needed)
             if needed <= room:
                 return needed
+
+    def extended(self, out: bytearray, data: bytes) -> int:
+        """Appends bytes, and returns their number."""
+        self._check_out(out)
+        out += data
+        return len(data)
 
     def error(self, kind: Type[JournalError], text: str, argument: Optional[str] = None) -> JournalError:
         """An error of this call, about one of its arguments or none."""
@@ -208,6 +213,11 @@ class Request:
     def unexpected(self, what: str) -> JournalError:
         """The error that a later library may return something new."""
         return self.error(JournalError, f"the library returned {what}, which this module does not know")
+
+    def _check_out(self, out: object) -> None:
+        """Says that bytes cannot be appended to what is no bytearray."""
+        if not isinstance(out, bytearray):
+            raise TypeError(f"{self.call}: out must be a bytearray, not {type(out).__name__}")
 
     def _integer(self, argument: str) -> int:
         value = self.arguments[argument]

@@ -1,10 +1,12 @@
 """What the tests share: files of the repository, codes of types, and functions of the library that are replaced."""
 
+import contextlib
+import ctypes
 import pathlib
 import re
 from unittest import mock
 
-from pendratsoa import _library
+from pendratsoa import _fast, _library
 
 TOP = pathlib.Path(__file__).resolve().parents[2]
 HEADER = (TOP / "include/pendratsoa.h").read_text()
@@ -23,6 +25,8 @@ CUSTOM_ENTRY = 0xFC01
 # an input with the value "input", eight bytes of code 8, and a message of 20 bytes that is not all there
 INPUT = bytes.fromhex("040000000000000972070a05696e707574")
 UNKNOWN_WORD = 0x0008_0000_0000_0000
+# the length of its payload
+INPUT_LENGTH = len(INPUT) - 8
 STREAM = INPUT + UNKNOWN_WORD.to_bytes(8, "big") + bytes.fromhex("0400000000000014")
 
 
@@ -40,9 +44,17 @@ def defined(pattern, base=10):
     return {name: int(number, base) for name, number in found}
 
 
+@contextlib.contextmanager
 def replaced(function, with_what):
-    """The library with another function in the place of this one."""
-    return mock.patch.object(_library.library, function, with_what)
+    """The library with another function in the place of this one, for the compiled module too."""
+    if function in ("journal_fields", "journal_payload_of_fields"):
+        with_what = ctypes.CFUNCTYPE(ctypes.c_int64, *_library.PARAMETERS[function])(with_what)
+    try:
+        with mock.patch.object(_library.library, function, with_what):
+            _fast.use()
+            yield
+    finally:
+        _fast.use()
 
 
 def returning(number, *numbers):

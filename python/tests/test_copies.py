@@ -21,7 +21,7 @@ from pendratsoa import (
     header,
 )
 
-from support import INPUT, INPUT_COMMAND, replaced
+from support import INPUT, INPUT_COMMAND, INPUT_LENGTH, replaced
 
 # flags that no encoder sets, long lengths of fields, a custom entry, and what is of no type
 FAITHFUL = {
@@ -67,7 +67,43 @@ class TestCopies(unittest.TestCase):
         self.assertEqual(bytes(message), header(8, INPUT_COMMAND, 0))
 
 
+# suspensions that came at a version, and their frames at another: the digits, or the error that it has none
+V6, V7 = "08010a0202030804", "22120a010122080a010222030a010122030a0103"
+SUSPENSIONS = (
+    (6, V6, 6, "0001000000000006" "0a0401020304"),
+    (6, V6, 5, "0001000000000006" "0a0401020304"),
+    (5, V6, 6, "0001000000000006" "0a0401020304"),
+    (6, V6, 7, Unknown),
+    (5, V6, 9, Unknown),
+    (6, V6, 10, Unknown),
+    (6, "0a04", 6, Malformed),
+    (7, V7, 7, "0001000000000014" + V7),
+    (9, V7, 8, "0001000000000014" + V7),
+    (9, V7, 6, "0001000000000006" "0a0401020103"),
+    (7, V7, 5, "0001000000000006" "0a0401020103"),
+)
+
+
 class TestFrames(unittest.TestCase):
+    def test_suspensions_of_each_version(self):
+        for came, payload, version, wanted in SUSPENSIONS:
+            message = Message(came, 1, bytes.fromhex(payload))
+            out = bytearray(b"\xff")
+            with self.subTest(came=came, version=version):
+                if isinstance(wanted, type):
+                    self.assertRaises(wanted, message.frame, version)
+                    self.assertRaises(wanted, message.append_frame, out, version)
+                    self.assertEqual(out, b"\xff")
+                    continue
+                frame = bytes.fromhex(wanted)
+                self.assertEqual(message.frame(version), frame)
+                self.assertEqual(message.append_frame(out, version), len(frame))
+                self.assertEqual(out, b"\xff" + frame)
+                self.assertEqual(message.message.frame(version), frame)
+        text = "^frame: there is no SuspensionMessageV6 at version 8$"
+        self.assertRaisesRegex(Unknown, text, Message(6, 1, b"").frame, 8)
+        self.assertRaisesRegex(TypeError, "^append_frame: out must be a bytearray", Message(6, 1, b"").append_frame, b"")
+
     def test_a_destination(self):
         message = Message.of("InputCommand", INPUT[8:])
         out = bytearray(b"\xff")
@@ -127,7 +163,7 @@ class TestEnd(unittest.TestCase):
 
     def test_strict(self):
         items = Stream().read(io.BytesIO(INPUT + INPUT[:5]), strict=True)
-        self.assertEqual(str(next(items)), "InputCommand 9")
+        self.assertEqual(str(next(items)), f"InputCommand {INPUT_LENGTH}")
         with self.assertRaisesRegex(Incomplete, r"^read: the stream ended within an item, after 5 bytes of it$"):
             next(items)
         self.assertEqual(len(list(Stream().read(io.BytesIO(INPUT), strict=True))), 1)
@@ -148,7 +184,7 @@ class TestAsync(unittest.IsolatedAsyncioTestCase):
         reader = asyncio.StreamReader()
         items = Stream().read_async(reader, strict=True)
         reader.feed_data(INPUT + INPUT[:5])
-        self.assertEqual(str(await items.__anext__()), "InputCommand 9")
+        self.assertEqual(str(await items.__anext__()), f"InputCommand {INPUT_LENGTH}")
         self.assertEqual(await asyncio.wait([asyncio.ensure_future(items.__anext__())], timeout=0.01), (set(), mock.ANY))
 
     async def test_strict(self):
@@ -156,7 +192,7 @@ class TestAsync(unittest.IsolatedAsyncioTestCase):
         reader.feed_data(INPUT + INPUT[:5])
         reader.feed_eof()
         items = Stream().read_async(reader, strict=True)
-        self.assertEqual(str(await items.__anext__()), "InputCommand 9")
+        self.assertEqual(str(await items.__anext__()), f"InputCommand {INPUT_LENGTH}")
         with self.assertRaisesRegex(Incomplete, "^read_async: the stream ended"):
             await items.__anext__()
 

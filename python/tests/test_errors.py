@@ -19,6 +19,8 @@ from pendratsoa import (
 from support import CALL_COMMAND, CUSTOM_ENTRY, SET_STATE_COMMAND, SIGNAL_NOTIFICATION, replaced, returning
 
 BAD = b"\x12"
+# a notification with a result alone, and one with an id alone
+NO_ID, NO_RESULT = b"\x22\x00", b"\x10\x11"
 
 
 class TestErrors(unittest.TestCase):
@@ -129,18 +131,18 @@ class TestErrors(unittest.TestCase):
                 "notification: code 1037 is not that of a notification",
             ),
             (
-                lambda: pendratsoa.notification(SIGNAL_NOTIFICATION, b"\x22\x00"),
+                lambda: pendratsoa.notification(SIGNAL_NOTIFICATION, NO_ID),
                 NoId,
                 "payload",
-                b"\x22\x00",
-                "notification: payload b'\"\\x00' has no id",
+                NO_ID,
+                f"notification: payload {NO_ID!r} has no id",
             ),
             (
-                lambda: pendratsoa.notification(SIGNAL_NOTIFICATION, b"\x10\x11"),
+                lambda: pendratsoa.notification(SIGNAL_NOTIFICATION, NO_RESULT),
                 NoResult,
                 "payload",
-                b"\x10\x11",
-                "notification: payload b'\\x10\\x11' has an id, and no result",
+                NO_RESULT,
+                f"notification: payload {NO_RESULT!r} has an id, and no result",
             ),
             (
                 lambda: pendratsoa.compare_journals(10, b"", b""),

@@ -73,9 +73,9 @@ class TestMessage(unittest.TestCase):
     def test_its_frame_at_its_own_version_and_another(self):
         for own, other, flag in ((6, 7, "00"), (7, 6, "80"), (9, 5, "80")):
             message = Message(own, PROPOSE_RUN_COMPLETION, PROPOSAL)
-            self.assertEqual(message.frame(), bytes.fromhex(f"0005{flag}0000000005") + PROPOSAL)
+            self.assertEqual(message.frame(), bytes.fromhex(f"0005{flag}00{len(PROPOSAL):08x}") + PROPOSAL)
             flag = "80" if flag == "00" else "00"
-            self.assertEqual(message.frame(other), bytes.fromhex(f"0005{flag}0000000005") + PROPOSAL)
+            self.assertEqual(message.frame(other), bytes.fromhex(f"0005{flag}00{len(PROPOSAL):08x}") + PROPOSAL)
 
     def test_its_frame_has_the_header_of_its_type(self):
         for requires_ack in (False, True):

@@ -39,7 +39,7 @@ class TestPayloads(unittest.TestCase):
     def test_frame_before_and_from_version_7_on(self):
         payload = bytes.fromhex("22120a010122080a010222030a010122030a0103")
         self.assertEqual(pendratsoa.frame(6, 1, payload), bytes.fromhex("00010000000000060a0401020103"))
-        self.assertEqual(pendratsoa.frame(7, 1, payload), bytes.fromhex("0001000000000014") + payload)
+        self.assertEqual(pendratsoa.frame(7, 1, payload), pendratsoa.header(7, 1, len(payload)) + payload)
 
     def test_what_needs_more_than_the_first_room(self):
         # a text of JSON is longer than its payload where it is escaped
@@ -171,11 +171,11 @@ class TestNotifications(unittest.TestCase):
             (ResultKind.INVOCATION_ID, "820103696e76", "696e76"),
             (ResultKind.STATE_KEYS, "8a01030a0161", "0a0161"),
         ):
-            for name in ("", "73746f70"):
-                payload = bytes.fromhex(f"1a{len(name) // 2:02x}{name}{result}")
+            for name, digits in (("", "1a00"), ("stop", "1a0473746f70")):
+                payload = bytes.fromhex(digits) + bytes.fromhex(result)
                 self.assertEqual(
                     pendratsoa.notification(SIGNAL_NOTIFICATION, payload),
-                    Notification(IdKind.SIGNAL_NAME, bytes.fromhex(name).decode(), kind, bytes.fromhex(expected)),
+                    Notification(IdKind.SIGNAL_NAME, name, kind, bytes.fromhex(expected)),
                 )
 
 

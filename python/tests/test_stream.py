@@ -11,7 +11,7 @@ import unittest
 from unittest import mock
 
 from pendratsoa import JournalError, Malformed, Message, Skipped, Stream, TooLong, UnknownCode, canonical
-from support import CALL_COMMAND, INPUT, INPUT_COMMAND, RECORDED, STREAM, UNKNOWN_WORD, replaced, returning
+from support import CALL_COMMAND, INPUT, INPUT_COMMAND, INPUT_LENGTH, RECORDED, STREAM, UNKNOWN_WORD, replaced, returning
 
 EXPECTED = [Message(8, INPUT_COMMAND, INPUT[8:], False), UnknownCode(8, 8, UNKNOWN_WORD)]
 
@@ -140,16 +140,16 @@ class TestFeeding(unittest.TestCase):
 
     def test_a_message_that_is_longer_than_the_limit(self):
         endless = bytes.fromhex("00000000ffffffff010203")
-        stream = Stream(max_message_size=9)
+        stream = Stream(max_message_size=INPUT_LENGTH)
         stream.feed(INPUT + endless)
         found = []
         for _ in range(2):
             with self.assertRaises(TooLong) as ended:
                 for item in stream:
                     found.append(item)
-            text = "Stream: a message of type 0x0000 at offset 17 has 4294967295 bytes, more than the limit of 9"
-            self.assertEqual(str(ended.exception), text)
-            self.assertEqual((ended.exception.argument, ended.exception.value), ("max_message_size", 9))
+            text = "Stream: a message of type 0x0000 at offset {} has 4294967295 bytes, more than the limit of {}"
+            self.assertEqual(str(ended.exception), text.format(len(INPUT), INPUT_LENGTH))
+            self.assertEqual((ended.exception.argument, ended.exception.value), ("max_message_size", INPUT_LENGTH))
             self.assertEqual(stream.rest, 0)
         self.assertEqual(found, EXPECTED[:1])
         for call in (lambda: stream.feed(b"x"), stream.finish, lambda: list(stream.read(io.BytesIO(), strict=True))):
@@ -157,7 +157,7 @@ class TestFeeding(unittest.TestCase):
                 call()
         for strict in (False, True):
             with self.assertRaises(TooLong):
-                list(Stream(max_message_size=8).read(io.BytesIO(INPUT), strict=strict))
+                list(Stream(max_message_size=INPUT_LENGTH - 1).read(io.BytesIO(INPUT), strict=strict))
         unlimited = Stream()
         unlimited.feed(endless)
         self.assertEqual((list(unlimited), unlimited.rest), ([], 11))

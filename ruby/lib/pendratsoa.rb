@@ -11,6 +11,8 @@ require_relative "pendratsoa/functions"
 require_relative "pendratsoa/fields"
 require_relative "pendratsoa/records"
 require_relative "pendratsoa/messages"
+require_relative "pendratsoa/earlier"
+require_relative "pendratsoa/compiled"
 require_relative "pendratsoa/items"
 require_relative "pendratsoa/stream"
 
@@ -27,6 +29,7 @@ require_relative "pendratsoa/stream"
 # may be called from any thread.
 #
 # The library is the file that PENDRATSOA_LIBRARY names, or else that which is copied into this gem, or else what the
-# system finds as libpendratsoa.so.0.
+# system finds as libpendratsoa.so.0. COMPILED says whether the compiled module reads and writes records; it is not used
+# where PENDRATSOA_PURE is set.
 module Pendratsoa
 end

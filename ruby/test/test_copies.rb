@@ -47,6 +47,43 @@ class TestCopies < Minitest::Test
     assert_equal INPUT, written.string
   end
 
+  # Suspensions that came at a version, and their frames at another: the digits, or the error that it has none.
+  V6 = "08010a0202030804"
+  V7 = "22120a010122080a010222030a010122030a0103"
+  SUSPENSIONS = [
+    [6, V6, 6, "0001000000000006" "0a0401020304"],
+    [6, V6, 5, "0001000000000006" "0a0401020304"],
+    [5, V6, 6, "0001000000000006" "0a0401020304"],
+    [6, V6, 7, Pendratsoa::Unknown],
+    [5, V6, 9, Pendratsoa::Unknown],
+    [6, V6, 10, Pendratsoa::Unknown],
+    [6, "0a04", 6, Pendratsoa::Malformed],
+    [7, V7, 7, "0001000000000014#{V7}"],
+    [9, V7, 8, "0001000000000014#{V7}"],
+    [9, V7, 6, "0001000000000006" "0a0401020103"],
+    [7, V7, 5, "0001000000000006" "0a0401020103"]
+  ].freeze
+
+  def test_suspensions_of_each_version
+    SUSPENSIONS.each do |came, payload, version, wanted|
+      message = Pendratsoa::Message.new(came, 1, unhex(payload))
+      out = +"\xFF".b
+      if wanted.is_a?(Class)
+        assert_raises(wanted) { message.frame(version) }
+        assert_raises(wanted) { message.append_frame(out, version) }
+        assert_equal "\xFF".b, out
+      else
+        frame = unhex(wanted)
+        assert_equal frame, message.frame(version)
+        assert_equal "\xFF".b + frame, message.append_frame(out, version)
+        assert_equal frame, message.message.frame(version)
+      end
+    end
+    message = Pendratsoa::Message.new(6, 1, "")
+    assert_error(Pendratsoa::Unknown, "frame: there is no SuspensionMessageV6 at version 8") { message.frame(8) }
+    assert_raises(TypeError) { message.append_frame(nil) }
+  end
+
   def test_the_end_of_a_stream
     stream = Pendratsoa::Stream.new
     assert_same stream, stream.feed(INPUT).each { |item| item }.finish

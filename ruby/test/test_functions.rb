@@ -67,7 +67,7 @@ class TestNames < Minitest::Test
   end
 
   def test_a_schema_by_its_name
-    assert_equal Pendratsoa.to_json(13, "\x08\x01"), Pendratsoa.to_json("ErrorMessage", "\x08\x01")
+    assert_equal Pendratsoa.to_json(13, "\x12\x01x"), Pendratsoa.to_json("ErrorMessage", "\x12\x01x")
     error = assert_error(Pendratsoa::Unknown, 'canonical: there is no schema "Error"') do
       Pendratsoa.canonical("Error", "")
     end
@@ -114,7 +114,7 @@ class TestPayloads < Minitest::Test
   end
 
   def test_json_is_utf8
-    json = Pendratsoa.to_json("ErrorMessage", "\x12\x02\u00e9")
+    json = Pendratsoa.to_json("ErrorMessage", "\x12\x02\xc3\xa9")
     assert_equal "{\"message\":\"\u00e9\"}", json
     assert_equal Encoding::UTF_8, json.encoding
   end
@@ -128,7 +128,7 @@ class TestPayloads < Minitest::Test
   end
 
   def test_more_than_the_first_room
-    payload = "\x12\xe8\x07#{"\x01" * 1000}"
+    payload = "\x12\xe8\x07" + "\x01" * 1000
     assert_equal payload.b, Pendratsoa.canonical("ErrorMessage", payload)
     assert_equal "{\"message\":\"#{'\u0001' * 1000}\"}", Pendratsoa.to_json("ErrorMessage", payload)
   end
@@ -136,7 +136,7 @@ class TestPayloads < Minitest::Test
   def test_frames
     payload = unhex("22120a010122080a010222030a010122030a0103")
     assert_equal unhex("00010000000000060a0401020103"), Pendratsoa.frame(6, CODES[:suspension], payload)
-    assert_equal unhex("0001000000000014") + payload, Pendratsoa.frame(7, CODES[:suspension], payload)
+    assert_equal Pendratsoa.header(7, CODES[:suspension], payload.bytesize) + payload, Pendratsoa.frame(7, CODES[:suspension], payload)
   end
 
   def test_lengths_of_a_header
@@ -225,8 +225,8 @@ class TestNotifications < Minitest::Test
       "1a0361c3a9" => [:signal_name, "a\u00e9"], "0800" => [:completion_id, 0]
     }
     results = {
-      "2200" => [:void, ""], "2a030a0178" => [:value, "\n\x01x"], "3203088500" => [:failure, "\b\x05"],
-      "82010469c3a976" => [:invocation_id, "i\u00e9v"], "8a01030a0161" => [:state_keys, "\n\x01a"]
+      "2200" => [:void, ""], "2a030a0178" => [:value, unhex("0a0178")], "3203088500" => [:failure, unhex("0805")],
+      "82010469c3a976" => [:invocation_id, "i\u00e9v"], "8a01030a0161" => [:state_keys, unhex("0a0161")]
     }
     ids.to_a.product(results.to_a).each do |(id_digits, id), (result_digits, result)|
       found = Pendratsoa.notification(CODES[:signal], unhex(id_digits + result_digits))
@@ -239,15 +239,16 @@ class TestNotifications < Minitest::Test
   def test_of_a_message
     message = Pendratsoa::Message.new(8, CODES[:call_completion], unhex("08022a040a026869"))
     assert_predicate message, :notification?
-    assert_equal [:completion_id, 2, :value, "\n\x02hi"], message.notification.to_a
+    assert_equal [:completion_id, 2, :value, unhex("0a026869")], message.notification.to_a
   end
 
   def test_without_id_or_result
-    assert_error(Pendratsoa::NoId, 'notification: payload "\"\x00" has no id') do
-      Pendratsoa.notification(CODES[:signal], "\x22\x00")
+    result, id = unhex("2200"), unhex("1011")
+    assert_error(Pendratsoa::NoId, "notification: payload #{result.inspect} has no id") do
+      Pendratsoa.notification(CODES[:signal], result)
     end
-    assert_error(Pendratsoa::NoResult, 'notification: payload "\x10\x11" has an id, and no result') do
-      Pendratsoa.notification(CODES[:signal], "\x10\x11")
+    assert_error(Pendratsoa::NoResult, "notification: payload #{id.inspect} has an id, and no result") do
+      Pendratsoa.notification(CODES[:signal], id)
     end
   end
 end
@@ -265,7 +266,7 @@ class TestComparisons < Minitest::Test
   end
 
   def test_a_difference_is_utf8
-    text = Pendratsoa.difference(CODES[:set_state], "\n\x02\u00e9", "")
+    text = Pendratsoa.difference(CODES[:set_state], "\n\x02\xc3\xa9", "")
     assert_equal "\n   key: '\u00e9' != ''", text
     assert_equal [Encoding::UTF_8, true], [text.encoding, text.valid_encoding?]
   end

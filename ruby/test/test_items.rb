@@ -63,9 +63,10 @@ class TestItems < Minitest::Test
     proposal = unhex("0801720178")
     { 6 => "00", 7 => "80", 9 => "80" }.each do |version, flags|
       message = Pendratsoa::Message.new(version, CODES[:propose_run_completion], proposal)
-      assert_equal unhex("0005#{flags}0000000005") + proposal, message.frame
-      assert_equal unhex("0005000000000005") + proposal, message.frame(5)
-      assert_equal unhex("0005800000000005") + proposal, message.frame(8)
+      length = [proposal.bytesize].pack("N")
+      assert_equal unhex("0005#{flags}00") + length + proposal, message.frame
+      assert_equal unhex("00050000") + length + proposal, message.frame(5)
+      assert_equal unhex("00058000") + length + proposal, message.frame(8)
     end
   end
 

@@ -151,9 +151,11 @@ class TestStream < Minitest::Test
 
   def test_texts
     stream = Pendratsoa::Stream.new.feed(STREAM)
-    assert_equal "#<Pendratsoa::Stream of version 8, 47 bytes in no item yet>", stream.inspect
+    assert_equal "#<Pendratsoa::Stream of version 8, #{STREAM.bytesize} bytes in no item yet>", stream.inspect
     assert_equal ["InputCommand 9", "unknown 0x8", "ProposeRunCompletion 5 ack"], stream.map(&:to_s)
-    assert_equal '#<Pendratsoa::Message InputCommand 9, version 8, payload "r\a\n\x05input">', ITEMS[0].inspect
+    payload = ITEMS[0].payload
+    assert_equal "#<Pendratsoa::Message InputCommand #{payload.bytesize}, version 8, payload #{payload.inspect}>",
+                 ITEMS[0].inspect
     assert_equal "#<Pendratsoa::UnknownCode unknown 0x8, version 8>", ITEMS[1].inspect
     skipped = Pendratsoa::Skipped.new(9, 255, 0, "x" * 100)
     assert_equal "#<Pendratsoa::Skipped skipped 0xff 100, version 9, payload \"xxxxxxxxxxxxxxxx\"... (100 bytes)>",

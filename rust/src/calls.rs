@@ -2,6 +2,7 @@
 
 use crate::error::{Argument, Error};
 use crate::ffi::{self, About, Refusal};
+use crate::LAST_VERSION;
 
 /// The version of the library, as `0.2.0`.
 ///
@@ -114,6 +115,32 @@ pub fn append_frame(
 ) -> Result<usize, Error> {
     ffi::frame(version, code, payload, out)
         .map_err(|refusal| of_type(refusal, version, code, payload.len()))
+}
+
+/// The schema of a type at a version, if the type has another one since.
+pub(crate) fn earlier_schema(version: u32, code: u16) -> Option<u32> {
+    let found = schema(version, code).ok()?;
+    Some(found).filter(|_| schema(LAST_VERSION, code) != Ok(found))
+}
+
+/// Appends the frame of a canonical payload whose schema the type has at earlier versions only, and which [`frame`]
+/// would read by the later one. `Error::Unknown` if the version has another.
+pub(crate) fn append_earlier_frame(
+    version: u32,
+    code: u16,
+    earlier: u32,
+    payload: &[u8],
+    out: &mut Vec<u8>,
+) -> Result<usize, Error> {
+    if schema(version, code)? != earlier {
+        return Err(Error::Unknown(Argument::Version(version)));
+    }
+    let header = header(version, code, payload.len())?;
+    let length = header.len() + payload.len();
+    out.try_reserve(length).map_err(|_| Error::OutOfMemory)?;
+    out.extend_from_slice(&header);
+    out.extend_from_slice(payload);
+    Ok(length)
 }
 
 /// Whether a payload is well-formed for the schema that has the number.

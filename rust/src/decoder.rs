@@ -17,11 +17,11 @@ const CHUNK: usize = 64 << 10;
 /// use pendratsoa::{Decoder, Item};
 ///
 /// let mut decoder = Decoder::new(8)?;
-/// for chunk in [&[0x04, 0, 0, 0, 0, 0][..], &[0, 3, 0x0A, 1], &[b'x', 0, 3]] {
+/// for chunk in [&[0xFC, 1, 0, 0, 0, 0][..], &[0, 3, b'o', b'n'], &[b'e', 0, 3]] {
 ///     decoder.feed(chunk)?;
 ///     for item in decoder.items() {
 ///         if let Item::Message(message) = item? {
-///             assert_eq!(message.payload, [0x0A, 1, b'x']);
+///             assert_eq!(message.payload, *b"one");
 ///         }
 ///     }
 /// }

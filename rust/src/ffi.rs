@@ -4,8 +4,11 @@
 
 #[rustfmt::skip]
 mod declared;
+mod table;
 
 pub(crate) use declared::*;
+pub use table::Table;
+pub(crate) use table::{Entry, Room};
 
 /// Which argument of a call an error is about.
 #[derive(Clone, Copy, Debug, PartialEq, Eq)]

@@ -1,29 +1,20 @@
 //! Records and the table of fields: a record is read from the fields that the library finds in a payload, and written as
 //! those of which the library makes one. Nothing is known here of how a payload is encoded.
 
-use std::borrow::Cow;
 use std::cell::Cell;
+use std::collections::TryReserveError;
 use std::fmt;
 use std::mem::size_of;
 
-use crate::calls::{canonical, frame, header, of_payload, schema};
-use crate::error::{narrowed, Argument, Error};
-use crate::ffi::{self, Refusal, WRITTEN};
+use crate::calls::{append_earlier_frame, canonical, frame, of_payload};
+use crate::error::Error;
+use crate::ffi::{self, Entry, Refusal, Room, Table, WRITTEN};
 use crate::ffi::{FIELD_BOOL, FIELD_BYTES, FIELD_ENUM, FIELD_MESSAGE, FIELD_STRING};
 use crate::ffi::{FIELD_UINT32, FIELD_UINT64};
 use crate::kinds::FieldReason;
 use crate::message_type::MessageType;
 use crate::messages::listed;
 use crate::schema::Schema;
-
-/// How many entries there is room for at first.
-const ENTRIES: usize = 32;
-
-/// How many numbers an entry of the table of fields has.
-const FIELD_NUMBERS: usize = 6;
-
-/// An entry of the table of fields: its level, number, kind and value, and the offset and the length of its bytes.
-pub(crate) type Entry = [u64; FIELD_NUMBERS];
 
 /// The name of a record, and its fields: their numbers, their names, whether they are repeated, and the schema of what
 /// they hold.
@@ -43,25 +34,15 @@ pub trait Record<'a>: Fields<'a> {
     /// `Error::Malformed`, `Error::TooLong`, `Error::OutOfMemory`.
     fn decode(payload: &'a [u8]) -> Result<Self, Error> {
         let schema = Self::SCHEMA.number();
-        let mut room = [[0; FIELD_NUMBERS]; ENTRIES];
-        match ffi::fields(schema, payload, &mut room) {
-            Ok(count) if count <= ENTRIES => {
-                Self::read(&mut Table::new(&room[..count], payload), 0)
-            }
-            Ok(count) => {
-                let mut more = entries(count)?;
-                ffi::fields(schema, payload, &mut more)
-                    .map_err(|refusal| of_payload(refusal, schema, payload))?;
-                Self::read(&mut Table::new(&more, payload), 0)
-            }
+        let mut room = Room::new();
+        match room.table(schema, payload) {
+            Ok(mut table) => Self::read(&mut table, 0),
             Err(Refusal::NotCanonical) => {
                 let canonical = canonical(schema, payload)?;
-                let count = ffi::fields(schema, &canonical, &mut room)
+                let mut table = room
+                    .copied(schema, &canonical)
                     .map_err(|refusal| of_payload(refusal, schema, payload))?;
-                let mut more = entries(count)?;
-                ffi::fields(schema, &canonical, &mut more)
-                    .map_err(|refusal| of_payload(refusal, schema, payload))?;
-                Self::read(&mut Table::copied(&more, &canonical), 0)
+                Self::read(&mut table, 0)
             }
             Err(refusal) => Err(of_payload(refusal, schema, payload)),
         }
@@ -80,8 +61,10 @@ pub trait Record<'a>: Fields<'a> {
     /// and leave the vector as it was.
     fn append_to(&self, out: &mut Vec<u8>) -> Result<usize, Error> {
         let mut writer = Writer::taken();
-        let appended = self.write(&mut writer, 0);
-        let appended = appended.and_then(|()| writer.append_to(Self::SCHEMA.number(), out));
+        let appended = match self.write(&mut writer, 0) {
+            Ok(()) => writer.append_to(Self::SCHEMA.number(), out),
+            Err(NoMemory) => Err(Error::OutOfMemory),
+        };
         writer.put_back();
         appended
     }
@@ -104,13 +87,8 @@ pub trait MessageRecord<'a>: Record<'a> {
         if Self::BEFORE_VERSION.is_none() {
             return frame(version, code, &payload);
         }
-        if schema(version, code)? != Self::SCHEMA.number() {
-            return Err(Error::Unknown(Argument::Version(version)));
-        }
-        let mut out = header(version, code, payload.len())?.to_vec();
-        out.try_reserve_exact(payload.len())
-            .map_err(|_| Error::OutOfMemory)?;
-        out.extend_from_slice(&payload);
+        let mut out = Vec::new();
+        append_earlier_frame(version, code, Self::SCHEMA.number(), &payload, &mut out)?;
         Ok(out)
     }
 }
@@ -124,118 +102,25 @@ pub trait Fields<'a>: Sized {
     fn read(table: &mut Table<'a, '_>, level: u64) -> Result<Self, Error>;
 
     #[doc(hidden)]
-    fn write(&self, writer: &mut Writer, level: u64) -> Result<(), Error>;
+    fn write(&self, writer: &mut Writer, level: u64) -> Result<(), NoMemory>;
 
     #[doc(hidden)]
+    #[cold]
     fn unknown(number: u64) -> Error {
         Error::unexpected(&format!("a field of {}:", Self::LISTED.name), number)
     }
 }
 
-/// Room for entries.
-fn entries(count: usize) -> Result<Vec<Entry>, Error> {
-    let mut entries = Vec::new();
-    entries
-        .try_reserve_exact(count)
-        .map_err(|_| Error::OutOfMemory)?;
-    entries.resize(count, [0; FIELD_NUMBERS]);
-    Ok(entries)
-}
+/// An allocation of a table failed.
+pub struct NoMemory;
 
-/// An entry that is read.
-pub struct Field(Entry);
-
-impl Field {
-    pub(crate) fn number(&self) -> u64 {
-        self.0[1]
+impl From<TryReserveError> for NoMemory {
+    fn from(_: TryReserveError) -> NoMemory {
+        NoMemory
     }
-
-    pub(crate) fn value(&self) -> u64 {
-        self.0[3]
-    }
-
-    pub(crate) fn number32(&self) -> Result<u32, Error> {
-        narrowed("a number", self.value())
-    }
-
-    pub(crate) fn signed(&self) -> Result<i32, Error> {
-        i32::try_from(self.value() as i64)
-            .map_err(|_| Error::unexpected("a number of an enum", self.value()))
-    }
-}
-
-/// The entries of a payload, which are read one by one.
-pub struct Table<'a, 't> {
-    entries: &'t [Entry],
-    /// The payload, if what is read may borrow it.
-    payload: Option<&'a [u8]>,
-    copied: &'t [u8],
-}
-
-impl<'a, 't> Table<'a, 't> {
-    fn new(entries: &'t [Entry], payload: &'a [u8]) -> Table<'a, 't> {
-        Table {
-            entries,
-            payload: Some(payload),
-            copied: &[],
-        }
-    }
-
-    fn copied(entries: &'t [Entry], copied: &'t [u8]) -> Table<'a, 't> {
-        Table {
-            entries,
-            payload: None,
-            copied,
-        }
-    }
-
-    /// Takes the next entry, if it is of a level.
-    pub(crate) fn next(&mut self, level: u64) -> Option<Field> {
-        let (first, rest) = self.entries.split_first()?;
-        if first[0] != level {
-            return None;
-        }
-        self.entries = rest;
-        Some(Field(*first))
-    }
-
-    pub(crate) fn bytes(&self, field: &Field) -> Result<Cow<'a, [u8]>, Error> {
-        match self.payload {
-            Some(payload) => part(payload, field).map(Cow::Borrowed),
-            None => {
-                let part = part(self.copied, field)?;
-                let mut copy = Vec::new();
-                copy.try_reserve_exact(part.len())
-                    .map_err(|_| Error::OutOfMemory)?;
-                copy.extend_from_slice(part);
-                Ok(Cow::Owned(copy))
-            }
-        }
-    }
-
-    pub(crate) fn text(&self, field: &Field) -> Result<Cow<'a, str>, Error> {
-        let unexpected = || Error::unexpected("a text that is not UTF-8, of field", field.number());
-        Ok(match self.bytes(field)? {
-            Cow::Borrowed(bytes) => {
-                Cow::Borrowed(std::str::from_utf8(bytes).map_err(|_| unexpected())?)
-            }
-            Cow::Owned(bytes) => Cow::Owned(String::from_utf8(bytes).map_err(|_| unexpected())?),
-        })
-    }
-}
-
-/// The bytes of an entry.
-fn part<'b>(bytes: &'b [u8], field: &Field) -> Result<&'b [u8], Error> {
-    let [_, _, _, _, offset, length] = field.0;
-    let begin: usize = narrowed("an offset", offset)?;
-    begin
-        .checked_add(narrowed("a length", length)?)
-        .and_then(|end| bytes.get(begin..end))
-        .ok_or_else(|| Error::unexpected("an offset", offset))
 }
 
 /// The table of a record, and the bytes that its entries are places in.
-#[derive(Default)]
 pub struct Writer {
     entries: Vec<Entry>,
     bytes: Vec<u8>,
@@ -243,17 +128,25 @@ pub struct Writer {
 
 thread_local! {
     /// The memory of the last table of this thread.
-    static WRITER: Cell<Writer> = Cell::new(Writer::default());
+    static WRITER: Cell<Writer> = const { Cell::new(Writer::empty()) };
 }
 
 /// The most bytes of a table, and of those beside it, that are kept.
 const KEPT: usize = 64 << 10;
 
 impl Writer {
+    const fn empty() -> Writer {
+        Writer {
+            entries: Vec::new(),
+            bytes: Vec::new(),
+        }
+    }
+
     /// An empty table, in memory that an earlier one had.
     fn taken() -> Writer {
+        let kept = WRITER.try_with(|kept| kept.replace(Writer::empty()));
         // there is none while the thread ends
-        let mut writer = WRITER.try_with(Cell::take).unwrap_or_default();
+        let mut writer = kept.unwrap_or_else(|_| Writer::empty());
         writer.entries.clear();
         writer.bytes.clear();
         writer
@@ -277,45 +170,43 @@ impl Writer {
         }
     }
 
-    fn push(&mut self, entry: Entry) -> Result<(), Error> {
-        self.entries
-            .try_reserve(1)
-            .map_err(|_| Error::OutOfMemory)?;
+    #[inline]
+    fn push(&mut self, entry: Entry) -> Result<(), NoMemory> {
+        self.entries.try_reserve(1)?;
         self.entries.push(entry);
         Ok(())
     }
 
-    pub(crate) fn number32(&mut self, level: u64, number: u64, value: u32) -> Result<(), Error> {
+    pub(crate) fn number32(&mut self, level: u64, number: u64, value: u32) -> Result<(), NoMemory> {
         self.push([level, number, FIELD_UINT32, value.into(), 0, 0])
     }
 
-    pub(crate) fn number64(&mut self, level: u64, number: u64, value: u64) -> Result<(), Error> {
+    pub(crate) fn number64(&mut self, level: u64, number: u64, value: u64) -> Result<(), NoMemory> {
         self.push([level, number, FIELD_UINT64, value, 0, 0])
     }
 
-    pub(crate) fn flag(&mut self, level: u64, number: u64, value: bool) -> Result<(), Error> {
+    pub(crate) fn flag(&mut self, level: u64, number: u64, value: bool) -> Result<(), NoMemory> {
         self.push([level, number, FIELD_BOOL, value.into(), 0, 0])
     }
 
-    pub(crate) fn signed(&mut self, level: u64, number: u64, value: i32) -> Result<(), Error> {
+    pub(crate) fn signed(&mut self, level: u64, number: u64, value: i32) -> Result<(), NoMemory> {
         self.push([level, number, FIELD_ENUM, i64::from(value) as u64, 0, 0])
     }
 
-    pub(crate) fn bytes(&mut self, level: u64, number: u64, value: &[u8]) -> Result<(), Error> {
+    pub(crate) fn bytes(&mut self, level: u64, number: u64, value: &[u8]) -> Result<(), NoMemory> {
         self.place(level, number, FIELD_BYTES, value)
     }
 
-    pub(crate) fn text(&mut self, level: u64, number: u64, value: &str) -> Result<(), Error> {
+    pub(crate) fn text(&mut self, level: u64, number: u64, value: &str) -> Result<(), NoMemory> {
         self.place(level, number, FIELD_STRING, value.as_bytes())
     }
 
-    fn place(&mut self, level: u64, number: u64, kind: u64, value: &[u8]) -> Result<(), Error> {
-        let offset = self.bytes.len();
-        self.bytes
-            .try_reserve(value.len())
-            .map_err(|_| Error::OutOfMemory)?;
+    #[inline]
+    fn place(&mut self, level: u64, number: u64, kind: u64, value: &[u8]) -> Result<(), NoMemory> {
+        let (offset, length) = (self.bytes.len() as u64, value.len() as u64);
+        self.bytes.try_reserve(value.len())?;
         self.bytes.extend_from_slice(value);
-        self.push([level, number, kind, 0, offset as u64, value.len() as u64])
+        self.push([level, number, kind, 0, offset, length])
     }
 
     pub(crate) fn record<'a, R: Record<'a>>(
@@ -323,15 +214,9 @@ impl Writer {
         level: u64,
         number: u64,
         record: &R,
-    ) -> Result<(), Error> {
-        self.push([
-            level,
-            number,
-            FIELD_MESSAGE,
-            R::SCHEMA.number().into(),
-            0,
-            0,
-        ])?;
+    ) -> Result<(), NoMemory> {
+        let schema = R::SCHEMA.number().into();
+        self.push([level, number, FIELD_MESSAGE, schema, 0, 0])?;
         record.write(self, level + 1)
     }
 

@@ -3,7 +3,10 @@
 use std::fmt;
 use std::io::{self, Write};
 
-use crate::calls::{append_frame, canonical, frame, header, schema, to_json, type_name};
+use crate::calls::{
+    append_earlier_frame, append_frame, canonical, earlier_schema, header, schema, to_json,
+    type_name,
+};
 use crate::error::{narrowed, Argument, Error};
 use crate::ffi::{self, Refusal, MESSAGE, SKIPPED, UNKNOWN_CODE};
 use crate::message_type::MessageType;
@@ -263,8 +266,22 @@ impl<'a> Message<'a> {
     }
 
     /// The frame of the message at a version, as [`Message::frame`].
+    ///
+    /// `Error::Unknown` besides for a version that cannot have the payload: a suspension before version 7 has no frame
+    /// from 7 on, and one since then has a frame at each.
     pub fn frame_at(&self, version: u32) -> Result<Vec<u8>, Error> {
-        frame(version, self.code, self.payload)
+        let mut out = Vec::new();
+        self.append_frame_at(version, &mut out)?;
+        Ok(out)
+    }
+
+    fn append_frame_at(&self, version: u32, out: &mut Vec<u8>) -> Result<usize, Error> {
+        match earlier_schema(self.version, self.code) {
+            Some(earlier) => {
+                append_earlier_frame(version, self.code, earlier, &self.canonical()?, out)
+            }
+            None => append_frame(version, self.code, self.payload, out),
+        }
     }
 
     /// Appends the frame of the message at its own version, as [`Message::frame`], and returns its length. An error
@@ -281,7 +298,7 @@ impl<'a> Message<'a> {
     /// # Ok::<(), pendratsoa::Error>(())
     /// ```
     pub fn append_frame(&self, out: &mut Vec<u8>) -> Result<usize, Error> {
-        append_frame(self.version, self.code, self.payload, out)
+        self.append_frame_at(self.version, out)
     }
 
     /// Writes the frame of the message at its own version, as [`Message::frame`]. What is no error of the writer is one

@@ -6,7 +6,7 @@
 //! the canonical one; those of messages have a [`MessageRecord::frame`].
 //!
 //! ```
-//! use pendratsoa::messages::{MessageRecord, SetStateCommandMessage, Value};
+//! use pendratsoa::messages::{MessageRecord, Record, SetStateCommandMessage, Value};
 //!
 //! let command = SetStateCommandMessage {
 //!     key: b"counter"[..].into(),
@@ -14,14 +14,15 @@
 //!     ..Default::default()
 //! };
 //! let frame = command.frame(8u32)?;
-//! assert_eq!(frame.len(), 22);
+//! assert_eq!(frame.len(), 8 + command.encode()?.len());
 //! # Ok::<(), pendratsoa::Error>(())
 //! ```
 
 use std::borrow::Cow;
 
 use crate::error::Error;
-use crate::fields::{Fields, Listed, Table, Writer};
+use crate::ffi::Table;
+use crate::fields::{Fields, Listed, NoMemory, Writer};
 use crate::message_type::MessageType;
 use crate::schema::Schema;
 
@@ -68,7 +69,7 @@ impl<'a> Fields<'a> for Void {
         }
     }
 
-    fn write(&self, _: &mut Writer, _: u64) -> Result<(), Error> {
+    fn write(&self, _: &mut Writer, _: u64) -> Result<(), NoMemory> {
         Ok(())
     }
 }
@@ -91,15 +92,17 @@ impl<'a> Fields<'a> for Value<'a> {
         let mut found = Self::default();
         while let Some(field) = table.next(level) {
             match field.number() {
-                1 => found.content = table.bytes(&field)?,
+                1 => found.content = field.bytes()?,
                 number => return Err(Self::unknown(number)),
             }
         }
         Ok(found)
     }
 
-    fn write(&self, writer: &mut Writer, level: u64) -> Result<(), Error> {
-        writer.bytes(level, 1, &self.content)?;
+    fn write(&self, writer: &mut Writer, level: u64) -> Result<(), NoMemory> {
+        if !self.content.is_empty() {
+            writer.bytes(level, 1, &self.content)?;
+        }
         Ok(())
     }
 }
@@ -127,7 +130,7 @@ impl<'a> Fields<'a> for Failure<'a> {
         while let Some(field) = table.next(level) {
             match field.number() {
                 1 => found.code = field.number32()?,
-                2 => found.message = table.text(&field)?,
+                2 => found.message = field.text()?,
                 3 => {
                     let element = Fields::read(table, level + 1)?;
                     push(&mut found.metadata, element)?;
@@ -138,9 +141,13 @@ impl<'a> Fields<'a> for Failure<'a> {
         Ok(found)
     }
 
-    fn write(&self, writer: &mut Writer, level: u64) -> Result<(), Error> {
-        writer.number32(level, 1, self.code)?;
-        writer.text(level, 2, &self.message)?;
+    fn write(&self, writer: &mut Writer, level: u64) -> Result<(), NoMemory> {
+        if self.code != 0 {
+            writer.number32(level, 1, self.code)?;
+        }
+        if !self.message.is_empty() {
+            writer.text(level, 2, &self.message)?;
+        }
         for element in &self.metadata {
             writer.record(level, 3, element)?;
         }
@@ -168,17 +175,21 @@ impl<'a> Fields<'a> for FailureMetadata<'a> {
         let mut found = Self::default();
         while let Some(field) = table.next(level) {
             match field.number() {
-                1 => found.key = table.text(&field)?,
-                2 => found.value = table.text(&field)?,
+                1 => found.key = field.text()?,
+                2 => found.value = field.text()?,
                 number => return Err(Self::unknown(number)),
             }
         }
         Ok(found)
     }
 
-    fn write(&self, writer: &mut Writer, level: u64) -> Result<(), Error> {
-        writer.text(level, 1, &self.key)?;
-        writer.text(level, 2, &self.value)?;
+    fn write(&self, writer: &mut Writer, level: u64) -> Result<(), NoMemory> {
+        if !self.key.is_empty() {
+            writer.text(level, 1, &self.key)?;
+        }
+        if !self.value.is_empty() {
+            writer.text(level, 2, &self.value)?;
+        }
         Ok(())
     }
 }
@@ -203,17 +214,21 @@ impl<'a> Fields<'a> for Header<'a> {
         let mut found = Self::default();
         while let Some(field) = table.next(level) {
             match field.number() {
-                1 => found.key = table.text(&field)?,
-                2 => found.value = table.text(&field)?,
+                1 => found.key = field.text()?,
+                2 => found.value = field.text()?,
                 number => return Err(Self::unknown(number)),
             }
         }
         Ok(found)
     }
 
-    fn write(&self, writer: &mut Writer, level: u64) -> Result<(), Error> {
-        writer.text(level, 1, &self.key)?;
-        writer.text(level, 2, &self.value)?;
+    fn write(&self, writer: &mut Writer, level: u64) -> Result<(), NoMemory> {
+        if !self.key.is_empty() {
+            writer.text(level, 1, &self.key)?;
+        }
+        if !self.value.is_empty() {
+            writer.text(level, 2, &self.value)?;
+        }
         Ok(())
     }
 }
@@ -237,7 +252,7 @@ impl<'a> Fields<'a> for StateKeys<'a> {
         while let Some(field) = table.next(level) {
             match field.number() {
                 1 => {
-                    let element = table.bytes(&field)?;
+                    let element = field.bytes()?;
                     push(&mut found.keys, element)?;
                 }
                 number => return Err(Self::unknown(number)),
@@ -246,7 +261,7 @@ impl<'a> Fields<'a> for StateKeys<'a> {
         Ok(found)
     }
 
-    fn write(&self, writer: &mut Writer, level: u64) -> Result<(), Error> {
+    fn write(&self, writer: &mut Writer, level: u64) -> Result<(), NoMemory> {
         for element in &self.keys {
             writer.bytes(level, 1, element)?;
         }
@@ -274,17 +289,21 @@ impl<'a> Fields<'a> for StateEntry<'a> {
         let mut found = Self::default();
         while let Some(field) = table.next(level) {
             match field.number() {
-                1 => found.key = table.bytes(&field)?,
-                2 => found.value = table.bytes(&field)?,
+                1 => found.key = field.bytes()?,
+                2 => found.value = field.bytes()?,
                 number => return Err(Self::unknown(number)),
             }
         }
         Ok(found)
     }
 
-    fn write(&self, writer: &mut Writer, level: u64) -> Result<(), Error> {
-        writer.bytes(level, 1, &self.key)?;
-        writer.bytes(level, 2, &self.value)?;
+    fn write(&self, writer: &mut Writer, level: u64) -> Result<(), NoMemory> {
+        if !self.key.is_empty() {
+            writer.bytes(level, 1, &self.key)?;
+        }
+        if !self.value.is_empty() {
+            writer.bytes(level, 2, &self.value)?;
+        }
         Ok(())
     }
 }
@@ -324,7 +343,7 @@ impl<'a> Fields<'a> for Future<'a> {
                     push(&mut found.waiting_signals, element)?;
                 }
                 3 => {
-                    let element = table.text(&field)?;
+                    let element = field.text()?;
                     push(&mut found.waiting_named_signals, element)?;
                 }
                 4 => {
@@ -338,7 +357,7 @@ impl<'a> Fields<'a> for Future<'a> {
         Ok(found)
     }
 
-    fn write(&self, writer: &mut Writer, level: u64) -> Result<(), Error> {
+    fn write(&self, writer: &mut Writer, level: u64) -> Result<(), NoMemory> {
         for element in &self.waiting_completions {
             writer.number32(level, 1, *element)?;
         }
@@ -351,7 +370,9 @@ impl<'a> Fields<'a> for Future<'a> {
         for element in &self.nested_futures {
             writer.record(level, 4, element)?;
         }
-        writer.signed(level, 5, self.combinator_type.0)?;
+        if self.combinator_type.0 != 0 {
+            writer.signed(level, 5, self.combinator_type.0)?;
+        }
         Ok(())
     }
 }
@@ -378,18 +399,22 @@ impl<'a> Fields<'a> for WorkflowTarget<'a> {
         let mut found = Self::default();
         while let Some(field) = table.next(level) {
             match field.number() {
-                1 => found.workflow_name = table.text(&field)?,
-                2 => found.workflow_key = table.text(&field)?,
-                3 => found.scope = Some(table.text(&field)?),
+                1 => found.workflow_name = field.text()?,
+                2 => found.workflow_key = field.text()?,
+                3 => found.scope = Some(field.text()?),
                 number => return Err(Self::unknown(number)),
             }
         }
         Ok(found)
     }
 
-    fn write(&self, writer: &mut Writer, level: u64) -> Result<(), Error> {
-        writer.text(level, 1, &self.workflow_name)?;
-        writer.text(level, 2, &self.workflow_key)?;
+    fn write(&self, writer: &mut Writer, level: u64) -> Result<(), NoMemory> {
+        if !self.workflow_name.is_empty() {
+            writer.text(level, 1, &self.workflow_name)?;
+        }
+        if !self.workflow_key.is_empty() {
+            writer.text(level, 2, &self.workflow_key)?;
+        }
         if let Some(value) = &self.scope {
             writer.text(level, 3, value)?;
         }
@@ -423,24 +448,30 @@ impl<'a> Fields<'a> for IdempotentRequestTarget<'a> {
         let mut found = Self::default();
         while let Some(field) = table.next(level) {
             match field.number() {
-                1 => found.service_name = table.text(&field)?,
-                2 => found.service_key = Some(table.text(&field)?),
-                3 => found.handler_name = table.text(&field)?,
-                4 => found.idempotency_key = table.text(&field)?,
-                5 => found.scope = Some(table.text(&field)?),
+                1 => found.service_name = field.text()?,
+                2 => found.service_key = Some(field.text()?),
+                3 => found.handler_name = field.text()?,
+                4 => found.idempotency_key = field.text()?,
+                5 => found.scope = Some(field.text()?),
                 number => return Err(Self::unknown(number)),
             }
         }
         Ok(found)
     }
 
-    fn write(&self, writer: &mut Writer, level: u64) -> Result<(), Error> {
-        writer.text(level, 1, &self.service_name)?;
+    fn write(&self, writer: &mut Writer, level: u64) -> Result<(), NoMemory> {
+        if !self.service_name.is_empty() {
+            writer.text(level, 1, &self.service_name)?;
+        }
         if let Some(value) = &self.service_key {
             writer.text(level, 2, value)?;
         }
-        writer.text(level, 3, &self.handler_name)?;
-        writer.text(level, 4, &self.idempotency_key)?;
+        if !self.handler_name.is_empty() {
+            writer.text(level, 3, &self.handler_name)?;
+        }
+        if !self.idempotency_key.is_empty() {
+            writer.text(level, 4, &self.idempotency_key)?;
+        }
         if let Some(value) = &self.scope {
             writer.text(level, 5, value)?;
         }
@@ -488,39 +519,55 @@ impl<'a> Fields<'a> for StartMessage<'a> {
         let mut found = Self::default();
         while let Some(field) = table.next(level) {
             match field.number() {
-                1 => found.id = table.bytes(&field)?,
-                2 => found.debug_id = table.text(&field)?,
+                1 => found.id = field.bytes()?,
+                2 => found.debug_id = field.text()?,
                 3 => found.known_entries = field.number32()?,
                 4 => {
                     let element = Fields::read(table, level + 1)?;
                     push(&mut found.state_map, element)?;
                 }
                 5 => found.partial_state = field.value() != 0,
-                6 => found.key = table.text(&field)?,
+                6 => found.key = field.text()?,
                 7 => found.retry_count_since_last_stored_entry = field.number32()?,
                 8 => found.duration_since_last_stored_entry = field.value(),
                 9 => found.random_seed = field.value(),
-                10 => found.scope = Some(table.text(&field)?),
-                11 => found.limit_key = Some(table.text(&field)?),
-                12 => found.idempotency_key = Some(table.text(&field)?),
+                10 => found.scope = Some(field.text()?),
+                11 => found.limit_key = Some(field.text()?),
+                12 => found.idempotency_key = Some(field.text()?),
                 number => return Err(Self::unknown(number)),
             }
         }
         Ok(found)
     }
 
-    fn write(&self, writer: &mut Writer, level: u64) -> Result<(), Error> {
-        writer.bytes(level, 1, &self.id)?;
-        writer.text(level, 2, &self.debug_id)?;
-        writer.number32(level, 3, self.known_entries)?;
+    fn write(&self, writer: &mut Writer, level: u64) -> Result<(), NoMemory> {
+        if !self.id.is_empty() {
+            writer.bytes(level, 1, &self.id)?;
+        }
+        if !self.debug_id.is_empty() {
+            writer.text(level, 2, &self.debug_id)?;
+        }
+        if self.known_entries != 0 {
+            writer.number32(level, 3, self.known_entries)?;
+        }
         for element in &self.state_map {
             writer.record(level, 4, element)?;
         }
-        writer.flag(level, 5, self.partial_state)?;
-        writer.text(level, 6, &self.key)?;
-        writer.number32(level, 7, self.retry_count_since_last_stored_entry)?;
-        writer.number64(level, 8, self.duration_since_last_stored_entry)?;
-        writer.number64(level, 9, self.random_seed)?;
+        if self.partial_state {
+            writer.flag(level, 5, self.partial_state)?;
+        }
+        if !self.key.is_empty() {
+            writer.text(level, 6, &self.key)?;
+        }
+        if self.retry_count_since_last_stored_entry != 0 {
+            writer.number32(level, 7, self.retry_count_since_last_stored_entry)?;
+        }
+        if self.duration_since_last_stored_entry != 0 {
+            writer.number64(level, 8, self.duration_since_last_stored_entry)?;
+        }
+        if self.random_seed != 0 {
+            writer.number64(level, 9, self.random_seed)?;
+        }
         if let Some(value) = &self.scope {
             writer.text(level, 10, value)?;
         }
@@ -563,7 +610,7 @@ impl<'a> Fields<'a> for SuspensionMessage<'a> {
         Ok(found)
     }
 
-    fn write(&self, writer: &mut Writer, level: u64) -> Result<(), Error> {
+    fn write(&self, writer: &mut Writer, level: u64) -> Result<(), NoMemory> {
         if let Some(value) = &self.awaiting_on {
             writer.record(level, 4, value)?;
         }
@@ -606,7 +653,7 @@ impl<'a> Fields<'a> for SuspensionMessageV6<'a> {
                     push(&mut found.waiting_signals, element)?;
                 }
                 3 => {
-                    let element = table.text(&field)?;
+                    let element = field.text()?;
                     push(&mut found.waiting_named_signals, element)?;
                 }
                 number => return Err(Self::unknown(number)),
@@ -615,7 +662,7 @@ impl<'a> Fields<'a> for SuspensionMessageV6<'a> {
         Ok(found)
     }
 
-    fn write(&self, writer: &mut Writer, level: u64) -> Result<(), Error> {
+    fn write(&self, writer: &mut Writer, level: u64) -> Result<(), NoMemory> {
         for element in &self.waiting_completions {
             writer.number32(level, 1, *element)?;
         }
@@ -667,10 +714,10 @@ impl<'a> Fields<'a> for ErrorMessage<'a> {
         while let Some(field) = table.next(level) {
             match field.number() {
                 1 => found.code = field.number32()?,
-                2 => found.message = table.text(&field)?,
-                3 => found.stacktrace = table.text(&field)?,
+                2 => found.message = field.text()?,
+                3 => found.stacktrace = field.text()?,
                 4 => found.related_command_index = Some(field.number32()?),
-                5 => found.related_command_name = Some(table.text(&field)?),
+                5 => found.related_command_name = Some(field.text()?),
                 6 => found.related_command_type = Some(field.number32()?),
                 8 => found.next_retry_delay = Some(field.value()),
                 9 => found.behavior = ErrorBehavior(field.signed()?),
@@ -680,10 +727,16 @@ impl<'a> Fields<'a> for ErrorMessage<'a> {
         Ok(found)
     }
 
-    fn write(&self, writer: &mut Writer, level: u64) -> Result<(), Error> {
-        writer.number32(level, 1, self.code)?;
-        writer.text(level, 2, &self.message)?;
-        writer.text(level, 3, &self.stacktrace)?;
+    fn write(&self, writer: &mut Writer, level: u64) -> Result<(), NoMemory> {
+        if self.code != 0 {
+            writer.number32(level, 1, self.code)?;
+        }
+        if !self.message.is_empty() {
+            writer.text(level, 2, &self.message)?;
+        }
+        if !self.stacktrace.is_empty() {
+            writer.text(level, 3, &self.stacktrace)?;
+        }
         if let Some(value) = &self.related_command_index {
             writer.number32(level, 4, *value)?;
         }
@@ -696,7 +749,9 @@ impl<'a> Fields<'a> for ErrorMessage<'a> {
         if let Some(value) = &self.next_retry_delay {
             writer.number64(level, 8, *value)?;
         }
-        writer.signed(level, 9, self.behavior.0)?;
+        if self.behavior.0 != 0 {
+            writer.signed(level, 9, self.behavior.0)?;
+        }
         Ok(())
     }
 }
@@ -723,7 +778,7 @@ impl<'a> Fields<'a> for EndMessage {
         }
     }
 
-    fn write(&self, _: &mut Writer, _: u64) -> Result<(), Error> {
+    fn write(&self, _: &mut Writer, _: u64) -> Result<(), NoMemory> {
         Ok(())
     }
 }
@@ -763,7 +818,7 @@ impl<'a> Fields<'a> for ProposeRunCompletionMessage<'a> {
             match field.number() {
                 1 => found.result_completion_id = field.number32()?,
                 14 => {
-                    let value = table.bytes(&field)?;
+                    let value = field.bytes()?;
                     found.result = Some(ProposeRunCompletionResult::Value(value));
                 }
                 15 => {
@@ -776,8 +831,10 @@ impl<'a> Fields<'a> for ProposeRunCompletionMessage<'a> {
         Ok(found)
     }
 
-    fn write(&self, writer: &mut Writer, level: u64) -> Result<(), Error> {
-        writer.number32(level, 1, self.result_completion_id)?;
+    fn write(&self, writer: &mut Writer, level: u64) -> Result<(), NoMemory> {
+        if self.result_completion_id != 0 {
+            writer.number32(level, 1, self.result_completion_id)?;
+        }
         match &self.result {
             Some(ProposeRunCompletionResult::Value(value)) => {
                 writer.bytes(level, 14, value)?;
@@ -823,11 +880,13 @@ impl<'a> Fields<'a> for AwaitingOnMessage<'a> {
         Ok(found)
     }
 
-    fn write(&self, writer: &mut Writer, level: u64) -> Result<(), Error> {
+    fn write(&self, writer: &mut Writer, level: u64) -> Result<(), NoMemory> {
         if let Some(value) = &self.awaiting_on {
             writer.record(level, 1, value)?;
         }
-        writer.flag(level, 2, self.executing_side_effects)?;
+        if self.executing_side_effects {
+            writer.flag(level, 2, self.executing_side_effects)?;
+        }
         Ok(())
     }
 }
@@ -861,8 +920,10 @@ impl<'a> Fields<'a> for ProposeRunCompletionAckMessage {
         Ok(found)
     }
 
-    fn write(&self, writer: &mut Writer, level: u64) -> Result<(), Error> {
-        writer.number32(level, 1, self.completion_id)?;
+    fn write(&self, writer: &mut Writer, level: u64) -> Result<(), NoMemory> {
+        if self.completion_id != 0 {
+            writer.number32(level, 1, self.completion_id)?;
+        }
         Ok(())
     }
 }
@@ -891,7 +952,7 @@ impl<'a> Fields<'a> for GetStateEphemeralCommandMessage<'a> {
         let mut found = Self::default();
         while let Some(field) = table.next(level) {
             match field.number() {
-                1 => found.key = table.bytes(&field)?,
+                1 => found.key = field.bytes()?,
                 2 => found.completion_id = field.number32()?,
                 number => return Err(Self::unknown(number)),
             }
@@ -899,9 +960,13 @@ impl<'a> Fields<'a> for GetStateEphemeralCommandMessage<'a> {
         Ok(found)
     }
 
-    fn write(&self, writer: &mut Writer, level: u64) -> Result<(), Error> {
-        writer.bytes(level, 1, &self.key)?;
-        writer.number32(level, 2, self.completion_id)?;
+    fn write(&self, writer: &mut Writer, level: u64) -> Result<(), NoMemory> {
+        if !self.key.is_empty() {
+            writer.bytes(level, 1, &self.key)?;
+        }
+        if self.completion_id != 0 {
+            writer.number32(level, 2, self.completion_id)?;
+        }
         Ok(())
     }
 }
@@ -954,8 +1019,10 @@ impl<'a> Fields<'a> for GetStateEphemeralNotificationMessage<'a> {
         Ok(found)
     }
 
-    fn write(&self, writer: &mut Writer, level: u64) -> Result<(), Error> {
-        writer.number32(level, 1, self.completion_id)?;
+    fn write(&self, writer: &mut Writer, level: u64) -> Result<(), NoMemory> {
+        if self.completion_id != 0 {
+            writer.number32(level, 1, self.completion_id)?;
+        }
         match &self.result {
             Some(GetStateEphemeralNotificationResult::Void(value)) => {
                 writer.record(level, 4, value)?;
@@ -999,7 +1066,7 @@ impl<'a> Fields<'a> for InputCommandMessage<'a> {
                     let element = Fields::read(table, level + 1)?;
                     push(&mut found.headers, element)?;
                 }
-                12 => found.name = table.text(&field)?,
+                12 => found.name = field.text()?,
                 14 => found.value = Some(Fields::read(table, level + 1)?),
                 number => return Err(Self::unknown(number)),
             }
@@ -1007,11 +1074,13 @@ impl<'a> Fields<'a> for InputCommandMessage<'a> {
         Ok(found)
     }
 
-    fn write(&self, writer: &mut Writer, level: u64) -> Result<(), Error> {
+    fn write(&self, writer: &mut Writer, level: u64) -> Result<(), NoMemory> {
         for element in &self.headers {
             writer.record(level, 1, element)?;
         }
-        writer.text(level, 12, &self.name)?;
+        if !self.name.is_empty() {
+            writer.text(level, 12, &self.name)?;
+        }
         if let Some(value) = &self.value {
             writer.record(level, 14, value)?;
         }
@@ -1052,7 +1121,7 @@ impl<'a> Fields<'a> for OutputCommandMessage<'a> {
         let mut found = Self::default();
         while let Some(field) = table.next(level) {
             match field.number() {
-                12 => found.name = table.text(&field)?,
+                12 => found.name = field.text()?,
                 14 => {
                     let value = Fields::read(table, level + 1)?;
                     found.result = Some(OutputCommandResult::Value(value));
@@ -1067,8 +1136,10 @@ impl<'a> Fields<'a> for OutputCommandMessage<'a> {
         Ok(found)
     }
 
-    fn write(&self, writer: &mut Writer, level: u64) -> Result<(), Error> {
-        writer.text(level, 12, &self.name)?;
+    fn write(&self, writer: &mut Writer, level: u64) -> Result<(), NoMemory> {
+        if !self.name.is_empty() {
+            writer.text(level, 12, &self.name)?;
+        }
         match &self.result {
             Some(OutputCommandResult::Value(value)) => {
                 writer.record(level, 14, value)?;
@@ -1108,19 +1179,25 @@ impl<'a> Fields<'a> for GetLazyStateCommandMessage<'a> {
         let mut found = Self::default();
         while let Some(field) = table.next(level) {
             match field.number() {
-                1 => found.key = table.bytes(&field)?,
+                1 => found.key = field.bytes()?,
                 11 => found.result_completion_id = field.number32()?,
-                12 => found.name = table.text(&field)?,
+                12 => found.name = field.text()?,
                 number => return Err(Self::unknown(number)),
             }
         }
         Ok(found)
     }
 
-    fn write(&self, writer: &mut Writer, level: u64) -> Result<(), Error> {
-        writer.bytes(level, 1, &self.key)?;
-        writer.number32(level, 11, self.result_completion_id)?;
-        writer.text(level, 12, &self.name)?;
+    fn write(&self, writer: &mut Writer, level: u64) -> Result<(), NoMemory> {
+        if !self.key.is_empty() {
+            writer.bytes(level, 1, &self.key)?;
+        }
+        if self.result_completion_id != 0 {
+            writer.number32(level, 11, self.result_completion_id)?;
+        }
+        if !self.name.is_empty() {
+            writer.text(level, 12, &self.name)?;
+        }
         Ok(())
     }
 }
@@ -1151,21 +1228,25 @@ impl<'a> Fields<'a> for SetStateCommandMessage<'a> {
         let mut found = Self::default();
         while let Some(field) = table.next(level) {
             match field.number() {
-                1 => found.key = table.bytes(&field)?,
+                1 => found.key = field.bytes()?,
                 3 => found.value = Some(Fields::read(table, level + 1)?),
-                12 => found.name = table.text(&field)?,
+                12 => found.name = field.text()?,
                 number => return Err(Self::unknown(number)),
             }
         }
         Ok(found)
     }
 
-    fn write(&self, writer: &mut Writer, level: u64) -> Result<(), Error> {
-        writer.bytes(level, 1, &self.key)?;
+    fn write(&self, writer: &mut Writer, level: u64) -> Result<(), NoMemory> {
+        if !self.key.is_empty() {
+            writer.bytes(level, 1, &self.key)?;
+        }
         if let Some(value) = &self.value {
             writer.record(level, 3, value)?;
         }
-        writer.text(level, 12, &self.name)?;
+        if !self.name.is_empty() {
+            writer.text(level, 12, &self.name)?;
+        }
         Ok(())
     }
 }
@@ -1194,17 +1275,21 @@ impl<'a> Fields<'a> for ClearStateCommandMessage<'a> {
         let mut found = Self::default();
         while let Some(field) = table.next(level) {
             match field.number() {
-                1 => found.key = table.bytes(&field)?,
-                12 => found.name = table.text(&field)?,
+                1 => found.key = field.bytes()?,
+                12 => found.name = field.text()?,
                 number => return Err(Self::unknown(number)),
             }
         }
         Ok(found)
     }
 
-    fn write(&self, writer: &mut Writer, level: u64) -> Result<(), Error> {
-        writer.bytes(level, 1, &self.key)?;
-        writer.text(level, 12, &self.name)?;
+    fn write(&self, writer: &mut Writer, level: u64) -> Result<(), NoMemory> {
+        if !self.key.is_empty() {
+            writer.bytes(level, 1, &self.key)?;
+        }
+        if !self.name.is_empty() {
+            writer.text(level, 12, &self.name)?;
+        }
         Ok(())
     }
 }
@@ -1231,15 +1316,17 @@ impl<'a> Fields<'a> for ClearAllStateCommandMessage<'a> {
         let mut found = Self::default();
         while let Some(field) = table.next(level) {
             match field.number() {
-                12 => found.name = table.text(&field)?,
+                12 => found.name = field.text()?,
                 number => return Err(Self::unknown(number)),
             }
         }
         Ok(found)
     }
 
-    fn write(&self, writer: &mut Writer, level: u64) -> Result<(), Error> {
-        writer.text(level, 12, &self.name)?;
+    fn write(&self, writer: &mut Writer, level: u64) -> Result<(), NoMemory> {
+        if !self.name.is_empty() {
+            writer.text(level, 12, &self.name)?;
+        }
         Ok(())
     }
 }
@@ -1269,16 +1356,20 @@ impl<'a> Fields<'a> for GetLazyStateKeysCommandMessage<'a> {
         while let Some(field) = table.next(level) {
             match field.number() {
                 11 => found.result_completion_id = field.number32()?,
-                12 => found.name = table.text(&field)?,
+                12 => found.name = field.text()?,
                 number => return Err(Self::unknown(number)),
             }
         }
         Ok(found)
     }
 
-    fn write(&self, writer: &mut Writer, level: u64) -> Result<(), Error> {
-        writer.number32(level, 11, self.result_completion_id)?;
-        writer.text(level, 12, &self.name)?;
+    fn write(&self, writer: &mut Writer, level: u64) -> Result<(), NoMemory> {
+        if self.result_completion_id != 0 {
+            writer.number32(level, 11, self.result_completion_id)?;
+        }
+        if !self.name.is_empty() {
+            writer.text(level, 12, &self.name)?;
+        }
         Ok(())
     }
 }
@@ -1318,8 +1409,8 @@ impl<'a> Fields<'a> for GetEagerStateCommandMessage<'a> {
         let mut found = Self::default();
         while let Some(field) = table.next(level) {
             match field.number() {
-                1 => found.key = table.bytes(&field)?,
-                12 => found.name = table.text(&field)?,
+                1 => found.key = field.bytes()?,
+                12 => found.name = field.text()?,
                 13 => {
                     let value = Fields::read(table, level + 1)?;
                     found.result = Some(GetEagerStateCommandResult::Void(value));
@@ -1334,9 +1425,13 @@ impl<'a> Fields<'a> for GetEagerStateCommandMessage<'a> {
         Ok(found)
     }
 
-    fn write(&self, writer: &mut Writer, level: u64) -> Result<(), Error> {
-        writer.bytes(level, 1, &self.key)?;
-        writer.text(level, 12, &self.name)?;
+    fn write(&self, writer: &mut Writer, level: u64) -> Result<(), NoMemory> {
+        if !self.key.is_empty() {
+            writer.bytes(level, 1, &self.key)?;
+        }
+        if !self.name.is_empty() {
+            writer.text(level, 12, &self.name)?;
+        }
         match &self.result {
             Some(GetEagerStateCommandResult::Void(value)) => {
                 writer.record(level, 13, value)?;
@@ -1374,7 +1469,7 @@ impl<'a> Fields<'a> for GetEagerStateKeysCommandMessage<'a> {
         let mut found = Self::default();
         while let Some(field) = table.next(level) {
             match field.number() {
-                12 => found.name = table.text(&field)?,
+                12 => found.name = field.text()?,
                 14 => found.value = Some(Fields::read(table, level + 1)?),
                 number => return Err(Self::unknown(number)),
             }
@@ -1382,8 +1477,10 @@ impl<'a> Fields<'a> for GetEagerStateKeysCommandMessage<'a> {
         Ok(found)
     }
 
-    fn write(&self, writer: &mut Writer, level: u64) -> Result<(), Error> {
-        writer.text(level, 12, &self.name)?;
+    fn write(&self, writer: &mut Writer, level: u64) -> Result<(), NoMemory> {
+        if !self.name.is_empty() {
+            writer.text(level, 12, &self.name)?;
+        }
         if let Some(value) = &self.value {
             writer.record(level, 14, value)?;
         }
@@ -1417,19 +1514,25 @@ impl<'a> Fields<'a> for GetPromiseCommandMessage<'a> {
         let mut found = Self::default();
         while let Some(field) = table.next(level) {
             match field.number() {
-                1 => found.key = table.text(&field)?,
+                1 => found.key = field.text()?,
                 11 => found.result_completion_id = field.number32()?,
-                12 => found.name = table.text(&field)?,
+                12 => found.name = field.text()?,
                 number => return Err(Self::unknown(number)),
             }
         }
         Ok(found)
     }
 
-    fn write(&self, writer: &mut Writer, level: u64) -> Result<(), Error> {
-        writer.text(level, 1, &self.key)?;
-        writer.number32(level, 11, self.result_completion_id)?;
-        writer.text(level, 12, &self.name)?;
+    fn write(&self, writer: &mut Writer, level: u64) -> Result<(), NoMemory> {
+        if !self.key.is_empty() {
+            writer.text(level, 1, &self.key)?;
+        }
+        if self.result_completion_id != 0 {
+            writer.number32(level, 11, self.result_completion_id)?;
+        }
+        if !self.name.is_empty() {
+            writer.text(level, 12, &self.name)?;
+        }
         Ok(())
     }
 }
@@ -1460,19 +1563,25 @@ impl<'a> Fields<'a> for PeekPromiseCommandMessage<'a> {
         let mut found = Self::default();
         while let Some(field) = table.next(level) {
             match field.number() {
-                1 => found.key = table.text(&field)?,
+                1 => found.key = field.text()?,
                 11 => found.result_completion_id = field.number32()?,
-                12 => found.name = table.text(&field)?,
+                12 => found.name = field.text()?,
                 number => return Err(Self::unknown(number)),
             }
         }
         Ok(found)
     }
 
-    fn write(&self, writer: &mut Writer, level: u64) -> Result<(), Error> {
-        writer.text(level, 1, &self.key)?;
-        writer.number32(level, 11, self.result_completion_id)?;
-        writer.text(level, 12, &self.name)?;
+    fn write(&self, writer: &mut Writer, level: u64) -> Result<(), NoMemory> {
+        if !self.key.is_empty() {
+            writer.text(level, 1, &self.key)?;
+        }
+        if self.result_completion_id != 0 {
+            writer.number32(level, 11, self.result_completion_id)?;
+        }
+        if !self.name.is_empty() {
+            writer.text(level, 12, &self.name)?;
+        }
         Ok(())
     }
 }
@@ -1514,7 +1623,7 @@ impl<'a> Fields<'a> for CompletePromiseCommandMessage<'a> {
         let mut found = Self::default();
         while let Some(field) = table.next(level) {
             match field.number() {
-                1 => found.key = table.text(&field)?,
+                1 => found.key = field.text()?,
                 2 => {
                     let value = Fields::read(table, level + 1)?;
                     found.completion = Some(CompletePromiseCommandCompletion::CompletionValue(value));
@@ -1524,15 +1633,17 @@ impl<'a> Fields<'a> for CompletePromiseCommandMessage<'a> {
                     found.completion = Some(CompletePromiseCommandCompletion::CompletionFailure(value));
                 }
                 11 => found.result_completion_id = field.number32()?,
-                12 => found.name = table.text(&field)?,
+                12 => found.name = field.text()?,
                 number => return Err(Self::unknown(number)),
             }
         }
         Ok(found)
     }
 
-    fn write(&self, writer: &mut Writer, level: u64) -> Result<(), Error> {
-        writer.text(level, 1, &self.key)?;
+    fn write(&self, writer: &mut Writer, level: u64) -> Result<(), NoMemory> {
+        if !self.key.is_empty() {
+            writer.text(level, 1, &self.key)?;
+        }
         match &self.completion {
             Some(CompletePromiseCommandCompletion::CompletionValue(value)) => {
                 writer.record(level, 2, value)?;
@@ -1542,8 +1653,12 @@ impl<'a> Fields<'a> for CompletePromiseCommandMessage<'a> {
             }
             None => {}
         }
-        writer.number32(level, 11, self.result_completion_id)?;
-        writer.text(level, 12, &self.name)?;
+        if self.result_completion_id != 0 {
+            writer.number32(level, 11, self.result_completion_id)?;
+        }
+        if !self.name.is_empty() {
+            writer.text(level, 12, &self.name)?;
+        }
         Ok(())
     }
 }
@@ -1576,17 +1691,23 @@ impl<'a> Fields<'a> for SleepCommandMessage<'a> {
             match field.number() {
                 1 => found.wake_up_time = field.value(),
                 11 => found.result_completion_id = field.number32()?,
-                12 => found.name = table.text(&field)?,
+                12 => found.name = field.text()?,
                 number => return Err(Self::unknown(number)),
             }
         }
         Ok(found)
     }
 
-    fn write(&self, writer: &mut Writer, level: u64) -> Result<(), Error> {
-        writer.number64(level, 1, self.wake_up_time)?;
-        writer.number32(level, 11, self.result_completion_id)?;
-        writer.text(level, 12, &self.name)?;
+    fn write(&self, writer: &mut Writer, level: u64) -> Result<(), NoMemory> {
+        if self.wake_up_time != 0 {
+            writer.number64(level, 1, self.wake_up_time)?;
+        }
+        if self.result_completion_id != 0 {
+            writer.number32(level, 11, self.result_completion_id)?;
+        }
+        if !self.name.is_empty() {
+            writer.text(level, 12, &self.name)?;
+        }
         Ok(())
     }
 }
@@ -1633,34 +1754,42 @@ impl<'a> Fields<'a> for CallCommandMessage<'a> {
         let mut found = Self::default();
         while let Some(field) = table.next(level) {
             match field.number() {
-                1 => found.service_name = table.text(&field)?,
-                2 => found.handler_name = table.text(&field)?,
-                3 => found.parameter = table.bytes(&field)?,
+                1 => found.service_name = field.text()?,
+                2 => found.handler_name = field.text()?,
+                3 => found.parameter = field.bytes()?,
                 4 => {
                     let element = Fields::read(table, level + 1)?;
                     push(&mut found.headers, element)?;
                 }
-                5 => found.key = table.text(&field)?,
-                6 => found.idempotency_key = Some(table.text(&field)?),
-                7 => found.scope = Some(table.text(&field)?),
-                8 => found.limit_key = Some(table.text(&field)?),
+                5 => found.key = field.text()?,
+                6 => found.idempotency_key = Some(field.text()?),
+                7 => found.scope = Some(field.text()?),
+                8 => found.limit_key = Some(field.text()?),
                 10 => found.invocation_id_notification_idx = field.number32()?,
                 11 => found.result_completion_id = field.number32()?,
-                12 => found.name = table.text(&field)?,
+                12 => found.name = field.text()?,
                 number => return Err(Self::unknown(number)),
             }
         }
         Ok(found)
     }
 
-    fn write(&self, writer: &mut Writer, level: u64) -> Result<(), Error> {
-        writer.text(level, 1, &self.service_name)?;
-        writer.text(level, 2, &self.handler_name)?;
-        writer.bytes(level, 3, &self.parameter)?;
+    fn write(&self, writer: &mut Writer, level: u64) -> Result<(), NoMemory> {
+        if !self.service_name.is_empty() {
+            writer.text(level, 1, &self.service_name)?;
+        }
+        if !self.handler_name.is_empty() {
+            writer.text(level, 2, &self.handler_name)?;
+        }
+        if !self.parameter.is_empty() {
+            writer.bytes(level, 3, &self.parameter)?;
+        }
         for element in &self.headers {
             writer.record(level, 4, element)?;
         }
-        writer.text(level, 5, &self.key)?;
+        if !self.key.is_empty() {
+            writer.text(level, 5, &self.key)?;
+        }
         if let Some(value) = &self.idempotency_key {
             writer.text(level, 6, value)?;
         }
@@ -1670,9 +1799,15 @@ impl<'a> Fields<'a> for CallCommandMessage<'a> {
         if let Some(value) = &self.limit_key {
             writer.text(level, 8, value)?;
         }
-        writer.number32(level, 10, self.invocation_id_notification_idx)?;
-        writer.number32(level, 11, self.result_completion_id)?;
-        writer.text(level, 12, &self.name)?;
+        if self.invocation_id_notification_idx != 0 {
+            writer.number32(level, 10, self.invocation_id_notification_idx)?;
+        }
+        if self.result_completion_id != 0 {
+            writer.number32(level, 11, self.result_completion_id)?;
+        }
+        if !self.name.is_empty() {
+            writer.text(level, 12, &self.name)?;
+        }
         Ok(())
     }
 }
@@ -1719,35 +1854,45 @@ impl<'a> Fields<'a> for OneWayCallCommandMessage<'a> {
         let mut found = Self::default();
         while let Some(field) = table.next(level) {
             match field.number() {
-                1 => found.service_name = table.text(&field)?,
-                2 => found.handler_name = table.text(&field)?,
-                3 => found.parameter = table.bytes(&field)?,
+                1 => found.service_name = field.text()?,
+                2 => found.handler_name = field.text()?,
+                3 => found.parameter = field.bytes()?,
                 4 => found.invoke_time = field.value(),
                 5 => {
                     let element = Fields::read(table, level + 1)?;
                     push(&mut found.headers, element)?;
                 }
-                6 => found.key = table.text(&field)?,
-                7 => found.idempotency_key = Some(table.text(&field)?),
-                8 => found.scope = Some(table.text(&field)?),
-                9 => found.limit_key = Some(table.text(&field)?),
+                6 => found.key = field.text()?,
+                7 => found.idempotency_key = Some(field.text()?),
+                8 => found.scope = Some(field.text()?),
+                9 => found.limit_key = Some(field.text()?),
                 10 => found.invocation_id_notification_idx = field.number32()?,
-                12 => found.name = table.text(&field)?,
+                12 => found.name = field.text()?,
                 number => return Err(Self::unknown(number)),
             }
         }
         Ok(found)
     }
 
-    fn write(&self, writer: &mut Writer, level: u64) -> Result<(), Error> {
-        writer.text(level, 1, &self.service_name)?;
-        writer.text(level, 2, &self.handler_name)?;
-        writer.bytes(level, 3, &self.parameter)?;
-        writer.number64(level, 4, self.invoke_time)?;
+    fn write(&self, writer: &mut Writer, level: u64) -> Result<(), NoMemory> {
+        if !self.service_name.is_empty() {
+            writer.text(level, 1, &self.service_name)?;
+        }
+        if !self.handler_name.is_empty() {
+            writer.text(level, 2, &self.handler_name)?;
+        }
+        if !self.parameter.is_empty() {
+            writer.bytes(level, 3, &self.parameter)?;
+        }
+        if self.invoke_time != 0 {
+            writer.number64(level, 4, self.invoke_time)?;
+        }
         for element in &self.headers {
             writer.record(level, 5, element)?;
         }
-        writer.text(level, 6, &self.key)?;
+        if !self.key.is_empty() {
+            writer.text(level, 6, &self.key)?;
+        }
         if let Some(value) = &self.idempotency_key {
             writer.text(level, 7, value)?;
         }
@@ -1757,8 +1902,12 @@ impl<'a> Fields<'a> for OneWayCallCommandMessage<'a> {
         if let Some(value) = &self.limit_key {
             writer.text(level, 9, value)?;
         }
-        writer.number32(level, 10, self.invocation_id_notification_idx)?;
-        writer.text(level, 12, &self.name)?;
+        if self.invocation_id_notification_idx != 0 {
+            writer.number32(level, 10, self.invocation_id_notification_idx)?;
+        }
+        if !self.name.is_empty() {
+            writer.text(level, 12, &self.name)?;
+        }
         Ok(())
     }
 }
@@ -1811,13 +1960,13 @@ impl<'a> Fields<'a> for SendSignalCommandMessage<'a> {
         let mut found = Self::default();
         while let Some(field) = table.next(level) {
             match field.number() {
-                1 => found.target_invocation_id = table.text(&field)?,
+                1 => found.target_invocation_id = field.text()?,
                 2 => {
                     let value = field.number32()?;
                     found.signal_id = Some(SendSignalCommandSignalId::Idx(value));
                 }
                 3 => {
-                    let value = table.text(&field)?;
+                    let value = field.text()?;
                     found.signal_id = Some(SendSignalCommandSignalId::Name(value));
                 }
                 4 => {
@@ -1832,15 +1981,17 @@ impl<'a> Fields<'a> for SendSignalCommandMessage<'a> {
                     let value = Fields::read(table, level + 1)?;
                     found.result = Some(SendSignalCommandResult::Failure(value));
                 }
-                12 => found.entry_name = table.text(&field)?,
+                12 => found.entry_name = field.text()?,
                 number => return Err(Self::unknown(number)),
             }
         }
         Ok(found)
     }
 
-    fn write(&self, writer: &mut Writer, level: u64) -> Result<(), Error> {
-        writer.text(level, 1, &self.target_invocation_id)?;
+    fn write(&self, writer: &mut Writer, level: u64) -> Result<(), NoMemory> {
+        if !self.target_invocation_id.is_empty() {
+            writer.text(level, 1, &self.target_invocation_id)?;
+        }
         match &self.signal_id {
             Some(SendSignalCommandSignalId::Idx(value)) => {
                 writer.number32(level, 2, *value)?;
@@ -1862,7 +2013,9 @@ impl<'a> Fields<'a> for SendSignalCommandMessage<'a> {
             }
             None => {}
         }
-        writer.text(level, 12, &self.entry_name)?;
+        if !self.entry_name.is_empty() {
+            writer.text(level, 12, &self.entry_name)?;
+        }
         Ok(())
     }
 }
@@ -1892,16 +2045,20 @@ impl<'a> Fields<'a> for RunCommandMessage<'a> {
         while let Some(field) = table.next(level) {
             match field.number() {
                 11 => found.result_completion_id = field.number32()?,
-                12 => found.name = table.text(&field)?,
+                12 => found.name = field.text()?,
                 number => return Err(Self::unknown(number)),
             }
         }
         Ok(found)
     }
 
-    fn write(&self, writer: &mut Writer, level: u64) -> Result<(), Error> {
-        writer.number32(level, 11, self.result_completion_id)?;
-        writer.text(level, 12, &self.name)?;
+    fn write(&self, writer: &mut Writer, level: u64) -> Result<(), NoMemory> {
+        if self.result_completion_id != 0 {
+            writer.number32(level, 11, self.result_completion_id)?;
+        }
+        if !self.name.is_empty() {
+            writer.text(level, 12, &self.name)?;
+        }
         Ok(())
     }
 }
@@ -1944,7 +2101,7 @@ impl<'a> Fields<'a> for AttachInvocationCommandMessage<'a> {
         while let Some(field) = table.next(level) {
             match field.number() {
                 1 => {
-                    let value = table.text(&field)?;
+                    let value = field.text()?;
                     found.target = Some(AttachInvocationCommandTarget::InvocationId(value));
                 }
                 3 => {
@@ -1956,14 +2113,14 @@ impl<'a> Fields<'a> for AttachInvocationCommandMessage<'a> {
                     found.target = Some(AttachInvocationCommandTarget::WorkflowTarget(value));
                 }
                 11 => found.result_completion_id = field.number32()?,
-                12 => found.name = table.text(&field)?,
+                12 => found.name = field.text()?,
                 number => return Err(Self::unknown(number)),
             }
         }
         Ok(found)
     }
 
-    fn write(&self, writer: &mut Writer, level: u64) -> Result<(), Error> {
+    fn write(&self, writer: &mut Writer, level: u64) -> Result<(), NoMemory> {
         match &self.target {
             Some(AttachInvocationCommandTarget::InvocationId(value)) => {
                 writer.text(level, 1, value)?;
@@ -1976,8 +2133,12 @@ impl<'a> Fields<'a> for AttachInvocationCommandMessage<'a> {
             }
             None => {}
         }
-        writer.number32(level, 11, self.result_completion_id)?;
-        writer.text(level, 12, &self.name)?;
+        if self.result_completion_id != 0 {
+            writer.number32(level, 11, self.result_completion_id)?;
+        }
+        if !self.name.is_empty() {
+            writer.text(level, 12, &self.name)?;
+        }
         Ok(())
     }
 }
@@ -2020,7 +2181,7 @@ impl<'a> Fields<'a> for GetInvocationOutputCommandMessage<'a> {
         while let Some(field) = table.next(level) {
             match field.number() {
                 1 => {
-                    let value = table.text(&field)?;
+                    let value = field.text()?;
                     found.target = Some(GetInvocationOutputCommandTarget::InvocationId(value));
                 }
                 3 => {
@@ -2032,14 +2193,14 @@ impl<'a> Fields<'a> for GetInvocationOutputCommandMessage<'a> {
                     found.target = Some(GetInvocationOutputCommandTarget::WorkflowTarget(value));
                 }
                 11 => found.result_completion_id = field.number32()?,
-                12 => found.name = table.text(&field)?,
+                12 => found.name = field.text()?,
                 number => return Err(Self::unknown(number)),
             }
         }
         Ok(found)
     }
 
-    fn write(&self, writer: &mut Writer, level: u64) -> Result<(), Error> {
+    fn write(&self, writer: &mut Writer, level: u64) -> Result<(), NoMemory> {
         match &self.target {
             Some(GetInvocationOutputCommandTarget::InvocationId(value)) => {
                 writer.text(level, 1, value)?;
@@ -2052,8 +2213,12 @@ impl<'a> Fields<'a> for GetInvocationOutputCommandMessage<'a> {
             }
             None => {}
         }
-        writer.number32(level, 11, self.result_completion_id)?;
-        writer.text(level, 12, &self.name)?;
+        if self.result_completion_id != 0 {
+            writer.number32(level, 11, self.result_completion_id)?;
+        }
+        if !self.name.is_empty() {
+            writer.text(level, 12, &self.name)?;
+        }
         Ok(())
     }
 }
@@ -2093,7 +2258,7 @@ impl<'a> Fields<'a> for CompleteAwakeableCommandMessage<'a> {
         let mut found = Self::default();
         while let Some(field) = table.next(level) {
             match field.number() {
-                1 => found.awakeable_id = table.text(&field)?,
+                1 => found.awakeable_id = field.text()?,
                 2 => {
                     let value = Fields::read(table, level + 1)?;
                     found.result = Some(CompleteAwakeableCommandResult::Value(value));
@@ -2102,15 +2267,17 @@ impl<'a> Fields<'a> for CompleteAwakeableCommandMessage<'a> {
                     let value = Fields::read(table, level + 1)?;
                     found.result = Some(CompleteAwakeableCommandResult::Failure(value));
                 }
-                12 => found.name = table.text(&field)?,
+                12 => found.name = field.text()?,
                 number => return Err(Self::unknown(number)),
             }
         }
         Ok(found)
     }
 
-    fn write(&self, writer: &mut Writer, level: u64) -> Result<(), Error> {
-        writer.text(level, 1, &self.awakeable_id)?;
+    fn write(&self, writer: &mut Writer, level: u64) -> Result<(), NoMemory> {
+        if !self.awakeable_id.is_empty() {
+            writer.text(level, 1, &self.awakeable_id)?;
+        }
         match &self.result {
             Some(CompleteAwakeableCommandResult::Value(value)) => {
                 writer.record(level, 2, value)?;
@@ -2120,7 +2287,9 @@ impl<'a> Fields<'a> for CompleteAwakeableCommandMessage<'a> {
             }
             None => {}
         }
-        writer.text(level, 12, &self.name)?;
+        if !self.name.is_empty() {
+            writer.text(level, 12, &self.name)?;
+        }
         Ok(())
     }
 }
@@ -2173,8 +2342,10 @@ impl<'a> Fields<'a> for GetLazyStateCompletionNotificationMessage<'a> {
         Ok(found)
     }
 
-    fn write(&self, writer: &mut Writer, level: u64) -> Result<(), Error> {
-        writer.number32(level, 1, self.completion_id)?;
+    fn write(&self, writer: &mut Writer, level: u64) -> Result<(), NoMemory> {
+        if self.completion_id != 0 {
+            writer.number32(level, 1, self.completion_id)?;
+        }
         match &self.result {
             Some(GetLazyStateCompletionNotificationResult::Void(value)) => {
                 writer.record(level, 4, value)?;
@@ -2242,8 +2413,10 @@ impl<'a> Fields<'a> for GetPromiseCompletionNotificationMessage<'a> {
         Ok(found)
     }
 
-    fn write(&self, writer: &mut Writer, level: u64) -> Result<(), Error> {
-        writer.number32(level, 1, self.completion_id)?;
+    fn write(&self, writer: &mut Writer, level: u64) -> Result<(), NoMemory> {
+        if self.completion_id != 0 {
+            writer.number32(level, 1, self.completion_id)?;
+        }
         match &self.result {
             Some(GetPromiseCompletionNotificationResult::Void(value)) => {
                 writer.record(level, 4, value)?;
@@ -2314,8 +2487,10 @@ impl<'a> Fields<'a> for PeekPromiseCompletionNotificationMessage<'a> {
         Ok(found)
     }
 
-    fn write(&self, writer: &mut Writer, level: u64) -> Result<(), Error> {
-        writer.number32(level, 1, self.completion_id)?;
+    fn write(&self, writer: &mut Writer, level: u64) -> Result<(), NoMemory> {
+        if self.completion_id != 0 {
+            writer.number32(level, 1, self.completion_id)?;
+        }
         match &self.result {
             Some(PeekPromiseCompletionNotificationResult::Void(value)) => {
                 writer.record(level, 4, value)?;
@@ -2386,8 +2561,10 @@ impl<'a> Fields<'a> for GetInvocationOutputCompletionNotificationMessage<'a> {
         Ok(found)
     }
 
-    fn write(&self, writer: &mut Writer, level: u64) -> Result<(), Error> {
-        writer.number32(level, 1, self.completion_id)?;
+    fn write(&self, writer: &mut Writer, level: u64) -> Result<(), NoMemory> {
+        if self.completion_id != 0 {
+            writer.number32(level, 1, self.completion_id)?;
+        }
         match &self.result {
             Some(GetInvocationOutputCompletionNotificationResult::Void(value)) => {
                 writer.record(level, 4, value)?;
@@ -2452,8 +2629,10 @@ impl<'a> Fields<'a> for CompletePromiseCompletionNotificationMessage<'a> {
         Ok(found)
     }
 
-    fn write(&self, writer: &mut Writer, level: u64) -> Result<(), Error> {
-        writer.number32(level, 1, self.completion_id)?;
+    fn write(&self, writer: &mut Writer, level: u64) -> Result<(), NoMemory> {
+        if self.completion_id != 0 {
+            writer.number32(level, 1, self.completion_id)?;
+        }
         match &self.result {
             Some(CompletePromiseCompletionNotificationResult::Void(value)) => {
                 writer.record(level, 4, value)?;
@@ -2515,8 +2694,10 @@ impl<'a> Fields<'a> for CallCompletionNotificationMessage<'a> {
         Ok(found)
     }
 
-    fn write(&self, writer: &mut Writer, level: u64) -> Result<(), Error> {
-        writer.number32(level, 1, self.completion_id)?;
+    fn write(&self, writer: &mut Writer, level: u64) -> Result<(), NoMemory> {
+        if self.completion_id != 0 {
+            writer.number32(level, 1, self.completion_id)?;
+        }
         match &self.result {
             Some(CallCompletionNotificationResult::Value(value)) => {
                 writer.record(level, 5, value)?;
@@ -2578,8 +2759,10 @@ impl<'a> Fields<'a> for RunCompletionNotificationMessage<'a> {
         Ok(found)
     }
 
-    fn write(&self, writer: &mut Writer, level: u64) -> Result<(), Error> {
-        writer.number32(level, 1, self.completion_id)?;
+    fn write(&self, writer: &mut Writer, level: u64) -> Result<(), NoMemory> {
+        if self.completion_id != 0 {
+            writer.number32(level, 1, self.completion_id)?;
+        }
         match &self.result {
             Some(RunCompletionNotificationResult::Value(value)) => {
                 writer.record(level, 5, value)?;
@@ -2641,8 +2824,10 @@ impl<'a> Fields<'a> for AttachInvocationCompletionNotificationMessage<'a> {
         Ok(found)
     }
 
-    fn write(&self, writer: &mut Writer, level: u64) -> Result<(), Error> {
-        writer.number32(level, 1, self.completion_id)?;
+    fn write(&self, writer: &mut Writer, level: u64) -> Result<(), NoMemory> {
+        if self.completion_id != 0 {
+            writer.number32(level, 1, self.completion_id)?;
+        }
         match &self.result {
             Some(AttachInvocationCompletionNotificationResult::Value(value)) => {
                 writer.record(level, 5, value)?;
@@ -2688,8 +2873,10 @@ impl<'a> Fields<'a> for SleepCompletionNotificationMessage {
         Ok(found)
     }
 
-    fn write(&self, writer: &mut Writer, level: u64) -> Result<(), Error> {
-        writer.number32(level, 1, self.completion_id)?;
+    fn write(&self, writer: &mut Writer, level: u64) -> Result<(), NoMemory> {
+        if self.completion_id != 0 {
+            writer.number32(level, 1, self.completion_id)?;
+        }
         if let Some(value) = &self.void {
             writer.record(level, 4, value)?;
         }
@@ -2729,8 +2916,10 @@ impl<'a> Fields<'a> for GetLazyStateKeysCompletionNotificationMessage<'a> {
         Ok(found)
     }
 
-    fn write(&self, writer: &mut Writer, level: u64) -> Result<(), Error> {
-        writer.number32(level, 1, self.completion_id)?;
+    fn write(&self, writer: &mut Writer, level: u64) -> Result<(), NoMemory> {
+        if self.completion_id != 0 {
+            writer.number32(level, 1, self.completion_id)?;
+        }
         if let Some(value) = &self.state_keys {
             writer.record(level, 17, value)?;
         }
@@ -2763,16 +2952,20 @@ impl<'a> Fields<'a> for CallInvocationIdCompletionNotificationMessage<'a> {
         while let Some(field) = table.next(level) {
             match field.number() {
                 1 => found.completion_id = field.number32()?,
-                16 => found.invocation_id = table.text(&field)?,
+                16 => found.invocation_id = field.text()?,
                 number => return Err(Self::unknown(number)),
             }
         }
         Ok(found)
     }
 
-    fn write(&self, writer: &mut Writer, level: u64) -> Result<(), Error> {
-        writer.number32(level, 1, self.completion_id)?;
-        writer.text(level, 16, &self.invocation_id)?;
+    fn write(&self, writer: &mut Writer, level: u64) -> Result<(), NoMemory> {
+        if self.completion_id != 0 {
+            writer.number32(level, 1, self.completion_id)?;
+        }
+        if !self.invocation_id.is_empty() {
+            writer.text(level, 16, &self.invocation_id)?;
+        }
         Ok(())
     }
 }
@@ -2826,7 +3019,7 @@ impl<'a> Fields<'a> for SignalNotificationMessage<'a> {
                     found.signal_id = Some(SignalNotificationSignalId::Idx(value));
                 }
                 3 => {
-                    let value = table.text(&field)?;
+                    let value = field.text()?;
                     found.signal_id = Some(SignalNotificationSignalId::Name(value));
                 }
                 4 => {
@@ -2847,7 +3040,7 @@ impl<'a> Fields<'a> for SignalNotificationMessage<'a> {
         Ok(found)
     }
 
-    fn write(&self, writer: &mut Writer, level: u64) -> Result<(), Error> {
+    fn write(&self, writer: &mut Writer, level: u64) -> Result<(), NoMemory> {
         match &self.signal_id {
             Some(SignalNotificationSignalId::Idx(value)) => {
                 writer.number32(level, 2, *value)?;
@@ -2932,7 +3125,7 @@ impl<'a> Fields<'a> for NotificationTemplate<'a> {
                     found.id = Some(NotificationTemplateId::SignalId(value));
                 }
                 3 => {
-                    let value = table.text(&field)?;
+                    let value = field.text()?;
                     found.id = Some(NotificationTemplateId::SignalName(value));
                 }
                 4 => {
@@ -2948,7 +3141,7 @@ impl<'a> Fields<'a> for NotificationTemplate<'a> {
                     found.result = Some(NotificationTemplateResult::Failure(value));
                 }
                 16 => {
-                    let value = table.text(&field)?;
+                    let value = field.text()?;
                     found.result = Some(NotificationTemplateResult::InvocationId(value));
                 }
                 17 => {
@@ -2961,7 +3154,7 @@ impl<'a> Fields<'a> for NotificationTemplate<'a> {
         Ok(found)
     }
 
-    fn write(&self, writer: &mut Writer, level: u64) -> Result<(), Error> {
+    fn write(&self, writer: &mut Writer, level: u64) -> Result<(), NoMemory> {
         match &self.id {
             Some(NotificationTemplateId::CompletionId(value)) => {
                 writer.number32(level, 1, *value)?;

@@ -51,8 +51,40 @@ fn a_message_that_is_made_is_copied_with_the_header_of_its_type() {
     let message = Message::new(8, code, &[8, 0x81, 0]).unwrap();
     let bytes = Item::from(message).to_bytes().unwrap();
     assert_eq!(bytes, b"\x00\x05\x80\x00\x00\x00\x00\x03\x08\x81\x00");
-    let (item, size) = (Item::Message(message), 11);
+    let (item, size) = (Item::Message(message), bytes.len());
     assert_eq!(next_item(8, &bytes), Ok(Next::Item { item, size }));
+}
+
+/// Suspensions that came at a version, and their frames at another, or the error that it has none.
+#[test]
+fn suspensions_of_each_version() {
+    let v6 = &b"\x08\x01\n\x02\x02\x03\x08\x04"[..];
+    let v7 = &b"\x22\x12\n\x01\x01\x22\x08\n\x01\x02\x22\x03\n\x01\x01\x22\x03\n\x01\x03"[..];
+    let flat = Ok(b"\x00\x01\x00\x00\x00\x00\x00\x06\n\x04\x01\x02\x03\x04".to_vec());
+    let flattened = Ok(b"\x00\x01\x00\x00\x00\x00\x00\x06\n\x04\x01\x02\x01\x03".to_vec());
+    let whole = Ok([&b"\x00\x01\x00\x00\x00\x00\x00\x14"[..], v7].concat());
+    let unknown = |version| Err(Error::Unknown(Argument::Version(version)));
+    for (came, payload, version, wanted) in [
+        (6, v6, 6, flat.clone()),
+        (6, v6, 5, flat.clone()),
+        (5, v6, 6, flat),
+        (6, v6, 7, unknown(7)),
+        (5, v6, 9, unknown(9)),
+        (6, v6, 10, unknown(10)),
+        (6, b"\n\x04", 6, Err(Error::Malformed(Argument::Payload(2)))),
+        (7, v7, 7, whole.clone()),
+        (9, v7, 8, whole),
+        (9, v7, 6, flattened.clone()),
+        (7, v7, 5, flattened),
+    ] {
+        let message = Message::new(came, MessageType::Suspension.code(), payload).unwrap();
+        assert_eq!(message.frame_at(version), wanted);
+        if came == version {
+            let (mut out, length) = (vec![7], wanted.clone().map(|frame| frame.len()));
+            assert_eq!(message.append_frame(&mut out), length);
+            assert_eq!(out[1..], wanted.unwrap_or_default());
+        }
+    }
 }
 
 #[test]
@@ -61,15 +93,14 @@ fn items_print_as_a_listing() {
     let mut decoder = Decoder::new(8).unwrap();
     decoder.feed(stream).unwrap();
     decoder.feed(&[0, 5, 0x80, 0, 0, 0, 0, 0]).unwrap();
-    let lines: Vec<String> = decoder
-        .items()
-        .map(|item| item.unwrap().to_string())
-        .collect();
+    let items: Vec<Item> = decoder.items().map(Result::unwrap).collect();
+    let lines: Vec<String> = items.iter().map(Item::to_string).collect();
+    let length = |at: usize| items[at].to_bytes().unwrap().len() - 8;
     assert_eq!(
         lines,
         [
-            "InputCommand 9",
-            "SetStateCommand 11",
+            &format!("InputCommand {}", length(0)),
+            &format!("SetStateCommand {}", length(1)),
             "CustomEntry(64513) 1",
             "unknown 0x8",
             "End 0",
@@ -85,7 +116,7 @@ fn frames_are_appended() {
     for room in [0, 1, 17, 100] {
         let mut out = Vec::with_capacity(1 + room);
         out.push(7);
-        assert_eq!(message.append_frame(&mut out), Ok(17));
+        assert_eq!(message.append_frame(&mut out), Ok(8 + payload.len()));
         assert_eq!(out[1..], message.frame().unwrap());
         assert_eq!(out[0], 7);
         let before = out.clone();
@@ -106,7 +137,7 @@ fn frames_are_appended() {
     assert_eq!(error.kind(), io::ErrorKind::InvalidData);
     let inner = error.into_inner().unwrap();
     assert!(matches!(inner.downcast_ref(), Some(Error::Malformed(_))));
-    assert_eq!(written.len(), 17);
+    assert_eq!(written.len(), 8 + payload.len());
 }
 
 #[test]

@@ -35,7 +35,7 @@ fn items() {
     match item(8, &bytes) {
         Item::Message(message) => {
             assert_eq!((message.version, message.code), (8, 5));
-            assert_eq!(message.word, 0x0005_8000_0000_0002);
+            assert_eq!(message.word.to_be_bytes(), bytes[..8]);
             assert_eq!(message.payload, &bytes[8..]);
             assert!(message.requires_ack);
             assert_eq!(
@@ -151,8 +151,11 @@ fn results_of_notifications() {
             NotificationResult::StateKeys(vec![0x0A, 1, b'a']),
         ),
     ] {
-        for name in ["", "stop"] {
-            let payload = [&[0x1A, name.len() as u8], name.as_bytes(), result].concat();
+        for (name, id) in [
+            ("", &[0x1A, 0][..]),
+            ("stop", &[0x1A, 4, b's', b't', b'o', b'p']),
+        ] {
+            let payload = [id, result].concat();
             let bytes = frame(MessageType::SignalNotification, &payload);
             let found = match item(8, &bytes) {
                 Item::Message(message) if message.is_notification() => message.notification(),
@@ -168,7 +171,11 @@ fn results_of_notifications() {
 #[test]
 fn verdicts() {
     let input = frame(MessageType::InputCommand, &[]);
-    let clear = |key| frame(MessageType::ClearStateCommand, &[0x0A, 1, key]);
+    let clear = |key| {
+        let mut payload = [0x0A, 1, b'k'];
+        payload[payload.len() - 1] = key;
+        frame(MessageType::ClearStateCommand, &payload)
+    };
     let clear_all = frame(MessageType::ClearAllStateCommand, &[]);
     let malformed = frame(MessageType::ClearStateCommand, &[0x0A]);
     let journal = |second: &[u8]| [&input, second].concat();
@@ -234,7 +241,8 @@ fn verdicts() {
 #[test]
 fn ignored_payloads() {
     let set = |value| {
-        let payload = [0x0A, 1, b'k', 0x1A, 3, 0x0A, 1, value];
+        let mut payload = [0x0A, 1, b'k', 0x1A, 3, 0x0A, 1, b'1'];
+        payload[payload.len() - 1] = value;
         frame(MessageType::SetStateCommand, &payload)
     };
     for (ignore_payloads, kind, index) in [

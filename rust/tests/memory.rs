@@ -4,7 +4,7 @@ use std::fs;
 
 use pendratsoa::{Decoder, Item};
 
-const INPUT: [u8; 17] = *b"\x04\0\0\0\0\0\0\x09\x72\x07\x0A\x05input";
+const INPUT: &[u8] = b"\x04\0\0\0\0\0\0\x09\x72\x07\x0A\x05input";
 
 /// The resident memory of the process in bytes, where Linux says so.
 fn resident() -> Option<usize> {
@@ -17,7 +17,7 @@ fn memory_does_not_grow() {
     let mut decoder = Decoder::new(8).unwrap();
     let mut decode = |rounds| {
         for _ in 0..rounds {
-            decoder.feed(&INPUT).unwrap();
+            decoder.feed(INPUT).unwrap();
             for item in decoder.items() {
                 match item.unwrap() {
                     Item::Message(message) => assert!(message.json().unwrap().len() > 20),

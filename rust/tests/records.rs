@@ -78,16 +78,27 @@ fn another_encoding_is_copied() {
     assert_eq!(*command.value.unwrap().content, *b"xy");
     let suspension = SuspensionMessageV6::decode(&[8, 1, 10, 2, 2, 3, 8, 4]).unwrap();
     assert_eq!(suspension.waiting_completions, [1, 2, 3, 4]);
+    let failure = Failure::decode(b"\x12\x82\x00\xc3\xa4").unwrap();
+    assert!(matches!(&failure.message, Cow::Owned(message) if message == "\u{e4}"));
 }
 
 #[test]
 fn more_fields_than_the_first_room() {
-    let keys = StateKeys {
-        keys: vec![b"key"[..].into(); 1000],
-    };
-    let mut out = vec![7];
-    assert_eq!(keys.append_to(&mut out), Ok(5000));
-    assert_eq!(StateKeys::decode(&out[1..]).unwrap(), keys);
+    for count in [0, 63, 64, 65, 1000] {
+        let keys = StateKeys {
+            keys: vec![b"key"[..].into(); count],
+        };
+        let mut out = vec![7];
+        let length = keys.append_to(&mut out).unwrap();
+        assert_eq!(out.len(), 1 + length);
+        assert_eq!(StateKeys::decode(&out[1..]).unwrap(), keys);
+        // the same, with lengths of two bytes
+        let number_and_length =
+            &out[1..][..length.checked_div(count).unwrap_or(0).saturating_sub(3)];
+        let (_, number) = number_and_length.split_last().unwrap_or((&0, &[]));
+        let longer = [number, b"\x83\x00key"].concat().repeat(count);
+        assert_eq!(StateKeys::decode(&longer).unwrap(), keys);
+    }
 }
 
 #[test]

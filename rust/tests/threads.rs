@@ -4,13 +4,14 @@ use std::fmt::Debug;
 use std::hash::Hash;
 use std::thread;
 
+use pendratsoa::messages::{Future, Record};
 use pendratsoa::{
     canonical, to_json, Argument, Decoder, Error, Item, Items, Message, MessageType, Next,
     Notification, NotificationId, NotificationResult, Schema, Skipped, UnknownCode, Verdict,
     VerdictKind,
 };
 
-const INPUT: [u8; 17] = *b"\x04\0\0\0\0\0\0\x09\x72\x07\x0A\x05input";
+const INPUT: &[u8] = b"\x04\0\0\0\0\0\0\x09\x72\x07\x0A\x05input";
 
 fn shared<T: Send + Sync + Debug>() {}
 
@@ -41,7 +42,8 @@ fn calls_at_once() {
     thread::scope(|scope| {
         for number in 0..4_u8 {
             scope.spawn(move || {
-                let payload = [0x0A, 1, b'a' + number];
+                let mut payload = [0x0A, 1, b'x'];
+                payload[payload.len() - 1] = b'a' + number;
                 for _ in 0..2000 {
                     let schema = Schema::Value.number();
                     assert_eq!(canonical(schema, &payload).unwrap(), payload);
@@ -80,18 +82,14 @@ fn a_decoder_and_its_items_in_other_threads() {
 #[test]
 fn deepest_payloads_in_a_small_stack() {
     // futures that are nested to the hundredth level
-    let mut future = Vec::new();
+    let mut future = Future::default();
     for _ in 0..98 {
-        let mut length = future.len();
-        let mut outer = vec![0x22];
-        while length >= 0x80 {
-            outer.push(length as u8 | 0x80);
-            length >>= 7;
-        }
-        outer.push(length as u8);
-        outer.append(&mut future);
-        future = outer;
+        future = Future {
+            nested_futures: vec![future],
+            ..Default::default()
+        };
     }
+    let future = future.encode().unwrap();
     let call = move || to_json(Schema::Future.number(), &future).unwrap().len();
     let thread = thread::Builder::new().stack_size(256 << 10).spawn(call);
     assert!(thread.unwrap().join().unwrap() > 98);

@@ -2,8 +2,8 @@
 # The package for Python: built and installed with its library, its tests, its types, the test vectors by its calls.
 #
 # It takes the proved static library, as scripts/checks/c.sh does. The package is built in a copy of the folder python/,
-# and nothing is downloaded. For a wheel a Python needs pip, setuptools and wheel, and for the types there has to be
-# mypy.
+# and nothing is downloaded. For a wheel a Python needs pip, setuptools and wheel, for the compiled module the headers of
+# CPython, and for the types there has to be mypy. Tests and vectors are run with that module and without.
 set -u
 cd "$(dirname "$0")/../.." || exit 1
 . scripts/checks/lib.sh
@@ -22,6 +22,7 @@ mkdir "$work/python"
   tar -x -C "$work/python"
 case_of 'scripts/python.sh' sh scripts/python.sh "$work/python"
 [ "$failed" -eq 0 ] || finish
+compiled=
 wheel=$work/python/dist/pendratsoa-$version-py3-none-linux_x86_64.whl
 site=$work/python
 if grep -q '^python.sh: there is no wheel' "$work/log"; then
@@ -31,34 +32,54 @@ else
   # as scripts/python.sh looks for it
   python=python3
   "$python" -c 'import setuptools, wheel, pip' 2> /dev/null || python=/usr/bin/python3
+  if "$python" -c 'import os, sysconfig; open(os.path.join(sysconfig.get_path("include"), "Python.h"))' 2> /dev/null; then
+    compiled=_compiled.abi3.so
+  else
+    left_out 'the compiled module' 'there are no headers of CPython; the Debian package python3-dev has them'
+  fi
   set -- "$python" -m pip install --quiet --disable-pip-version-check --no-cache-dir --no-index --no-deps
   case_of 'pip install of the wheel' "$@" --target "$site" "$wheel"
   case_of 'pip install of the folder' "$@" --no-build-isolation --target "$work/other" "$work/python"
-  (cd python/pendratsoa && ls ./*.py py.typed && echo libpendratsoa.so) | sed 's|^./||' | sort > "$work/wanted"
-  for place in "$site" "$work/other"; do
+  rm -rf "$work/python/build"
+  case_of 'pip install of the folder without a compiler' \
+    env CC=no-compiler "$@" --no-build-isolation --target "$work/plain" "$work/python"
+  (cd python/pendratsoa && ls ./*.py ./*.pyi py.typed && echo libpendratsoa.so) | sed 's|^./||' | sort > "$work/without"
+  { cat "$work/without"; [ -z "$compiled" ] || echo $compiled; } | sort > "$work/wanted"
+  for place in "$site" "$work/other" "$work/plain"; do
+    [ "$place" != "$work/plain" ] || cp "$work/without" "$work/wanted"
     (cd "$place/pendratsoa" && find . -type f ! -name '*.pyc') | sed 's|^./||' | sort > "$out"
     same "the files of ${place##*/}" "$work/wanted" "$out"
   done
+  if [ -n "$compiled" ]; then
+    nm -D --defined-only "$site/pendratsoa/$compiled" | awk '{ print $3 }' > "$out"
+    echo PyInit__compiled > "$work/wanted"
+    same 'the names that the compiled module shows' "$work/wanted" "$out"
+  fi
 fi
 
 # Imported in an empty environment.
 interpreter=$(python3 -c 'import sys; print(sys.executable)')
 (cd / && env -i PYTHONPATH="$site" PYTHONDONTWRITEBYTECODE=1 "$interpreter" -c \
-  'import pendratsoa; print(pendratsoa.__file__, pendratsoa.library_version())') > "$out" 2> "$err"
-echo "$site/pendratsoa/__init__.py $version" > "$work/wanted"
+  'import pendratsoa; print(pendratsoa.__file__, pendratsoa.library_version(), pendratsoa.COMPILED)') > "$out" 2> "$err"
+echo "$site/pendratsoa/__init__.py $version $([ -n "$compiled" ] && echo True || echo False)" > "$work/wanted"
 same 'the package in an empty environment' "$work/wanted" "$out"
 
 PYTHONPATH=$site
 export PYTHONPATH
-case_of 'the tests' python3 -m unittest discover -s python/tests
-for other in python3.9 python3.10 python3.11 python3.12 python3.13 python3.14; do
-  if "$other" -c '' 2> /dev/null && [ "$("$other" --version)" != "$(python3 --version)" ]; then
-    case_of "the tests by $other" "$other" -m unittest discover -s python/tests
-  fi
+for way in '' 1; do
+  without=${way:+, without the compiled module}
+  case_of "the tests$without" env PENDRATSOA_PURE=$way python3 -m unittest discover -s python/tests
+  for other in python3.9 python3.10 python3.11 python3.12 python3.13 python3.14; do
+    if "$other" -c '' 2> /dev/null && [ "$("$other" --version)" != "$(python3 --version)" ]; then
+      case_of "the tests by $other$without" env PENDRATSOA_PURE=$way "$other" -m unittest discover -s python/tests
+    fi
+  done
 done
 case_of 'the tests of the example' python3 -m unittest discover -s examples/python
 cat conformance/*.txt conformance/json/*.txt > "$work/lines"
 counted 'the test vectors' python3 scripts/checks/conformance_calls.py < "$work/lines"
+counted 'the test vectors, without the compiled module' \
+  env PENDRATSOA_PURE=1 python3 scripts/checks/conformance_calls.py < "$work/lines"
 # python_of PAGE: its blocks of Python
 python_of() {
   awk '/^```python$/ { inside = 1; next } /^```$/ { inside = 0 } inside' "$1"

@@ -32,7 +32,8 @@ PROGRAMS_GLIBC = (2, 34)
 # What the bare systems have beside the packages of every system.
 PACKAGES = {
     "x86_64": ("python3-venv", "ruby", "ruby-minitest", "nodejs"),
-    "aarch64": ("python3", "python3-pip-whl", "ruby", "nodejs"),
+    # the last one has the standard library of Rust, with which the crate is compiled outside
+    "aarch64": ("python3", "python3-pip-whl", "ruby", "nodejs", "libstd-rust-dev"),
 }
 
 # Of how many test vectors one is taken: under qemu a few, since scripts/checks/arm64.sh takes all of them there.
@@ -64,10 +65,12 @@ class Root:
     folder: pathlib.Path
     emulator: tuple[str, ...] = ()
 
-    def run(self, *words: str | pathlib.Path, given: checks.Given = b"", **env: str) -> checks.Run:
-        """Runs a program of it, in its folder /trial, without a network."""
+    def run(
+        self, *words: str | pathlib.Path, given: checks.Given = b"", folder: str = "/trial", **env: str
+    ) -> checks.Run:
+        """Runs a program of it, in this folder of it, without a network."""
         unshare = ["unshare", "--mount", "--pid", "--fork", "--kill-child", "--net", "--mount-proc"]
-        inside = [f"--root={self.folder}", "--wd=/trial", *self.emulator]
+        inside = [f"--root={self.folder}", f"--wd={folder}", *self.emulator]
         plain = {"PATH": "/usr/local/bin:/usr/sbin:/usr/bin:/sbin:/bin", "HOME": "/root", "LC_ALL": "C.UTF-8", **env}
         return checks.run([*unshare, *inside, *words], given, env={**plain, "PYTHONDONTWRITEBYTECODE": "1"})
 
@@ -212,8 +215,15 @@ class Trial:
         self.vectors("the test vectors in C", "/trial/vectors", "schemas", **env)
 
     def of_python(self, *python: str | pathlib.Path, **env: str) -> None:
+        self.says_compiled("Python", *python, "-c", "import pendratsoa; print(pendratsoa.COMPILED)", **env)
         self.lists("the listing in Python", *python, "examples/python/listing.py", **env)
         self.vectors("the test vectors in Python", *python, "scripts/checks/conformance_calls.py", **env)
+
+    def says_compiled(self, language: str, *words: str | pathlib.Path, **env: str) -> None:
+        """A package uses its compiled module."""
+        ended = self.root.run(*words, **env)
+        is_right = ended.out.strip().lower() == b"true"
+        self.check.case(f"the compiled module of {language}, {self.machine.name}", is_right, ended)
 
     def node(self) -> None:
         """The package for Node, in a user's folder: by npm where that is there and this is its processor."""
@@ -291,6 +301,7 @@ def here(trial: Trial) -> None:
     def by_gem() -> None:
         gem = trial.file(f"pendratsoa-{VERSION}-x86_64-linux.gem")
         trial.case("gem install", "gem", "install", "--local", "--no-document", gem)
+        trial.says_compiled("Ruby", "ruby", "-rpendratsoa", "-e", "puts Pendratsoa::COMPILED")
         trial.lists("the listing in Ruby", "ruby", "/trial/ruby/listing.rb")
         trial.vectors("the test vectors in Ruby", "ruby", "/trial/ruby/test/test_conformance.rb")
         trial.case("gem uninstall", "gem", "uninstall", "--executables", "pendratsoa")
@@ -304,33 +315,55 @@ def here(trial: Trial) -> None:
 
 
 def rust(trial: Trial) -> None:
-    """The crate for Rust, added to a user's outside with nothing set, whose program is run in the root."""
+    """The crate for Rust, added to a user's outside with nothing set, whose program is run in the root, and its test
+    vectors."""
     check, folder = trial.check, trial.work / "rust"
     if not (check.has("cargo", "the crate for Rust") and check.has("rustc", "the crate for Rust")):
         return
+    env = {**bare_environment(), "CARGO_HOME": str(trial.work / "cargo"), "CARGO_NET_OFFLINE": "true"}
+    if "RUSTUP_HOME" in os.environ or pathlib.Path("~/.rustup").expanduser().exists():
+        env["RUSTUP_HOME"] = os.environ.get("RUSTUP_HOME", str(pathlib.Path("~/.rustup").expanduser()))
+    target = []
+    if trial.machine.tools:
+        target = ["--target", trial.machine.target]
+        env.update(debians_rust(trial))
+        probe = ["rustc", *target, *env["RUSTFLAGS"].split(), "--crate-type=lib", "--out-dir", trial.work, "-"]
+        if checks.run(probe, env=env).status != 0:
+            check.left_out(f"the crate for Rust, {trial.machine.name}", "there is no rustc of Debian's, or an older one")
+            return
     unpack(trial, f"pendratsoa-rust-{VERSION}.tar.gz", folder)
     # its tests are in the repository alone
     shutil.copy("rust/Cargo.toml", folder)
     shutil.copytree("rust/tests", folder / "tests")
-    (trial.work / "conformance").symlink_to(checks.ROOT / "conformance")
-    env = {**bare_environment(), "CARGO_HOME": str(trial.work / "cargo"), "CARGO_NET_OFFLINE": "true"}
-    if "RUSTUP_HOME" in os.environ or pathlib.Path("~/.rustup").expanduser().exists():
-        env["RUSTUP_HOME"] = os.environ.get("RUSTUP_HOME", str(pathlib.Path("~/.rustup").expanduser()))
-    words = ["cargo", "test", "--quiet", "--test", "conformance"]
-    check.counted("the test vectors in Rust", words, cwd=folder, env=env)
+    (trial.work / "conformance").symlink_to(trial.inside / "conformance")
+    words = ["cargo", "test", "--quiet", *target, "--test", "conformance"]
+    check.counted(f"the test vectors in Rust, {trial.machine.name}", words, cwd=folder, env=env)
     user = trial.work / "user_of_rust"
     user.mkdir()
     for words in (["init", "--quiet", "--vcs", "none", "--name", "listing"], ["add", "--quiet", "--path", folder]):
         check.command(f"cargo {words[0]}", ["cargo", *words], cwd=user, env=env)
     shutil.copy("rust/examples/listing.rs", user / "src/main.rs")
-    check.command("cargo build", ["cargo", "build", "--quiet"], cwd=user, env=env)
-    if check.command("the program in Rust", ["cp", user / "target/debug/listing", trial.inside / "listing_rust"]):
+    check.command("cargo build", ["cargo", "build", "--quiet", *target], cwd=user, env=env)
+    built = user.joinpath("target", *target[1:], "debug/listing")
+    if check.command("the program in Rust", ["cp", built, trial.inside / "listing_rust"]):
         trial.lists("the listing in Rust", "/trial/listing_rust")
 
 
+def debians_rust(trial: Trial) -> dict[str, str]:
+    """What has Debian's cargo and rustc compile for another processor, with the standard library of the root, and run
+    tests under qemu, over the root too."""
+    name = f"CARGO_TARGET_{trial.machine.target.replace('-', '_').upper()}"
+    return {
+        "PATH": f"/usr/bin:{os.environ.get('PATH', '')}",
+        "RUSTFLAGS": f"--sysroot {trial.root.folder}/usr",
+        f"{name}_LINKER": f"{trial.machine.tools}gcc",
+        f"{name}_RUNNER": f"qemu-{trial.machine.name}-static -L {trial.root.folder}",
+    }
+
+
 def go(trial: Trial) -> None:
-    """The package for Go, required by a user's module outside with nothing set, whose program is run in the root, with
-    the test vectors."""
+    """The package for Go, required by a user's module outside with nothing set but the processor, whose program is run
+    in the root, with the test vectors."""
     check, folder = trial.check, trial.work / "go"
     if not check.has("go", "the package for Go"):
         return
@@ -339,6 +372,8 @@ def go(trial: Trial) -> None:
         shutil.copy(file, folder)
     env = {**bare_environment(), "GOPROXY": "off", "GOFLAGS": "-mod=mod", "GOPATH": str(trial.work / "path"),
            "GOCACHE": str(trial.work / "cache"), "GOSUMDB": "off"}
+    if trial.machine.tools:
+        env.update(GOARCH=trial.machine.go, CGO_ENABLED="1", CC=f"{trial.machine.tools}gcc")
     inside = trial.inside / "go"
     inside.mkdir()
     user = trial.work / "user_of_go"
@@ -353,7 +388,8 @@ def go(trial: Trial) -> None:
         check.command(f"go {' '.join(map(str, words[:2]))}", ["go", *words], cwd=user, env=env)
     check.command("go test -c", ["go", "test", "-c", "-o", inside / "tests", "."], cwd=folder, env=env)
     trial.lists("the listing in Go", "/trial/go/listing")
-    trial.vectors("the test vectors in Go", "sh", "-c", "cd go && ./tests -test.v -test.run Conformance")
+    tests = ["/trial/go/tests", "-test.v", "-test.run", "Conformance"]
+    trial.vectors("the test vectors in Go", *tests, folder="/trial/go")
 
 
 def unpack(trial: Trial, name: str, folder: pathlib.Path) -> None:
@@ -395,6 +431,8 @@ def under_qemu(trial: Trial) -> None:
         ruby = "/usr/bin/ruby"
         words = ["install", "--local", "--no-document", "--install-dir", "/trial/gems", gem]
         trial.case("gem install", ruby, "/usr/bin/gem", *words)
+        says = ("-rpendratsoa", "-e", "puts Pendratsoa::COMPILED")
+        trial.says_compiled("Ruby", ruby, *says, GEM_PATH="/trial/gems")
         trial.lists("the listing in Ruby", ruby, "/trial/ruby/listing.rb", GEM_PATH="/trial/gems")
 
     shutil.copy("ruby/examples/listing.rb", trial.inside / "ruby")
@@ -402,6 +440,8 @@ def under_qemu(trial: Trial) -> None:
     for name, use in uses:
         trial.removed(name, use)
     trial.node()
+    rust(trial)
+    go(trial)
 
 
 def rejected(check: checks.Check) -> None:
@@ -430,7 +470,7 @@ def made(check: checks.Check, machine: str | None) -> pathlib.Path:
     release = check.work / "release"
     words = ["sh", "scripts/release.sh", "--draft", *(["--machine", machine] if machine else []), release]
     ended = checks.run(words)
-    absent = re.search(rb"(?:nothing is built|no release is made), since ((?:there is no|no python3) .*)", ended.err)
+    absent = re.search(rb"(?:nothing is built|no release is made), since ((?:there (?:is|are) no|no python3) .*)", ended.err)
     if ended.status == 2 and absent:
         raise checks.NotRun(absent[1].decode())
     check.case("release.sh", ended.status == 0, ended)
@@ -463,11 +503,11 @@ def again(check: checks.Check, release: pathlib.Path) -> None:
             # what is proved of the crate; it is compiled again
             shutil.copytree(out / "incremental", other / out / "incremental")
     folder = check.work / "release again"
-    script = 'umask 077; exec sh scripts/release.sh --draft --machine x86_64 --only deb --only wheel "$1"'
+    script = 'umask 077; exec sh scripts/release.sh --draft --machine x86_64 --only deb --only wheel --only gem "$1"'
     env = {**os.environ, "TZ": "Asia/Tokyo", "LC_ALL": "C", "HOME": str(check.work), "SOURCE_DATE_EPOCH": date()}
     if not check.command("release.sh, again", ["sh", "-c", script, "sh", folder], cwd=other, env=env):
         return
-    for file in sorted(folder.glob("*.deb")) + sorted(folder.glob("*.whl")):
+    for file in (file for kind in ("deb", "whl", "gem") for file in sorted(folder.glob(f"*.{kind}"))):
         check.case(f"{file.name}, again", file.read_bytes() == (release / file.name).read_bytes())
     library = pathlib.Path("crates/journal_ffi/out/libjournal_ffi.a")
     check.case("the library, again", (other / library).read_bytes() == library.read_bytes())

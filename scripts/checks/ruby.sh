@@ -2,7 +2,7 @@
 # The gem for Ruby: its tests and the test vectors without a warning, built and installed with its library, its example.
 #
 # It works on a copy, over the installed library and without a network. It takes the proved static library, as
-# scripts/checks/c.sh does.
+# scripts/checks/c.sh does. Tests are run with the compiled module, which needs make and the headers of Ruby, and without.
 set -u
 cd "$(dirname "$0")/../.." || exit 1
 . scripts/checks/lib.sh
@@ -20,6 +20,17 @@ cd "$work/ruby" || exit 1
 RUBYLIB=$work/ruby/lib
 export RUBYLIB
 
+# The module, which no call of the interpreter may miss.
+case_of 'scripts/ruby.sh' env CFLAGS=-Werror sh "$top/scripts/ruby.sh" "$work/ruby"
+compiled=$(ls lib/pendratsoa/*/compiled.so 2> /dev/null)
+if [ -n "$compiled" ]; then
+  nm -D --defined-only "$compiled" | awk '{ print $3 }' > "$out"
+  echo Init_compiled > "$work/wanted"
+  same 'the names that the compiled module shows' "$work/wanted" "$out"
+else
+  left_out 'the compiled module' "$(sed -n 's/.*, since //p' "$work/log")"
+fi
+
 # tests: runs all tests and shows how they ended; a warning of these files fails
 tests() {
   ruby -w -e 'Dir["./test/test_*.rb"].sort.each { |file| require file }' > "$work/tests" 2> "$work/warnings"
@@ -28,17 +39,41 @@ tests() {
   cat "$work/warnings" >&2
   [ "$ended" -eq 0 ] && ! grep -qF "$PWD" "$work/warnings"
 }
-case_of 'the tests' tests
-counted 'the test vectors' grep -xE '[0-9]+ passed, [0-9]+ failed' "$work/tests"
+for way in '' 1; do
+  PENDRATSOA_PURE=$way
+  export PENDRATSOA_PURE
+  case_of "the tests${way:+, without the compiled module}" tests
+  counted "the test vectors${way:+, without the compiled module}" grep -xE '[0-9]+ passed, [0-9]+ failed' "$work/tests"
+done
+unset PENDRATSOA_PURE
 
 # The gem with the library in it needs neither this folder nor the environment. The example is run over it.
+# says_compiled NAME: whether the gem that is installed in GEM_HOME has the module
+says_compiled() {
+  ruby -rpendratsoa -e 'puts Pendratsoa::COMPILED' > "$out" 2> "$err"
+  [ -n "$compiled" ] && echo true > "$work/wanted" || echo false > "$work/wanted"
+  same "the module of $1" "$work/wanted" "$out"
+}
+
 if command -v gem > /dev/null; then
+  unset RUBYLIB
+  # a gem without the library compiles its module where it is installed
+  mkdir "$work/source"
+  cp -R . "$work/source/ruby"
+  rm -rf "$work/source/ruby/lib/pendratsoa/"[0-9]*
+  case_of 'gem build, in source' gem build -C "$work/source/ruby" pendratsoa.gemspec
+  GEM_HOME=$work/source/gems
+  export GEM_HOME
+  if [ -n "$compiled" ]; then
+    case_of 'gem install, in source' gem install --local --no-document "$work/source/ruby/"pendratsoa-*.gem
+    says_compiled 'a gem in source'
+  fi
   cp -L "$PENDRATSOA_LIBRARY" lib/pendratsoa/
   case_of 'gem build' gem build pendratsoa.gemspec
-  case_of 'gem install' gem install --local --no-document --install-dir "$work/gems" pendratsoa-*.gem
-  unset RUBYLIB PENDRATSOA_LIBRARY LD_LIBRARY_PATH
   GEM_HOME=$work/gems
-  export GEM_HOME
+  case_of 'gem install' gem install --local --no-document pendratsoa-*.gem
+  unset PENDRATSOA_LIBRARY LD_LIBRARY_PATH
+  says_compiled 'the gem'
 else
   without 'the gem' gem
 fi

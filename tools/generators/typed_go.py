@@ -169,8 +169,16 @@ def writes(record):
             inner = target if row.record else f"*{target}"
             text += f"\tif {target} != nil {{\n{written(row, inner, 2)}\t}}\n"
         else:
-            text += written(row, target, 1)
+            # the library leaves a default out; so it needs no entry
+            text += f"\tif {is_set(row, target)} {{\n{written(row, target, 2)}\t}}\n"
     return text + "}\n"
+
+
+def is_set(field, place):
+    """Whether a plain field is not its default."""
+    if field.kind == "bool":
+        return place
+    return f"len({place}) > 0" if field.kind in ("text", "bytes") else f"{place} != 0"
 
 
 def written(field, value, depth):

@@ -13,7 +13,7 @@ HEAD = """\
 //! the canonical one; those of messages have a [`MessageRecord::frame`].
 //!
 //! ```
-//! use pendratsoa::messages::{MessageRecord, SetStateCommandMessage, Value};
+//! use pendratsoa::messages::{MessageRecord, Record, SetStateCommandMessage, Value};
 //!
 //! let command = SetStateCommandMessage {
 //!     key: b"counter"[..].into(),
@@ -21,14 +21,15 @@ HEAD = """\
 //!     ..Default::default()
 //! };
 //! let frame = command.frame(8u32)?;
-//! assert_eq!(frame.len(), 22);
+//! assert_eq!(frame.len(), 8 + command.encode()?.len());
 //! # Ok::<(), pendratsoa::Error>(())
 //! ```
 
 use std::borrow::Cow;
 
 use crate::error::Error;
-use crate::fields::{Fields, Listed, Table, Writer};
+use crate::ffi::Table;
+use crate::fields::{Fields, Listed, NoMemory, Writer};
 use crate::message_type::MessageType;
 use crate::schema::Schema;
 
@@ -115,8 +116,8 @@ READS = {
     "u32": "field.number32()?",
     "u64": "field.value()",
     "bool": "field.value() != 0",
-    "text": "table.text(&field)?",
-    "bytes": "table.bytes(&field)?",
+    "text": "field.text()?",
+    "bytes": "field.bytes()?",
     "message": "Fields::read(table, level + 1)?",
 }
 
@@ -171,7 +172,17 @@ def write_part(record, row):
         return f"        for element in &{target} {{\n            {writing(row, 'element', True)}\n        }}\n"
     if row.shape == "optional":
         return f"        if let Some(value) = &{target} {{\n            {writing(row, 'value', True)}\n        }}\n"
-    return f"        {writing(row, target, False)}\n"
+    if row.record:
+        return f"        {writing(row, target, False)}\n"
+    # the library leaves a default out; so it needs no entry
+    return f"        if {is_set(row, target)} {{\n            {writing(row, target, False)}\n        }}\n"
+
+
+def is_set(field, place):
+    """Whether a plain field is not its default."""
+    if field.kind in ("text", "bytes"):
+        return f"!{place}.is_empty()"
+    return place if field.kind == "bool" else f"{place}{'.0' if field.enum else ''} != 0"
 
 
 def implementation(record):
@@ -187,12 +198,12 @@ def implementation(record):
             for field in row.members if isinstance(row, TypedOneOf) else [row]:
                 text += "                " + read_arm(record, row, field) + "\n"
         text += "                number => return Err(Self::unknown(number)),\n            }\n        }\n        Ok(found)\n    }\n"
-        text += "\n    fn write(&self, writer: &mut Writer, level: u64) -> Result<(), Error> {\n"
+        text += "\n    fn write(&self, writer: &mut Writer, level: u64) -> Result<(), NoMemory> {\n"
         text += "".join(write_part(record, row) for row in record.rows) + "        Ok(())\n    }\n}\n"
     else:
         text += "        match table.next(level) {\n            Some(field) => Err(Self::unknown(field.number())),\n"
         text += "            None => Ok(Self {}),\n        }\n    }\n"
-        text += "\n    fn write(&self, _: &mut Writer, _: u64) -> Result<(), Error> {\n        Ok(())\n    }\n}\n"
+        text += "\n    fn write(&self, _: &mut Writer, _: u64) -> Result<(), NoMemory> {\n        Ok(())\n    }\n}\n"
     text += f"\nimpl<'a> Record<'a> for {name}{life(name)} {{\n    const SCHEMA: Schema = Schema::{name};\n}}\n"
     if record.code is not None:
         before = f"    const BEFORE_VERSION: Option<u32> = Some({record.before_version});\n" if record.before_version else ""

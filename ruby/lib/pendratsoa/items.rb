@@ -112,14 +112,20 @@ module Pendratsoa
     end
 
     # Its frame at a version, or at its own: the header, and after it the canonical payload. Whether the header requests
-    # an acknowledgement depends on the type and the version, and not on `requires_ack`.
+    # an acknowledgement depends on the type and the version, and not on `requires_ack`. Unknown if the version cannot
+    # have its payload: a suspension before version 7 has no frame from 7 on, and one since then has a frame at each.
     def frame(version = self.version)
-      Pendratsoa.frame(version, code, payload)
+      earlier = Earlier.schema(self.version, code)
+      earlier ? Earlier.frame("frame", version, code, earlier, payload) : Pendratsoa.frame(version, code, payload)
     end
 
     # Appends its frame, as `frame` returns it, to a binary String, which it returns. After an error it is as it was.
     def append_frame(out, version = self.version)
-      Pendratsoa.append_frame(out, version, code, payload)
+      earlier = Earlier.schema(self.version, code)
+      return Pendratsoa.append_frame(out, version, code, payload) unless earlier
+      raise TypeError, "append_frame: out must be a String, not #{out.class}" unless out.is_a?(String)
+
+      out << Earlier.frame("append_frame", version, code, earlier, payload)
     end
 
     # Writes its frame, as `frame` returns it, to an IO or the like, and returns the message.

@@ -9,11 +9,7 @@ module Pendratsoa
       code = self.class::CODE
       return Pendratsoa.frame(version, code, payload) unless self.class.const_defined?(:BEFORE_VERSION)
 
-      if Pendratsoa.schema(version, code) != self.class::SCHEMA
-        raise Unknown.new("frame: there is no #{self.class} at version #{version}", call: "frame")
-      end
-
-      Pendratsoa.header(version, code, payload.bytesize) << payload
+      Earlier.frame("frame", version, code, self.class::SCHEMA, payload)
     end
   end
 
@@ -86,6 +82,9 @@ module Pendratsoa
         numbers, bytes = Fields.of(self::SCHEMA, bytes)
         Fields::Reader.new(numbers, bytes).record(self, 0)
       end
+      # of the compiled module, which has a `decode` of its own
+      alias decode_in_ruby decode
+      private :decode_in_ruby
 
       # A record of fields that are all there.
       def of_fields(fields)
@@ -130,6 +129,9 @@ module Pendratsoa
     def encode
       Fields::Writer.new(self.class).payload(self)
     end
+    # of the compiled module, which has an `encode` of its own
+    alias encode_in_ruby encode
+    private :encode_in_ruby
 
     # Its fields by their names.
     def to_h

@@ -5,6 +5,8 @@
 //! Each safe function here gives its call the pointer and the length of every slice. So what the header requires of its
 //! callers holds: a slice that is written is exclusively borrowed, and overlaps no other.
 
+use std::mem::MaybeUninit;
+
 use super::{appended, count, written, About, Refusal, Result};
 
 pub(crate) const MESSAGE: u64 = 0;
@@ -144,9 +146,9 @@ pub(crate) fn payload_of_json(schema: u32, json: &[u8], reading: &mut [u64; 2]) 
     unsafe { written(json.len(), |out, room| c::journal_payload_of_json(schema, json.as_ptr(), json.len(), reading.as_mut_ptr(), reading.len(), out, room)) }
 }
 
-pub(crate) fn fields(schema: u32, payload: &[u8], fields: &mut [[u64; 6]]) -> Result<usize> {
+pub(crate) fn fields(schema: u32, payload: &[u8], fields: &mut [MaybeUninit<[u64; 6]>]) -> Result<usize> {
     // SAFETY: each pointer comes with the length of its slice; those that are written are borrowed for it
-    count(unsafe { c::journal_fields(schema, payload.as_ptr(), payload.len(), fields.as_mut_ptr(), fields.len()) })
+    count(unsafe { c::journal_fields(schema, payload.as_ptr(), payload.len(), fields.as_mut_ptr().cast(), fields.len()) })
 }
 
 pub(crate) fn payload_of_fields(schema: u32, fields: &[[u64; 6]], bytes: &[u8], writing: &mut [u64; 2], out: &mut Vec<u8>) -> Result<usize> {

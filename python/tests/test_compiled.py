@@ -1,0 +1,234 @@
+"""The compiled module: what it leaves to Python, its memory and its references. All other tests are run with it too."""
+
+import contextlib
+import ctypes
+import gc
+import os
+import pathlib
+import subprocess
+import sys
+import unittest
+
+import pendratsoa
+from pendratsoa import JournalError, _fast
+from pendratsoa.messages import (
+    RECORDS,
+    CallCommandMessage,
+    ErrorBehavior,
+    ErrorMessage,
+    Failure,
+    Future,
+    Header,
+    InputCommandMessage,
+    NotificationTemplate,
+    NotificationTemplateSignalId,
+    OutputCommandMessage,
+    ProposeRunCompletionMessage,
+    SetStateCommandMessage,
+    SleepCommandMessage,
+    StateKeys,
+    Value,
+    Void,
+)
+
+from support import replaced
+
+# records of each kind and shape of field, and of long values
+SAMPLES = (
+    Void(),
+    SetStateCommandMessage(key=b"counter", value=Value(b"1"), name="text"),
+    CallCommandMessage(service_name="a", headers=(Header("k", "\u00e9\U0001f600"),) * 70, idempotency_key="b" * 3000),
+    ErrorMessage(code=5, message="text", behavior=ErrorBehavior(-7), next_retry_delay=1 << 63),
+    Future(waiting_completions=(1, 2), waiting_named_signals=("a", "b"), nested_futures=(Future(), Future())),
+    NotificationTemplate(id=NotificationTemplateSignalId(3)),
+    ProposeRunCompletionMessage(result=b"bytes"),
+    ProposeRunCompletionMessage(result=Failure(500, "text")),
+    StateKeys(tuple(b"%d" % number for number in range(500))),
+    OutputCommandMessage(result=Value(bytes(70000))),
+)
+
+# what no field can have, or what has to be copied first
+UNUSUAL = (
+    (Value(content=bytearray(b"x")), b"\n\x01x"),
+    (Value(content=memoryview(b"x")), b"\n\x01x"),
+    (StateKeys(keys=[b"a", bytearray(b"b")]), b"\n\x01a\n\x01b"),
+    (StateKeys(keys={b"a": 1, b"b": 2}.keys()), b"\n\x01a\n\x01b"),
+    (StateKeys(keys=5), TypeError),
+    (Value(content=5), TypeError),
+    (SleepCommandMessage(wake_up_time=1 << 64), JournalError),
+    (SleepCommandMessage(wake_up_time=True), b"\x08\x01"),
+    (InputCommandMessage(headers=(Header(key="\ud800"),)), JournalError),
+)
+
+
+class Bytes(bytes):
+    """A class below bytes."""
+
+
+def ends(work):
+    """What a call returns, or the class of its error."""
+    try:
+        return work()
+    except Exception as error:
+        return type(error)
+
+
+@contextlib.contextmanager
+def in_python():
+    """Without the compiled module."""
+    kept = [record._compiled for record in RECORDS]
+    for record in RECORDS:
+        record._compiled = None
+    try:
+        yield
+    finally:
+        for record, compiled in zip(RECORDS, kept):
+            record._compiled = compiled
+
+
+class TestChoice(unittest.TestCase):
+    def test_the_variable(self):
+        package = str(pathlib.Path(pendratsoa.__file__).parents[1])
+        for value, wanted in (("1", False), ("", _fast.codec() is not None)):
+            environment = {**os.environ, "PYTHONPATH": package, "PENDRATSOA_PURE": value}
+            if os.environ.get("PENDRATSOA_PURE") and not value:
+                continue
+            command = [sys.executable, "-c", "import pendratsoa; print(pendratsoa.COMPILED)"]
+            run = subprocess.run(command, env=environment, capture_output=True, text=True)
+            self.assertEqual((run.stdout, run.stderr), (f"{wanted}\n", ""))
+
+
+@unittest.skipUnless(pendratsoa.COMPILED, "the compiled module is not in use")
+class TestCompiled(unittest.TestCase):
+    def test_samples_are_the_same_in_python(self):
+        for record in SAMPLES:
+            payload = record.encode()
+            self.assertEqual(type(record)._compiled.encode(record), payload)
+            made = type(record)._compiled.decode(payload)
+            self.assertEqual((made, type(made), repr(made)), (record, type(record), repr(record)))
+            with in_python():
+                self.assertEqual((record.encode(), type(record).decode(payload)), (payload, record))
+
+    def test_the_unusual_is_left_to_python(self):
+        for record, wanted in UNUSUAL:
+            with self.subTest(record):
+                self.assertIn(type(record)._compiled.encode(record), (None, wanted))
+                found = ends(record.encode)
+                is_right = found == wanted or (isinstance(found, type) and issubclass(found, wanted))
+                self.assertTrue(is_right, found)
+        for payload in (bytearray(b"\n\x01x"), Bytes(b"\n\x01x"), b"\n\x81\x00x"):
+            self.assertIsNone(Value._compiled.decode(payload))
+            self.assertEqual(Value.decode(payload), Value(b"x"))
+        for payload in (b"\n", None, "text"):
+            self.assertIsNone(Value._compiled.decode(payload))
+        lacking = Value()
+        del lacking.__dict__["content"]
+        for other in (lacking, 5, None):
+            self.assertIsNone(Value._compiled.encode(other))
+
+    def test_a_record_that_has_itself(self):
+        futures = []
+        futures.append(Future(nested_futures=futures))
+        self.assertIsNone(Future._compiled.encode(futures[0]))
+        self.assertRaises(RecursionError, futures[0].encode)
+
+    def test_tables_of_a_later_library(self):
+        entry = (0, 1, 6, 0, 0, 1)
+        for schema, count, *table in (
+            (Value, 1, (0, 2, 6, 0, 0, 1)),
+            (Value, 1, (0, 1 << 63, 6, 0, 0, 1)),
+            (Value, 1, (1, 1, 6, 0, 0, 1)),
+            (Value, 65, *[entry] * 65),
+            (StateKeys, 3, entry, (0, 1, 6, 0, 1, 0), (0, 1, 6, 0, 0, 0)),
+            (Value, -99),
+        ):
+
+            def function(number, payload, length, entries, room):
+                numbers = [number for row in table[:room] for number in row]
+                (ctypes.c_uint64 * len(numbers)).from_address(entries or 0)[:] = numbers
+                return count
+
+            with self.subTest(table), replaced("journal_fields", function):
+                found = ends(lambda: schema.decode(b"x"))
+                with in_python():
+                    self.assertEqual(found, ends(lambda: schema.decode(b"x")))
+
+    def test_places_that_are_not_in_the_payload(self):
+        for place in ((0, 2), (2, 0), (1, (1 << 64) - 1), ((1 << 64) - 1, 2)):
+
+            def function(number, payload, length, entries, room):
+                (ctypes.c_uint64 * 6).from_address(entries)[:] = (0, 1, 6, 0, *place)
+                return 1
+
+            with self.subTest(place), replaced("journal_fields", function):
+                self.assertIsNone(Value._compiled.decode(b"x"))
+
+    def test_what_it_is_made_of(self):
+        codec = _fast.codec()
+        for arguments, error in (
+            ((), TypeError),
+            ((1, 2), TypeError),
+            (("1", 2, ()), TypeError),
+            ((1, 2, []), TypeError),
+            ((1, 2, (5,)), TypeError),
+            ((1, 2, ((5, {}, ()),)), TypeError),
+            ((1, 2, ((Value, {}, (5,)),)), TypeError),
+            ((1, 2, ((Value, {}, ((1, 7, 0, "name", 1, None, None),)),)), ValueError),
+            ((1, 2, ((Value, {}, ((1, 4, 0, "name", -1, None, None),)),)), ValueError),
+            ((1, 2, ((Value, {}, ((1, 6, 4, "name", -1, None, None),)),)), ValueError),
+            ((1, 2, ((Value, {}, ((1, 6, 0, 5, -1, None, None),)),)), TypeError),
+        ):
+            with self.subTest(arguments):
+                self.assertRaises(error, type(codec), *arguments)
+        for number in (-1, len(RECORDS), 1 << 80):
+            self.assertRaises((IndexError, OverflowError), codec.of, number)
+        self.assertRaises(TypeError, type(codec.of(0)))
+        used = sys.getrefcount(Value)
+        del codec
+        gc.collect()
+        self.assertEqual(sys.getrefcount(Value), used - 1)
+
+    def test_references(self):
+        record = ErrorMessage(behavior=ErrorBehavior.PAUSE, message="text")
+        payload = SAMPLES[2].encode()
+        held = (None, Value, Header, ErrorBehavior.PAUSE, b"", "", record, payload, record.message)
+        # those that are never freed have a count that says nothing
+        held = [one for one in held if sys.getrefcount(one) < 1 << 28]
+
+        def work():
+            for _ in range(300):
+                CallCommandMessage.decode(payload).encode()
+                ErrorMessage.decode(record.encode())
+                ends(Value(content="text").encode)
+                ends(lambda: Value.decode(b"\n"))
+
+        work()
+        before = [*map(sys.getrefcount, held)]
+        work()
+        after = [*map(sys.getrefcount, held)]
+        for old, new in zip(before, after):
+            self.assertLess(abs(new - old), 100)
+
+    @unittest.skipUnless(os.path.exists("/proc/self/statm"), "there is no /proc")
+    def test_memory(self):
+        def resident():
+            gc.collect()
+            return int(pathlib.Path("/proc/self/statm").read_text().split()[1]) * os.sysconf("SC_PAGE_SIZE")
+
+        def work():
+            for record in (*SAMPLES, *(record for record, _ in UNUSUAL)):
+                for _ in range(300):
+                    payload = ends(record.encode)
+                    if isinstance(payload, bytes):
+                        type(record).decode(payload)
+                        ends(lambda: type(record).decode(payload + b"\xff"))
+
+        work()
+        before = resident()
+        work()
+        work()
+        self.assertLess(resident() - before, 2 << 20)
+
+
+if __name__ == "__main__":
+    unittest.main()

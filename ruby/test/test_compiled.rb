@@ -1,0 +1,129 @@
+# frozen_string_literal: true
+
+require_relative "helper"
+require "open3"
+
+# The compiled module: what it leaves to Ruby, and its memory. All other tests are run with it too.
+class TestCompiled < Minitest::Test
+  include Pendratsoa
+
+  LONG = "\u00e9" * 3000
+  DEEP = (1..99).reduce(Future.new) { |future, _| Future.new(nested_futures: [future]) }
+
+  # Records of each kind and shape of field, and of long values.
+  SAMPLES = [
+    Void.new,
+    SetStateCommandMessage.new(key: "counter", value: Value.new(content: "1"), name: "text"),
+    CallCommandMessage.new(service_name: "a", headers: [Header.new(key: "k", value: "\u00e9")] * 70, idempotency_key: LONG),
+    ErrorMessage.new(code: 5, message: "text", behavior: -7, next_retry_delay: 1 << 63),
+    ErrorMessage.new(behavior: :PAUSE),
+    Future.new(waiting_completions: [1, 2], waiting_named_signals: %w[a b], nested_futures: [Future.new] * 2),
+    DEEP,
+    NotificationTemplate.new(id: NotificationTemplateSignalId.new(3)),
+    ProposeRunCompletionMessage.new(result: "bytes"),
+    ProposeRunCompletionMessage.new(result: Failure.new(code: 500, message: "text")),
+    StateKeys.new(keys: Array.new(500, &:to_s)),
+    OutputCommandMessage.new(result: Value.new(content: "\0" * 70_000))
+  ].freeze
+
+  # What no field can have, or what is of another encoding.
+  UNUSUAL = [
+    Header.new(key: "\u00e9".encode("UTF-16LE")),
+    Header.new(key: "\xff"),
+    StateKeys.new(keys: 5),
+    Value.new(content: 5),
+    SleepCommandMessage.new(wake_up_time: 1 << 64),
+    SleepCommandMessage.new(wake_up_time: -1),
+    ErrorMessage.new(behavior: 1 << 63),
+    ErrorMessage.new(behavior: :NONE),
+    InputCommandMessage.new(headers: [5]),
+    InputCommandMessage.new(value: Failure.new),
+    Future.new(nested_futures: [Future.new, Future.new(nested_futures: [DEEP])])
+  ].freeze
+
+  # What a block returns, or its error.
+  def ends
+    yield
+  rescue StandardError => error
+    [error.class, error.message]
+  end
+
+  def test_each_is_the_same_in_ruby
+    (SAMPLES + UNUSUAL).each do |record|
+      payload = ends { record.encode }
+      assert_equal ends { record.send(:encode_in_ruby) }, payload
+      next unless payload.is_a?(String)
+
+      made = record.class.decode(payload)
+      assert_equal record.class.send(:decode_in_ruby, payload), made
+      assert_equal made.inspect, record.class.send(:decode_in_ruby, payload).inspect
+      assert_equal [Encoding::BINARY, true], [payload.encoding, Ractor.shareable?(made)]
+      assert_equal payload, made.encode
+    end
+  end
+
+  def test_payloads
+    [unhex("0a0178"), +"\n\u0001x", "\n\x81\x00x", unhex("0a"), "text", nil, 5, "\n\u0001x".encode("UTF-16LE")].each do |payload|
+      assert_equal ends { Value.send(:decode_in_ruby, payload) }, ends { Value.decode(payload) }
+    end
+    payload = +"\n\x01x"
+    made = Value.decode(payload)
+    payload << "more"
+    assert_equal "x", made.content
+  end
+
+  def test_classes_below_a_record
+    below = Class.new(Value).of_fields(content: "x")
+    assert_raises(NoMethodError) { below.encode }
+    assert_raises(TypeError) { InputCommandMessage.new(value: below).encode }
+  end
+
+  def test_a_record_that_has_itself
+    futures = []
+    futures << Future.new(nested_futures: futures)
+    assert_raises(SystemStackError) { futures[0].encode }
+  end
+
+  def test_the_variable
+    [["1", "false"], ["", COMPILED.to_s]].each do |value, wanted|
+      next if value.empty? && !ENV.fetch("PENDRATSOA_PURE", "").empty?
+
+      words = RbConfig.ruby, "-w", "-I", File.expand_path("../lib", __dir__), "-rpendratsoa", "-e", "print Pendratsoa::COMPILED"
+      output, = Open3.capture2e({ "PENDRATSOA_PURE" => value }, *words)
+      assert_equal wanted, output
+    end
+  end
+
+  # How many bytes of memory the process holds.
+  def resident
+    GC.start
+    Integer(File.read("/proc/self/statm").split[1]) * 4096
+  end
+
+  def work
+    (SAMPLES + UNUSUAL).map do |record|
+      payload = ends { record.encode }
+      payload.is_a?(String) ? [record.class.decode(payload), ends { record.class.decode("#{payload}\xff") }] : payload
+    end
+  end
+
+  def test_memory
+    skip "not run: there is no /proc" unless File.exist?("/proc/self/statm")
+    50.times { work }
+    before = resident
+    300.times { work }
+    assert_operator resident - before, :<, 8 << 20
+  end
+
+  def test_collected_and_moved_objects
+    expected = work.inspect
+    GC.compact if GC.respond_to?(:compact)
+    assert_equal expected, work.inspect
+    GC.stress = true
+    found = SAMPLES.first(5).map { |record| record.class.decode(record.encode) }
+    GC.stress = false
+    assert_equal SAMPLES.first(5), found
+  ensure
+    GC.stress = false
+  end
+end
