@@ -5,6 +5,8 @@
 #                                             frames a second, and allocations
 #   scripts/bench.sh programs [LENGTH]        journal_dump and journal_list, in MB a second
 #   scripts/bench.sh journals                 journal_diff on two journals of 100 MB
+#   scripts/bench.sh aligned [COMMANDS]       journal_diff --all on two journals of 100,000 commands, beside diff -u of
+#                                             their dumps
 #   scripts/bench.sh languages                the typed messages of each language beside protobuf's own packages
 #   scripts/bench.sh agree [SEED [COUNT]]     whether both agree on random payloads and streams, by the calls for C
 #   scripts/bench.sh vectors [SEED [COUNT]]   whether prost agrees with the test vectors of conformance/, and the
@@ -15,13 +17,14 @@
 set -eu
 
 usage() {
-  sed -n '2,15s/^# \{0,1\}//p' "$0"
+  sed -n '2,17s/^# \{0,1\}//p' "$0"
 }
 
 command=${1---help}
 [ $# -eq 0 ] || shift
 case $command in
   speed | programs | journals | languages | agree | vectors) exec sh "$(dirname "$0")/../bench/$command.sh" "$@" ;;
+  aligned) exec python3 "$(dirname "$0")/../bench/aligned.py" "$@" ;;
   --help) usage ;;
   *)
     usage >&2

@@ -13,6 +13,7 @@ protoc, git and, from generating on, the Rattle toolchain. Nothing here is chang
     --programs NAMES      builds these, of journal,journal_list
     --stream FILE         dumps this stream of theirs, too
     --rename THEIRS=OURS  messages, or fields as Message.field, that are called otherwise there; may be repeated
+    --proto-path FOLDER   where what their file imports is looked for, besides its own folder; may be repeated
 
 A code is what the comment above a message says as 'Type: 0x0400 + 2'. The status is 1 if the description, the programs
 or the dump are not as they should be, and 2 if their file is not read.
@@ -31,7 +32,7 @@ import textwrap
 
 sys.dont_write_bytecode = True
 
-from generators import ROOT, Refused, descriptors, forms, laid_out, proto, quoted, renumbered  # noqa: E402
+from generators import ROOT, Refused, descriptors, forms, laid_out, literals, proto, quoted, renumbered  # noqa: E402
 from generators.model import COMMANDS, NOTIFICATIONS, json_name, snake  # noqa: E402
 
 PROGRAMS = ("journal", "journal_list")
@@ -73,7 +74,9 @@ def shape(field):
 
 
 def is_same_shape(field, other, names):
-    """Whether two fields are of one kind, where a message there may have another name here."""
+    """Whether two fields are of one kind, where a message or an enum there may have another name here."""
+    if field.kind == other.kind == "enum":
+        return field.label == other.label
     type_name = names.get(other.type_name, other.type_name)
     return (field.label, field.kind) == (other.label, other.kind) and plain(field.type_name) == plain(type_name)
 
@@ -138,6 +141,8 @@ class Adoption:
         self.uncoded = []
         self.numbers = {}
         self.codes = {}
+        # the name here of an enum there, by the fields that hold both
+        self.enum_names = {}
         self.pairs = self.paired()
         # the name here of what is called otherwise there
         self.names = {other.name: name for name, other in reversed(self.pairs.items())}
@@ -302,6 +307,8 @@ class Adoption:
             taken |= {field.number for field in other.fields}
         for field in message.fields:
             theirs = matched[field.name]
+            if theirs is not None and field.kind == theirs.kind == "enum":
+                self.enum_names.setdefault(theirs.type_name, field.type_name)
             where = f"{message.name}.{field.name}"
             here = f"{field.number} {shape(field)}"
             if theirs is None:
@@ -489,7 +496,7 @@ class Adoption:
 
     def type_of(self, field):
         """The name here of the message or enum that a field holds."""
-        return self.names.get(field.type_name, field.type_name)
+        return self.names.get(field.type_name, self.enum_names.get(field.type_name, field.type_name))
 
     def field_lines(self, field, indent, options=""):
         """The lines that declare a field."""
@@ -521,7 +528,7 @@ class Adoption:
     def enums(self):
         """The values of enums that fields here have."""
         for name, other in self.their_enums.items():
-            enum = self.our_enums.get(name) or next(
+            enum = self.our_enums.get(self.enum_names.get(name, name)) or next(
                 (one for one in self.our_enums.values() if plain(one.name) == plain(name)), None
             )
             if enum is None:
@@ -747,7 +754,8 @@ class Adoption:
         if self.uncoded:
             self.person(f"no comment there says the code ('Type: 0x0400 + 2') of {', '.join(self.uncoded)}: ours stay")
         if self.decide:
-            said += ["", f"{len(self.decide)} points for a person:", *(f"- {text}" for text in self.decide)]
+            points = "1 point" if len(self.decide) == 1 else f"{len(self.decide)} points"
+            said += ["", f"{points} for a person:", *(f"- {text}" for text in self.decide)]
         return "\n".join(said)
 
 
@@ -822,9 +830,9 @@ def adopt_vectors(out, renumbering):
         text = place.read_text(encoding="utf-8")
         # the random ones are made by prost, which is seldom there
         if not text.startswith("# @generated") or place.name.startswith("random_"):
-            new = renumbering.text(text)
-            changed.update((old, line) for old, line in zip(text.split("\n"), new.split("\n")) if old != line)
-            place.write_text(new, encoding="utf-8")
+            lines = renumbering.lines(text)
+            changed.update((old, line) for old, line in lines if line not in (old, None))
+            place.write_text("\n".join(line for _, line in lines if line is not None), encoding="utf-8")
     found = out / "tests" / "vectors" / "wrong_lines.found"
     found.write_text(renumbering.found(found.read_text(encoding="utf-8")), encoding="utf-8")
     for page in (out / "docs").glob("*.md"):
@@ -834,23 +842,39 @@ def adopt_vectors(out, renumbering):
 
 
 def adopt_examples(out, renumbering):
-    """The streams of examples/ with their numbers, their listings and dumps, and the dump that README.md shows."""
+    """The streams of examples/ with their numbers, their listings and dumps, and where pages and tests have lines of these.
+    The lines of listings that are others now."""
+    changed = {}
     for listed in sorted((out / "examples" / "streams").glob("*.stdout")):
         place = listed.with_suffix("")
         data = place.read_bytes()
         place.write_bytes(b"".join(renumbering.stream(EXAMPLES, [data], None)))
         new = place.read_bytes()
-        listed.write_text(renumbering.new.listing(EXAMPLES, new).replace(", ", "\n") + "\n", encoding="utf-8")
+        before = listed.read_text(encoding="utf-8")
+        after = renumbering.new.listing(EXAMPLES, new).replace(", ", "\n") + "\n"
+        listed.write_text(after, encoding="utf-8")
+        pairs = zip(before.splitlines(), after.splitlines())
+        changed.update((old, line) for old, line in pairs if old != line and not old.startswith("rest"))
         dump = listed.with_suffix(".dump")
         if dump.exists():
             before = dump.read_text(encoding="utf-8")
             after = renumbering.dump(EXAMPLES, data, new, before)
             dump.write_text(after, encoding="utf-8")
+            for old, line in zip(before.splitlines(), after.splitlines()):
+                changed.update(messages_of(old, line))
             readme = out / "README.md"
             text = readme.read_text(encoding="utf-8")
             for old, line in zip(before.splitlines(), after.splitlines()):
                 text = text.replace(f"    {old}\n", f"    {line}\n")
             readme.write_text(text, encoding="utf-8")
+    return changed
+
+
+def messages_of(*lines):
+    """The JSON of the message of a line of a dump with that of another one, where both are not the same."""
+    shown = [json.loads(line).get("message") for line in lines]
+    texts = [json.dumps(message, separators=(",", ":"), ensure_ascii=False) for message in shown]
+    return {texts[0]: texts[1]} if None not in shown and texts[0] != texts[1] else {}
 
 
 def adopt_table(out):
@@ -872,6 +896,24 @@ def adopt_tests(out, renumbering):
             changed[path] = new
     for path, text in laid_out(changed).items():
         (out / path).write_text(text, encoding="utf-8")
+    return quotes.count
+
+
+def adopt_literals(out, renumbering, listings):
+    """The payloads that packages, tests in C and pages quote with their numbers, and lines of listings; how many these
+    are."""
+    quotes = literals.Literals(renumbering, listings)
+    for path in literals.paths(out):
+        place = out / path
+        text = place.read_text(encoding="utf-8")
+        place.write_text(quotes.text(path, text), encoding="utf-8")
+    for place in (out / "tests").glob("*/*.rt.in"):
+        text = place.read_text(encoding="utf-8")
+        place.write_text(quotes.of_listings(text), encoding="utf-8")
+    # in the layout of their tools, where these are
+    for words, pattern in ((["gofmt", "-w"], "go/**/*.go"), (["rustfmt", "--edition", "2021"], "rust/**/*.rs")):
+        if shutil.which(words[0]):
+            subprocess.run([*words, *sorted(out.glob(pattern))], capture_output=True)
     return quotes.count
 
 
@@ -941,18 +983,19 @@ class Sample:
         return " ".join(texts), shown
 
 
-def stream_of(adoption, theirs, path, described):
+def stream_of(adoption, theirs, path, described, folders=()):
     """A stream of each of their messages, and for each the type and the fields that its dump has."""
     sample = Sample(adoption, theirs, described)
     stream, expected = b"", []
     codes = {message.name: message.options["code"] for message in described.messages if "code" in message.options}
-    package = f"{theirs.package}." if theirs.package else ""
+    searched = [f"--proto_path={folder}" for folder in (path.parent, *folders)]
     for name, code in codes.items():
         other = adoption.pairs.get(name) or adoption.theirs.get(name)
         if name == FLAT or other is None or other.within:
             continue
         text, shown = sample.message(other)
-        words = ["protoc", f"--proto_path={path.parent}", f"--encode={package}{other.name}", path.name]
+        package = other.package or theirs.package
+        words = ["protoc", *searched, f"--encode={f'{package}.' if package else ''}{other.name}", path.name]
         made = subprocess.run(words, input=text.encode(), capture_output=True, check=True).stdout
         stream += code.to_bytes(2, "big") + bytes(2) + len(made).to_bytes(4, "big") + made
         expected.append((name.removesuffix("Message"), shown))
@@ -1005,6 +1048,7 @@ def arguments():
     parser.add_argument("--programs", default=",".join(PROGRAMS))
     parser.add_argument("--stream", type=pathlib.Path)
     parser.add_argument("--rename", action="append", default=[])
+    parser.add_argument("--proto-path", type=pathlib.Path, action="append", default=[])
     return parser.parse_args()
 
 
@@ -1024,7 +1068,7 @@ def read(asked):
     if bad := [name for name in asked.programs.split(",") if name not in PROGRAMS]:
         fail(f"there is no program {bad[0]}; there are {', '.join(PROGRAMS)}")
     proto.messages()
-    theirs = descriptors.read(asked.theirs, with_imports=True)
+    theirs = descriptors.read(asked.theirs, asked.proto_path, with_imports=True)
     adoption = Adoption(proto.description(), theirs, dict(word.split("=") for word in asked.rename))
     if not adoption.pairs:
         fail(f"no message of {asked.theirs} is called as one of {proto.SOURCE}; --rename says which are the same")
@@ -1040,7 +1084,9 @@ def main():
     try:
         adoption, theirs = read(asked)
     except Refused as refused:
-        fail("\n".join(refused.problems))
+        is_elsewhere = any(problem.endswith(": File not found.") for problem in refused.problems)
+        help_on_imports = ["--proto-path FOLDER says where what it imports is"] if is_elsewhere else []
+        fail("\n".join([*refused.problems, *help_on_imports]))
     try:
         text = adoption.checked()
     except Refused as refused:
@@ -1060,7 +1106,8 @@ def main():
     renumbering = renumbered.Renumbering(proto.description(), described)
     print(f"{adopt_vectors(asked.out, renumbering)} hand-written test vectors have other numbers")
     print(f"{adopt_tests(asked.out, renumbering)} payloads that tests quote have other numbers")
-    adopt_examples(asked.out, renumbering)
+    listings = adopt_examples(asked.out, renumbering)
+    print(f"{adopt_literals(asked.out, renumbering, listings)} that packages, their tests and pages quote")
     print(f"\n{asked.out}: the copy, with its description; generating what repeats it", flush=True)
     ended = subprocess.run([sys.executable, "-B", "tools/generate.py"], cwd=asked.out, capture_output=True, text=True)
     if ended.returncode != 0:
@@ -1068,7 +1115,7 @@ def main():
         return 1
     print(f"{ended.stdout.count('wrote ')} files generated", flush=True)
     adopt_table(asked.out)
-    stream, expected = stream_of(adoption, theirs, asked.theirs, described)
+    stream, expected = stream_of(adoption, theirs, asked.theirs, described, asked.proto_path)
     (asked.out / "theirs.stream").write_bytes(stream)
     (asked.out / "theirs.json").write_text(
         "".join(json.dumps({"type": name, "message": shown}) + "\n" for name, shown in expected), encoding="utf-8"

@@ -34,6 +34,8 @@ compile_hostile_calls
 case_of 'adversarial calls' $emulator "$work/hostile" 1 20000
 # shellcheck disable=SC2086 # the words are split
 case_of 'adversarial calls in two threads' $emulator "$work/hostile" 2 5000 2
+message_structs 20000
+message_example "$prefix/lib/libpendratsoa.a"
 
 # The example, with each library
 for listing in static shared; do

@@ -38,14 +38,18 @@ constants() {
   same 'the constants that tests/c/constants.c reads' "$work/wanted" "$work/names"
 }
 
+# schemas: the names of schemas in the order of their numbers, as $work/schemas
+schemas() {
+  awk '/^message / { name = $2 } /^  option \(schema\) = / { print $4 + 0, name }' proto/journal.proto \
+    | sort -n | cut -d' ' -f2 > "$work/schemas"
+}
+
 # test_vectors FILE..: the test vectors of these files, by the calls for C
 test_vectors() {
   cat "$@" > "$work/lines"
   compiled 'test_vectors.c' -std=c99 -Wpedantic -Wconversion tests/c/test_vectors.c "$prefix/lib/libpendratsoa.a" \
     -o "$work/test_vectors"
-  # the names of schemas in the order of their numbers
-  awk '/^message / { name = $2 } /^  option \(schema\) = / { print $4 + 0, name }' proto/journal.proto \
-    | sort -n | cut -d' ' -f2 > "$work/schemas"
+  schemas
   # shellcheck disable=SC2086 # the words are split
   counted 'the test vectors' $emulator "$work/test_vectors" "$work/schemas" < "$work/lines"
 }
@@ -54,4 +58,46 @@ test_vectors() {
 compile_hostile_calls() {
   compiled 'hostile_calls.c' -std=gnu99 tests/c/hostile_calls.c "$prefix/lib/libpendratsoa.a" \
     -Wl,--wrap=malloc,--wrap=realloc,--wrap=free -pthread -o "$work/hostile"
+}
+
+# message_structs COUNT FLAG..: the structs of pendratsoa_messages.h, by the test vectors and by COUNT adversarial calls,
+# compiled with these flags
+message_structs() {
+  calls=$1
+  shift
+  strict='-std=c99 -Wpedantic -Wconversion'
+  for program in test_messages hostile_messages; do
+    # shellcheck disable=SC2086 # the flags are split
+    compiled "$program.c $*" $strict "$@" tests/c/$program.c "$prefix/lib/libpendratsoa.a" -o "$work/$program"
+  done
+  schemas
+  cat conformance/*.txt conformance/json/*.txt > "$work/lines"
+  # shellcheck disable=SC2086 # the words are split
+  counted "the structs by the test vectors $*" $emulator "$work/test_messages" "$work/schemas" < "$work/lines"
+  # shellcheck disable=SC2086 # the words are split
+  case_of "$calls adversarial calls of the structs $*" $emulator "$work/hostile_messages" "$work/schemas" 1 "$calls" \
+    < "$work/lines"
+  cat "$work/log"
+}
+
+# later_library: what the structs do of fields that their header does not know
+later_library() {
+  compiled 'later_library.c' -std=c99 -Wpedantic -Wconversion tests/c/later_library.c -o "$work/later_library"
+  # shellcheck disable=SC2086 # the words are split
+  case_of 'a later library' $emulator "$work/later_library"
+}
+
+# message_example LIBRARY..: the example of the structs, with each library
+message_example() {
+  printf '\004\003\000\000\000\000\000\016\012\007counter\032\003\012\0011\000\003\000\000\000\000\000\000x' > "$work/stream"
+  printf '\004\003\000\000\000\000\000\017\012\007counter\032\004\012\00212\000\003\000\000\000\000\000\000x' > "$work/wanted"
+  for library in "$@"; do
+    compiled "examples/c/messages.c with ${library##*/}" -std=c99 -Wpedantic -Wconversion examples/c/messages.c \
+      "$library" -o "$work/messages"
+    # shellcheck disable=SC2086 # the words are split
+    LD_LIBRARY_PATH=$prefix/lib $emulator "$work/messages" 12 < "$work/stream" > "$out" 2> "$err"
+    same "what examples/c/messages.c writes with ${library##*/}" "$work/wanted" "$out"
+    [ "$(cat "$err")" = 'state "counter", 1 bytes' ]
+    outcome "what examples/c/messages.c says with ${library##*/}" $?
+  done
 }

@@ -67,7 +67,7 @@ def calls(check: checks.Check) -> None:
         lacking(check, f"the calls that {place} lacks", symbols, set(found))
     go = "".join(read(file) for file in sorted(pathlib.Path("go").glob("*.go")) if file.name != "library.go")
     lacking(check, "the calls that go lacks", in_go.values(), set(re.findall(r"\bjournal[A-Z]\w*", go)))
-    rust = "".join(read(file) for file in sorted(pathlib.Path("rust/src").glob("*.rs")))
+    rust = "".join(read(file) for file in sorted(pathlib.Path("rust/src").rglob("*.rs")))
     lacking(check, "the calls that rust/src lacks", names, set(re.findall(r"\bffi::(\w+)\(", rust)))
     node = [calls_data.camel(name, False, with_capitals=False) for name in names]
     lacking(check, "the calls that node/lib lacks", node, set(re.findall(r"\baddon\.(\w+)\(", together("node/lib/*.js"))))
@@ -101,8 +101,8 @@ def languages(check: checks.Check) -> None:
                         check.case(f"docs/LANGUAGES.md: {word} of {language}", word in words.get(language, set()))
 
 
-# Public functions that shared_core does not pass on, and those of the private module pending_bytes.
-INNER = {"error_of", "split_to", "copy_to", "take_head", "clone_each", "order_depends_on_the_set"}
+# Public functions that shared_core does not pass on, and those of the private modules pending_bytes and shared_chunks.
+INNER = {"error_of", "split_to", "copy_to", "reserve", "take_head", "clone_each", "order_depends_on_the_set"}
 PUBLIC = (
     "crates/shared_core/src/*.rt",
     "crates/shared_core/src/encoding/*.rt",

@@ -65,6 +65,11 @@ class Run:
         return f"status {self.status}, standard output and standard error:\n{beginning(self.out)}{beginning(self.err)}"
 
 
+def is_narrow(text: bytes) -> bool:
+    """Whether each line has at most 80 columns."""
+    return all(len(line) <= 80 for line in text.decode().splitlines())
+
+
 # What a program reads: bytes, through a pipe, or a file or a folder.
 Given = typing.Union[bytes, str, pathlib.Path]
 

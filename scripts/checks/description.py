@@ -444,6 +444,7 @@ def adopted(check: Check) -> None:
         named = [json_name(field) for field in re.findall(r"^ *([a-z]\w*)(?::| \{)", said, re.M)]
         check.case(f"{name} of other.proto", sorted(named) == fields(shown), f"{said} is not {shown}")
     check.case("the whole stream", at == len(stream) and bool(expected))
+    imported(check)
     # the numbers of the hand-written test vectors are changed to theirs, and back
     there = renumbered.Renumbering(proto.description(), described)
     same = renumbered.Renumbering(proto.description(), proto.description())
@@ -457,6 +458,21 @@ def adopted(check: Check) -> None:
     found = (ROOT / "tests" / "vectors" / "wrong_lines.found").read_text(encoding="utf-8")
     other = there.found(found)
     check.same("what wrong lines should have", found, there.inverse(proto.description()).found(other))
+
+
+def imported(check: Check) -> None:
+    """What a file imports is found in another folder, if that is named."""
+    folder = check.work / "of_theirs" / "wire"
+    folder.mkdir(parents=True)
+    head = 'syntax = "proto3";\npackage theirs;\n'
+    (folder / "value.proto").write_text(f"{head}message Value {{ bytes content = 4; }}\n", encoding="utf-8")
+    text = f'{head}import "wire/value.proto";\n// Type: 0x0400\nmessage InputCommandMessage {{ Value value = 3; }}\n'
+    (folder / "input.proto").write_text(text, encoding="utf-8")
+    for words, said in (([], "--proto-path FOLDER says"), (["--proto-path", folder.parent], "14 Value  ")):
+        told = ["sh", "scripts/adopt.sh", "--table", *words, folder / "input.proto"]
+        ended = subprocess.run(told, capture_output=True, text=True)
+        is_told = said in ended.stdout + ended.stderr and "Traceback" not in ended.stderr
+        check.case(f"an import with {words}", is_told, ended.stdout[-500:] + ended.stderr)
 
 
 def body(check: Check) -> None:

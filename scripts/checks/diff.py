@@ -1,5 +1,5 @@
 #!/usr/bin/env python3
-"""journal_diff on example journals: verdicts, what it passes over, lines of JSON, colors.
+"""journal_diff on example journals: verdicts, what it passes over, lines of JSON, colors, and what moved.
 
 Standard output, the whole of standard error and the status are compared. failures.py has wrong arguments, and inputs
 and outputs that fail; terminal.py has the program on a terminal.
@@ -134,6 +134,77 @@ FIELDS = (
 )
 
 
+# The test vectors of what moved, as lines of JSON.
+ALIGNMENTS = checks.ROOT / "tests" / "vectors" / "alignments.txt"
+
+# What moved, as a text: the words, the status, and the lines.
+MOVED: tuple[tuple[str, int, str], ...] = (
+    ("recorded recorded", 0, "same, 4 commands\n  4 the same, recorded 0, replayed 0\n"),
+    ("/dev/null /dev/null", 0, "same, 0 commands\n"),
+    ("first recorded", 1,
+     "the replay has 3 commands more, 0 fewer and 0 changed; 1 is the same\n  1 the same, recorded 0, replayed 0\n"
+     "+ inserted SetStateCommand, before recorded 1, replayed 1 at offset 17\n"
+     "+ inserted CallCommand, before recorded 1, replayed 2 at offset 39\n"
+     "+ inserted OutputCommand, before recorded 1, replayed 3 at offset 90\n"),
+    ("recorded replayed_other_handler", 1,
+     "the replay has one command changed, CallCommand, command 2; the one after it is the same\n"
+     "  2 the same, recorded 0, replayed 0\n"
+     "! changed CallCommand, recorded 2 at offset 39, replayed 2 at offset 39\n   handler_name: greet != greet_all\n"
+     "  1 the same, recorded 3 at offset 90, replayed 3 at offset 78\n"),
+    ("--ignore-payloads recorded replayed_other_payload", 0,
+     "same, 4 commands\n  4 the same, recorded 0, replayed 0\n"),
+    ("--color always recorded replayed_other_handler", 1,
+     "\x1b[1mthe replay has one command changed, CallCommand, command 2; the one after it is the same\x1b[0m\n"
+     "  2 the same, recorded 0, replayed 0\n"
+     "! changed CallCommand, recorded 2 at offset 39, replayed 2 at offset 39\n"
+     "   handler_name: \x1b[31mgreet\x1b[0m != \x1b[32mgreet_all\x1b[0m\n"
+     "  1 the same, recorded 3 at offset 90, replayed 3 at offset 78\n"),
+)
+
+# How many commands may move where the fewest of them are found.
+LIMIT = 1000
+
+
+def aligned(check: checks.Check, diff: Program) -> None:
+    """What moved between journals, by test vectors and as a text, and where it is too much."""
+    lines = [line for line in ALIGNMENTS.read_text().splitlines() if not line.startswith("#")]
+    cases = [case.splitlines() for case in "\n".join(lines).split("\n\n") if case.strip()]
+    check.case("test vectors of alignments", len(cases) == 9, f"{len(cases)} cases")
+    for number, case in enumerate(cases, 1):
+        given = {name: rest for name, _, rest in (line.partition(" ") for line in case if not line.startswith("{"))}
+        for side in ("recorded", "replayed"):
+            (check.work / side).write_bytes(bytes.fromhex(given[side]))
+        words = ("--all", "--json", *given.get("options", "").split(), str(check.work / "recorded"),
+                 str(check.work / "replayed"))
+        out = [line for line in case if line.startswith("{")]
+        status = 0 if '"inserted":0,"removed":0,"changed":0' in out[0] else 1
+        diff.ends(words, "".join(f"{line}\n" for line in out), "", status, what=f"of case {number}")
+    for words, status, text in MOVED:
+        diff.ends(f"--all {words}", text, "", status)
+    diff.ends("--all recorded malformed", "", "journal_diff: the replayed command 1 is malformed\n", 2)
+    diff.ends("--all --strict recorded bad_start", "",
+              f"journal_diff: the replayed journal, {END}: malformed payload of Start\n", 2)
+    for changed in (LIMIT, LIMIT + 1):
+        for side in ("recorded", "replayed"):
+            states = (state(f"{number}", side) for number in range(changed))
+            (check.work / side).write_bytes(b"".join([*states, state("last", "same")]))
+        run = diff.run(("--all", str(check.work / "recorded"), str(check.work / "replayed")))
+        first, *entries = run.out.decode().splitlines()
+        said = (
+            f"the replay has 0 commands more, 0 fewer and {changed} changed; 1 is the same" if changed == LIMIT
+            else f"more than {LIMIT} commands moved, so they are compared index by index; 1 is the same"
+        )
+        count = sum(line.startswith("! changed SetStateCommand") for line in entries)
+        check.case(f"{changed} commands changed", (run.status, first, count) == (1, said, changed), run)
+
+
+def state(key: str, value: str) -> bytes:
+    """A command that sets a state."""
+    held = b"\n" + bytes([len(value)]) + value.encode()
+    payload = b"\n" + bytes([len(key)]) + key.encode() + b"\x1a" + bytes([len(held)]) + held
+    return (0x403).to_bytes(2, "big") + len(payload).to_bytes(6, "big") + payload
+
+
 def compact(value: object) -> str:
     return json.dumps(value, separators=(",", ":"))
 
@@ -149,6 +220,7 @@ def main(check: checks.Check) -> None:
         fields = compact({"fields": [{"name": name, "recorded": recorded, "replayed": replayed}]})
         is_right = run.status == 1 and run.out.decode().endswith(f",{fields[1:]}\n") and not run.err
         check.case(f"the fields of {journals}", is_right, run)
+    aligned(check, diff)
     # a value that has ' != ' itself
     run = diff.run("--color always unequal key")
     is_plain = run.status == 1 and run.out.endswith(b"\n   key: 'a != b' != 'c'\n")

@@ -147,6 +147,16 @@ FAILURES: tuple[tuple[str, str, *tuple[str, ...]], ...] = (
      "offset 56: 1 byte after the last whole item"),
 )
 
+# Words, the lines that are written, and the message that is longer than the limit.
+TOO_LONG: tuple[tuple[str, str, str], ...] = (
+    ("--max-message 18 replay", "", "Start at offset 0: 19 bytes of payload, more than the limit of 18"),
+    ("--max-message 26 --no-payload --type SetStateCommand recorded",
+     '{"offset":17,"type":"SetStateCommand","code":1027,"length":14}\n',
+     "CallCommand at offset 39: 27 bytes of payload, more than the limit of 26"),
+    ("--max-message 7 --protocol 9 unknown_type", "",
+     "unknown protocol.message code 0x8 at offset 0: 8 bytes of payload, more than the limit of 7"),
+)
+
 # The stored run, and what it says.
 STORED = checks.ROOT / "crates" / "journal"
 STORED_REST = "offset 2851: 11 bytes after the last whole item"
@@ -214,7 +224,7 @@ def beside_protobuf(dump: Program) -> None:
 def main(check: checks.Check) -> None:
     dump = Program(check, "journal_dump", "replay")
     go_to_streams(check, MADE)
-    for status, cases in ((0, CASES), (2, FAILURES)):
+    for status, cases in ((0, CASES), (1, TOO_LONG), (2, FAILURES)):
         for words, lines, *complaints in cases:
             dump.ends(words, lines, said(*complaints), status)
     dump.ends("--pretty --text --type InputCommand replay", example(), what="in docs/PROGRAMS.md")

@@ -48,12 +48,15 @@ NAMED: tuple[tuple[str, Words, str], ...] = (
 # Arguments that are rejected, and a part of the error, which begins with 'error: '; a line of it ends with its newline.
 AFTER_FILE = "error: after FILE come BYTES, from 1 to 65536, and v9, or one of them, or neither\n"
 TYPES = "no type has the name"
+SIZES = "error: --max-message takes a number of bytes, from 0 to 4294967295\n"
 REJECTED: tuple[tuple[str, Words, str], ...] = (
     ("journal_list", "--protocol 4 ./replay", "error: invalid value '4' for '--protocol <VERSION>'\n"),
     ("journal_list", "--type Start", "error: unexpected argument '--type' found\n"),
     ("journal_list", "./replay 0", AFTER_FILE),
     ("journal_list", "./replay 3 v9 more", "error: unexpected argument 'more' found\n"),
     ("journal_list", "--protocol 9 ./replay 0", AFTER_FILE),
+    ("journal_list", "--max-message 4294967296 ./replay", SIZES),
+    ("journal_dump", ("--max-message", "", "replay"), SIZES),
     ("journal_list", "--protocol 9 ./replay v9", "error: the version is said by v9 or by --protocol, and not by both\n"),
     ("journal_list", "--protocol 9 ./replay v9", "\nUsage: journal_list [OPTIONS] [FILE] [BYTES] [v9]\n"),
     ("journal_diff", "", "<RECORDED>"),

@@ -118,6 +118,7 @@ class Journal:
         parts = ("Usage: journal <COMMAND>", *(f"\n  {name}  " for name in RUNS), "journal_list", "scripts/run.sh journal view")
         is_right = ended.status == 0 and not ended.err and all(part.encode() in ended.out for part in parts)
         self.check.case("journal --help", is_right, ended)
+        self.check.case("journal --help in 80 columns", checks.is_narrow(ended.out), ended)
         named = re.findall(r"^  (\w+)  ", ended.out.decode(), re.M)
         linked = [name.removeprefix("journal_") for name in crates.LINKS]
         self.check.same("the subcommands and the links to them", [*linked, "help"], named)
@@ -131,6 +132,7 @@ class Journal:
         for name in RUNS:
             asked, own = self.run(self.path, "help", name), self.run(self.path, name, "--help")
             self.check.case(f"journal help {name}", asked == own and f"Usage: journal {name} ".encode() in own.out, asked)
+            self.check.case(f"journal help {name} in 80 columns", checks.is_narrow(own.out), own)
             ended = self.run(self.path, name, "--version")
             version = f"journal {name} {checks.library_version()}\n".encode()
             self.check.case(f"journal {name} --version", ended == checks.Run(0, version, b""), ended)

@@ -32,6 +32,17 @@ CASES = (
     ("--protocol 9 ./unknown_type", SKIPPED),
     ("./unknown_type 7 --protocol 9", SKIPPED),
     ("./3 v9", SKIPPED),
+    ("--max-message 19 ./replay", REPLAY),
+    ("--max-message 0 ./unknown_type", UNKNOWN),
+)
+
+# The same where a message is longer than the limit, and the message that is.
+TOO_LONG = (
+    ("--max-message 18 ./replay", "", "Start at offset 0: 19 bytes of payload, more than the limit of 18"),
+    *((f"--max-message 26 ./recorded {size}", "InputCommand 9\nSetStateCommand 14\n",
+       "CallCommand at offset 39: 27 bytes of payload, more than the limit of 26") for size in ("", "1", "47", "65536")),
+    ("--max-message 7 ./unknown_type v9", "",
+     "unknown protocol.message code 0x8 at offset 0: 8 bytes of payload, more than the limit of 7"),
 )
 
 # Seventy thousand bytes of messages Start without a payload, of which a listing has a line each.
@@ -102,8 +113,15 @@ def main(check: checks.Check) -> None:
     unknown = (STREAMS / "unknown_type").read_bytes()
     go_to_streams(check, {"starts": STARTS, "3": unknown, "long": replay * 16384})
     listings(lister)
+    helped = lister.run("--help")
+    check.case("journal_list --help in 80 columns", helped.status == 0 and checks.is_narrow(helped.out), helped)
     for words, listing in CASES:
         lister.ends(words, listing)
+    for words, listing, message in TOO_LONG:
+        lister.ends(words, listing, f"journal_list: {message}\n", 1)
+    # of 4 GiB that are announced no byte is waited for
+    lister.ends("--max-message 1048576", "", "journal_list: InputCommand at offset 0: 4294967295 bytes of payload,"
+                " more than the limit of 1048576\n", 1, given=b"\x04\0\0\0\xff\xff\xff\xff")
     *lines, _ = REPLAY.splitlines(keepends=True)
     lister.ends("1", "".join([*lines * 16384, "rest 0\n"]), given="long", what="< long")
     bytes_left(lister)

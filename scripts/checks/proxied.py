@@ -13,6 +13,7 @@ import threading
 
 # what is passed on as it came: an input, a custom entry and a code that no type has, with all of their flags
 KEPT = bytes.fromhex("0400123400000009" "72070a05696e707574" "fc01ffff00000001ff" "0008a5a500000000")
+INPUT = KEPT[:-17]
 SKIPPED = bytes.fromhex("0008a5a500000003" "000403")
 END = bytes.fromhex("0003000000000000")
 
@@ -23,7 +24,7 @@ TWO = bytes.fromhex("0403000000000008" "0a010a1a030a0132")
 # version, what is sent, what is passed on, and whether the journal is whole
 JOURNALS = (
     (8, KEPT + SET + END, KEPT + TWO + END, True),
-    (9, SET + SKIPPED + SET + KEPT[:17], TWO + SKIPPED + TWO + KEPT[:17], True),
+    (9, SET + SKIPPED + SET + INPUT, TWO + SKIPPED + TWO + INPUT, True),
     (8, (KEPT + SET) * 5000, (KEPT + TWO) * 5000, True),
     (8, b"", b"", True),
     (8, KEPT + SET + KEPT[:11], KEPT + TWO, False),

@@ -4,7 +4,8 @@
 # They check the public API by its types, and what calls return and print where no contract says it. `rt try --test`
 # compiles all of them as one crate, in a temporary copy of the sources, and stops at each fault of memory. Each test
 # counts as one, and each folder has a line. Then each test of tests/out_of_memory runs once for each allocation that it
-# makes, with that one failing (tests/c/refuse.c), and has to pass; each such run counts as one.
+# makes, with that one failing (tests/c/refuse.c), and has to pass; each such run counts as one. At last each test of
+# tests/waiting runs alone, and what it holds is compared with a bound.
 set -u
 cd "$(dirname "$0")/../.." || exit 1
 . scripts/checks/lib.sh
@@ -23,9 +24,9 @@ for folder in "$@"; do
   fi
 done
 
-unproved_crate tests edit_script replay_bench shared_core_fields shared_core_fields_writer shared_core_json \
-  shared_core_json_reader stream_lines shared_core shared_core_stream shared_core_base shared_core_wire \
-  shared_core_codec shared_core_message shared_core_parts \
+unproved_crate tests edit_script shared_core_chunks replay_bench shared_core_fields shared_core_fields_writer \
+  shared_core_json shared_core_json_reader stream_lines shared_core shared_core_stream shared_core_base \
+  shared_core_wire shared_core_codec shared_core_message shared_core_parts \
   shared_core_runtime shared_core_state_commands shared_core_call_commands shared_core_notifications bytes hex json
 {
   echo '//! Tests.'
@@ -59,7 +60,7 @@ if ! command -v cc > /dev/null; then
   keeping_kit "$work"
 elif cc -O2 -fPIE -DWRAPPED -c -o "$work/refuse.o" tests/c/refuse.c; then
   can_refuse=yes
-  keeping_kit "$work" --wrap=malloc --wrap=realloc "$work/refuse.o"
+  keeping_kit "$work" --wrap=malloc --wrap=realloc --wrap=free "$work/refuse.o"
 else
   outcome 'cc tests/c/refuse.c' 1
   finish
@@ -82,16 +83,22 @@ done
 awk '/^test / { shown = / \.\.\. / && !/ \.\.\. ok$/ && !/^test result: / } shown' "$out"
 [ "$status" -eq 0 ] || [ "$failed" -gt 0 ] || outcome 'rt try --test' 1
 
-if [ ! -d "$crate/src/out_of_memory" ]; then
-  finish
-elif [ "$can_refuse" = no ]; then
-  without 'each allocation failing' cc
-  finish
-fi
 # nothing is looked for after the end of a run
 ASAN_OPTIONS=detect_leaks=0
 export ASAN_OPTIONS
-sed -n 's/^test \(out_of_memory::.*\) \.\.\. ok$/\1/p' "$out" > "$work/names"
-counted 'each allocation failing' python3 -B scripts/checks/failing_allocations.py "$work/program" < "$work/names"
-grep ' failed in turn$' "$work/log"
+# alone NAME FOLDER FILE LINES: a check that runs each test of a folder alone, and its lines that end so are shown
+alone() {
+  if [ ! -d "$crate/src/$2" ]; then
+    return
+  elif [ "$can_refuse" = no ]; then
+    without "$1" cc
+    return
+  fi
+  sed -n "s/^test \($2::.*\) \.\.\. ok\$/\1/p" "$out" > "$work/names"
+  counted "$1" python3 -B "scripts/checks/$3" "$work/program" < "$work/names"
+  grep "$4\$" "$work/log"
+}
+
+alone 'each allocation failing' out_of_memory failing_allocations.py ' failed in turn'
+alone 'what waits in a decoder' waiting waiting_memory.py ' bytes are held'
 finish

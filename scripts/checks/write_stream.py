@@ -3,7 +3,8 @@
 random: any bytes. unknown: headers alone whose codes are unknown. promise: a header that promises 4,294,967,295 bytes,
 and any bytes after it. mixed: frames of all types and of custom ones with any payload, unknown headers between them,
 and at the end a frame of which the last byte is missing. skipped: the same with unknown headers that have the payload
-that they say. Ignored bits of headers are random.
+that they say. Ignored bits of headers are random. names: a call of a service whose name has 200 letters, and of a
+handler whose name has SIZE.
 """
 from __future__ import annotations
 
@@ -62,8 +63,26 @@ class Writer:
         return self.header(code, length) + self.random.randbytes(length)
 
 
+def named(like: bytes, letter: bytes, count: int) -> bytes:
+    """A record like one of a text of one letter, of so many letters."""
+    length, rest = bytearray(), count
+    while rest >= 128:
+        length.append(rest % 128 + 128)
+        rest //= 128
+    length.append(rest)
+    return like[:-2] + bytes(length) + letter * count
+
+
+def names(size: int) -> bytes:
+    """A call with long names."""
+    payload = named(bytes.fromhex("0a0173"), b"a", 200) + named(bytes.fromhex("120168"), b"b", size)
+    return bytes.fromhex("040d0000") + len(payload).to_bytes(4, "big") + payload
+
+
 def stream(kind: str, size: int, seed: int) -> bytes:
     """A stream of at least this many bytes."""
+    if kind == "names":
+        return names(size)
     writer = Writer(seed)
     if kind == "random":
         return writer.random.randbytes(size)

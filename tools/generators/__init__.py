@@ -33,6 +33,7 @@ NAMES = (
     "typed_messages",
     "calls",
     "records",
+    "chunks",
     "numbered",
     "dispatch",
     "commands",

@@ -4,7 +4,7 @@ the codes of commands and of notifications. Each language has one file of it, wh
 import re
 
 from . import missing  # noqa: F401
-from .proto import COMMANDS, NOTIFICATIONS, schemas, typed
+from .proto import COMMANDS, NOTIFICATIONS, fields_of, schemas, typed
 
 ABOUT = "The names of schemas and the codes of kinds of types, for each language."
 SOURCE = "proto/journal.proto"
@@ -96,6 +96,26 @@ def node_types():
     )
 
 
+def c_numbers():
+    """The header of the numbers of fields for the tests in C."""
+    numbers = "".join(
+        f"    FIELD_{snake(message.name.replace('Message', ''))}_{field.name.upper()} = {field.number},\n"
+        for message in schemas()
+        for field in fields_of(message)
+    )
+    types = "".join(f' \\\n    TYPE({snake(message.type_name())}, "{message.type_name()}")' for message in typed())
+    others = "".join(
+        f" \\\n    SCHEMA({snake(message.name.replace('Message', ''))}, {message.schema})"
+        for message in schemas()
+        if message.code is None or message.before_version is not None
+    )
+    return (
+        "/* The numbers of the fields, by their messages and names, the types with their names, and the other schemas: for "
+        f"the tests in C. */\n\nenum {{\n{numbers}}};\n\n#define EACH_TYPE(TYPE){types}\n\n"
+        f"#define EACH_OTHER_SCHEMA(SCHEMA){others}\n"
+    )
+
+
 def files():
     return {
         "python/pendratsoa/_protocol.py": python(),
@@ -103,4 +123,5 @@ def files():
         "ruby/lib/pendratsoa/protocol.rb": ruby(),
         "node/lib/protocol.js": node(),
         "node/names.d.ts": node_types(),
+        "tests/c/numbers.h": c_numbers(),
     }

@@ -575,6 +575,8 @@ RUST_HEAD = """\
 //! Each safe function here gives its call the pointer and the length of every slice. So what the header requires of its
 //! callers holds: a slice that is written is exclusively borrowed, and overlaps no other.
 
+use std::mem::MaybeUninit;
+
 use super::{appended, count, written, About, Refusal, Result};
 
 """
@@ -643,8 +645,9 @@ def rust_call(call):
         parameters.append(f"{call.numbers}: &mut [u64; {numbers_of(call.numbers)}]")
         given += [f"{call.numbers}.as_mut_ptr()", f"{call.numbers}.len()"]
     if call.table:
-        parameters.append(f"{call.table}s: &mut [[u64; {numbers_of(call.table)}]]")
-        given += [f"{call.table}s.as_mut_ptr()", f"{call.table}s.len()"]
+        # it is only written, so it need not be set before
+        parameters.append(f"{call.table}s: &mut [MaybeUninit<[u64; {numbers_of(call.table)}]>]")
+        given += [f"{call.table}s.as_mut_ptr().cast()", f"{call.table}s.len()"]
     is_fixed = call.writes and call.writes is not True
     if is_fixed:
         parameters.append(f"out: &mut [u8; {call.writes}]")
@@ -722,9 +725,13 @@ def kinds_of(call):
     return lengths[call.numbers] + KINDS_OF.get(call.numbers, 0)
 
 
+HEADERS = ("include/pendratsoa.h", "python/src/pendratsoa.h", "ruby/ext/pendratsoa/pendratsoa.h")
+
+
 def files():
     return {
-        "include/pendratsoa.h": header(),
+        # the compiled modules are packed with one of their own
+        **{path: header() for path in HEADERS},
         **ffi(),
         "python/pendratsoa/_declared.py": python(),
         "ruby/lib/pendratsoa/declared.rb": ruby(),
@@ -738,8 +745,8 @@ def files():
 
 def paths():
     return [
+        *HEADERS,
         "go/library.go",
-        "include/pendratsoa.h",
         "node/lib/declared.js",
         "node/src/calls.h",
         "python/pendratsoa/_declared.py",

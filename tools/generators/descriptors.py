@@ -122,11 +122,13 @@ class Enum(Named):
 
 @dataclasses.dataclass
 class Message(Named):
-    """A message: its fields and its oneofs in the order of the file, and the message in which it is."""
+    """A message: its fields and its oneofs in the order of the file, the message in which it is, and its package where
+    that is another one than the file's, which imports it."""
 
     fields: list = dataclasses.field(default_factory=list)
     oneofs: list = dataclasses.field(default_factory=list)
     within: str = ""
+    package: str = ""
 
 
 @dataclasses.dataclass
@@ -194,6 +196,7 @@ class Reader:
     def message(self, path, message, within):
         """A message, and those within it."""
         found = self.named(Message, path, message, within=within)
+        found.package = self.file.text(2) if self.file.text(2) != self.found.package else ""
         found.options = self.options(message.record(7), "MessageOptions", {})
         self.found.messages.append(found)
         # each optional field is in a oneof of its own, which the file does not have

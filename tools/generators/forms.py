@@ -57,6 +57,10 @@ TABLE_NAMES = {"schemas", "schema_count", "table"}
 HAND_WRITTEN = ("Future",)
 TEMPLATE = "NotificationTemplate"
 
+# The rows of messages that hand-written code takes apart, or makes of these alone: they have no further ones. The
+# initializers of other records are completed by `numbered`.
+ROWS = {"Value": {"content"}, TEMPLATE: {"id", "result"}}
+
 # The crate of the messages that are in others, with the hand-written records.
 PARTS_CRATE = "shared_core_parts"
 

@@ -6,7 +6,7 @@ part.
 from . import missing  # noqa: F401
 from .payloads import lengthy, varint
 from .payloads import payload as payload_of
-from .proto import OneOf, json_name, schemas
+from .proto import OneOf, fields_of, json_name, schemas
 
 ABOUT = "Test vectors of JSON that is read."
 SOURCE = "tools/generators/json_readings.py and proto/journal.proto"
@@ -17,6 +17,19 @@ HEAD = """\
 # JSON texts, each read for a schema: the canonical payload of what it means, or why it means nothing, and where. The text of a hand-written line
 # is in the comment above it, if it can be printed.
 """
+
+
+class First:
+    """What a text means by the field that is first in the order of the schema, its own or that of a message in it."""
+
+    def __init__(self, schema=None, **results):
+        self.schema, self.results = schema, results
+
+    def of(self, schema):
+        message = next(message for message in schemas() if message.name == (self.schema or schema))
+        # the fields are in the order of the rows, in which members of a oneof are side by side
+        return next(self.results[field.name] for field in fields_of(message) if field.name in self.results)
+
 
 # A title, and its lines: the schema, the text, and the result: the fields of a message, or the kind of the error with an offset or a path.
 WRITTEN = [
@@ -171,17 +184,31 @@ WRITTEN = [
         ("ProposeRunCompletionMessage", '{"value":"","value":null}', "repeated_member value"),
     ]),
     ("Members of one oneof: the path leads to the second one in the order of the schema", [
-        ("ProposeRunCompletionMessage", '{"failure":{},"value":""}', "several_members failure"),
-        ("ProposeRunCompletionMessage", '{"value":"","failure":1}', "several_members failure"),
-        ("ProposeRunCompletionMessage", '{"value":1,"failure":{}}', "wrong_kind value"),
+        ("ProposeRunCompletionMessage", '{"failure":{},"value":""}', First(
+            value="several_members failure", failure="several_members value"
+        )),
+        ("ProposeRunCompletionMessage", '{"value":"","failure":1}', First(
+            value="several_members failure", failure="wrong_kind failure"
+        )),
+        ("ProposeRunCompletionMessage", '{"value":1,"failure":{}}', First(
+            value="wrong_kind value", failure="several_members value"
+        )),
     ]),
     ("Of several errors the first one: an unknown member, and then what the rows have, in the order of the schema", [
         ("StartMessage", '{"id":1,"a":1,"b":1}', "unknown_member a"),
         ("StartMessage", '{"stateMap":[{"a":1}],"b":1}', "unknown_member b"),
-        ("StartMessage", '{"randomSeed":-1,"id":"!","knownEntries":{}}', "not_base64 id"),
-        ("StartMessage", '{"knownEntries":{},"knownEntries":1,"id":"!"}', "not_base64 id"),
-        ("StartMessage", '{"knownEntries":{},"randomSeed":1,"randomSeed":1}', "wrong_kind knownEntries"),
-        ("StartMessage", '{"stateMap":[{"value":1,"key":1}]}', "wrong_kind stateMap[0].key"),
+        ("StartMessage", '{"randomSeed":-1,"id":"!","knownEntries":{}}', First(
+            id="not_base64 id", known_entries="wrong_kind knownEntries", random_seed="out_of_range randomSeed"
+        )),
+        ("StartMessage", '{"knownEntries":{},"knownEntries":1,"id":"!"}', First(
+            id="not_base64 id", known_entries="repeated_member knownEntries"
+        )),
+        ("StartMessage", '{"knownEntries":{},"randomSeed":1,"randomSeed":1}', First(
+            known_entries="wrong_kind knownEntries", random_seed="repeated_member randomSeed"
+        )),
+        ("StartMessage", '{"stateMap":[{"value":1,"key":1}]}', First(
+            "StateEntry", key="wrong_kind stateMap[0].key", value="wrong_kind stateMap[0].value"
+        )),
         ("StartMessage", '{"stateMap":[{},{"key":1},2]}', "wrong_kind stateMap[1].key"),
     ]),
     ("What is not JSON: the offset is where the token begins that is none, or that has a comma or a colon too few or too many before it", [
@@ -273,6 +300,7 @@ def written():
                 yield f"# {text}\n"
             # what a text means is said by the names of fields
             meant = payload_of(schema, **result).hex() if isinstance(result, dict) else result
+            meant = meant.of(schema) if isinstance(meant, First) else meant
             yield line(schema, text, meant)
 
 

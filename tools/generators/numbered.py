@@ -1,15 +1,15 @@
 """The numbers of fields in files that are written by hand: the record Future, which holds itself, the suspension before
 version 7 as it is written, their definitions and proofs, and planted bugs that quote generated lines.
 
-All else of these files is written by hand. The numbers are found by the text around them, in which the name of a field
+All else of these files is written by hand, but for the further fields of records that they make. The numbers are found by the text around them, in which the name of a field
 in braces is where its number is.
 """
 import itertools
 import re
 
 from . import ROOT, Refused, laid_out
-from .proto import fields_of, messages
-from .records import missing  # noqa: F401
+from .proto import OneOf, fields_of, messages
+from .records import EMPTY, missing  # noqa: F401
 
 ABOUT = "The numbers of fields in hand-written files."
 SOURCE = "proto/journal.proto"
@@ -43,6 +43,10 @@ NUMBERED = {
                 "write_length(out, start, {nested_futures},",
             ],
         )
+    ],
+    "examples/c/listing.c": [
+        ("CallCommandMessage", ["uint64_t call_names[] = {{service_name}, {handler_name}}"]),
+        ("OneWayCallCommandMessage", ["uint64_t one_way_call_names[] = {{service_name}, {handler_name}}"]),
     ],
     f"{PARTS}/proofs/future/+measure_future/Answers.antt": [NESTED],
     f"{PARTS}/proofs/future/+encode_future/Answers.antt": [
@@ -116,6 +120,10 @@ NUMBERED = {
 }
 
 
+# The hand-written code that makes records, and those that may have further fields, which it leaves empty.
+CONVERSIONS = f"{PARTS}/src/conversions.rt"
+COMPLETED = ("Failure", "FailureMetadata", "Header")
+
 # By planted bug: the message whose generated record it is in, and its texts. `+1` after a name is the next number, `~`
 # one whose key has another length.
 PLANTED = {
@@ -127,10 +135,10 @@ PLANTED = {
     f"{PARTS}/mutants/fields_swapped.edit": (
         "StateEntry",
         [
-            "old: let end = plain::write(out, end, {value}, &self.value)",
-            "new: let end = plain::write(out, end, {value}, &self.key)",
-            "old:         plain::write(out, end, {key}, &self.key)",
-            "new:         plain::write(out, end, {key}, &self.value)",
+            "old: out, end, {value}, &self.value)",
+            "new: out, end, {value}, &self.key)",
+            "old: out, end, {key}, &self.key)",
+            "new: out, end, {key}, &self.value)",
         ],
     ),
     f"{PARTS}/mutants/fields_written_in_another_order.edit": (
@@ -202,6 +210,29 @@ def with_numbers(path, text, name, patterns):
     return text
 
 
+def completed(text):
+    """Hand-written code whose initializers of records have the further fields of these, which are empty."""
+    known = {message.name: message for message in messages()}
+
+    def with_further(found):
+        name, body = found.groups()
+        present = re.findall(r"(\w+)(?=[:,]|$)", re.sub(r":[^,]*", ":", body.strip()))
+        further = [f"{row.name}: {empty(row)}" for row in known[name].rows if row.name not in present]
+        if not further:
+            return found[0]
+        return f"{name} {{ {', '.join([body.strip().rstrip(','), *further])} }}"
+
+    names = "|".join(COMPLETED)
+    return re.sub(rf"(?<![:\w])(?<!struct )(?<!impl )(?<!-> )({names}) \{{([^{{}}]*)\}}", with_further, text)
+
+
+def empty(row):
+    """The empty value of a row, as generated records have it."""
+    if isinstance(row, OneOf) or row.presence in ("optional", "message"):
+        return "None"
+    return "Vec::new(alloc)" if row.presence == "repeated" else EMPTY[row.kind]
+
+
 def in_order(text):
     """The record Future with its fields declared, merged, measured and written in the order of their numbers."""
     numbers = {
@@ -236,7 +267,7 @@ def in_order(text):
 
 
 def paths():
-    return [*NUMBERED, *PLANTED]
+    return [*NUMBERED, CONVERSIONS, *PLANTED]
 
 
 def files():
@@ -246,4 +277,5 @@ def files():
         for name, patterns in numbered:
             text = with_numbers(path, text, name, patterns)
         found[path] = in_order(text) if path.endswith("future.rt") else text
+    found[CONVERSIONS] = completed((ROOT / CONVERSIONS).read_text(encoding="utf-8"))
     return {**found, **laid_out({path: text for path, text in found.items() if path.endswith(".rt")})}

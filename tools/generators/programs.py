@@ -2,6 +2,7 @@
 description of the programs."""
 import functools
 import pathlib
+import textwrap
 import tomllib
 
 from . import ROOT, laid_out, missing  # noqa: F401
@@ -15,6 +16,9 @@ SOURCE = "proto/programs.toml"
 # The crates of programs, and the program that has subcommands.
 CRATES = ("journal", "journal_list")
 JOURNAL = "journal"
+
+# The columns of a help at most.
+WIDTH = 80
 
 # The versions of the protocol that a program takes.
 VERSIONS = [str(number) for number in range(5, LAST_VERSION + 1)]
@@ -43,22 +47,41 @@ class Argument:
         self.completed = [message.type_name() for message in typed()] if completed == "types" else completed
         self.is_file = not is_option and "completed" not in entry and not self.values
 
-    def definition(self):
-        """The call that defines it for clap."""
+    def shown_width(self):
+        """How wide the help shows it, before the text."""
         if not self.is_option:
-            code = call("operand", "alloc", self.name, self.value, self.help)
+            return len(f"[{self.value}]")
+        # there is room for a letter before the name
+        return len(f"    --{self.name} <{self.value}>" if self.value else f"    --{self.name}")
+
+    def help_lines(self, taken):
+        """Its text of the help, in lines beside those that show it, which take so many columns: what clap would append
+        is in it, since clap breaks no line."""
+        values = [f"[default: {self.default}]"] if self.default is not None else []
+        values += [f"[possible values: {', '.join(self.values)}]"] if self.values else []
+        lines = textwrap.wrap(self.help, WIDTH - taken)
+        more = textwrap.wrap(" ".join(values), WIDTH - taken)
+        if more and len(f"{lines[-1]} {more[0]}") <= WIDTH - taken:
+            lines[-1] += f" {more.pop(0)}"
+        return "\n".join([*lines, *more])
+
+    def definition(self, taken):
+        """The call that defines it for clap, beside arguments that take so many columns."""
+        help = self.help_lines(taken)
+        if not self.is_option:
+            code = call("operand", "alloc", self.name, self.value, help)
         elif self.value is None:
-            code = call("flag", "alloc", self.name, self.help)
+            code = call("flag", "alloc", self.name, help)
         else:
-            code = call("option", "alloc", self.name, self.value, self.help)
-        if self.has_versions:
-            code += ".value_parser(Version::supported_numbers())"
-        elif self.values:
-            code += f".value_parser(&[{', '.join(map(quoted, self.values))}][..])"
+            code = call("option", "alloc", self.name, self.value, help)
+        if self.values:
+            parser = f"&[{', '.join(map(quoted, self.values))}][..]"
+            code += f".value_parser({'Version::supported_numbers()' if self.has_versions else parser})"
+            code += ".hide_possible_values(true)"
         if self.is_repeated:
             code += ".action(ArgAction::Append)"
         if self.default is not None:
-            code += f".default_value({quoted(self.default)})"
+            code += f".default_value({quoted(self.default)}).hide_default_value(true)"
         if self.is_required:
             code += ".required(true)"
         return code
@@ -126,15 +149,20 @@ class Program:
             return [(f"`{each.command}`", each.about) for each in subcommands()]
         return [*((argument.tag(), argument.page) for argument in self.arguments), ("`--help`, `--version`", common()["page"])]
 
+    def texts(self):
+        """The calls that give its definition the texts around the arguments."""
+        more = f".after_help({quoted(textwrap.fill(self.more, WIDTH))})" if self.more else ""
+        return f".version(VERSION).about({quoted(self.about)}){more}"
+
     def definition(self):
         """The function that defines it for clap."""
         if self.name == JOURNAL:
             return self.definition_of_subcommands()
-        arguments = "?".join(f".arg({argument.definition()})" for argument in self.arguments)
+        arguments = "?".join(f".arg({code})" for part in (self.options, self.operands) for code in definitions_of(part))
         return (
             f"/// The definition of `{self.called}`, which help and errors show by this name.\n"
             f"pub fn {self.command}<'a>(alloc: Global, name: &'a str) -> Result<Command<'a>, AllocError> {{\n"
-            f"Command::new(alloc, name).version(VERSION).about({quoted(self.about)}){arguments}\n}}\n"
+            f"Command::new(alloc, name){self.texts()}{arguments}\n}}\n"
         )
 
     def definition_of_subcommands(self):
@@ -143,14 +171,20 @@ class Program:
         return (
             f"/// The definition of `{JOURNAL}`, with its subcommands.\n"
             f"pub fn {JOURNAL}<'a>(alloc: Global) -> Result<Command<'a>, AllocError> {{\n"
-            f"Command::new(alloc, {quoted(JOURNAL)}).version(VERSION).about({quoted(self.about)})"
-            f".after_help({quoted(self.more)}).subcommand_required(true).arg_required_else_help(true){added}\n}}\n"
+            f"Command::new(alloc, {quoted(JOURNAL)}){self.texts()}"
+            f".subcommand_required(true).arg_required_else_help(true){added}\n}}\n"
         )
 
 
 def quoted(text):
     """A literal of Rattle."""
-    return '"' + text.replace("\\", "\\\\").replace('"', '\\"') + '"'
+    return '"' + text.replace("\\", "\\\\").replace('"', '\\"').replace("\n", "\\n") + '"'
+
+
+def definitions_of(arguments):
+    """The calls that define options, or operands, whose texts begin in one column."""
+    taken = max((argument.shown_width() for argument in arguments), default=0) + 4
+    return [argument.definition(taken) for argument in arguments]
 
 
 def call(function, first, *texts):

@@ -3,7 +3,8 @@
 A payload is gone through record by record, as far as it is well-formed; the rest of it, and what is of no field, stays
 as it is, so that a malformed byte stays where it is. A number that no field has gets another one if a field has it now.
 What a line has as a result is canonical, and is put in order. How a record prints and what a stream lists is made anew,
-where it is what the description of before says; a line that is wrong on purpose stays wrong.
+where it is what the description of before says; a line that is wrong on purpose stays wrong. A line that holds what a
+field of another kind reads otherwise is left out.
 """
 import json
 import re
@@ -20,6 +21,9 @@ SKIPPED_FROM = 9
 
 # The type whose header requests an acknowledgement, and the flag.
 WITH_FLAG, FLAG = "ProposeRunCompletion", 0x80
+
+# Below which numbers the kinds of numbers are the same.
+BELOW = {"bool": 2, "enum": 1 << 31, "u32": 1 << 32, "u64": 1 << 64}
 
 # A code with one of these bits is that of a custom entry if no type has it.
 CUSTOM = 0xFC00
@@ -187,6 +191,8 @@ class Renumbering:
         for name, fields in self.old.fields.items():
             others = {field.name: number for number, field in self.new.fields.get(name, {}).items()}
             self.numbers[name] = {number: others[field.name] for number, field in fields.items() if field.name in others}
+        # whether a field of another kind reads otherwise what it was given last
+        self.is_other = False
         names = {name: code for code, name in self.new.codes.items()}
         self.codes = {code: names[name] for code, name in self.old.codes.items() if name in names}
 
@@ -246,6 +252,7 @@ class Renumbering:
             head = padded(8 * new + form, data[at:start])
         except IndexError:
             return None, data[at:], len(data)
+        self.is_other |= self.is_read_otherwise(schema, number, data, start)
         try:
             if form == 3:
                 content, end = skipped(data, start, number)
@@ -263,6 +270,20 @@ class Renumbering:
             return new, head + padded(len(content), data[start:begin]) + content, end
         except IndexError:
             return new, head + data[start:], len(data)
+
+    def is_read_otherwise(self, schema, number, data, at):
+        """Whether the value at a place is another one for a field whose kind is another one now."""
+        before, now = self.old.fields[schema].get(number), self.new.fields.get(schema, {}).get(self.number(schema, number))
+        if before is None or now is None or before.kind == now.kind:
+            return False
+        try:
+            value, begin = descriptors.varint(data, at)
+            if {before.kind, now.kind} == {"text", "bytes"}:
+                data[begin:begin + value].decode()
+                return False
+            return value >= min(BELOW.get(field.kind, 0) for field in (before, now))
+        except (IndexError, UnicodeDecodeError):
+            return True
 
     def word(self, schema, word, is_canonical=False):
         """A payload as a line has it; what is none stays."""
@@ -372,15 +393,24 @@ class Renumbering:
         return words
 
     def line(self, line):
-        """A line of a file of test vectors."""
+        """A line of a file of test vectors, or None if it is left out."""
+        self.is_other = False
+        line = self.line_with_other_numbers(line)
+        return None if self.is_other else line
+
+    def line_with_other_numbers(self, line):
         given, equals, result = line.partition(" = ")
         words = given.split(" ")
         if line.startswith("#") or not equals or len(words) < 3:
             return line
         return f"{' '.join(self.given(words))} = {self.result(words, result)}"
 
+    def lines(self, text):
+        """The lines of a file of test vectors, each with what it is now, or with None if it is left out."""
+        return [(line, self.line(line)) for line in text.split("\n")]
+
     def text(self, text):
-        return "\n".join(map(self.line, text.split("\n")))
+        return "\n".join(line for _, line in self.lines(text) if line is not None)
 
     def found(self, text):
         """What is said of lines that are wrong: after each of them what it should have."""
@@ -388,7 +418,7 @@ class Renumbering:
         for line in text.split("\n"):
             if line.startswith("failed: "):
                 words = line.removeprefix("failed: ").partition(" = ")[0].split(" ")
-                line = f"failed: {self.line(line.removeprefix('failed: '))}"
+                line = f"failed: {self.line_with_other_numbers(line.removeprefix('failed: '))}"
             elif words:
                 line, words = self.result(words, line), None
             lines.append(line)

@@ -45,6 +45,7 @@ def check(found, described):
     problems.end()
     check_cycles(problems, found)
     check_hand_written(problems, known)
+    check_rows(problems, known)
     check_flat_suspension(problems, known)
     check_commands(problems, found)
     check_template(problems, found, known)
@@ -316,6 +317,17 @@ def check_hand_written(problems, known):
                 )
         for other in sorted(set(written) - set(fields)):
             problems.say(f"{path} is hand-written, and has a field {other}, which {name} has not", known[name].line)
+
+
+def check_rows(problems, known):
+    """Rejects further rows of the messages that hand-written code takes apart, or makes of those that it knows."""
+    for name, rows in forms.ROWS.items():
+        for row in known[name].rows if name in known else ():
+            if row.name not in rows:
+                problems.say(
+                    f"{row.name} in {name} has no form: hand-written code makes {name} of {', '.join(sorted(rows))} alone",
+                    row.line,
+                )
 
 
 def check_flat_suspension(problems, known):
