@@ -53,6 +53,7 @@ go:
 
 ruby:
 	[ -z '$(PREFIX)' ] || cp -L '$(PREFIX)/lib/libpendratsoa.so' ruby/lib/pendratsoa/
+	sh scripts/ruby.sh
 	cd ruby && gem build pendratsoa.gemspec
 
 rust:

@@ -33,7 +33,7 @@ _journal_diff() {
     case ${COMP_WORDS[COMP_CWORD - 1]} in
         --color) mapfile -t COMPREPLY < <(compgen -W 'auto always never' -- "$word") ;;
         --protocol) mapfile -t COMPREPLY < <(compgen -W '5 6 7 8 9' -- "$word") ;;
-        *) [[ $word != -* ]] || mapfile -t COMPREPLY < <(compgen -W '--ignore-payloads --strict --json --color --protocol --help --version' -- "$word") ;;
+        *) [[ $word != -* ]] || mapfile -t COMPREPLY < <(compgen -W '--all --ignore-payloads --strict --json --color --protocol --help --version' -- "$word") ;;
     esac
 }
 complete -o default -F _journal journal
