@@ -202,7 +202,8 @@ def script_of(words, paths):
     )  # fmt: skip
     if diff.returncode not in (0, 1):
         return None
-    whole, *entries = map(json.loads, diff.stdout.splitlines())
+    # other ends of lines, as U+2028, may be within a text
+    whole, *entries = map(json.loads, diff.stdout.rstrip("\n").split("\n"))
     if not whole["isLeast"]:
         return None
     members = ("change", "recorded", "replayed")

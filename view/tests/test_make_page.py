@@ -143,7 +143,7 @@ class Verdicts(unittest.TestCase):
             self.assertIsNone(make_page.verdict_of(text))
 
 
-class Scripts(unittest.TestCase):
+class Differences(unittest.TestCase):
     """What journal diff --all --json prints, as the page takes it."""
 
     def script(self, status, *lines):
